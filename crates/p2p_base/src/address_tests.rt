@@ -1,0 +1,148 @@
+//! Tables of addresses: each range's first and last one and the neighbours of both, subnets, and what may be dialed.
+use crate::{Address, Ingress, IpAddr, SocketAddr, Text, is_global, resolve_filtered, subnet};
+use std::test::Fail;
+
+#[test]
+fn ranges_of_v4_end_at_the_table(rt: HostRuntime) {
+    let inside = [
+        [0, 0, 0, 0],
+        [0, 255, 255, 255],
+        [10, 0, 0, 0],
+        [10, 255, 255, 255],
+        [100, 64, 0, 0],
+        [100, 127, 255, 255],
+        [127, 0, 0, 0],
+        [127, 255, 255, 255],
+        [169, 254, 0, 0],
+        [169, 254, 255, 255],
+        [172, 16, 0, 0],
+        [172, 31, 255, 255],
+        [192, 0, 0, 0],
+        [192, 0, 0, 255],
+        [192, 0, 2, 0],
+        [192, 0, 2, 255],
+        [192, 168, 0, 0],
+        [192, 168, 255, 255],
+        [198, 18, 0, 0],
+        [198, 19, 255, 255],
+        [198, 51, 100, 0],
+        [198, 51, 100, 255],
+        [203, 0, 113, 0],
+        [203, 0, 113, 255],
+        [240, 0, 0, 0],
+        [255, 255, 255, 255],
+    ];
+    for bytes in inside {
+        assert!(rt; !is_global(&IpAddr::V4(bytes)), "{bytes:?}");
+    }
+    let outside = [
+        [1, 0, 0, 0],
+        [9, 255, 255, 255],
+        [11, 0, 0, 0],
+        [100, 63, 255, 255],
+        [100, 128, 0, 0],
+        [126, 255, 255, 255],
+        [128, 0, 0, 0],
+        [169, 253, 255, 255],
+        [169, 255, 0, 0],
+        [172, 15, 255, 255],
+        [172, 32, 0, 0],
+        [191, 255, 255, 255],
+        [192, 0, 1, 0],
+        [192, 0, 1, 255],
+        [192, 0, 3, 0],
+        [192, 167, 255, 255],
+        [192, 169, 0, 0],
+        [198, 17, 255, 255],
+        [198, 20, 0, 0],
+        [198, 51, 99, 255],
+        [198, 51, 101, 0],
+        [203, 0, 112, 255],
+        [203, 0, 114, 0],
+        [239, 255, 255, 255],
+    ];
+    for bytes in outside {
+        assert!(rt; is_global(&IpAddr::V4(bytes)), "{bytes:?}");
+    }
+}
+
+#[test]
+fn ranges_of_v6_end_at_the_table(rt: HostRuntime) {
+    let inside: [u128; 10] = [
+        0,
+        1,
+        0xffff_0000_0000,
+        0xffff_ffff_ffff,
+        0x2001_0db8_0000_0000_0000_0000_0000_0000,
+        0x2001_0db8_ffff_ffff_ffff_ffff_ffff_ffff,
+        0xfc00_0000_0000_0000_0000_0000_0000_0000,
+        0xfdff_ffff_ffff_ffff_ffff_ffff_ffff_ffff,
+        0xfe80_0000_0000_0000_0000_0000_0000_0000,
+        0xfebf_ffff_ffff_ffff_ffff_ffff_ffff_ffff,
+    ];
+    for number in inside {
+        assert!(rt; !is_global(&IpAddr::V6(number.to_be_bytes())), "{number:x}");
+    }
+    let outside: [u128; 9] = [
+        2,
+        0xfffe_ffff_ffff,
+        0x1_0000_0000_0000,
+        0x2001_0db7_ffff_ffff_ffff_ffff_ffff_ffff,
+        0x2001_0db9_0000_0000_0000_0000_0000_0000,
+        0xfbff_ffff_ffff_ffff_ffff_ffff_ffff_ffff,
+        0xfe00_0000_0000_0000_0000_0000_0000_0000,
+        0xfe7f_ffff_ffff_ffff_ffff_ffff_ffff_ffff,
+        0xfec0_0000_0000_0000_0000_0000_0000_0000,
+    ];
+    for number in outside {
+        assert!(rt; is_global(&IpAddr::V6(number.to_be_bytes())), "{number:x}");
+    }
+}
+
+#[test]
+fn subnets_keep_the_first_bits(rt: HostRuntime) {
+    assert_eq!(rt;
+        subnet(&IpAddr::V4([203, 7, 255, 9])),
+        IpAddr::V4([203, 7, 255, 0])
+    );
+    let long: u128 = 0x2001_0db9_1234_5678_9abc_def0_1234_5678;
+    let short: u128 = 0x2001_0db9_1234_0000_0000_0000_0000_0000;
+    assert_eq!(rt;
+        subnet(&IpAddr::V6(long.to_be_bytes())),
+        IpAddr::V6(short.to_be_bytes())
+    );
+}
+
+#[test]
+fn private_ones_and_names_are_dialed_by_leave(rt: HostRuntime) -> Result<(), Fail> {
+    let alloc = rt.alloc();
+    let home = SocketAddr {
+        ip: IpAddr::V4([10, 0, 0, 1]),
+        port: 80,
+    };
+    let away = SocketAddr {
+        ip: IpAddr::V4([11, 0, 0, 1]),
+        port: 80,
+    };
+    let found = resolve_filtered(alloc, &[home, away, home], false)?;
+    assert_eq!(rt; found.as_slice(), [away].as_slice());
+    let found = resolve_filtered(alloc, &[home, away], true)?;
+    assert_eq!(rt; found.as_slice(), [home, away].as_slice());
+    assert!(rt; !Ingress::from(home).is_valid(false, true));
+    assert!(rt; Ingress::from(home).is_valid(true, false));
+    assert!(rt; Ingress::from(away).is_valid(false, false));
+    let host = Text::from_str(alloc, "peer.example")?;
+    let named = Ingress::Dns { host, port: 1 };
+    assert!(rt; named.is_valid(false, true));
+    assert!(rt; !named.is_valid(true, false));
+    let both = Address::Asymmetric {
+        ingress: named.try_clone(alloc)?,
+        egress: away,
+    };
+    assert!(rt; both.ingress(alloc)? == named);
+    assert_eq!(rt; both.egress_ip(), away.ip);
+    assert!(rt; both.clone()? == both);
+    assert!(rt; Address::from(home).ingress(alloc)? == Ingress::Socket(home));
+    assert!(rt; both != Address::from(away));
+    Ok(())
+}

@@ -1,0 +1,14 @@
+-- One more element of a list that a loop goes through.
+use Rattle.std.proofs.Common.{◌≡◌, ℕ, zero, suc, ◌+◌, ◌<◌, List, [], ◌∷◌, ◌++◌, length, take, drop, refl, ap, sym, ◌∙◌, arith, append_assoc, add-one}
+use Rattle.p2p_base.specs.declared.key.Key.{Key}
+use Rattle.p2p_log.specs.declared.end.End.{End}
+use Rattle.p2p_log.specs.declared.end.End.TheVariants as end
+use Rattle.p2p_log.specs.declared.end.Outcome.{Outcome}
+use Rattle.p2p_log.specs.Effect.{copies_end}
+
+pub copies_end-drop :
+    (send p i : ℕ) (to : List Key) (o : Outcome) → i < length to
+    → copies_end send p (drop i to) o ≡ end.Copy send p o ∷ copies_end send (p + 1) (drop (suc i) to) o
+copies_end-drop send p i [] o h = absurd (omega arith)
+copies_end-drop send p zero (k ∷ ks) o h = refl
+copies_end-drop send p (suc i) (k ∷ ks) o h = copies_end-drop send p i ks o (omega arith)

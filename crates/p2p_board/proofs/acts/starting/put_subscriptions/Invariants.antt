@@ -1,0 +1,12 @@
+use Rattle.std.proofs.Common.{◌≡◌, ◌++◌, List, length, take}
+use Rattle.std.specs.Prelude.{map}
+use Rattle.p2p_log.specs.declared.entry.Entry.{Entry}
+use Rattle.p2p_board.specs.Rows.{subscription}
+use Rattle.p2p_board.specs.Stands.{Builds}
+use Rattle.p2p_board.proofs.acts.starting.put_subscriptions.Given as goal
+
+abbrev pub invariant-loop-channel : goal.invariant-loop-channel
+invariant-loop-channel l = record {
+  row : l.row ≡ record l.initial.row { puts = l.initial.row.puts ++ map (subscription l.number) (take l.channel-index l.channels) };
+  builds : (log : List Entry) → length log ≡ l.entry → Builds l.initial.board log l.initial.row → Builds l.board log l.row;
+}

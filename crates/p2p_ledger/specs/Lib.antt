@@ -1,0 +1,5 @@
+pub mod Causes
+pub mod Delivered
+pub mod Fates
+pub mod OneEnd
+pub mod Order

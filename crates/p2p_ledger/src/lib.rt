@@ -1,0 +1,15 @@
+//! Laws of lawful logs: what holds of each log that is lawful for a script. It uses no actor, and has no code but the
+//! functions that state the laws.
+#![tactic(auto)]
+
+pub mod causes;
+pub mod delivery;
+pub mod ends;
+pub mod fates;
+pub mod order;
+
+pub use causes::each_drop_shows_its_cause;
+pub use delivery::only_sent_is_delivered;
+pub use ends::one_end;
+pub use fates::fates_are_true;
+pub use order::delivered_in_order;

@@ -1,0 +1,293 @@
+-- The effect of an event: the one entry that it makes, given the configurations and the entries before it.
+use Rattle.std.specs.Prelude.{ℕ, ◌+◌, ◌*◌, Bool, true, false, ◌==◌, ◌&&◌, ◌||◌, not, cond, nat_le, List, [], ◌∷◌, ◌++◌, map, filter, flat_map, length, take, count_by, Option, Some, None, slice_get, Ok, Err}
+use Rattle.p2p_base.specs.declared.key.Key.{Key}
+use Rattle.p2p_log.specs.declared.config.Config.{Config}
+use Rattle.p2p_log.specs.declared.queue.Queue.{Queue}
+use Rattle.p2p_log.specs.declared.queue.Queue.TheVariants as queue
+use Rattle.p2p_log.specs.declared.queue.Side.{Side}
+use Rattle.p2p_log.specs.declared.queue.Side.TheVariants as side
+use Rattle.p2p_log.specs.declared.item.Item.{Item}
+use Rattle.p2p_log.specs.declared.item.Item.TheVariants as item
+use Rattle.p2p_log.specs.declared.item.Envelope.{Envelope}
+use Rattle.p2p_log.specs.declared.end.End.{End}
+use Rattle.p2p_log.specs.declared.end.End.TheVariants as end
+use Rattle.p2p_log.specs.declared.end.Outcome.{Outcome}
+use Rattle.p2p_log.specs.declared.end.Outcome.TheVariants as outcome
+use Rattle.p2p_log.specs.declared.end.Cause.{Cause}
+use Rattle.p2p_log.specs.declared.end.Cause.TheVariants as cause
+use Rattle.p2p_log.specs.declared.entry.Entry.{Entry}
+use Rattle.p2p_log.specs.declared.entry.Reply.{Reply}
+use Rattle.p2p_log.specs.declared.entry.Reply.TheVariants as reply
+use Rattle.p2p_log.specs.declared.row.Row.{Row}
+use Rattle.p2p_log.specs.declared.event.Act.{Act}
+use Rattle.p2p_log.specs.declared.event.Act.TheVariants as act
+use Rattle.p2p_log.specs.declared.event.Rate.{Rate}
+use Rattle.p2p_log.specs.declared.event.Recipients.{Recipients}
+use Rattle.p2p_log.specs.declared.event.Recipients.TheVariants as recipients
+use Rattle.p2p_log.specs.declared.event.Event.{Event}
+use Rattle.p2p_log.specs.QueueCode.{same_queue}
+use Rattle.p2p_log.specs.Lines.{line, live, name_of, stands_in, stays, ended_item}
+use Rattle.p2p_log.specs.Facts.{is_up, channels, capacity_in, capacity_for, sum_capacities, subscribers, routes, with_route, keys_in, route_to, key_at, half_at, is_running, is_joined}
+use Rattle.p2p_log.specs.Frames.{frame_of, message_in}
+
+-- a reply that moves nothing
+abbrev pub only : Reply → Row
+only r = record { reply = r; takes = []; puts = []; ends = [] }
+
+-- ---- calls
+
+-- register: the channel's queue holds the retained peers' bursts
+abbrev pub register_row : List Config → ℕ → Rate → Row
+register_row configs n rate = only (reply.Capacity (capacity_for (slice_get configs n) rate))
+
+-- start: one subscription for each channel, in order of registration
+abbrev pub start_row : List Config → List Entry → ℕ → Row
+start_row configs log n =
+    record { reply = reply.Ok; takes = []; puts = map (λ c. (queue.Router n, item.Subscribe c.0)) (channels configs log n); ends = [] }
+
+-- join: nodes that run, that are two, and that were not joined before
+abbrev pub may_join : List Entry → ℕ → ℕ → Bool
+may_join log a b = (is_up log a && is_up log b) && (not (a == b) && not (is_joined log a b))
+
+abbrev pub join_row : List Config → List Entry → ℕ → ℕ → Row
+join_row configs log a b =
+    cond (may_join log a b)
+    (record {
+      reply = reply.Ok;
+      takes = [];
+      puts = (queue.Router a, item.Ready (length log) (key_at configs b)) ∷ (queue.Router b, item.Ready (length log) (key_at configs a)) ∷ [];
+      ends = [];
+    })
+    (only reply.Gone)
+
+abbrev pub keys_of_recipients : Recipients → List Key
+keys_of_recipients (recipients.One k) = k ∷ []
+keys_of_recipients (recipients.Some ks) = ks
+
+-- each copy of the send, from this place on, ends so
+abbrev pub copies_end : ℕ → ℕ → List Key → Outcome → List End
+copies_end send p [] o = []
+copies_end send p (k ∷ ks) o = end.Copy send p o ∷ copies_end send (p + 1) ks o
+
+abbrev pub mailbox_size_at : List Config → ℕ → ℕ
+mailbox_size_at configs n = elim (slice_get configs n) [ None ↦ 0 | Some c ↦ c.mailbox_size ]
+
+-- the router's mailbox holds `mailbox_size` messages and the bursts of the node's channels
+abbrev pub router_capacity : List Config → List Entry → ℕ → ℕ
+router_capacity configs log n = mailbox_size_at configs n + sum_capacities (channels configs log n)
+
+-- send on a registered channel, by whether the node has started and the router's mailbox is full
+abbrev pub sent_row : Bool → Bool → ℕ → ℕ → ℕ → Bool → List ℕ → List Key → Row
+sent_row false full n send c priority frame to =
+    record { reply = reply.Sent to; takes = []; puts = []; ends = copies_end send 0 to (outcome.Dropped cause.Unbound) }
+sent_row true true n send c priority frame to = only (reply.Sent [])
+sent_row true false n send c priority frame to =
+    record { reply = reply.Sent to; takes = []; puts = (queue.Router n, item.Content c frame priority send to) ∷ []; ends = [] }
+
+abbrev pub send_row : List Config → List Entry → List ℕ → ℕ → ℕ → Bool → Recipients → Row
+send_row configs log bytes c n priority to =
+    elim (capacity_in (channels configs log n) c) [
+      | None ↦ only reply.Gone
+      | Some _ ↦
+          sent_row (is_up log n) (nat_le (router_capacity configs log n) (length (line log (queue.Router n))))
+          n (length log) c priority (frame_of c bytes) (keys_of_recipients to)
+    ]
+
+-- recv: the oldest message of the channel
+abbrev pub read_row : ℕ × ℕ → Item → Row
+read_row name (item.Message bytes copy from) =
+    record { reply = reply.Message bytes from; takes = name ∷ []; puts = []; ends = end.Copy copy.0 copy.1 outcome.Delivered ∷ [] }
+read_row name _ = only reply.Pending
+
+abbrev pub oldest_read : List Envelope → Row
+oldest_read [] = only reply.Pending
+oldest_read (x ∷ _) = read_row (name_of x) x.item
+
+abbrev pub recv_row : List Config → List Entry → ℕ → ℕ → Row
+recv_row configs log c n =
+    elim (capacity_in (channels configs log n) c) [ None ↦ only reply.Gone | Some _ ↦ oldest_read (line log (queue.Channel n c)) ]
+
+-- ---- the router's step
+
+-- an item that the next one overwrites, of a queue that holds one
+abbrev pub overwritten : List Envelope → List End
+overwritten [] = []
+overwritten (x ∷ _) = end.Item x.entry x.place ∷ []
+
+-- the newest list of peers, to this channel
+abbrev pub peers_put : ℕ → List Key → ℕ → Queue × Item
+peers_put n keys c = (queue.Peers n c, item.Peers keys)
+
+-- what comes of the lists that these channels hold, among what stands in queues: each is overwritten
+abbrev pub peers_ends : List Envelope → ℕ → List ℕ → List End
+peers_ends items n [] = []
+peers_ends items n (c ∷ cs) =
+    let ends = overwritten (filter (stands_in (queue.Peers n c)) items) in
+    ends ++ peers_ends (filter (stays (flat_map ended_item ends)) items) n cs
+
+-- the queue of a connection that a message of this priority enters
+abbrev pub relay_queue : Bool → ℕ → ℕ → Queue
+relay_queue true n conn = queue.High n conn
+relay_queue false n conn = queue.Low n conn
+
+abbrev pub goes_to : Queue → Queue × Item → Bool
+goes_to q x = same_queue q x.0
+
+-- what the recipients' copies come to, from this place on, given the puts so far
+pub record Spread : Type 0 where
+  pub puts : List (Queue × Item)
+  pub ends : List End
+
+-- a copy enters its relay's queue, or is dropped where that holds its size already
+abbrev pub spread_one : ℕ → List Envelope → Queue → ℕ → ℕ → List ℕ → Spread → Spread
+spread_one size items q send p frame so_far =
+    cond (nat_le size (length (filter (stands_in q) items) + count_by (goes_to q) so_far.puts))
+    (record so_far { ends = so_far.ends ++ end.Copy send p (outcome.Dropped cause.RelayFull) ∷ [] })
+    (record so_far { puts = so_far.puts ++ (q, item.Frame (Some (send, p)) frame) ∷ [] })
+
+-- a copy whose recipient has no connection is dropped
+abbrev pub spread_to : ℕ → List Envelope → ℕ → Bool → Option ℕ → ℕ → ℕ → List ℕ → Spread → Spread
+spread_to size items n priority None send p frame so_far =
+    record so_far { ends = so_far.ends ++ end.Copy send p (outcome.Dropped cause.NoConnection) ∷ [] }
+spread_to size items n priority (Some conn) send p frame so_far =
+    spread_one size items (relay_queue priority n conn) send p frame so_far
+
+abbrev pub spread : ℕ → List Envelope → ℕ → Bool → List (ℕ × ℕ) → ℕ → ℕ → List ℕ → List Key → Spread → Spread
+spread size items n priority routes send p frame [] so_far = so_far
+spread size items n priority routes send p frame (k ∷ ks) so_far =
+    spread size items n priority routes send (p + 1) frame ks (spread_to size items n priority (route_to routes k) send p frame so_far)
+
+abbrev pub row_of_spread : ℕ × ℕ → Spread → Row
+row_of_spread name s = record { reply = reply.Ok; takes = name ∷ []; puts = s.puts; ends = s.ends }
+
+-- the item that the router took, by its kind, given what stands in queues once it is taken
+abbrev pub route_row : List Config → List Entry → ℕ → ℕ × ℕ → Item → List Envelope → Row
+-- a subscription: the peers that are connected now
+route_row configs log n name (item.Subscribe c) items =
+    record {
+      reply = reply.Ok;
+      takes = name ∷ [];
+      puts = map (peers_put n (keys_in (routes log n))) (c ∷ []);
+      ends = peers_ends items n (c ∷ []);
+    }
+-- a connection: it may run, and each subscriber hears of it
+route_row configs log n name (item.Ready conn key) items =
+    record {
+      reply = reply.Ok;
+      takes = name ∷ [];
+      puts = (queue.Ready n conn, item.Answer)
+          ∷ map (peers_put n (keys_in (with_route (routes log n) (item.Ready conn key)))) (subscribers log n);
+      ends = peers_ends items n (subscribers log n);
+    }
+-- content: a copy to each recipient, in order
+route_row configs log n name (item.Content c frame priority send to) items =
+    row_of_spread name (spread (mailbox_size_at configs n) items n priority (routes log n) send 0 frame to (record { puts = []; ends = [] }))
+route_row configs log n name _ items = record { reply = reply.Ok; takes = name ∷ []; puts = []; ends = [] }
+
+abbrev pub route_oldest : List Config → List Entry → ℕ → List Envelope → Row
+route_oldest configs log n [] = only reply.Idle
+route_oldest configs log n (x ∷ _) = route_row configs log n (name_of x) x.item (filter (stays (name_of x ∷ [])) (live log))
+
+abbrev pub router_row : List Config → List Entry → ℕ → Row
+router_row configs log n =
+    cond (is_up log n) (route_oldest configs log n (line log (queue.Router n))) (only reply.Gone)
+
+-- ---- the steps of a connection
+
+-- the router's answer: the connection runs
+abbrev pub begin_row : List Envelope → Row
+begin_row [] = only reply.Idle
+begin_row (x ∷ _) = record { reply = reply.Ok; takes = name_of x ∷ []; puts = []; ends = [] }
+
+-- a batch, written to the link in order
+abbrev pub write_row : Queue → List Envelope → Row
+write_row q [] = only reply.Idle
+write_row q (x ∷ xs) =
+    record { reply = reply.Ok; takes = map name_of (x ∷ xs); puts = map (λ y. (q, y.item)) (x ∷ xs); ends = [] }
+
+abbrev pub batch_size_at : List Config → ℕ → ℕ
+batch_size_at configs n = elim (slice_get configs n) [ None ↦ 0 | Some c ↦ c.send_batch_size ]
+
+-- high before low, as many as a batch has
+abbrev pub batch : List Config → List Entry → ℕ → ℕ → List Envelope
+batch configs log n conn = take (batch_size_at configs n) (line log (queue.High n conn) ++ line log (queue.Low n conn))
+
+abbrev pub send_step_row : List Config → List Entry → ℕ → ℕ → Row
+send_step_row configs log conn n =
+    elim (half_at configs log n conn) [
+      | None ↦ only reply.Gone
+      | Some half ↦
+          cond (is_running log n conn)
+          (write_row (queue.Link conn half.writes) (batch configs log n conn))
+          (begin_row (line log (queue.Ready n conn)))
+    ]
+
+abbrev pub other_side : Side → Side
+other_side side.Out = side.In
+other_side side.In = side.Out
+
+-- to deliver a message: into its channel's queue, or dropped where that is full
+abbrev pub deliver_row : List Entry → ℕ → ℕ × ℕ → Key → ℕ × ℕ → ℕ × List ℕ → ℕ → Row
+deliver_row log n name from copy message capacity =
+    cond (nat_le capacity (length (line log (queue.Channel n message.0))))
+    (record {
+      reply = reply.Ok;
+      takes = name ∷ [];
+      puts = [];
+      ends = end.Copy copy.0 copy.1 (outcome.Dropped cause.MailboxFull) ∷ [];
+    })
+    (record {
+      reply = reply.Ok;
+      takes = name ∷ [];
+      puts = (queue.Channel n message.0, item.Message message.1 copy from) ∷ [];
+      ends = [];
+    })
+
+abbrev pub limit_at : List Config → ℕ → ℕ
+limit_at configs n = elim (slice_get configs n) [ None ↦ 0 | Some c ↦ c.max_message_size ]
+
+abbrev pub message_row : List Config → List Entry → ℕ → ℕ × ℕ → Key → ℕ × ℕ → Option (ℕ × List ℕ) → Row
+message_row configs log n name from copy None = only reply.Idle
+message_row configs log n name from copy (Some message) =
+    elim (capacity_in (channels configs log n) message.0) [
+      | None ↦ only reply.Idle
+      | Some capacity ↦ deliver_row log n name from copy message capacity
+    ]
+
+abbrev pub frame_row : List Config → List Entry → ℕ → Key → ℕ × ℕ → Item → Row
+frame_row configs log n from name (item.Frame (Some copy) frame) =
+    message_row configs log n name from copy (message_in frame (limit_at configs n))
+frame_row configs log n from name _ = only reply.Idle
+
+abbrev pub receive_row : List Config → List Entry → ℕ → Key → List Envelope → Row
+receive_row configs log n from [] = only reply.Idle
+receive_row configs log n from (x ∷ _) = frame_row configs log n from (name_of x) x.item
+
+abbrev pub recv_step_row : List Config → List Entry → ℕ → ℕ → Row
+recv_step_row configs log conn n =
+    elim (half_at configs log n conn) [
+      | None ↦ only reply.Gone
+      | Some half ↦
+          cond (is_running log n conn)
+          (receive_row configs log n half.peer (line log (queue.Link conn (other_side half.writes))))
+          (only reply.Idle)
+    ]
+
+-- ---- all acts
+
+unfoldable pub row : List Config → List Entry → Act → Row
+row configs log (act.Register c n rate) = register_row configs n rate
+row configs log (act.Start n) = start_row configs log n
+row configs log (act.Join a b) = join_row configs log a b
+row configs log (act.Send bytes c n priority to) = send_row configs log bytes c n priority to
+row configs log (act.Router n) = router_row configs log n
+row configs log (act.SendStep conn n) = send_step_row configs log conn n
+row configs log (act.RecvStep conn n) = recv_step_row configs log conn n
+row configs log (act.Recv c n) = recv_row configs log c n
+
+abbrev pub entry_of : Event → Row → Entry
+entry_of event r = record { event = event; reply = r.reply; takes = r.takes; puts = r.puts; ends = r.ends }
+
+-- the entry that the event makes after these entries
+unfoldable pub effect : List Config → List Entry → Event → Entry
+effect configs log event = entry_of event (row configs log event.act)

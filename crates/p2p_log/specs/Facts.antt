@@ -1,0 +1,174 @@
+-- What stands of nodes, channels and connections, by the log.
+use Rattle.std.specs.Prelude.{ℕ, ◌+◌, ◌*◌, Bool, true, false, ◌==◌, ◌&&◌, ◌||◌, cond, List, [], ◌∷◌, ◌++◌, map, flat_map, Option, Some, None, slice_get}
+use Rattle.std.specs.List.{list_any}
+use Rattle.std.specs.BTreeMap.{insert_entry}
+use Rattle.std.specs.Map.{lookup, keys_of}
+use Rattle.std.specs.Ordering.{nat_cmp}
+use Rattle.p2p_base.specs.declared.key.Key.{Key}
+use Rattle.p2p_log.specs.declared.config.Config.{Config}
+use Rattle.p2p_log.specs.declared.queue.Queue.{Queue}
+use Rattle.p2p_log.specs.declared.queue.Side.{Side}
+use Rattle.p2p_log.specs.declared.queue.Side.TheVariants as side
+use Rattle.p2p_log.specs.declared.item.Item.{Item}
+use Rattle.p2p_log.specs.declared.item.Item.TheVariants as item
+use Rattle.p2p_log.specs.declared.row.Half.{Half}
+use Rattle.p2p_log.specs.declared.entry.Entry.{Entry}
+use Rattle.p2p_log.specs.declared.entry.Reply.{Reply}
+use Rattle.p2p_log.specs.declared.entry.Reply.TheVariants as reply
+use Rattle.p2p_log.specs.declared.event.Event.{Event}
+use Rattle.p2p_log.specs.declared.event.Rate.{Rate}
+use Rattle.p2p_log.specs.declared.event.Act.{Act}
+use Rattle.p2p_log.specs.declared.event.Act.TheVariants as act
+
+-- ---- nodes
+
+-- what was asked, in order
+abbrev pub events_of : List Entry → List Event
+events_of log = map (λ e. e.event) log
+
+abbrev pub starts : ℕ → Act → Bool
+starts n (act.Start m) = m == n
+starts n _ = false
+
+-- whether a node was asked to start
+unfoldable pub has_started : List Event → ℕ → Bool
+has_started events n = list_any (λ v. starts n v.act) events
+
+-- whether the node has started
+abbrev pub is_up : List Entry → ℕ → Bool
+is_up log n = has_started (events_of log) n
+
+-- ---- channels
+
+-- the retained peers' bursts
+abbrev pub capacity_for : Option Config → Rate → ℕ
+capacity_for None rate = 0
+capacity_for (Some c) rate = (c.max_peers_per_set * c.tracked_peer_sets) * rate.burst
+
+abbrev pub registers_at : List Config → ℕ → Act → List (ℕ × ℕ)
+registers_at configs n (act.Register c m rate) = cond (m == n) ((c, capacity_for (slice_get configs n) rate) ∷ []) []
+registers_at configs n _ = []
+
+-- the channels that were registered at a node, in order, each with its capacity
+unfoldable pub registered : List Config → List Event → ℕ → List (ℕ × ℕ)
+registered configs events n = flat_map (λ v. registers_at configs n v.act) events
+
+abbrev pub channels : List Config → List Entry → ℕ → List (ℕ × ℕ)
+channels configs log n = registered configs (events_of log) n
+
+-- the capacity of a channel, where it is registered
+abbrev pub capacity_in : List (ℕ × ℕ) → ℕ → Option ℕ
+capacity_in channels c = lookup (λ k. c == k) channels
+
+abbrev pub sum_capacities : List (ℕ × ℕ) → ℕ
+sum_capacities [] = 0
+sum_capacities (c ∷ cs) = c.1 + sum_capacities cs
+
+-- ---- what was taken
+
+abbrev pub item_put : Option (Queue × Item) → List Item
+item_put None = []
+item_put (Some x) = x.1 ∷ []
+
+abbrev pub item_in : Option Entry → ℕ → List Item
+item_in None p = []
+item_in (Some e) p = item_put (slice_get e.puts p)
+
+-- the item of this name
+abbrev pub item_named : List Entry → ℕ × ℕ → List Item
+item_named log name = item_in (slice_get log name.0) name.1
+
+-- the items that an entry took, with the entries before it
+unfoldable pub taken : List Entry → Entry → List Item
+taken before e = flat_map (item_named before) e.takes
+
+-- what each entry adds to a history, given the entries before it
+unfoldable pub history_from : {X : Type 0} → (List Entry → Entry → List X) → List Entry → List Entry → List X
+history_from adds before [] = []
+history_from adds before (e ∷ es) = adds before e ++ history_from adds (before ++ e ∷ []) es
+
+abbrev pub history : {X : Type 0} → (List Entry → Entry → List X) → List Entry → List X
+history adds log = history_from adds [] log
+
+-- ---- the router
+
+abbrev pub steps_router : ℕ → Act → Bool
+steps_router n (act.Router m) = m == n
+steps_router n _ = false
+
+abbrev pub routed_by : ℕ → List Entry → Entry → List Item
+routed_by n before e = cond (steps_router n e.event.act) (taken before e) []
+
+-- the items that the node's router took, in order
+unfoldable pub routed : List Entry → ℕ → List Item
+routed log n = history (routed_by n) log
+
+abbrev pub subscriber_of : Item → List ℕ
+subscriber_of (item.Subscribe c) = c ∷ []
+subscriber_of _ = []
+
+-- the channels that want lists of peers, in order
+unfoldable pub subscribers : List Entry → ℕ → List ℕ
+subscribers log n = flat_map subscriber_of (routed log n)
+
+-- the connection of each key, with one more routed item
+abbrev pub with_route : List (ℕ × ℕ) → Item → List (ℕ × ℕ)
+with_route routes (item.Ready conn key) = insert_entry nat_cmp routes key.0 conn
+with_route routes _ = routes
+
+abbrev pub routes_after : List (ℕ × ℕ) → List Item → List (ℕ × ℕ)
+routes_after routes [] = routes
+routes_after routes (x ∷ xs) = routes_after (with_route routes x) xs
+
+-- the connection of each key's last routed `ready`, in key order
+unfoldable pub routes : List Entry → ℕ → List (ℕ × ℕ)
+routes log n = routes_after [] (routed log n)
+
+abbrev pub keys_in : List (ℕ × ℕ) → List Key
+keys_in routes = map (λ r. record { 0 = r.0 }) routes
+
+-- the connection to a key that the router has
+abbrev pub route_to : List (ℕ × ℕ) → Key → Option ℕ
+route_to routes key = lookup (λ k. key.0 == k) routes
+
+-- ---- connections
+
+abbrev pub key_at : List Config → ℕ → Key
+key_at configs n = elim (slice_get configs n) [ None ↦ record { 0 = 0 } | Some c ↦ c.public_key ]
+
+abbrev pub half_of : List Config → ℕ → Act → Reply → Option Half
+half_of configs n (act.Join a b) reply.Ok =
+    cond (n == a) (Some (record { peer = key_at configs b; writes = side.Out }))
+    (cond (n == b) (Some (record { peer = key_at configs a; writes = side.In })) None)
+half_of configs n _ _ = None
+
+abbrev pub half_in : List Config → ℕ → Option Entry → Option Half
+half_in configs n None = None
+half_in configs n (Some e) = half_of configs n e.event.act e.reply
+
+-- the node's half of the connection that an event made
+unfoldable pub half_at : List Config → List Entry → ℕ → ℕ → Option Half
+half_at configs log n conn = half_in configs n (slice_get log conn)
+
+abbrev pub steps_sender : ℕ → ℕ → Act → Bool
+steps_sender n conn (act.SendStep e m) = (m == n) && (e == conn)
+steps_sender n conn _ = false
+
+abbrev pub is_answer : Item → Bool
+is_answer item.Answer = true
+is_answer _ = false
+
+abbrev pub answers_by : ℕ → ℕ → List Entry → Entry → List Bool
+answers_by n conn before e = cond (steps_sender n conn e.event.act) (map is_answer (taken before e)) []
+
+-- whether the half took its router's answer
+unfoldable pub is_running : List Entry → ℕ → ℕ → Bool
+is_running log n conn = list_any (λ b. b) (history (answers_by n conn) log)
+
+abbrev pub joins : ℕ → ℕ → Act → Reply → Bool
+joins a b (act.Join x y) reply.Ok = ((x == a) && (y == b)) || ((x == b) && (y == a))
+joins a b _ _ = false
+
+-- whether two nodes were joined
+unfoldable pub is_joined : List Entry → ℕ → ℕ → Bool
+is_joined log a b = list_any (λ e. joins a b e.event.act e.reply) log

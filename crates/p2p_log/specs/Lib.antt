@@ -1,0 +1,10 @@
+pub mod Copies
+pub mod Effect
+pub mod Facts
+pub mod Fates
+pub mod Frames
+pub mod Lawful
+pub mod Lines
+pub mod QueueCode
+pub mod QueueOrder
+pub mod Valid

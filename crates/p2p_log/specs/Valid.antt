@@ -1,0 +1,87 @@
+-- Valid input: configurations and events that may be asked for. It reads the input alone.
+use Rattle.std.specs.Prelude.{ℕ, ◌+◌, ◌*◌, ◌^◌, Bool, true, false, ◌==◌, ◌&&◌, ◌||◌, not, cond, nat_le, nat_lt, List, [], ◌∷◌, ◌++◌, length, map, Option, Some, None, slice_get, is_some}
+use Rattle.std.specs.List.{list_any}
+use Rattle.p2p_base.specs.declared.key.Key.{Key}
+use Rattle.p2p_log.specs.declared.config.Config.{Config}
+use Rattle.p2p_log.specs.declared.event.Event.{Event}
+use Rattle.p2p_log.specs.declared.event.Rate.{Rate}
+use Rattle.p2p_log.specs.declared.event.Act.{Act}
+use Rattle.p2p_log.specs.declared.event.Act.TheVariants as act
+use Rattle.p2p_log.specs.Facts.{has_started, registered, capacity_for, capacity_in, sum_capacities}
+use Rattle.p2p_log.specs.Effect.{mailbox_size_at, limit_at}
+
+-- ---- configurations
+
+-- what can be counted in 64 bits
+abbrev pub fits_usize : ℕ → Bool
+fits_usize n = nat_lt n (2 ^ 64)
+
+-- sizes and counts are 1 or more, a link takes the messages, and the retained peers can be counted
+abbrev pub fits : Config → Bool
+fits c =
+    (((nat_lt 0 c.max_peers_per_set && nat_lt 0 c.mailbox_size) && (nat_lt 0 c.tracked_peer_sets && nat_lt 0 c.send_batch_size))
+    && nat_le c.max_message_size 16777200)
+    && fits_usize (c.max_peers_per_set * c.tracked_peer_sets)
+
+abbrev pub has_key : Key → Config → Bool
+has_key key c = c.public_key.0 == key.0
+
+-- a configuration that fits, with a key that none of these has
+abbrev pub is_valid_config : List Config → Config → Bool
+is_valid_config before c = fits c && not (list_any (has_key c.public_key) before)
+
+-- the first configuration that breaks this, of those after these
+unfoldable pub config_fault_from : List Config → List Config → Option ℕ
+config_fault_from before [] = None
+config_fault_from before (c ∷ cs) = cond (is_valid_config before c) (config_fault_from (before ++ c ∷ []) cs) (Some (length before))
+
+abbrev pub config_fault : List Config → Option ℕ
+config_fault configs = config_fault_from [] configs
+
+-- ---- events
+
+abbrev pub last_moment : List Event → ℕ
+last_moment [] = 0
+last_moment (v ∷ []) = v.at
+last_moment (v ∷ w ∷ vs) = last_moment (w ∷ vs)
+
+-- whether an act is a join of the node
+abbrev pub joins_node : ℕ → Option Event → Bool
+joins_node n None = false
+joins_node n (Some v) = elim v.act [ act.Join a b ↦ (a == n) || (b == n) | _ ↦ false ]
+
+-- whether an earlier event is a join of the node
+abbrev pub names_join : List Event → ℕ → ℕ → Bool
+names_join events n conn = joins_node n (slice_get events conn)
+
+-- a channel is registered once, before the start, and its capacity and their sum can be counted
+abbrev pub may_register : List Config → List Event → ℕ → ℕ → Rate → Bool
+may_register configs events c n rate =
+    let channels = registered configs events n in
+    let capacity = capacity_for (slice_get configs n) rate in
+    (not (has_started events n) && not (is_some (capacity_in channels c)))
+    && (fits_usize capacity && fits_usize (mailbox_size_at configs n + (sum_capacities channels + capacity)))
+
+-- an event names a node in range, and earlier events of the kind that it needs; a message is as long as the node lets it be
+abbrev pub may_act : List Config → List Event → Act → Bool
+may_act configs events (act.Register c n rate) = nat_lt n (length configs) && may_register configs events c n rate
+may_act configs events (act.Start n) = nat_lt n (length configs) && not (has_started events n)
+may_act configs events (act.Join a b) = nat_lt a (length configs) && nat_lt b (length configs)
+may_act configs events (act.Send bytes c n priority to) = nat_lt n (length configs) && nat_le (length bytes) (limit_at configs n)
+may_act configs events (act.Router n) = nat_lt n (length configs)
+may_act configs events (act.SendStep conn n) = nat_lt n (length configs) && names_join events n conn
+may_act configs events (act.RecvStep conn n) = nat_lt n (length configs) && names_join events n conn
+may_act configs events (act.Recv c n) = nat_lt n (length configs)
+
+-- moments never go back
+unfoldable pub is_valid_event : List Config → List Event → Event → Bool
+is_valid_event configs events v = nat_le (last_moment events) v.at && may_act configs events v.act
+
+-- the first event that breaks this, of those after these
+unfoldable pub event_fault_from : List Config → List Event → List Event → Option ℕ
+event_fault_from configs before [] = None
+event_fault_from configs before (v ∷ vs) =
+    cond (is_valid_event configs before v) (event_fault_from configs (before ++ v ∷ []) vs) (Some (length before))
+
+abbrev pub event_fault : List Config → List Event → Option ℕ
+event_fault configs script = event_fault_from configs [] script

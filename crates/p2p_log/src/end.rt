@@ -1,0 +1,32 @@
+//! How items and copies end.
+
+/// Why a copy was dropped.
+#[derive(Clone, Copy, Debug)]
+pub enum Cause {
+    /// It was sent on a node that had not started.
+    Unbound,
+    /// Its recipient had no connection.
+    NoConnection,
+    /// The queue of its recipient's connection was full.
+    RelayFull,
+    /// The queue of its channel was full.
+    MailboxFull,
+}
+
+/// What became of a copy.
+#[derive(Clone, Copy, Debug)]
+pub enum Outcome {
+    /// Its reader took it.
+    Delivered,
+    /// It was dropped.
+    Dropped(Cause),
+}
+
+/// An end that an entry makes.
+#[derive(Clone, Copy, Debug)]
+pub enum End {
+    /// The item of this name left its queue untaken.
+    Item(u64, u64),
+    /// The copy of this name ended.
+    Copy(u64, u64, Outcome),
+}

@@ -1,0 +1,36 @@
+//! What came of an event.
+use crate::end::End;
+use crate::event::Event;
+use crate::item::Item;
+use crate::queue::Queue;
+use bytes::Bytes;
+use p2p_base::{Key, List};
+
+/// The answer to an event.
+#[derive(Drop)]
+pub enum Reply {
+    /// It was done.
+    Ok,
+    /// No input of that actor was ready.
+    Idle,
+    /// Nothing waits there yet.
+    Pending,
+    /// What was named has ended, or never came about.
+    Gone,
+    /// The channel was registered, and its queue holds this many messages.
+    Capacity(usize),
+    /// The message was accepted for these recipients.
+    Sent(List<Key>),
+    /// A message, and the key of its sender.
+    Message { bytes: Bytes, from: Key },
+}
+
+/// An event, its reply, the names of the items that it took, what it put in which queue, and what it ended.
+#[derive(Drop)]
+pub struct Entry {
+    pub event: Event,
+    pub reply: Reply,
+    pub takes: List<(u64, u64)>,
+    pub puts: List<(Queue, Item)>,
+    pub ends: List<End>,
+}

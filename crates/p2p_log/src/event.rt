@@ -1,0 +1,161 @@
+//! What is asked of the network.
+ghost use Rattle.std.specs.Prelude.{◌≡◌, IfOk};
+
+use bytes::Bytes;
+use p2p_base::{Key, List};
+use std::alloc::{AllocError, Global};
+
+/// What may be sent on a channel: `burst` messages at once to one key, and one more each `period` nanoseconds.
+#[derive(Clone, Copy, Debug)]
+pub struct Rate {
+    pub burst: u32,
+    pub period: u64,
+}
+
+/// Whom a message is for.
+#[derive(Drop)]
+pub enum Recipients {
+    /// One peer.
+    One(Key),
+    /// These peers, in order; one that is named twice is meant twice.
+    Some(List<Key>),
+}
+
+/// One call, one step of one actor, or one event of a link.
+#[derive(Drop)]
+pub enum Act {
+    /// Makes a sender and a receiver of a channel at a node.
+    Register {
+        channel: u64,
+        node: u64,
+        quota: Rate,
+    },
+    /// Starts a node.
+    Start {
+        node: u64,
+    },
+    /// Joins two started nodes by an open link, which the first of them dialed.
+    Join {
+        a: u64,
+        b: u64,
+    },
+    /// Sends bytes on a channel.
+    Send {
+        bytes: Bytes,
+        channel: u64,
+        node: u64,
+        priority: bool,
+        to: Recipients,
+    },
+    /// One step of a node's router.
+    Router {
+        node: u64,
+    },
+    /// One step of the sending half of a connection.
+    SendStep {
+        conn: u64,
+        node: u64,
+    },
+    /// One step of the receiving half of a connection.
+    RecvStep {
+        conn: u64,
+        node: u64,
+    },
+    /// Takes a message from a channel.
+    Recv {
+        channel: u64,
+        node: u64,
+    },
+}
+
+/// An act at a moment, in nanoseconds, with the seed of what it draws.
+#[derive(Drop)]
+pub struct Event {
+    pub at: u64,
+    pub seed: u64,
+    pub act: Act,
+}
+
+impl Recipients {
+    ghost use Rattle.p2p_log.specs.Effect.{keys_of_recipients};
+
+    /// Equal recipients.
+    pub fn try_clone(&self, alloc: Global) -> Result<Recipients, AllocError>
+        ensures { IfOk result (λ r. r ≡ self.now) }
+    {
+        match self {
+            Recipients::One(key) => Ok(Recipients::One(*key)),
+            Recipients::Some(keys) => Ok(Recipients::Some(keys.try_clone(alloc)?)),
+        }
+    }
+
+    /// The keys, in order.
+    pub fn keys(&self, alloc: Global) -> Result<List<Key>, AllocError>
+        ensures { IfOk result (λ keys. keys ≡ keys_of_recipients self.now) }
+    {
+        match self {
+            Recipients::One(key) => Ok(List::from_slice(alloc, &[*key])?),
+            Recipients::Some(keys) => Ok(keys.try_clone(alloc)?),
+        }
+    }
+}
+
+impl Act {
+    /// An equal act.
+    pub fn try_clone(&self, alloc: Global) -> Result<Act, AllocError>
+        ensures { IfOk result (λ a. a ≡ self.now) }
+    {
+        match self {
+            Act::Register {
+                channel,
+                node,
+                quota,
+            } => Ok(Act::Register {
+                channel: *channel,
+                node: *node,
+                quota: *quota,
+            }),
+            Act::Start { node } => Ok(Act::Start { node: *node }),
+            Act::Join { a, b } => Ok(Act::Join { a: *a, b: *b }),
+            Act::Send {
+                bytes,
+                channel,
+                node,
+                priority,
+                to,
+            } => Ok(Act::Send {
+                bytes: bytes.clone()?,
+                channel: *channel,
+                node: *node,
+                priority: *priority,
+                to: to.try_clone(alloc)?,
+            }),
+            Act::Router { node } => Ok(Act::Router { node: *node }),
+            Act::SendStep { conn, node } => Ok(Act::SendStep {
+                conn: *conn,
+                node: *node,
+            }),
+            Act::RecvStep { conn, node } => Ok(Act::RecvStep {
+                conn: *conn,
+                node: *node,
+            }),
+            Act::Recv { channel, node } => Ok(Act::Recv {
+                channel: *channel,
+                node: *node,
+            }),
+        }
+    }
+}
+
+impl Event {
+    /// An equal event.
+    pub fn try_clone(&self, alloc: Global) -> Result<Event, AllocError>
+        ensures { IfOk result (λ e. e ≡ self.now) }
+    {
+        Ok(Event {
+            at: self.at,
+            seed: self.seed,
+            act: self.act.try_clone(alloc)?,
+        })
+    }
+}

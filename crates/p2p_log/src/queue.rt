@@ -1,0 +1,143 @@
+//! The queues in which items stand.
+ghost use Rattle.std.specs.Prelude.{◌≡◌};
+ghost use Rattle.p2p_log.specs.QueueCode.{kind_of, owner_of, detail_of};
+
+use std::cmp::Ordering;
+
+/// A direction of a link: `Out` is written by the end that dialed, `In` by the end that listened.
+#[derive(Clone, Copy, Debug)]
+pub enum Side {
+    /// From the dialing end.
+    Out,
+    /// From the listening end.
+    In,
+}
+
+/// The name of a queue. Nodes, channels and connections are named by their numbers.
+#[derive(Clone, Copy, Debug)]
+pub enum Queue {
+    /// The mailbox of a node's router.
+    Router(u64),
+    /// The newest list of peers of a channel.
+    Peers { node: u64, channel: u64 },
+    /// The router's answer to a connection.
+    Ready { node: u64, conn: u64 },
+    /// The messages with priority that a connection has yet to write.
+    High { node: u64, conn: u64 },
+    /// The messages without priority that a connection has yet to write.
+    Low { node: u64, conn: u64 },
+    /// The frames in flight over a link, in one direction.
+    Link { link: u64, side: Side },
+    /// The messages of a channel that wait for their reader.
+    Channel { node: u64, channel: u64 },
+}
+
+impl Queue {
+    /// The place of the queue's kind among the kinds.
+    pub fn kind(&self) -> u64
+        ensures { result ≡ kind_of self.now }
+    {
+        match self {
+            Queue::Router(_) => 0,
+            Queue::Peers { .. } => 1,
+            Queue::Ready { .. } => 2,
+            Queue::High { .. } => 3,
+            Queue::Low { .. } => 4,
+            Queue::Link {
+                side: Side::Out,
+                ..
+            } => 5,
+            Queue::Link { side: Side::In, .. } => 6,
+            Queue::Channel { .. } => 7,
+        }
+    }
+
+    /// The node, or the link, that the queue belongs to.
+    pub fn owner(&self) -> u64
+        ensures { result ≡ owner_of self.now }
+    {
+        match *self {
+            Queue::Router(node) => node,
+            Queue::Peers { node, .. } => node,
+            Queue::Ready { node, .. } => node,
+            Queue::High { node, .. } => node,
+            Queue::Low { node, .. } => node,
+            Queue::Link { link, .. } => link,
+            Queue::Channel { node, .. } => node,
+        }
+    }
+
+    /// The channel or the connection of the queue, or 0 where it has none.
+    pub fn detail(&self) -> u64
+        ensures { result ≡ detail_of self.now }
+    {
+        match *self {
+            Queue::Router(_) => 0,
+            Queue::Peers { channel, .. } => channel,
+            Queue::Ready { conn, .. } => conn,
+            Queue::High { conn, .. } => conn,
+            Queue::Low { conn, .. } => conn,
+            Queue::Link { .. } => 0,
+            Queue::Channel { channel, .. } => channel,
+        }
+    }
+}
+
+impl PartialEq for Queue {
+    ghost use Rattle.p2p_log.specs.QueueOrder.{queue_eq};
+    ghost use Rattle.std.proofs.Common.{rules};
+    ghost use Rattle.std.specs.Cmp.Rules.{comparing};
+
+    ghost eq = { queue_eq };
+
+    ghost laws = { Prim.search (comparing, rules) };
+
+    fn eq(&self, other: &Queue) -> bool {
+        self.kind() == other.kind()
+            && (self.owner() == other.owner() && self.detail() == other.detail())
+    }
+}
+
+impl Eq for Queue {
+    ghost use Rattle.std.proofs.Common.{rules};
+    ghost use Rattle.std.specs.Cmp.Rules.{comparing};
+
+    ghost laws = { Prim.search (comparing, rules) };
+}
+
+impl Ord for Queue {
+    ghost use Rattle.p2p_log.specs.QueueOrder.{queue_cmp};
+    ghost use Rattle.std.proofs.Common.{rules};
+    ghost use Rattle.std.specs.Cmp.Rules.{comparing};
+
+    ghost cmp = { queue_cmp };
+
+    ghost total = { Prim.search (comparing, rules) };
+
+    ghost matches_partial_cmp = { Prim.search (comparing, rules) };
+
+    ghost matches_eq = { Prim.search (comparing, rules) };
+
+    fn cmp(&self, other: &Queue) -> Ordering {
+        self.kind()
+            .cmp(&other.kind())
+            .then(self.owner().cmp(&other.owner()))
+            .then(self.detail().cmp(&other.detail()))
+    }
+}
+
+impl PartialOrd for Queue {
+    ghost use Rattle.p2p_log.specs.QueueOrder.{queue_cmp};
+    ghost use Rattle.std.proofs.Common.{rules};
+    ghost use Rattle.std.specs.Cmp.{partial_order_from_own_ties};
+    ghost use Rattle.std.specs.Cmp.Rules.{comparing};
+    ghost use Rattle.std.specs.Ordering.{as_partial_cmp};
+
+    ghost partial_cmp = { as_partial_cmp queue_cmp };
+
+    ghost laws = { partial_order_from_own_ties (Prim.search (comparing, rules)) (Prim.search (comparing, rules)) };
+
+    fn partial_cmp(&self, other: &Queue) -> Option<Ordering> {
+        Some(self.cmp(other))
+    }
+}

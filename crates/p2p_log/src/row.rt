@@ -1,0 +1,22 @@
+//! What an act comes to.
+use crate::end::End;
+use crate::entry::Reply;
+use crate::item::Item;
+use crate::queue::{Queue, Side};
+use p2p_base::{Key, List};
+
+/// What an act comes to: its reply, the names of the items that it takes, what it puts in which queue, and what it ends.
+#[derive(Drop)]
+pub struct Row {
+    pub reply: Reply,
+    pub takes: List<(u64, u64)>,
+    pub puts: List<(Queue, Item)>,
+    pub ends: List<End>,
+}
+
+/// A node's half of a connection: the key of its peer, and the direction of the link in which it writes.
+#[derive(Clone, Copy, Debug)]
+pub struct Half {
+    pub peer: Key,
+    pub writes: Side,
+}

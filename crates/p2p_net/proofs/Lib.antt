@@ -1,0 +1,15 @@
+pub mod Calls
+pub mod Changes
+pub mod Conns
+pub mod Faults
+pub mod Joins
+pub mod Keeps
+pub mod Moves
+pub mod Nodes
+pub mod Records
+pub mod Routes
+pub mod Running
+pub mod Spares
+pub mod Starts
+pub mod Still
+pub mod Tells

@@ -1,0 +1,21 @@
+use Rattle.std.proofs.Common.{sym, ap, ◌+◌, ◌∙◌, rules}
+use Rattle.std.specs.BTreeMap as tree
+use Rattle.std.specs.Ordering.{nat_cmp}
+use Rattle.p2p_log.specs.declared.entry.Reply.TheVariants as reply
+use Rattle.p2p_log.specs.Effect.{mailbox_size_at}
+use Rattle.p2p_board.proofs.Building.{Builds-only}
+use Rattle.p2p_net.proofs.Nodes.{found}
+use Rattle.p2p_net.proofs.Calls.{send_registered}
+use Rattle.p2p_net.proofs.acts.sending.send.Goals as goal
+
+pub returns-then-not-contains_key-clause-builds : goal.returns-then-not-contains_key-clause-builds
+returns-then-not-contains_key-clause-builds g c = Builds-only c.args.board.now g.log c.only.result reply.Gone c.only.ensures c.requires.1.0
+
+pub returns-clause-row : goal.returns-clause-row
+returns-clause-row g c =
+    let node = c.index-nodes-number.result in
+    let n = c.args.number in
+    let h = c.requires.1.1.0.each n node (found c.args.nodes.now n node c.requires.1.1.1.0 c.index-nodes-number.is) in
+    send_registered c.args.configs.now g.log c.args.board.now c.args.bytes.now c.args.channel n c.args.entry _ c.args.priority node.started c.args.to.now c.in_ok-keys.keys
+    (tree.get nat_cmp node.capacities c.args.channel) c.in_ok-row.row c.requires.1.0 (h.capacities c.args.channel) (sym c.contains_key.ensures ∙ (let t = c.if-not-contains_key.false in search rules)) c.requires.0 h.started
+    (ap (λ k. k + node.total) c.mailbox_of.ensures ∙ ap (λ k. mailbox_size_at c.args.configs.now n + k) h.total) c.in_ok-keys.ensures c.in_ok-row.ensures.row

@@ -1,0 +1,11 @@
+use Rattle.std.proofs.Common.{◌≡◌, ℕ, [], length, Some, ◌≤◌}
+use Rattle.std.specs.Prelude.{slice_get}
+use Rattle.p2p_net.specs.declared.node.Node.{Node}
+use Rattle.p2p_net.specs.Stands.{NodeStands}
+use Rattle.p2p_net.proofs.world.new_nodes.Given as goal
+
+abbrev pub invariant-loop-number : goal.invariant-loop-number
+invariant-loop-number l = record {
+  long : length l.nodes.items ≡ l.number;
+  each : (n : ℕ) (node : Node) → slice_get l.nodes.items n ≡ Some node → NodeStands l.configs [] n node;
+}

@@ -1,0 +1,4 @@
+pub mod Refusals
+pub mod Stands
+pub mod Tells
+pub mod World

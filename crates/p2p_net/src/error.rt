@@ -1,0 +1,28 @@
+//! Why a world does not go on.
+use std::alloc::AllocError;
+use thiserror::Error;
+
+/// Why a world does not go on.
+#[derive(Debug, Drop, Clone, Copy, PartialEq, Eq, Error)]
+pub enum RunError {
+    /// The first configuration that does not fit, or has the key of an earlier one.
+    #[error("configuration {0} is not valid")]
+    Config(usize),
+    /// The first event that may not be asked for.
+    #[error("event {0} is not valid")]
+    Event(usize),
+    /// There was no memory.
+    #[error("out of memory")]
+    Memory,
+}
+
+impl From<AllocError> for RunError {
+    ghost use Rattle.std.specs.Prelude.{◌≡◌};
+    ghost use Rattle.p2p_net.specs.declared.error.RunError.TheVariants as error;
+
+    ghost from_gives = { λ _ e. e ≡ error.Memory };
+
+    fn from(_error: AllocError) -> RunError {
+        RunError::Memory
+    }
+}

@@ -1,0 +1,14 @@
+//! The report of a run, as text: a line of JSON for each entry of the log, one for each copy, and one with the counts.
+#![tactic(auto)]
+
+mod end;
+mod found;
+mod item;
+mod queue;
+mod reply;
+pub mod report;
+#[cfg(test)]
+mod tests;
+mod text;
+
+pub use report::write_report;

@@ -1,0 +1,240 @@
+//! `Actor`, the router itself: one message a step.
+ghost use Rattle.std.specs.Prelude.{◌≡◌, ◌↔◌, ◌≤◌, length, None, IfOk, OnOk, OnErr, IsErr, IsTrue};
+ghost use Rattle.std.specs.Borrow.{sem};
+ghost use Rattle.std.specs.List.Sorted.{IsStrictlySortedBy};
+ghost use Rattle.std.specs.Map.{keys_of};
+ghost use Rattle.std.specs.Option.{option_copied_mut};
+ghost use Rattle.p2p_base.specs.Queue.{empty_queue};
+ghost use Rattle.p2p_router.specs.Messenger.{message_waiting, told_all};
+ghost use Rattle.p2p_router.specs.Routes.{new_routes, peer_of, relay_of};
+ghost use Rattle.p2p_router.specs.Routing.{addressed, copies, copies_put};
+ghost use Rattle.p2p_router.specs.Step.{heard, told_of, stepped_by, routes_by, desk_by, stepped_on, routes_on, desk_on};
+ghost use Rattle.p2p_router.specs.declared.message.Message.TheVariants as message;
+ghost use Rattle.p2p_router.specs.declared.stepped.Stepped.TheVariants as stepped;
+
+use crate::link::Link;
+use crate::routing::{peers_of, recipients_of, route};
+use crate::{Config, Mailbox, Message, Messenger, Stepped, Told};
+use p2p_base::{List, PublicKey};
+use p2p_flow::{Recipients, Relay};
+use p2p_wire::EncodedData;
+use std::alloc::{AllocError, Global};
+use std::collections::BTreeMap;
+use std::marker::Model;
+
+/// The router: a map from peers to the relays of their connections, and the subscriptions that are told when the map's keys change.
+///
+/// Ports `Actor` of commonware-p2p's router.
+#[derive(Drop)]
+pub struct Actor<P: Ord> {
+    links: BTreeMap<P, Link>,
+    subscriptions: Vec<u64>,
+    failed: bool,
+}
+
+impl<P: Ord> Model for Actor<P> {
+    ghost use Rattle.p2p_router.specs.Routes.{Routes};
+
+    ghost Value = { Routes P };
+
+    ghost view = { λ a. record { links = a.links.entries; subscriptions = a.subscriptions.items; failed = a.failed } };
+}
+
+impl<P: PublicKey> Actor<P> {
+    ghost use Rattle.p2p_router.specs.Lends.{lends_relay_of};
+
+    /// A router without peers, and the mailbox for its messages.
+    ///
+    /// Ports `Actor::new` of commonware-p2p's router.
+    pub fn new(alloc: Global, cfg: Config) -> Result<(Actor<P>, Mailbox<P>), AllocError>
+        requires { 1 ≤ cfg.mailbox_size }
+        ensures actor { IfOk result (λ r. r.0 ≡ new_routes) }
+        ensures mailbox { IfOk result (λ r. r.1 ≡ empty_queue cfg.mailbox_size) }
+    {
+        let mailbox = Mailbox::new(alloc, cfg.mailbox_size)?;
+        let actor = Actor {
+            links: BTreeMap::new(alloc),
+            subscriptions: Vec::new(alloc),
+            failed: false,
+        };
+        Ok((actor, mailbox))
+    }
+
+    /// How many peers are connected.
+    pub fn len(&self) -> usize
+        ensures len { result ≡ length self.now.links }
+        ensures ordered { IsStrictlySortedBy P.cmp (keys_of self.now.links) }
+    {
+        self.links.len()
+    }
+
+    /// Takes the oldest message of the messenger's mailbox, and does what it says.
+    ///
+    /// `Err` only where memory runs out. Each later step then answers so.
+    ///
+    /// Ports the turn of the loop of commonware-p2p's router.
+    pub fn step(&mut self, messenger: &mut Messenger<P>) -> Result<Stepped<P>, AllocError>
+        ensures stepped { IfOk result (λ s. s ≡ stepped_on P.cmp self.old messenger.old (message_waiting messenger.old)) }
+        ensures idle { IfOk result (λ s. (s ≡ stepped.Idle) ↔ (message_waiting messenger.old ≡ None)) }
+        ensures actor { OnOk result (self.new ≡ routes_on P.cmp self.old messenger.old (message_waiting messenger.old)) }
+        ensures messenger { OnOk result (messenger.new ≡ desk_on P.cmp self.old messenger.old (message_waiting messenger.old)) }
+        ensures memory { OnErr result (IsTrue self.new.failed) }
+        ensures failed { IsTrue self.old.failed → IsErr result }
+        ensures subscriptions { length messenger.new.lists ≡ length messenger.old.lists }
+    {
+        if self.failed {
+            return Err(AllocError);
+        }
+        self.failed = true;
+        let stepped = self.work(messenger)?;
+        self.failed = false;
+        Ok(stepped)
+    }
+
+    /// The relay of a connection. `None` exactly where no peer's connection is this one.
+    pub fn relay(&mut self, conn: u64) -> Option<&mut Relay<EncodedData>>
+        ensures* writes_back { sem 𝓛 (lends_relay_of P.row P.Ord self.entry conn result) }
+        ensures value { option_copied_mut result ≡ relay_of self.old.links conn }
+    {
+        let Some(peer) = find(&self.links, conn) else {
+            return None;
+        };
+        let Some(link) = self.links.get_mut(&peer) else {
+            return None;
+        };
+        Some(link.relay())
+    }
+
+    // Takes the oldest message and does what it says.
+    #[tactic(auto, unfolding(crate::specs::Messenger::told_all))]
+    fn work(&mut self, messenger: &mut Messenger<P>) -> Result<Stepped<P>, AllocError>
+        ensures stepped { IfOk result (λ s. s ≡ stepped_on P.cmp self.old messenger.old (message_waiting messenger.old)) }
+        ensures actor { OnOk result (self.new ≡ routes_on P.cmp self.old messenger.old (message_waiting messenger.old)) }
+        ensures messenger { OnOk result (messenger.new ≡ desk_on P.cmp self.old messenger.old (message_waiting messenger.old)) }
+        ensures failed { self.new.failed ≡ self.old.failed }
+        ensures subscriptions { length messenger.new.lists ≡ length messenger.old.lists }
+    {
+        match messenger.take() {
+            None => Ok(Stepped::Idle),
+            Some(Message::Ready { peer, relay, conn }) => self.ready(messenger, peer, relay, conn),
+            Some(Message::Release { peer }) => self.release(messenger, peer),
+            Some(
+                Message::Content {
+                    recipients,
+                    encoded,
+                    priority,
+                },
+            ) => self.content(recipients, &encoded, priority),
+            Some(Message::SubscribePeers { subscription }) => {
+                self.subscribe(messenger, subscription)
+            }
+        }
+    }
+
+    // Takes in the relay of a peer's connection, and tells the subscribers.
+    fn ready(
+        &mut self,
+        messenger: &mut Messenger<P>,
+        peer: P,
+        relay: Relay<EncodedData>,
+        conn: u64,
+    ) -> Result<Stepped<P>, AllocError>
+        ensures stepped { IfOk result (λ s. s ≡ stepped_by P.cmp self.old messenger.old (message.Ready peer relay conn)) }
+        ensures actor { OnOk result (self.new ≡ routes_by P.cmp self.old messenger.old (message.Ready peer relay conn)) }
+        ensures messenger { OnOk result (messenger.new ≡ desk_by P.cmp self.old messenger.old (message.Ready peer relay conn)) }
+        ensures failed { self.new.failed ≡ self.old.failed }
+        ensures subscriptions { length messenger.new.lists ≡ length messenger.old.lists }
+    {
+        let alloc = *self.subscriptions.allocator();
+        let _ = self.links.insert(peer, Link { conn, relay })?;
+        let told = tell(alloc, &self.links, messenger, &self.subscriptions)?;
+        self.subscriptions = Vec::from_slice(alloc, told.subscriptions.as_slice())?;
+        Ok(Stepped::Ready { peer, conn, told })
+    }
+
+    // Drops the relay of a peer's connection, and tells the subscribers.
+    fn release(&mut self, messenger: &mut Messenger<P>, peer: P) -> Result<Stepped<P>, AllocError>
+        ensures stepped { IfOk result (λ s. s ≡ stepped_by P.cmp self.old messenger.old (message.Release peer)) }
+        ensures actor { OnOk result (self.new ≡ routes_by P.cmp self.old messenger.old (message.Release peer)) }
+        ensures messenger { OnOk result (messenger.new ≡ desk_by P.cmp self.old messenger.old (message.Release peer)) }
+        ensures failed { self.new.failed ≡ self.old.failed }
+        ensures subscriptions { length messenger.new.lists ≡ length messenger.old.lists }
+    {
+        let alloc = *self.subscriptions.allocator();
+        let _ = self.links.remove(&peer);
+        let told = tell(alloc, &self.links, messenger, &self.subscriptions)?;
+        self.subscriptions = Vec::from_slice(alloc, told.subscriptions.as_slice())?;
+        Ok(Stepped::Release { peer, told })
+    }
+
+    // Puts a copy of a frame into the relay of each recipient.
+    fn content(
+        &mut self,
+        recipients: Recipients<P>,
+        encoded: &EncodedData,
+        priority: bool,
+    ) -> Result<Stepped<P>, AllocError>
+        ensures stepped { IfOk result (λ s. s ≡ stepped.Content (copies P.cmp self.old.links encoded.now priority (addressed self.old.links recipients))) }
+        ensures actor { OnOk result (self.new ≡ record self.old { links = copies_put P.cmp self.old.links encoded.now priority (addressed self.old.links recipients) }) }
+        ensures failed { self.new.failed ≡ self.old.failed }
+    {
+        let alloc = *self.subscriptions.allocator();
+        let peers = recipients_of(alloc, &self.links, recipients)?;
+        let routed = route(alloc, &mut self.links, &peers, encoded, priority)?;
+        Ok(Stepped::Content {
+            copies: List::new(routed),
+        })
+    }
+
+    // Tells one subscriber, and keeps it where its receiver is there.
+    fn subscribe(
+        &mut self,
+        messenger: &mut Messenger<P>,
+        subscription: u64,
+    ) -> Result<Stepped<P>, AllocError>
+        ensures stepped { IfOk result (λ s. s ≡ stepped_by P.cmp self.old messenger.old (message.SubscribePeers subscription)) }
+        ensures actor { OnOk result (self.new ≡ routes_by P.cmp self.old messenger.old (message.SubscribePeers subscription)) }
+        ensures messenger { OnOk result (messenger.new ≡ desk_by P.cmp self.old messenger.old (message.SubscribePeers subscription)) }
+        ensures failed { self.new.failed ≡ self.old.failed }
+        ensures subscriptions { length messenger.new.lists ≡ length messenger.old.lists }
+    {
+        let alloc = *self.subscriptions.allocator();
+        let told = tell(alloc, &self.links, messenger, &[subscription])?;
+        self.subscriptions
+            .extend_from_slice(told.subscriptions.as_slice())?;
+        Ok(Stepped::SubscribePeers { subscription, told })
+    }
+}
+
+// Puts the list of connected peers for those of the subscriptions whose receivers are there.
+fn tell<P: PublicKey>(
+    alloc: Global,
+    links: &BTreeMap<P, Link>,
+    messenger: &mut Messenger<P>,
+    subscriptions: &[u64],
+) -> Result<Told<P>, AllocError>
+    ensures told { IfOk result (λ t. t ≡ told_of messenger.old links.now.entries subscriptions.now) }
+    ensures messenger { OnOk result (messenger.new ≡ told_all messenger.old (keys_of links.now.entries) (heard messenger.old subscriptions.now)) }
+    ensures subscriptions { length messenger.new.lists ≡ length messenger.old.lists }
+{
+    let peers = peers_of(alloc, links)?;
+    let heard = messenger.heard(alloc, subscriptions)?;
+    messenger.tell_all(alloc, &peers, &heard)?;
+    Ok(Told {
+        peers: List::new(peers),
+        subscriptions: List::new(heard),
+    })
+}
+
+// The peer of a connection.
+#[tactic(auto, unfolding(crate::specs::Routes::peer_of))]
+fn find<P: PublicKey>(links: &BTreeMap<P, Link>, conn: u64) -> Option<P>
+    ensures { result ≡ peer_of links.now.entries conn }
+{
+    for (peer, link) in links {
+        if link.conn == conn {
+            return Some(*peer);
+        }
+    }
+    None
+}

@@ -1,0 +1,5 @@
+pub mod Ending
+pub mod Listing
+pub mod Receipts
+pub mod Spreading
+pub mod Taking

@@ -1,0 +1,19 @@
+//! Reads the JSON tree of a script: the configurations of its nodes, and its events.
+#![tactic(auto)]
+
+mod act;
+mod config;
+mod error;
+mod event;
+mod first_form;
+mod list;
+mod pairs;
+mod parts;
+mod script;
+#[cfg(test)]
+mod tests;
+mod tree;
+
+pub use error::ScriptError;
+pub use first_form::is_first_form;
+pub use script::read_script;

@@ -1,0 +1,65 @@
+-- The network as the program that is run: which trees it runs, and what a world that ran one is.
+use Rattle.std.specs.Prelude.{◌≡◌, ℕ, Bool, ◌&&◌, not, cond, List, Option, Some, None, is_some}
+use Rattle.serde_json.specs.Data.{Data}
+use Rattle.p2p_log.specs.declared.config.Config.{Config}
+use Rattle.p2p_log.specs.declared.event.Event.{Event}
+use Rattle.p2p_log.specs.declared.entry.Entry.{Entry}
+use Rattle.p2p_log.specs.Valid.{config_fault, event_fault}
+use Rattle.p2p_log.specs.Lawful.{IsLawful}
+use Rattle.p2p_ledger.specs.OneEnd.{EachHasOneEnd, NothingElseEnds}
+use Rattle.p2p_ledger.specs.Delivered.{EachIsDelivery}
+use Rattle.p2p_ledger.specs.Order.{AreDeliveredInOrder, EachWentOver, HaveOneConnection}
+use Rattle.p2p_ledger.specs.Causes.{EachDropShowsItsCause}
+use Rattle.p2p_ledger.specs.Fates.{EachHasFate, WaitingIsTrue, DroppedIsTrue, DeliveredIsTrue}
+use Rattle.p2p_script.specs.Form.{script_of}
+use Rattle.p2p_script.specs.FirstForm.{is_first_form}
+use Rattle.p2p_report.specs.ReportText.{report_text}
+use Rattle.p2p_net.specs.World.{WorldView}
+use Rattle.p2p_sim.specs.declared.program.Refusal.{Refusal}
+use Rattle.p2p_sim.specs.declared.program.Refusal.TheVariants as refusal
+
+-- all configurations are valid, and all events
+abbrev pub is_valid : List Config → List Event → Bool
+is_valid configs script = not (is_some (config_fault configs)) && not (is_some (event_fault configs script))
+
+-- a script is run that is of the form that is built so far, and valid
+abbrev pub script_refusal : List Config × List Event → Option Refusal
+script_refusal s = cond (is_first_form s.0 s.1 && is_valid s.0 s.1) None (Some refusal.NotScript)
+
+-- a tree is run that says such a script
+abbrev pub tree_refusal : Option (List Config × List Event) → Option Refusal
+tree_refusal None = Some refusal.NotScript
+tree_refusal (Some s) = script_refusal s
+
+abbrev pub refusal_of : Data → Option Refusal
+refusal_of tree = tree_refusal (script_of tree)
+
+-- the world's log is the one log that is lawful for the configurations and the script
+pub record HasRunScript (configs : List Config) (script : List Event) (world : WorldView) : Type 0 where
+  pub same : world.configs ≡ configs
+  pub lawful : IsLawful configs script world.log
+  pub only : (log : List Entry) → IsLawful configs script log → log ≡ world.log
+
+-- in the log, each copy of each accepted send has exactly one end: delivered once, or waiting in a queue, or dropped;
+-- what is delivered was sent, and in order; each drop shows its cause; and the fate of each copy, which the report tells, is
+-- true
+pub record IsAccounted (configs : List Config) (log : List Entry) : Type 0 where
+  pub one_end : EachHasOneEnd log
+  pub nothing_else : NothingElseEnds log
+  pub delivery : EachIsDelivery configs log
+  pub order : AreDeliveredInOrder log
+  pub connection : EachWentOver configs log
+  pub one_connection : HaveOneConnection configs log
+  pub causes : EachDropShowsItsCause configs log
+  pub fates : EachHasFate log
+  pub waiting : WaitingIsTrue log
+  pub dropped : DroppedIsTrue log
+  pub delivered : DeliveredIsTrue log
+
+-- the tree says a script, the world ran it, and the text is the report of the world's log, in which each copy has its end
+pub record RunsTree (tree : Data) (world : WorldView) (text : List ℕ) : Type 0 where
+  pub script : List Config × List Event
+  pub says : script_of tree ≡ Some script
+  pub ran : HasRunScript script.0 script.1 world
+  pub reports : text ≡ report_text world.log
+  pub accounted : IsAccounted script.0 world.log

@@ -1,0 +1,34 @@
+//! The program `p2p_sim`: reads a script from standard input, runs it and writes the report to standard output.
+#![tactic(auto)]
+
+mod answering;
+mod commands;
+mod fault;
+mod judging;
+mod network;
+mod program;
+mod reading;
+mod status;
+#[cfg(test)]
+mod tests;
+mod top;
+mod words;
+
+use crate::status::Status;
+use crate::top::sim;
+use crate::words::words_of;
+use p2p_base::{StdSink, StdSource};
+use std::process::ExitCode;
+
+fn main(rt: HostRuntime) -> ExitCode {
+    let status = match words_of(&rt) {
+        Ok(words) => {
+            let mut source = StdSource::new(rt.stdin());
+            let mut sink = StdSink::new(rt.stdout());
+            let mut end = None;
+            sim(rt.alloc(), &words, &mut source, &mut sink, &mut end)
+        }
+        Err(status) => status,
+    };
+    ExitCode::from(status.code())
+}

@@ -1,0 +1,99 @@
+//! The network, as the program that the top call runs.
+ghost use Rattle.std.specs.Prelude.{◌≡◌, true, false, List, ℕ, Some, None, Ok, Err, IfOk, OnOk};
+ghost use Rattle.std.specs.String.{string_bytes};
+ghost use Rattle.serde_json.specs.View.{view};
+ghost use Rattle.p2p_log.specs.declared.config.Config.{Config as OneConfig};
+ghost use Rattle.p2p_log.specs.declared.event.Event.{Event as OneEvent};
+ghost use Rattle.p2p_log.specs.declared.entry.Entry.{Entry};
+ghost use Rattle.p2p_log.specs.Lawful.{IsLawful};
+ghost use Rattle.p2p_script.specs.Form.{script_of};
+ghost use Rattle.p2p_script.specs.FirstForm.{is_first_form as is_form};
+ghost use Rattle.p2p_sim.specs.Network.{is_valid, refusal_of as refusal_of_tree, HasRunScript, IsAccounted};
+ghost use Rattle.p2p_sim.specs.declared.program.RunError.TheVariants as run_error;
+
+use crate::program::{Program, Refusal, RunError};
+use p2p_base::List;
+use p2p_ledger::{
+    delivered_in_order, each_drop_shows_its_cause, fates_are_true, one_end, only_sent_is_delivered,
+};
+use p2p_log::{Config, Event};
+use p2p_net::{RunError as WorldError, World};
+use p2p_report::write_report;
+use p2p_script::{ScriptError, is_first_form, read_script};
+use serde_json::Value;
+use std::alloc::Global;
+
+/// The program that runs a script on a network.
+pub struct Network;
+
+impl Program for Network {
+    ghost use Rattle.p2p_sim.specs.Network.{refusal_of as refusal_of_tree, RunsTree};
+
+    type World = World;
+
+    ghost refusal_of = { refusal_of_tree };
+
+    ghost Runs = { RunsTree };
+
+    fn run(alloc: Global, tree: &Value) -> Result<(World, String), RunError> {
+        let (configs, script) = read_form(alloc, tree)?;
+        let world = run_script(alloc, configs, script.as_slice())?;
+        account();
+        match write_report(alloc, world.report()) {
+            Ok(text) => Ok((world, text)),
+            Err(_) => Err(RunError::Memory),
+        }
+    }
+}
+
+// Each copy has its end, in each lawful log.
+fn account()
+    ensures { (configs : List OneConfig) (script : List OneEvent) (log : List Entry) → IsLawful configs script log → IsAccounted configs log }
+{
+    one_end();
+    only_sent_is_delivered();
+    delivered_in_order();
+    each_drop_shows_its_cause();
+    fates_are_true();
+}
+
+// Reads a script of the form that is run.
+fn read_form(alloc: Global, tree: &Value) -> Result<(List<Config>, List<Event>), RunError>
+    ensures says { IfOk result (λ s. script_of (view tree.now) ≡ Some s) }
+    ensures form { IfOk result (λ s. is_form s.0 s.1 ≡ true) }
+    ensures refused { (r : Refusal) → result ≡ Err (run_error.Refused r) → refusal_of_tree (view tree.now) ≡ Some r }
+{
+    match read_script(alloc, tree) {
+        Ok((configs, script)) => {
+            test_form(alloc, configs.as_slice(), script.as_slice())?;
+            Ok((configs, script))
+        }
+        Err(ScriptError::NotScript) => Err(RunError::Refused(Refusal::NotScript)),
+        Err(ScriptError::Memory) => Err(RunError::Memory),
+    }
+}
+
+// Tells whether a script has the form that is run.
+fn test_form(alloc: Global, configs: &[Config], script: &[Event]) -> Result<(), RunError>
+    ensures form { OnOk result (is_form configs.now script.now ≡ true) }
+    ensures refused { (r : Refusal) → result ≡ Err (run_error.Refused r) → (r ≡ Refusal.NotScript) × (is_form configs.now script.now ≡ false) }
+{
+    match is_first_form(alloc, configs, script) {
+        Ok(true) => Ok(()),
+        Ok(false) => Err(RunError::Refused(Refusal::NotScript)),
+        Err(_) => Err(RunError::Memory),
+    }
+}
+
+// Runs a script that was read.
+fn run_script(alloc: Global, configs: List<Config>, script: &[Event]) -> Result<World, RunError>
+    ensures ran { IfOk result (λ w. HasRunScript configs script.now w) }
+    ensures valid { OnOk result (is_valid configs script.now ≡ true) }
+    ensures refused { (r : Refusal) → result ≡ Err (run_error.Refused r) → (r ≡ Refusal.NotScript) × (is_valid configs script.now ≡ false) }
+{
+    match World::run(alloc, configs, script) {
+        Ok(world) => Ok(world),
+        Err(WorldError::Memory) => Err(RunError::Memory),
+        Err(_) => Err(RunError::Refused(Refusal::NotScript)),
+    }
+}

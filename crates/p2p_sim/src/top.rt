@@ -1,0 +1,75 @@
+//! The top call.
+ghost use Rattle.std.specs.Prelude.{◌≡◌, ℕ, ◌+◌, ◌≤◌, ◌↔◌, ◌⊎◌, List, [], ◌++◌, length, Some, None, IfSome};
+ghost use Rattle.std.specs.Option.{option_map};
+ghost use Rattle.serde_json.specs.Data.{Data};
+ghost use Rattle.p2p_base.specs.Streams.{Rose};
+ghost use Rattle.p2p_sim.specs.Input.{Takes, json_of};
+ghost use Rattle.p2p_sim.specs.Outcomes.{IsRefusal, IsSilent, HasRefused, HasStopped};
+ghost use Rattle.p2p_net.specs.World.{WorldView};
+ghost use Rattle.p2p_sim.specs.Network.{refusal_of, RunsTree};
+ghost use Rattle.p2p_sim.specs.Words.{IsRunCommand};
+ghost use Rattle.p2p_sim.specs.declared.program.Refusal.TheVariants as refusal;
+ghost use Rattle.p2p_sim.specs.declared.status.Status.TheVariants as status;
+
+use crate::commands::sim_with;
+use crate::network::Network;
+use crate::reading::LIMIT;
+use crate::status::Status;
+use p2p_base::{Sink, Source};
+use p2p_net::World;
+use std::alloc::Global;
+
+/// Does the command that the words name. `run` reads the source to its end, runs what it read, writes the report and
+/// leaves the world in `end`.
+///
+/// The statuses are tested in this order: other words; a fault of the source or too long an input, as reading meets it;
+/// an input that isn't run, of which one line is written; a fault of the sink. Want of memory may come at any point after
+/// the words, and has written nothing. `end` is as it was but after `Ok`.
+pub fn sim<S: Source, K: Sink>(
+    alloc: Global,
+    words: &[String],
+    source: &mut S,
+    sink: &mut K,
+    end: &mut Option<World>,
+) -> Status
+    ensures usage { (result ≡ status.Usage) ↔ ¬ IsRunCommand words.now }
+    ensures untouched { result ≡ status.Usage → source.new ≡ source.old }
+
+    // Reading.
+    ensures read_fault { result ≡ status.ReadFault → Rose (S.faults_of source.old) (S.faults_of source.new) }
+    ensures taken { (taken : List ℕ) × Takes (S.bytes_left source.old) taken (S.bytes_left source.new)
+        × (length taken ≤ LIMIT + 1) × ((result ≡ status.TooLong) ↔ (length taken ≡ LIMIT + 1)) }
+    ensures source_end { ¬ IsSilent result → IfSome (S.bytes_left source.new) (λ rest. rest ≡ []) }
+
+    // What is written is the report of the world that is left, and the world ran the tree of the input.
+    ensures report { result ≡ status.Ok → (input : List ℕ) → S.bytes_left source.old ≡ Some input
+        → (tree : Data) × (world : WorldView) × (report : List ℕ) × (json_of input ≡ Some tree) × (refusal_of tree ≡ None)
+        × RunsTree tree world report × (end.new ≡ Some world)
+        × (K.bytes_held sink.new ≡ option_map (λ held. held ++ report) (K.bytes_held sink.old)) }
+
+    // An input that isn't run has a cause, and its line is written.
+    ensures not_json { result ≡ status.NotJson → (input : List ℕ) → S.bytes_left source.old ≡ Some input → json_of input ≡ None }
+    ensures not_script { result ≡ status.NotScript → (input : List ℕ) → S.bytes_left source.old ≡ Some input
+        → (tree : Data) × (json_of input ≡ Some tree) × (refusal_of tree ≡ Some refusal.NotScript) }
+    ensures config { result ≡ status.Config → (input : List ℕ) → S.bytes_left source.old ≡ Some input
+        → (tree : Data) × (i : ℕ) × (json_of input ≡ Some tree) × (refusal_of tree ≡ Some (refusal.Config i)) }
+    ensures event { result ≡ status.Event → (input : List ℕ) → S.bytes_left source.old ≡ Some input
+        → (tree : Data) × (i : ℕ) × (json_of input ≡ Some tree) × (refusal_of tree ≡ Some (refusal.Event i)) }
+    ensures line { IsRefusal result → (input : List ℕ) → S.bytes_left source.old ≡ Some input
+        → HasRefused refusal_of input result (K.bytes_held sink.old) (K.bytes_held sink.new) }
+
+    // Writing, and what stays as it was.
+    ensures write_fault { result ≡ status.WriteFault → Rose (K.faults_of sink.old) (K.faults_of sink.new) }
+    ensures front { result ≡ status.WriteFault → (input : List ℕ) → S.bytes_left source.old ≡ Some input
+        → HasStopped refusal_of RunsTree input (K.bytes_held sink.old) (K.bytes_held sink.new) }
+    ensures unwritten { IsSilent result → sink.new ≡ sink.old }
+    ensures end_kept { ¬ (result ≡ status.Ok) → end.new ≡ end.old }
+
+    // A script within the limit is run, but for want of memory, where no count rises.
+    ensures complete { (input : List ℕ) → (tree : Data) → IsRunCommand words.now
+        → S.bytes_left source.old ≡ Some input → length input ≤ LIMIT → json_of input ≡ Some tree → refusal_of tree ≡ None
+        → ¬ Rose (S.faults_of source.old) (S.faults_of source.new) → ¬ Rose (K.faults_of sink.old) (K.faults_of sink.new)
+        → (result ≡ status.Ok) ⊎ (result ≡ status.Memory) }
+{
+    sim_with::<Network, S, K>(alloc, words, source, sink, end)
+}
