@@ -67,8 +67,20 @@ type Row = (
 
 // The calls are of one byte each.
 const ROWS: [Row; 13] = [
-    (NOTHING, &[], &[], Status::Ok, "{\"copies\":0,\"entries\":0}\n"),
-    (b" {\"script\":[],\n\"configs\":[]} ", &[], &[], Status::Ok, "{\"copies\":0,\"entries\":0}\n"),
+    (
+        NOTHING,
+        &[],
+        &[],
+        Status::Ok,
+        "{\"copies\":0,\"entries\":0}\n",
+    ),
+    (
+        b" {\"script\":[],\n\"configs\":[]} ",
+        &[],
+        &[],
+        Status::Ok,
+        "{\"copies\":0,\"entries\":0}\n",
+    ),
     (b"", &[], &[], Status::NotJson, JSON),
     (b"{\"configs\":[", &[], &[], Status::NotJson, JSON),
     (b"7 7", &[], &[], Status::NotJson, JSON),
