@@ -1,0 +1,6 @@
+use Rattle.std.proofs.Common.{rules}
+use Rattle.p2p_threads.proofs.Moves.{checks}
+use Rattle.p2p_threads.proofs.steps.check.Goals as goal
+
+pub load-requires : goal.load-requires
+load-requires g c = (c.requires.seat.0, search rules, checks g.T.Served.reply g.T.Served.next c.args.table.now.key.value _ _ c.args.seat.now.me)

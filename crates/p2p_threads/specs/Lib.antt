@@ -1,0 +1,5 @@
+pub mod History
+pub mod Account
+pub mod Turns
+pub mod Steps
+pub mod Seats

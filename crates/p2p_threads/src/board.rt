@@ -1,0 +1,61 @@
+//! The table that the threads share: its words, its slot, and what each seat knows.
+use crate::served::Served;
+use atomic_table::{Seat, Shared, Table, TableRule};
+use std::alloc::Global;
+use std::collections::LinkedList;
+use std::marker::PhantomData;
+use std::snapshot::Snapshot;
+
+/// 1 while a seat is inside.
+pub(crate) const BUSY: usize = 0;
+
+/// How many calls the history has.
+pub(crate) const LENGTH: usize = 1;
+
+/// What the slot holds: the object, and the calls that were made of it.
+#[derive(Drop)]
+pub struct Cell<O, C, R> {
+    pub object: O,
+    pub history: Vec<(C, R)>,
+}
+
+/// What a seat at the table knows. No value of it is made.
+pub struct Sight<O, C, R> {
+    /// The object before the first call.
+    pub first: Option<O>,
+    pub inside: bool,
+    /// The length that was read inside.
+    pub kept: Option<u64>,
+    /// A beginning of the history.
+    pub seen: LinkedList<(C, R)>,
+    /// A beginning that a joined seat had seen.
+    pub told: LinkedList<(C, R)>,
+    /// The calls that were made, with their places.
+    pub made: LinkedList<(u64, (C, R))>,
+}
+
+pub struct Turnstile<T> {
+    of: PhantomData<T>,
+}
+
+impl<T: Served> TableRule<
+    Option<Cell<T, T::Call, T::Reply>>,
+    Sight<T, T::Call, T::Reply>,
+    Snapshot<T>,
+> for Turnstile<T> {
+    ghost use Rattle.p2p_threads.specs.Turns.{Ruled, founding};
+
+    ghost holds = { λ o. Ruled T.reply T.next o.value };
+
+    ghost first = { λ o. founding o.value };
+}
+
+pub(crate) type Slot<T> = Option<Cell<T, <T as Served>::Call, <T as Served>::Reply>>;
+
+pub(crate) type Known<T> = Sight<T, <T as Served>::Call, <T as Served>::Reply>;
+
+pub(crate) type Place<T> = Seat<Slot<T>, Known<T>>;
+
+pub(crate) type Board<T> = Table<Slot<T>, Known<T>, Snapshot<T>, Turnstile<T>, Global>;
+
+pub(crate) type Stage<T> = Shared<Slot<T>, Known<T>, Snapshot<T>, Turnstile<T>>;

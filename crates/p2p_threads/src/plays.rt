@@ -1,0 +1,64 @@
+//! What each step on the table tells, and how views are cut and joined.
+ghost use Rattle.p2p_threads.specs.Steps.{entered, measured, raised, left, checked};
+
+use crate::board::{Cell, Sight};
+use crate::served::Served;
+use atomic_table::{Join, Play, Split};
+use std::marker::PhantomData;
+
+/// The bar was passed, and the slot taken.
+pub(crate) struct Enter<T> {
+    of: PhantomData<T>,
+}
+
+impl<T: Served> Play<Option<Cell<T, T::Call, T::Reply>>, Sight<T, T::Call, T::Reply>> for Enter<T> {
+    ghost then = { entered T.reply T.next };
+}
+
+/// The length was read.
+pub(crate) struct Measure;
+
+impl<O, C, R> Play<Option<Cell<O, C, R>>, Sight<O, C, R>> for Measure {
+    ghost then = { measured };
+}
+
+/// The length was raised, by the call in hand.
+pub(crate) struct Raise;
+
+impl<O, C, R> Play<Option<Cell<O, C, R>>, Sight<O, C, R>> for Raise {
+    ghost then = { raised };
+}
+
+/// The slot was given back, and the bar left.
+pub(crate) struct Leave;
+
+impl<O, C, R> Play<Option<Cell<O, C, R>>, Sight<O, C, R>> for Leave {
+    ghost then = { left };
+}
+
+/// What was joined was held against the history.
+pub(crate) struct Check;
+
+impl<O, C, R> Play<Option<Cell<O, C, R>>, Sight<O, C, R>> for Check {
+    ghost then = { checked };
+}
+
+pub(crate) struct Cut;
+
+impl<O, C, R> Split<Sight<O, C, R>> for Cut {
+    ghost use Rattle.p2p_threads.specs.Turns.{watcher};
+
+    ghost left = { λ v. v };
+
+    ghost right = { watcher };
+}
+
+pub(crate) struct Merge;
+
+impl<O, C, R> Join<Sight<O, C, R>> for Merge {
+    ghost use Rattle.p2p_threads.specs.Turns.{merged, spent};
+
+    ghost both = { merged };
+
+    ghost spent = { spent };
+}
