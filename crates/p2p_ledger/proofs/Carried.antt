@@ -8,6 +8,7 @@ use Rattle.p2p_log.specs.declared.queue.Queue.TheVariants as queue
 use Rattle.p2p_log.specs.declared.item.Item.{Item}
 use Rattle.p2p_log.specs.declared.item.Item.TheVariants as item
 use Rattle.p2p_log.specs.declared.item.Envelope.{Envelope}
+use Rattle.p2p_log.specs.Effect.{relay_queue}
 use Rattle.p2p_ledger.proofs.Fitting.{is_bare}
 use Rattle.p2p_ledger.proofs.Spreads.{AreFrames}
 use Rattle.p2p_ledger.proofs.Sublists.{IsSublist, IsSublist-nil, IsSublist-refl}
@@ -35,6 +36,10 @@ put_copies xs = flat_map (λ x. copies_of x.1) xs
 abbrev pub is_mailbox : Queue → Bool
 is_mailbox (queue.Router n) = true
 is_mailbox _ = false
+
+pub relay_away : (priority : Bool) (n conn : ℕ) → is_mailbox (relay_queue priority n conn) ≡ false
+relay_away true n conn = refl
+relay_away false n conn = refl
 
 pub copies_of-bare : (i : Item) → is_bare i ≡ true → copies_of i ≡ []
 copies_of-bare (item.Subscribe c) h = refl

@@ -25,7 +25,7 @@ use Rattle.p2p_log.proofs.Names.{same_name-refl}
 use Rattle.p2p_log.proofs.Queues.{same_queue-refl}
 use Rattle.p2p_ledger.specs.Fates.{WaitsIn, EndsAt, IsReadFrom, EachHasFate, WaitingIsTrue, DroppedIsTrue, DeliveredIsTrue}
 use Rattle.p2p_ledger.proofs.Drops.{IsRead, each_read}
-use Rattle.p2p_ledger.proofs.Each.{Has, Has-get, Each-has, Each-passing}
+use Rattle.p2p_ledger.proofs.Each.{Has, Has-get, Has-kept, Each-has, Each-passing}
 use Rattle.p2p_ledger.proofs.FirstEnd.{times_at, ended_place, ended_none, ended_is}
 use Rattle.p2p_ledger.proofs.Ledger.{Kept-end}
 use Rattle.p2p_ledger.proofs.Puts.{IsPut, each_put}
@@ -35,17 +35,6 @@ use Rattle.p2p_ledger.proofs.Spreading.{one}
 use Rattle.p2p_ledger.proofs.Telling.{get_longer}
 
 -- ---- lists
-
-Has-kept : {X : Type 0} (p : X → Bool) (xs : List X) (x : X) → p x ≡ true → Has xs x → Has (filter p xs) x
-Has-kept p [] x t h = absurd h
-Has-kept p (y ∷ ys) x t h = elim h [
-  | inl e ↦ subst (λ b. Has (cond b (y ∷ filter p ys) (filter p ys)) x) (sym (ap p e ∙ t)) (inl e)
-  | inr l ↦ later (p y) (Has-kept p ys x t l)
-]
-  where
-    later : (b : Bool) → Has (filter p ys) x → Has (cond b (y ∷ filter p ys) (filter p ys)) x
-    later true k = inr k
-    later false k = k
 
 Has-of_kept : {X : Type 0} (p : X → Bool) (xs : List X) (x : X) → Has (filter p xs) x → Has xs x
 Has-of_kept p [] x h = h

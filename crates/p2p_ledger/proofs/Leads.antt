@@ -23,7 +23,7 @@ use Rattle.p2p_log.specs.Frames.{message_in}
 use Rattle.p2p_log.specs.Effect.{goes_to, relay_queue, other_side}
 use Rattle.p2p_log.proofs.Queues.{same_queue-refl}
 use Rattle.p2p_ledger.specs.Delivered.{IsCopyOf}
-use Rattle.p2p_ledger.proofs.Carried.{copies_of, is_mailbox, copies_of-bare}
+use Rattle.p2p_ledger.proofs.Carried.{copies_of, is_mailbox, relay_away, copies_of-bare}
 use Rattle.p2p_ledger.proofs.ConnShapes.{relayed_fits}
 use Rattle.p2p_ledger.proofs.Fitting.{StandsFit, fits, is_bare}
 use Rattle.p2p_ledger.proofs.FrameLaw.{frames_give}
@@ -108,10 +108,6 @@ relay_owner true true n e m f h = cc
 relay_owner true false n e m f h = absurd (cc)
 relay_owner false true n e m f h = absurd (cc)
 relay_owner false false n e m f h = cc
-
-relay_away : (priority : Bool) (n conn : ℕ) → is_mailbox (relay_queue priority n conn) ≡ false
-relay_away true n conn = refl
-relay_away false n conn = refl
 
 idle_bare : (i : Item) → is_idle i ≡ true → is_bare i ≡ true
 idle_bare (item.Subscribe c) h = refl

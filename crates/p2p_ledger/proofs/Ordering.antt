@@ -22,10 +22,10 @@ use Rattle.p2p_log.specs.Effect.{effect, row, entry_of, relay_queue, other_side}
 use Rattle.p2p_log.proofs.Places.{slice_get-seam}
 use Rattle.p2p_ledger.specs.Order.{is_before, IsDelivered, WentOver, AreDeliveredInOrder, EachWentOver, HaveOneConnection}
 use Rattle.p2p_ledger.proofs.Balance.{live-none}
-use Rattle.p2p_ledger.proofs.Carried.{is_mailbox}
+use Rattle.p2p_ledger.proofs.Carried.{relay_away}
 use Rattle.p2p_ledger.proofs.Delivering.{delivered_copy, reads_from, delivered_by}
 use Rattle.p2p_ledger.proofs.Drops.{IsRead, each_read, read_arrived}
-use Rattle.p2p_ledger.proofs.Each.{Has, Has-get, Has-flat_map, Each-has, Each-from_has}
+use Rattle.p2p_ledger.proofs.Each.{Has, Has-get, Has-kept, Has-flat_map, Each-has, Each-from_has}
 use Rattle.p2p_ledger.proofs.Fitting.{StandsFit}
 use Rattle.p2p_ledger.proofs.FrameLaw.{frames_give}
 use Rattle.p2p_ledger.proofs.Joins.{join_of, one_join, get_take}
@@ -40,10 +40,6 @@ use Rattle.p2p_ledger.proofs.Stages.{copies_in, copies_put, enters_from}
 use Rattle.p2p_ledger.proofs.Sublists.{IsSublist, AreInOrder, before_of_parts, not_both}
 use Rattle.p2p_ledger.proofs.Telling.{StandTells, IsArrived, WentOver-longer}
 use Rattle.p2p_ledger.proofs.Weights.{Each-taken}
-
-relay_away : (priority : Bool) (n conn : ℕ) → is_mailbox (relay_queue priority n conn) ≡ false
-relay_away true n conn = refl
-relay_away false n conn = refl
 
 same_copy : (a b c d : ℕ) → a ≡ c → b ≡ d → ◌≡◌ {A = ℕ × ℕ} (a, b) (c, d)
 same_copy a b c d h k = ap (λ s. (s, b)) h ∙ ap (λ p. (c, p)) k
@@ -191,17 +187,6 @@ module _ (configs : List Config) (script : List Event) (log : List Entry) (lawfu
       itself : (c n : ℕ) → ((c == c) && (n == n)) ≡ true
       itself c n = ap (λ b. b && (n == n)) (eq-eqb c c refl) ∙ eq-eqb n n refl
 
-  Has-filter : (test : ℕ × ℕ → Bool) (xs : List (ℕ × ℕ)) (x : ℕ × ℕ) → test x ≡ true → Has xs x → Has (filter test xs) x
-  Has-filter test [] x t h = absurd h
-  Has-filter test (y ∷ ys) x t h = elim h [
-    | inl e ↦ subst (λ b. Has (cond b (y ∷ filter test ys) (filter test ys)) x) (sym (ap test e ∙ t)) (inl e)
-    | inr l ↦ later (test y) (Has-filter test ys x t l)
-  ]
-    where
-      later : (b : Bool) → Has (filter test ys) x → Has (cond b (y ∷ filter test ys) (filter test ys)) x
-      later true k = inr k
-      later false k = k
-
   Has-drop : {X : Type 0} (xs : List X) (m : ℕ) (x : X) → slice_get xs m ≡ Some x → Has (drop m xs) x
   Has-drop [] m x e = absurd (cc)
   Has-drop (y ∷ ys) zero x e = inl (same_Some y x e)
@@ -234,9 +219,9 @@ module _ (configs : List Config) (script : List Event) (log : List Entry) (lawfu
         ∙ (ap (filter test) (flat_map-append by (take n log) (drop n log)) ∙ filter-append test (flat_map by (take n log)) (flat_map by (drop n log)))
         in
         before_of_parts (filter test (flat_map by (take n log))) (filter test (flat_map by (drop n log))) first second (subst AreInOrder parts order)
-        (Has-filter test (flat_map by (take n log)) first (passes first m a)
+        (Has-kept test (flat_map by (take n log)) first (passes first m a)
         (Has-flat_map by (take n log) a.read first (Has-get (take n log) m a.read (get_take log n m a.read a.read_at h)) (has_delivered sender receiver channel priority first m a)))
-        (Has-filter test (flat_map by (drop n log)) second (passes second n b)
+        (Has-kept test (flat_map by (drop n log)) second (passes second n b)
         (Has-flat_map by (drop n log) b.read second (Has-drop log n b.read b.read_at) (has_delivered sender receiver channel priority second n b)))
 
     -- one entry delivers one copy

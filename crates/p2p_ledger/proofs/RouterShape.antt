@@ -18,7 +18,7 @@ use Rattle.p2p_log.specs.Lines.{name_of, stays, live, line}
 use Rattle.p2p_log.specs.Facts.{is_up, subscribers, routes, with_route, keys_in}
 use Rattle.p2p_log.specs.Copies.{carries, carries_copy}
 use Rattle.p2p_log.specs.Effect
-use Rattle.p2p_ledger.proofs.Carried.{copies_of, put_copies, is_mailbox, IsSublist-bare, IsSublist-frames}
+use Rattle.p2p_ledger.proofs.Carried.{copies_of, put_copies, is_mailbox, relay_away, IsSublist-bare, IsSublist-frames}
 use Rattle.p2p_ledger.proofs.Each.{Has, Each-has, Each-from_has, Each-always, Each-filter, Each-map, Each-weaker}
 use Rattle.p2p_ledger.proofs.Fitting.{Fits, StandsFit, fits, is_bare, is_item_end}
 use Rattle.p2p_ledger.proofs.Shape.{Shape, Origin, Moved-all, accepts, EndsBare, still, no_delivery, bare_balanced, no_items_end, one_taken, stands_first, first_has, count_by-single, accepts-none, is_idle}
@@ -32,10 +32,6 @@ use Rattle.p2p_ledger.proofs.Spreading.{borne_by, from_place, from_first, one}
 relay_fits : (priority : Bool) (n conn : ℕ) (copy : Option (ℕ × ℕ)) (frame : List ℕ) → fits (Effect.relay_queue priority n conn) (item.Frame copy frame) ≡ true
 relay_fits true n conn copy frame = refl
 relay_fits false n conn copy frame = refl
-
-relay_away : (priority : Bool) (n conn : ℕ) → is_mailbox (Effect.relay_queue priority n conn) ≡ false
-relay_away true n conn = refl
-relay_away false n conn = refl
 
 module _ (configs : List Config) (log : List Entry) (n : ℕ) (stand : Each StandsFit (live log))
     (x : Envelope) (rest : List Envelope) (first : line log (queue.Router n) ≡ x ∷ rest) where

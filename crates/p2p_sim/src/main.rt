@@ -8,6 +8,8 @@ mod judging;
 mod network;
 mod program;
 mod reading;
+#[cfg(test)]
+mod script_tests;
 mod status;
 #[cfg(test)]
 mod tests;

@@ -95,7 +95,7 @@ const ROWS: [Row; 13] = [
 ];
 
 // The status, whether there is a world, and what the sink holds, where a call moves at most so many bytes.
-fn outcome(
+pub fn outcome(
     alloc: Global,
     words: &[&str],
     row: &Row,

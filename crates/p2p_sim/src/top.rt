@@ -4,6 +4,7 @@ ghost use Rattle.std.specs.Option.{option_map};
 ghost use Rattle.serde_json.specs.Data.{Data};
 ghost use Rattle.p2p_base.specs.Streams.{Rose};
 ghost use Rattle.p2p_sim.specs.Input.{Takes, json_of};
+ghost use Rattle.p2p_sim.specs.Judged.{judged, status_due};
 ghost use Rattle.p2p_sim.specs.Outcomes.{IsRefusal, IsSilent, HasRefused, HasStopped};
 ghost use Rattle.p2p_net.specs.World.{WorldView};
 ghost use Rattle.p2p_sim.specs.Network.{refusal_of, RunsTree};
@@ -65,11 +66,11 @@ pub fn sim<S: Source, K: Sink>(
     ensures unwritten { IsSilent result → sink.new ≡ sink.old }
     ensures end_kept { ¬ (result ≡ status.Ok) → end.new ≡ end.old }
 
-    // A script within the limit is run, but for want of memory, where no count rises.
-    ensures complete { (input : List ℕ) → (tree : Data) → IsRunCommand words.now
-        → S.bytes_left source.old ≡ Some input → length input ≤ LIMIT → json_of input ≡ Some tree → refusal_of tree ≡ None
+    // Where no count rises, the input alone decides, but for want of memory: it is no JSON, or its tree is refused, or run.
+    ensures complete { (input : List ℕ) → IsRunCommand words.now
+        → S.bytes_left source.old ≡ Some input → length input ≤ LIMIT
         → ¬ Rose (S.faults_of source.old) (S.faults_of source.new) → ¬ Rose (K.faults_of sink.old) (K.faults_of sink.new)
-        → (result ≡ status.Ok) ⊎ (result ≡ status.Memory) }
+        → (result ≡ status_due (judged refusal_of input)) ⊎ (result ≡ status.Memory) }
 {
     sim_with::<Network, S, K>(alloc, words, source, sink, end)
 }
