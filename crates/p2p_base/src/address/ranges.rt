@@ -4,12 +4,14 @@ ghost use Rattle.std.specs.List.{list_any};
 ghost use Rattle.p2p_base.specs.Ranges.{in_v4, in_v6, is_global_v4, is_global_v6};
 
 /// The IPv4 addresses whose first `bits` bits are those of `prefix`.
+#[derive(Debug)]
 pub struct RangeV4 {
     pub prefix: [u8; 4],
     pub bits: u32,
 }
 
 /// The IPv6 addresses whose first `bits` bits are those of `prefix`.
+#[derive(Debug)]
 pub struct RangeV6 {
     pub prefix: [u8; 16],
     pub bits: u32,
