@@ -23,29 +23,37 @@ fn one_number(alloc: Global, n: u64) -> Result<Sample, AllocError>
     Ok(Sample::Numbers(List::from_slice(alloc, &[n])?))
 }
 
-fn named(name: Text, keys: List<Key>) -> Sample
-    ensures { result ≡ sample.Named name keys }
-{
-    Sample::Named { name, keys }
-}
-
 // Whether two lists of one number are equal.
 fn are_equal(alloc: Global, m: u64, n: u64) -> Result<bool, AllocError> {
     let first = one_number(alloc, m)?;
     Ok(first == one_number(alloc, n)?)
 }
 
-// Whether a list and a named list are equal.
+// A named list of two keys.
+fn named_keys(alloc: Global, name: &str) -> Result<Sample, AllocError> {
+    let name = Text::from_str(alloc, name)?;
+    let keys = List::from_slice(alloc, &[Key(1), Key(2)])?;
+    Ok(Sample::Named { name, keys })
+}
+
+// Whether a list named "a" equals one of another name.
+fn names_are_equal(alloc: Global, name: &str) -> Result<bool, AllocError> {
+    let first = named_keys(alloc, "a")?;
+    Ok(first == named_keys(alloc, name)?)
+}
+
+// Whether a named list equals one of one number.
 fn kinds_are_equal(alloc: Global) -> Result<bool, AllocError> {
-    let name = Text::from_str(alloc, "a")?;
-    let named = named(name, List::empty(alloc));
-    Ok(named == one_number(alloc, 7)?)
+    let first = named_keys(alloc, "a")?;
+    Ok(first == one_number(alloc, 7)?)
 }
 
 #[test]
 fn plain_data_compares(rt: HostRuntime) -> Result<(), Fail> {
     assert!(rt; are_equal(rt.alloc(), 7, 7)?);
     assert!(rt; !are_equal(rt.alloc(), 7, 8)?);
+    assert!(rt; names_are_equal(rt.alloc(), "a")?);
+    assert!(rt; !names_are_equal(rt.alloc(), "b")?);
     assert!(rt; !kinds_are_equal(rt.alloc())?);
     Ok(())
 }
