@@ -1,5 +1,5 @@
 -- Equality and clones of entries, by their keys and by their values.
-use Rattle.std.proofs.Common.{◌≡◌, ℕ, suc, Bool, true, false, ◌&&◌, List, [], ◌∷◌, length, refl, sym, ap, ◌∙◌, arith}
+use Rattle.std.proofs.Common.{◌≡◌, Bool, true, false, ◌&&◌, List, [], ◌∷◌, length, refl, ap, ◌∙◌, arith}
 use Rattle.std.specs.List.{AllZip, zip}
 use Rattle.std.specs.Cmp.Lexicographic.{pointwise}
 

@@ -10,7 +10,6 @@ use Rattle.std.specs.BTreeMap.{is_at}
 use Rattle.std.specs.BTreeSet.{replace_key}
 use Rattle.std.specs.declared.cmp.Ordering.{Ordering}
 use Rattle.std.specs.declared.cmp.Ordering.TheVariants.{Less, Equal, Greater}
-use Rattle.std.proofs.lemmas.Bool.{false≢true}
 use Rattle.p2p_base.specs.Sorted.{sorted_once, has_repeat}
 use Rattle.p2p_base.proofs.SortedLists.{all_above, find-sorted_once, sorted-sorted_once}
 

@@ -1,5 +1,6 @@
 //! Tables of addresses: each range's first and last one and the neighbours of both, subnets, and what may be dialed.
 use crate::{Address, Ingress, IpAddr, SocketAddr, Text, is_global, resolve_filtered, subnet};
+use std::alloc::{AllocError, Global};
 use std::test::Fail;
 
 #[test]
@@ -113,36 +114,86 @@ fn subnets_keep_the_first_bits(rt: HostRuntime) {
     );
 }
 
+const HOME: SocketAddr = SocketAddr {
+    ip: IpAddr::V4([10, 0, 0, 1]),
+    port: 80,
+};
+
+const AWAY: SocketAddr = SocketAddr {
+    ip: IpAddr::V4([11, 0, 0, 1]),
+    port: 80,
+};
+
+#[test]
+fn private_ones_are_resolved_by_leave(rt: HostRuntime) -> Result<(), Fail> {
+    let addresses = [HOME, AWAY, HOME];
+    let found = resolve_filtered(rt.alloc(), &addresses, false)?;
+    assert_eq!(rt; found.as_slice(), [AWAY].as_slice());
+    let found = resolve_filtered(rt.alloc(), &addresses, true)?;
+    assert_eq!(rt; found.as_slice(), addresses.as_slice());
+    Ok(())
+}
+
+// A name that is looked up.
+fn named(alloc: Global) -> Result<Ingress, AllocError> {
+    let host = Text::from_str(alloc, "peer.example")?;
+    Ok(Ingress::Dns { host, port: 1 })
+}
+
+// Whether an ingress may be dialed with leave for names alone, and for private addresses alone.
+fn dialed(ingress: &Ingress) -> (bool, bool) {
+    (ingress.is_valid(false, true), ingress.is_valid(true, false))
+}
+
 #[test]
 fn private_ones_and_names_are_dialed_by_leave(rt: HostRuntime) -> Result<(), Fail> {
-    let alloc = rt.alloc();
-    let home = SocketAddr {
-        ip: IpAddr::V4([10, 0, 0, 1]),
-        port: 80,
-    };
-    let away = SocketAddr {
-        ip: IpAddr::V4([11, 0, 0, 1]),
-        port: 80,
-    };
-    let found = resolve_filtered(alloc, &[home, away, home], false)?;
-    assert_eq!(rt; found.as_slice(), [away].as_slice());
-    let found = resolve_filtered(alloc, &[home, away], true)?;
-    assert_eq!(rt; found.as_slice(), [home, away].as_slice());
-    assert!(rt; !Ingress::from(home).is_valid(false, true));
-    assert!(rt; Ingress::from(home).is_valid(true, false));
-    assert!(rt; Ingress::from(away).is_valid(false, false));
-    let host = Text::from_str(alloc, "peer.example")?;
-    let named = Ingress::Dns { host, port: 1 };
-    assert!(rt; named.is_valid(false, true));
-    assert!(rt; !named.is_valid(true, false));
-    let both = Address::Asymmetric {
-        ingress: named.try_clone(alloc)?,
-        egress: away,
-    };
-    assert!(rt; both.ingress(alloc)? == named);
-    assert_eq!(rt; both.egress_ip(), away.ip);
-    assert!(rt; both.clone()? == both);
-    assert!(rt; Address::from(home).ingress(alloc)? == Ingress::Socket(home));
-    assert!(rt; both != Address::from(away));
+    assert_eq!(rt; dialed(&Ingress::from(HOME)), (false, true));
+    assert_eq!(rt; dialed(&Ingress::from(AWAY)), (true, true));
+    assert_eq!(rt; dialed(&named(rt.alloc())?), (true, false));
+    Ok(())
+}
+
+// An address that is dialed by name, and dials from another one.
+fn asymmetric(alloc: Global) -> Result<Address, AllocError> {
+    let ingress = named(alloc)?;
+    Ok(Address::Asymmetric {
+        ingress,
+        egress: AWAY,
+    })
+}
+
+// Whether copies of the address are equal to it.
+fn is_copied(alloc: Global, address: &Address) -> Result<(bool, bool), AllocError> {
+    let cloned = address.clone()? == *address;
+    let copied = address.try_clone(alloc)? == *address;
+    Ok((cloned, copied))
+}
+
+#[test]
+fn an_address_equals_its_copies(rt: HostRuntime) -> Result<(), Fail> {
+    let both = asymmetric(rt.alloc())?;
+    assert_eq!(rt; is_copied(rt.alloc(), &both)?, (true, true));
+    assert!(rt; both != Address::from(AWAY));
+    Ok(())
+}
+
+#[test]
+fn an_address_tells_its_two_ends(rt: HostRuntime) -> Result<(), Fail> {
+    let both = asymmetric(rt.alloc())?;
+    assert_eq!(rt; both.ingress(rt.alloc())?, named(rt.alloc())?);
+    assert_eq!(rt; both.egress_ip(), AWAY.ip);
+    let home = Address::from(HOME);
+    assert_eq!(rt; home.ingress(rt.alloc())?, Ingress::from(HOME));
+    assert_eq!(rt; home.egress_ip(), HOME.ip);
+    Ok(())
+}
+
+#[test]
+fn an_address_prints_its_parts(rt: HostRuntime) -> Result<(), Fail> {
+    let both = asymmetric(rt.alloc())?;
+    let text = format!(in rt.alloc(); "{both:?}")?;
+    let egress = "SocketAddr { ip: V4([11, 0, 0, 1]), port: 80 }";
+    assert!(rt; text.starts_with("Asymmetric { ingress: Dns { host: \"peer.example\", port: 1 }"));
+    assert!(rt; text.contains(egress));
     Ok(())
 }

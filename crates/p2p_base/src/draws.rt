@@ -11,7 +11,7 @@ use std::marker::Model;
 /// Numbers and orders, drawn from the words of a generator.
 ///
 /// None of its calls takes memory.
-#[derive(Drop)]
+#[derive(Drop, Debug)]
 pub struct Draws {
     generator: Pcg32,
 }

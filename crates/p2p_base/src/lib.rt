@@ -41,6 +41,8 @@ pub use text::Text;
 #[cfg(test)]
 mod address_tests;
 #[cfg(test)]
+mod draws_tests;
+#[cfg(test)]
 mod order_tests;
 #[cfg(test)]
 mod tests;

@@ -4,6 +4,7 @@ ghost use Rattle.std.specs.Cmp.Lexicographic.{pointwise, lists_per, lists_equiv}
 ghost use Rattle.std.specs.List.{AllZip};
 
 use std::alloc::{AllocError, AllocFailed, Global};
+use std::fmt::{self, Debug, Formatter, Write};
 use std::marker::Model;
 
 /// A `Vec` that a contract sees as the plain list of its elements.
@@ -119,4 +120,11 @@ impl<T: PartialEq> PartialEq for List<T> {
 
 impl<T: Eq> Eq for List<T> {
     ghost laws = { lists_equiv T.Eq.laws };
+}
+
+/// It prints as a slice does.
+impl<T: Debug> Debug for List<T> {
+    fn fmt<W: Write>(&self, f: &mut Formatter<W>) -> fmt::Result {
+        self.inner.as_slice().fmt(f)
+    }
 }

@@ -14,7 +14,7 @@ const FIRST_PLACES: usize = 4;
 ///
 /// Ports `mailbox` of commonware-p2p's `commonware-actor`, with one value for both of its halves. Memory grows with what waits and
 /// not with the capacity.
-#[derive(Drop)]
+#[derive(Drop, Debug)]
 pub struct Mailbox<T> {
     messages: VecDeque<T>,
     capacity: usize,

@@ -18,7 +18,7 @@ use std::marker::Model;
 /// Values under keys in order, each key once.
 ///
 /// Ports `Map` of commonware-p2p's `commonware-utils`. It keeps the allocator of the `Vec` that it is made of.
-#[derive(Drop)]
+#[derive(Drop, Debug)]
 pub struct Map<P: PublicKey, V> {
     keys: Set<P>,
     values: Vec<V>,

@@ -12,7 +12,7 @@ use std::marker::Model;
 /// Keys, each with a moment.
 ///
 /// Ports `PrioritySet` of commonware-p2p's `commonware-utils`. Each call takes logarithmic time.
-#[derive(Drop)]
+#[derive(Drop, Debug)]
 pub struct PrioritySet<P: PublicKey> {
     moments: BTreeMap<P, u128>,
     queue: BTreeSet<(u128, P)>,

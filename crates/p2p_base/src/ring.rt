@@ -10,7 +10,7 @@ use std::marker::Model;
 /// A queue of at most `capacity` items, which overwrites its oldest item when it is full.
 ///
 /// Ports `ring` of commonware-p2p's `commonware-utils`, with one value for both of its halves.
-#[derive(Drop)]
+#[derive(Drop, Debug)]
 pub struct Ring<T> {
     items: HeapCircularBuffer<T>,
     closed: bool,

@@ -23,36 +23,90 @@ fn one_number(alloc: Global, n: u64) -> Result<Sample, AllocError>
     Ok(Sample::Numbers(List::from_slice(alloc, &[n])?))
 }
 
-fn named(name: Text, keys: List<Key>) -> Sample
-    ensures { result ≡ sample.Named name keys }
-{
-    Sample::Named { name, keys }
+// Whether two lists of one number are equal.
+fn are_equal(alloc: Global, m: u64, n: u64) -> Result<bool, AllocError> {
+    let first = one_number(alloc, m)?;
+    Ok(first == one_number(alloc, n)?)
+}
+
+// A named list of two keys.
+fn named_keys(alloc: Global, name: &str) -> Result<Sample, AllocError> {
+    let name = Text::from_str(alloc, name)?;
+    let keys = List::from_slice(alloc, &[Key(1), Key(2)])?;
+    Ok(Sample::Named { name, keys })
+}
+
+// Whether a list named "a" equals one of another name.
+fn names_are_equal(alloc: Global, name: &str) -> Result<bool, AllocError> {
+    let first = named_keys(alloc, "a")?;
+    Ok(first == named_keys(alloc, name)?)
+}
+
+// Whether a named list equals one of one number.
+fn kinds_are_equal(alloc: Global) -> Result<bool, AllocError> {
+    let first = named_keys(alloc, "a")?;
+    Ok(first == one_number(alloc, 7)?)
 }
 
 #[test]
 fn plain_data_compares(rt: HostRuntime) -> Result<(), Fail> {
-    let alloc = rt.alloc();
-    assert!(rt; one_number(alloc, 7)? == one_number(alloc, 7)?);
-    assert!(rt; one_number(alloc, 7)? != one_number(alloc, 8)?);
-    let keys = List::from_slice(alloc, &[Key(1), Key(2)])?;
-    let name = Text::from_str(alloc, "a")?;
-    let first = named(name.try_clone(alloc)?, keys.try_clone(alloc)?);
-    let second = named(Text::from_str(alloc, "b")?, keys.clone()?);
-    assert!(rt; first == named(name.clone()?, keys));
-    assert!(rt; first != second);
+    assert!(rt; are_equal(rt.alloc(), 7, 7)?);
+    assert!(rt; !are_equal(rt.alloc(), 7, 8)?);
+    assert!(rt; names_are_equal(rt.alloc(), "a")?);
+    assert!(rt; !names_are_equal(rt.alloc(), "b")?);
+    assert!(rt; !kinds_are_equal(rt.alloc())?);
+    Ok(())
+}
+
+// Whether copies of the text are equal to it.
+fn text_is_copied(alloc: Global, text: &Text) -> Result<(bool, bool), AllocError> {
+    let cloned = text.clone()? == *text;
+    Ok((cloned, text.try_clone(alloc)? == *text))
+}
+
+// Whether copies of the list are equal to it.
+fn list_is_copied(alloc: Global, list: &List<Key>) -> Result<(bool, bool), AllocError> {
+    let cloned = list.clone()? == *list;
+    Ok((cloned, list.try_clone(alloc)? == *list))
+}
+
+#[test]
+fn a_text_equals_its_copies_and_prints_in_quotes(rt: HostRuntime) -> Result<(), Fail> {
+    let text = Text::from_str(rt.alloc(), "a")?;
+    assert_eq!(rt; text_is_copied(rt.alloc(), &text)?, (true, true));
+    assert_eq!(rt; format!(in rt.alloc(); "{text:?}")?.as_str(), "\"a\"");
     Ok(())
 }
 
 #[test]
-fn keys_have_bytes_and_text(rt: HostRuntime) -> Result<(), Fail> {
-    let alloc = rt.alloc();
-    let key = Key(300);
-    let bytes = key.to_bytes(alloc)?;
-    assert_eq!(rt; bytes.as_slice(), [0, 0, 0, 0, 0, 0, 1, 44].as_slice());
-    assert_eq!(rt; Key::from_bytes(&bytes), Some(key));
-    assert_eq!(rt; Key::from_bytes(&bytes[1..]), None);
-    assert_eq!(rt; format!(in alloc; "{key}")?.as_str(), "300");
+fn a_list_equals_its_copies_and_prints_as_a_slice(rt: HostRuntime) -> Result<(), Fail> {
+    let list = List::from_slice(rt.alloc(), &[Key(1), Key(2)])?;
+    assert_eq!(rt; list_is_copied(rt.alloc(), &list)?, (true, true));
+    assert_eq!(rt;
+        format!(in rt.alloc(); "{list:?}")?.as_str(),
+        "[Key(1), Key(2)]"
+    );
     Ok(())
+}
+
+#[test]
+fn a_key_prints_in_decimal(rt: HostRuntime) -> Result<(), Fail> {
+    assert_eq!(rt; format!(in rt.alloc(); "{}", Key(300))?.as_str(), "300");
+    Ok(())
+}
+
+#[test]
+fn a_key_has_eight_bytes_high_byte_first(rt: HostRuntime) -> Result<(), Fail> {
+    let bytes = Key(300).to_bytes(rt.alloc())?;
+    assert_eq!(rt; bytes.as_slice(), [0, 0, 0, 0, 0, 0, 1, 44].as_slice());
+    Ok(())
+}
+
+#[test]
+fn eight_bytes_make_a_key_and_seven_none(rt: HostRuntime) {
+    let bytes = [0, 0, 0, 0, 0, 0, 1, 44];
+    assert_eq!(rt; Key::from_bytes(&bytes), Some(Key(300)));
+    assert_eq!(rt; Key::from_bytes(&bytes[1..]), None);
 }
 
 #[derive(Drop, Debug, PartialEq)]
@@ -94,6 +148,12 @@ fn a_mailbox_overflows_by_policy(rt: HostRuntime) -> Result<(), Fail> {
     assert_eq!(rt; mailbox.take(), Some(Note(Keep::Refuse, 0)));
     assert_eq!(rt; mailbox.take(), Some(Note(Keep::Replace, 4)));
     assert_eq!(rt; mailbox.take(), None);
+    Ok(())
+}
+
+#[test]
+fn a_closed_mailbox_hands_messages_back(rt: HostRuntime) -> Result<(), Fail> {
+    let mut mailbox = Mailbox::new(rt.alloc(), 1)?;
     assert_eq!(rt; told(mailbox.enqueue(Note(Keep::Append, 9))), ('o', 0));
     mailbox.close();
     assert_eq!(rt; (mailbox.len(), mailbox.capacity()), (0, 1));
@@ -167,25 +227,38 @@ fn write_pieces<K: Sink>(sink: &mut K, pieces: &[&str]) -> u32 {
     failed
 }
 
+// How many bytes a read gave, with the buffer after it. `None` is a fault.
+fn read_two<S: Source>(source: &mut S, mut buf: [u8; 2]) -> Option<(usize, [u8; 2])> {
+    match source.read(&mut buf) {
+        Ok(n) => Some((n, buf)),
+        Err(Failed) => None,
+    }
+}
+
 #[test]
-fn streams_fail_at_listed_calls(rt: HostRuntime) -> Result<(), Fail> {
-    let alloc = rt.alloc();
+fn a_source_fails_at_listed_calls(rt: HostRuntime) -> Result<(), Fail> {
     let mut source = FailingSource {
-        inner: MemorySource::new(Vec::from_slice(alloc, b"abc")?),
-        failing: List::from_slice(alloc, &[1])?,
+        inner: MemorySource::new(Vec::from_slice(rt.alloc(), b"abc")?),
+        failing: List::from_slice(rt.alloc(), &[1])?,
         calls: 0,
         faults: 0,
     };
-    let mut buf = [0u8; 2];
-    assert!(rt; matches!(source.read(&mut buf), Ok(2)));
-    assert_eq!(rt; buf, [97, 98]);
-    assert!(rt; source.read(&mut buf).is_err());
-    assert!(rt; matches!(source.read(&mut buf), Ok(1)));
-    assert_eq!(rt; buf, [99, 98]);
-    assert!(rt; matches!(source.read(&mut buf), Ok(0)));
+    for want in [
+        Some((2, *b"ab")),
+        None,
+        Some((1, *b"c.")),
+        Some((0, *b"..")),
+    ] {
+        assert_eq!(rt; read_two(&mut source, *b".."), want);
+    }
+    Ok(())
+}
+
+#[test]
+fn a_sink_fails_at_listed_calls(rt: HostRuntime) -> Result<(), Fail> {
     let mut sink = FailingSink {
-        inner: MemorySink::new(alloc),
-        failing: List::from_slice(alloc, &[1])?,
+        inner: MemorySink::new(rt.alloc()),
+        failing: List::from_slice(rt.alloc(), &[1])?,
         calls: 0,
         faults: 0,
     };
@@ -219,7 +292,7 @@ fn exchange<L: Link>(link: &mut L, alloc: Global, frame: Bytes) -> Option<usize>
 }
 
 #[test]
-fn a_link_ends_by_cut_or_leave(rt: HostRuntime) -> Result<(), Fail> {
+fn a_link_carries_frames_both_ways(rt: HostRuntime) {
     let alloc = rt.alloc();
     let mut link = MemoryLink::new(alloc);
     assert_eq!(rt;
@@ -227,18 +300,29 @@ fn a_link_ends_by_cut_or_leave(rt: HostRuntime) -> Result<(), Fail> {
         Some(0)
     );
     assert!(rt; link.arrive(Bytes::from_static(b"bc")).is_ok());
-    assert!(rt; link.arrive(Bytes::from_static(b"def")).is_ok());
     assert_eq!(rt;
         exchange(&mut link, alloc, Bytes::from_static(b"g")),
         Some(2)
     );
     assert_eq!(rt; link.depart().map(|frame| frame.len()), Some(1));
+}
+
+#[test]
+fn a_link_ends_by_leave_once_all_is_read(rt: HostRuntime) {
+    let alloc = rt.alloc();
+    let mut link = MemoryLink::new(alloc);
+    assert!(rt; link.arrive(Bytes::from_static(b"def")).is_ok());
     link.leave();
     assert_eq!(rt; exchange(&mut link, alloc, Bytes::from_static(b"h")), None);
     assert!(rt; matches!(link.read(), Ok(Some(_))));
     assert!(rt; link.read().is_err());
-    link.cut();
+}
+
+#[test]
+fn a_link_ends_by_cut(rt: HostRuntime) {
+    let mut link = MemoryLink::new(rt.alloc());
     link.close();
+    assert!(rt; matches!(link.read(), Ok(None)));
+    link.cut();
     assert!(rt; link.read().is_err());
-    Ok(())
 }

@@ -3,7 +3,7 @@ ghost use Rattle.std.specs.Prelude.{◌≡◌, ◌||◌, ◌++◌, take, replica
 ghost use Rattle.std.specs.List.{filter};
 ghost use Rattle.p2p_base.specs.Addresses.{is_global, subnet_of};
 
-use crate::address::ranges::{is_global_v4, is_global_v6};
+use crate::address::ranges::{NOT_GLOBAL_V4, NOT_GLOBAL_V6, is_in_v4, is_in_v6};
 use std::alloc::{AllocError, Global};
 
 /// An IP address. A mapped IPv4 address stays an IPv6 address.
@@ -29,8 +29,8 @@ pub fn is_global(ip: &IpAddr) -> bool
     ensures { result ≡ is_global ip.now }
 {
     match ip {
-        IpAddr::V4(bytes) => is_global_v4(*bytes),
-        IpAddr::V6(bytes) => is_global_v6(*bytes),
+        IpAddr::V4(bytes) => !is_in_v4(&NOT_GLOBAL_V4, *bytes),
+        IpAddr::V6(bytes) => !is_in_v6(&NOT_GLOBAL_V6, *bytes),
     }
 }
 

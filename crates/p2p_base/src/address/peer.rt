@@ -11,7 +11,7 @@ use std::alloc::{AllocError, Global};
 /// Where a peer is dialed.
 ///
 /// Ports `Ingress` of commonware-p2p.
-#[derive(Drop, PartialEq, Eq)]
+#[derive(Drop, PartialEq, Eq, Debug)]
 pub enum Ingress {
     /// An address.
     Socket(SocketAddr),
@@ -69,7 +69,7 @@ impl From<SocketAddr> for Ingress {
 /// Where a peer is dialed and where it dials from.
 ///
 /// Ports `Address` of commonware-p2p.
-#[derive(Drop, PartialEq, Eq)]
+#[derive(Drop, PartialEq, Eq, Debug)]
 pub enum Address {
     /// One address for both.
     Symmetric(SocketAddr),

@@ -1,15 +1,17 @@
 //! The ranges of addresses that aren't global.
 ghost use Rattle.std.specs.Prelude.{◌≡◌};
 ghost use Rattle.std.specs.List.{list_any};
-ghost use Rattle.p2p_base.specs.Ranges.{in_v4, in_v6, is_global_v4, is_global_v6};
+ghost use Rattle.p2p_base.specs.Ranges.{in_v4, in_v6};
 
 /// The IPv4 addresses whose first `bits` bits are those of `prefix`.
+#[derive(Debug)]
 pub struct RangeV4 {
     pub prefix: [u8; 4],
     pub bits: u32,
 }
 
 /// The IPv6 addresses whose first `bits` bits are those of `prefix`.
+#[derive(Debug)]
 pub struct RangeV6 {
     pub prefix: [u8; 16],
     pub bits: u32,
@@ -123,27 +125,15 @@ impl RangeV6 {
     }
 }
 
-/// Whether `address` is in none of the ranges of `NOT_GLOBAL_V4`.
-pub(super) fn is_global_v4(address: [u8; 4]) -> bool
-    ensures { result ≡ is_global_v4 address }
-{
-    !is_in_v4(&NOT_GLOBAL_V4, address)
-}
-
-/// Whether `address` is in none of the ranges of `NOT_GLOBAL_V6`.
-pub(super) fn is_global_v6(address: [u8; 16]) -> bool
-    ensures { result ≡ is_global_v6 address }
-{
-    !is_in_v6(&NOT_GLOBAL_V6, address)
-}
-
-fn is_in_v4(ranges: &[RangeV4], address: [u8; 4]) -> bool
+/// Whether `address` is in one of the ranges.
+pub(super) fn is_in_v4(ranges: &[RangeV4], address: [u8; 4]) -> bool
     ensures { result ≡ list_any (in_v4 address) ranges.now }
 {
     ranges.iter().any(|range| range.contains(address))
 }
 
-fn is_in_v6(ranges: &[RangeV6], address: [u8; 16]) -> bool
+/// Whether `address` is in one of the ranges.
+pub(super) fn is_in_v6(ranges: &[RangeV6], address: [u8; 16]) -> bool
     ensures { result ≡ list_any (in_v6 address) ranges.now }
 {
     ranges.iter().any(|range| range.contains(address))

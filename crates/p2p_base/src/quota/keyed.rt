@@ -12,7 +12,7 @@ use std::marker::Model;
 /// Tells for each key apart, moment by moment, whether the quota admits it.
 ///
 /// Ports `KeyedRateLimiter` of commonware-runtime; the clock is the `now` of each call.
-#[derive(Drop)]
+#[derive(Drop, Debug)]
 pub struct KeyedRateLimiter<K: Ord> {
     quota: Quota,
     arrivals: BTreeMap<K, u128>,

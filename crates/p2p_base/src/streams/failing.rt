@@ -7,7 +7,7 @@ use super::{Failed, Sink, Source};
 use crate::List;
 
 /// A source that fails at the calls whose numbers are listed, the first call being number 0, and else does what `inner` does.
-#[derive(Drop)]
+#[derive(Drop, Debug)]
 pub struct FailingSource<S> {
     /// The source below.
     pub inner: S,
@@ -54,7 +54,7 @@ impl<S: Source> Source for FailingSource<S> {
 }
 
 /// A sink that fails at the calls whose numbers are listed, the first call being number 0, and else does what `inner` does.
-#[derive(Drop)]
+#[derive(Drop, Debug)]
 pub struct FailingSink<K> {
     /// The sink below.
     pub inner: K,

@@ -7,7 +7,7 @@ use std::alloc::{AllocError, Global};
 use std::marker::Model;
 
 /// A source over bytes in memory. It never fails.
-#[derive(Drop)]
+#[derive(Drop, Debug)]
 pub struct MemorySource {
     bytes: Vec<u8>,
     start: usize,
@@ -56,7 +56,7 @@ impl Source for MemorySource {
 }
 
 /// A sink into memory. Want of memory is its only fault, and none comes within the room that was reserved.
-#[derive(Drop)]
+#[derive(Drop, Debug)]
 pub struct MemorySink {
     bytes: Vec<u8>,
     faults: u64,

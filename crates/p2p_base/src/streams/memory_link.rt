@@ -9,7 +9,7 @@ use std::collections::VecDeque;
 use std::marker::Model;
 
 /// One end of a link in memory, whose other end is played by calls of this type.
-#[derive(Drop)]
+#[derive(Drop, Debug)]
 pub struct MemoryLink {
     waiting: VecDeque<Bytes>,
     in_flight: VecDeque<Bytes>,

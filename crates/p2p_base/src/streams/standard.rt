@@ -1,5 +1,5 @@
 //! Thin adapters over the standard readers and writers. They tell nothing of bytes.
-ghost use Rattle.std.specs.Prelude.{◌≤◌, length, IfSome};
+ghost use Rattle.std.specs.Prelude.{◌≡◌, ◌≤◌, length, IfSome};
 
 use super::{Failed, Sink, Source};
 use std::io::{ErrorKind, Read, Write};
@@ -13,7 +13,9 @@ pub struct StdSource<R> {
 
 impl<R: Read> StdSource<R> {
     /// A source over `inner` with no fault so far.
-    pub fn new(inner: R) -> StdSource<R> {
+    pub fn new(inner: R) -> StdSource<R>
+        ensures { ⟦<StdSource<R> as Source>⟧.faults_of result ≡ 0 }
+    {
         StdSource { inner, faults: 0 }
     }
 }
@@ -62,7 +64,9 @@ pub struct StdSink<W> {
 
 impl<W: Write> StdSink<W> {
     /// A sink over `inner` with no fault so far.
-    pub fn new(inner: W) -> StdSink<W> {
+    pub fn new(inner: W) -> StdSink<W>
+        ensures { ⟦<StdSink<W> as Sink>⟧.faults_of result ≡ 0 }
+    {
         StdSink { inner, faults: 0 }
     }
 }

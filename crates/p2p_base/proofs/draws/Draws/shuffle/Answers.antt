@@ -1,6 +1,5 @@
-use Rattle.std.proofs.Common.{◌≡◌, ◌-◌, ◌∙◌, sym, ap, arith}
+use Rattle.std.proofs.Common.{◌-◌, ◌∙◌, sym, ap, arith}
 use Rattle.std.proofs.lemmas.List.Sorted.{IsPermutation-trans}
-use Rattle.p2p_base.specs.Draws.{exchanged, shuffled, drawn}
 use Rattle.p2p_base.proofs.Shuffling.{exchanged-more, exchanged-all}
 use Rattle.p2p_base.proofs.draws.Draws.shuffle.Goals as goal
 

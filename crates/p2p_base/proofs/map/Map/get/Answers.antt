@@ -1,4 +1,4 @@
-use Rattle.std.proofs.Common.{◌≡◌, Some, ap, sym, ◌∙◌}
+use Rattle.std.proofs.Common.{Some, ap, sym, ◌∙◌}
 use Rattle.std.specs.BTreeMap.{is_at}
 use Rattle.p2p_base.proofs.MapParts.{lookup_at, lookup_nowhere}
 use Rattle.p2p_base.proofs.map.Map.get.Goals as goal

@@ -1,4 +1,3 @@
-use Rattle.std.proofs.Common.{◌≡◌, sym}
 use Rattle.p2p_base.proofs.MapPairs.{AllZip-zip}
 use Rattle.p2p_base.proofs.map.MapClone.clone.Goals as goal
 

@@ -1,4 +1,4 @@
-use Rattle.std.proofs.Common.{◌≡◌, ◌∙◌, ◌&&◌, true, false, refl, sym, ap}
+use Rattle.std.proofs.Common.{◌∙◌}
 use Rattle.std.specs.Cmp.Lexicographic.{pointwise}
 use Rattle.p2p_base.proofs.MapPairs.{pointwise-zip, first_answers, second_answers}
 use Rattle.p2p_base.proofs.map.MapPartialEq.eq.Goals as goal

@@ -1,4 +1,4 @@
-use Rattle.std.proofs.Common.{◌≡◌, Some, None, sym, ◌∙◌, ap}
+use Rattle.std.proofs.Common.{Some, sym, ◌∙◌, ap}
 use Rattle.std.specs.BTreeMap.{is_at}
 use Rattle.p2p_base.specs.Moments.{soonest}
 use Rattle.p2p_base.proofs.MomentLeast.{entry_from_parts, moment_of_first, soonest_is_first, none_queued, empty_from, least_each}

@@ -1,4 +1,4 @@
-use Rattle.std.proofs.Common.{◌≡◌, Some, None, sym, ◌∙◌, ap}
+use Rattle.std.proofs.Common.{sym, ◌∙◌, ap}
 use Rattle.std.specs.BTreeMap.{is_at}
 use Rattle.p2p_base.specs.Moments.{soonest, without}
 use Rattle.p2p_base.proofs.MomentSteps.{Mirrors-taken}

@@ -1,4 +1,4 @@
-use Rattle.std.proofs.Common.{◌≡◌, Some, None, sym, ◌∙◌, ap}
+use Rattle.std.proofs.Common.{Some, sym, ◌∙◌, ap}
 use Rattle.p2p_base.proofs.MomentSteps.{Mirrors-fresh, Mirrors-again, Mirrors-moved, Mirrors-undone}
 use Rattle.p2p_base.proofs.priority_set.PrioritySet.put.Goals as goal
 
