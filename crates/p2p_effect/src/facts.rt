@@ -110,7 +110,7 @@ pub fn sum_capacities(channels: &[(u64, usize)]) -> u128
 
 // ---- what was taken
 
-// Finds the item of this name, where there is one.
+// Adds to `found` the item of this name, where there is one.
 fn find_named(
     alloc: Global,
     found: &mut List<Item>,
@@ -131,7 +131,7 @@ fn find_named(
     }
 }
 
-// Finds the items that an entry took, with the entries before it.
+// Adds to `found` the items that an entry took, with the entries before it.
 #[tactic(auto, unfolding(p2p_log::specs::Facts::taken))]
 fn find_taken(
     alloc: Global,
@@ -159,7 +159,7 @@ fn steps_router(act: &Act, node: u64) -> bool
     }
 }
 
-// Finds the items that the node's router took at an entry, with the entries before it.
+// Adds to `found` the items that the node's router took at an entry, with the entries before it.
 fn find_routed(
     alloc: Global,
     found: &mut List<Item>,

@@ -63,7 +63,7 @@ fn goes_among(entries: &[Entry], name: (u64, u64)) -> bool
     false
 }
 
-// Finds what stands of the puts of the entry `n`, where these entries come later.
+// Adds to `found` what stands of the puts of the entry `n`, where these entries come later.
 fn find_standing(
     alloc: Global,
     found: &mut List<Envelope>,

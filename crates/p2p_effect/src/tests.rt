@@ -1,6 +1,7 @@
 //! The definitions, run on worked scripts.
 use crate::rows::{
-    HELLO, HELLO_REPORT, SUBSCRIPTION, SUBSCRIPTION_REPORT, UNBOUND, UNBOUND_REPORT,
+    CAPACITY, HELLO, HELLO_REPORT, LATE, MOMENTS, RELAY, RELAY_REPORT, SUBSCRIPTION,
+    SUBSCRIPTION_REPORT, UNBOUND, UNBOUND_REPORT,
 };
 use crate::{RunError, run};
 use p2p_log::Report;
@@ -40,6 +41,7 @@ fn worked_scripts_have_their_reports(rt: HostRuntime) -> Result<(), Fail> {
         (HELLO, HELLO_REPORT),
         (UNBOUND, UNBOUND_REPORT),
         (SUBSCRIPTION, SUBSCRIPTION_REPORT),
+        (RELAY, RELAY_REPORT),
     ];
     for (script, report) in rows {
         let wanted = text_of(alloc, report)?;
@@ -51,11 +53,13 @@ fn worked_scripts_have_their_reports(rt: HostRuntime) -> Result<(), Fail> {
 #[test]
 fn the_first_event_that_is_not_valid_is_told(rt: HostRuntime) -> Result<(), Fail> {
     let alloc = rt.alloc();
-    let twice = HELLO.replace(
-        alloc,
-        r#"{"a":0,"b":1,"at":0,"do":"join"}"#,
-        r#"{"at":0,"do":"start","node":1}"#,
-    )?;
-    assert_eq!(rt; report_of(alloc, twice.as_str())?.as_str(), "event 4");
+    let rows = [
+        (CAPACITY, "event 0"),
+        (LATE, "event 2"),
+        (MOMENTS, "event 1"),
+    ];
+    for (script, refusal) in rows {
+        assert_eq!(rt; report_of(alloc, script)?.as_str(), refusal);
+    }
     Ok(())
 }
