@@ -10,7 +10,15 @@ use Rattle.std.specs.Ordering.{eq_by_cmp}
 use Rattle.std.specs.Map.{lookup, set_value}
 use Rattle.std.specs.BTreeMap.{is_at}
 use Rattle.std.specs.declared.cmp.Ordering.{Ordering}
-use Rattle.p2p_tracker.specs.Recorded.{Recorded, released, is_unneeded_in, without_need, written}
+use Rattle.p2p_tracker.specs.Recorded.{Recorded, is_deletable, released, is_needed_in, without_need, written}
+
+unneeded : (a : Bool) → not a ≡ false → a ≡ true
+unneeded true e = refl
+unneeded false e = sym e
+
+needed : (a : Bool) → not a ≡ true → a ≡ false
+needed true e = sym e
+needed false e = refl
 
 module _ {P : Type 0} {cmp : P → P → Ordering} (o : IsTotalOrder cmp) where
   -- equal keys find the same
@@ -39,28 +47,28 @@ module _ {P : Type 0} {cmp : P → P → Ordering} (o : IsTotalOrder cmp) where
           lookup-set_value {eq = eq_by_cmp cmp} (eq_by_cmp_equiv o) (is_at (cmp p)) (λ x y h. (eq_by_cmp_equiv o).congr p x y h) q (f s) es (ap is_some e)
           ∙ found (is_at (cmp p) q) f s (lookup (is_at (cmp q)) es) (λ h. sym e ∙ lookup_same p q es h)
 
-  gone : (b : Bool) (r : Option Recorded) → (b ≡ true → is_unneeded_in r ≡ true) → cond b None (cond b (option_map released r) r) ≡ cond b (without_need r) r
+  gone : (b : Bool) (r : Option Recorded) → (b ≡ true → is_needed_in r ≡ false) → cond b None (cond b (option_map released r) r) ≡ cond b (without_need r) r
   gone true None u = refl
-  gone true (Some s) u = sym (ap (λ x. cond x None (Some (released s))) (u refl))
+  gone true (Some s) u = sym (ap (λ x. cond x None (Some (released s))) (unneeded (is_deletable (released s)) (u refl)))
   gone false r u = refl
 
-  left : (b : Bool) (r : Option Recorded) → (b ≡ true → is_unneeded_in r ≡ false) → cond b (option_map released r) r ≡ cond b (without_need r) r
+  left : (b : Bool) (r : Option Recorded) → (b ≡ true → is_needed_in r ≡ true) → cond b (option_map released r) r ≡ cond b (without_need r) r
   left true None u = refl
-  left true (Some s) u = sym (ap (λ x. cond x None (Some (released s))) (u refl))
+  left true (Some s) u = sym (ap (λ x. cond x None (Some (released s))) (needed (is_deletable (released s)) (u refl)))
   left false r u = refl
 
   -- a release that leaves a record which is needed
-  pub lookup-released : (p q : P) (es new : List (P × Recorded)) → new ≡ written cmp (lookup (is_at (cmp p)) es) es p released → is_unneeded_in (lookup (is_at (cmp p)) es) ≡ false
+  pub lookup-released : (p q : P) (es new : List (P × Recorded)) → new ≡ written cmp (lookup (is_at (cmp p)) es) es p released → is_needed_in (lookup (is_at (cmp p)) es) ≡ true
       → lookup (is_at (cmp q)) new ≡ cond (is_at (cmp p) q) (without_need (lookup (is_at (cmp q)) es)) (lookup (is_at (cmp q)) es)
   lookup-released p q es new w u =
       ap (lookup (is_at (cmp q))) w ∙ lookup-written p q es released
-      ∙ left (is_at (cmp p) q) (lookup (is_at (cmp q)) es) (λ b. ap is_unneeded_in (sym (lookup_same p q es b)) ∙ u)
+      ∙ left (is_at (cmp p) q) (lookup (is_at (cmp q)) es) (λ b. ap is_needed_in (sym (lookup_same p q es b)) ∙ u)
 
   -- a release that leaves a record which nothing needs, and its removal
-  pub lookup-removed : (p q : P) (es mid new : List (P × Recorded)) → mid ≡ written cmp (lookup (is_at (cmp p)) es) es p released → is_unneeded_in (lookup (is_at (cmp p)) es) ≡ true
+  pub lookup-removed : (p q : P) (es mid new : List (P × Recorded)) → mid ≡ written cmp (lookup (is_at (cmp p)) es) es p released → is_needed_in (lookup (is_at (cmp p)) es) ≡ false
       → lookup (is_at (cmp q)) new ≡ cond (is_at (cmp p) q) None (lookup (is_at (cmp q)) mid)
       → lookup (is_at (cmp q)) new ≡ cond (is_at (cmp p) q) (without_need (lookup (is_at (cmp q)) es)) (lookup (is_at (cmp q)) es)
   lookup-removed p q es mid new w u e =
       e ∙ ap (λ m. cond (is_at (cmp p) q) None (lookup (is_at (cmp q)) m)) w
       ∙ ap (cond (is_at (cmp p) q) None) (lookup-written p q es released)
-      ∙ gone (is_at (cmp p) q) (lookup (is_at (cmp q)) es) (λ b. ap is_unneeded_in (sym (lookup_same p q es b)) ∙ u)
+      ∙ gone (is_at (cmp p) q) (lookup (is_at (cmp q)) es) (λ b. ap is_needed_in (sym (lookup_same p q es b)) ∙ u)

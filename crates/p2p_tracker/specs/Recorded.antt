@@ -174,7 +174,7 @@ abbrev pub is_held_or_unknown : Option Recorded → Bool
 is_held_or_unknown None = true
 is_held_or_unknown (Some r) = not (is_inert r.status)
 
--- nothing needs the record that was found once it is released
-abbrev pub is_unneeded_in : Option Recorded → Bool
-is_unneeded_in None = false
-is_unneeded_in (Some r) = is_deletable (released r)
+-- the record that was found is needed once it is released, or none was found
+abbrev pub is_needed_in : Option Recorded → Bool
+is_needed_in None = true
+is_needed_in (Some r) = not (is_deletable (released r))

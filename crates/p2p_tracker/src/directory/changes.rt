@@ -2,7 +2,7 @@
 ghost use Rattle.std.specs.Prelude.{◌≡◌, cond, true, not};
 ghost use Rattle.std.specs.Map.{lookup};
 ghost use Rattle.std.specs.BTreeMap.{is_at};
-ghost use Rattle.p2p_tracker.specs.Recorded.{may_dial_in, may_listen_in, reserved_by, connected, updated, is_reserved_in, is_held_or_unknown, is_unneeded_in, released, is_stale_in, differs_in, without_need, written};
+ghost use Rattle.p2p_tracker.specs.Recorded.{may_dial_in, may_listen_in, reserved_by, connected, updated, is_reserved_in, is_held_or_unknown, is_needed_in, released, is_stale_in, differs_in, without_need, written};
 ghost use Rattle.p2p_tracker.specs.declared.record.ReserveResult.TheVariants as reserve;
 
 use crate::directory::Config;
@@ -75,18 +75,18 @@ pub(super) fn readdress<C: Ord>(
     }
 }
 
-// Holds a peer no longer. True exactly where nothing needs its record then.
+// Holds a peer no longer. False exactly where it has a record that nothing needs then.
 fn let_go<C: Ord>(records: &mut BTreeMap<C, Record>, peer: &C) -> bool
     requires { is_held_or_unknown (lookup (is_at (C.cmp peer.now)) records.old.entries) ≡ true }
-    ensures answer { result ≡ is_unneeded_in (lookup (is_at (C.cmp peer.now)) records.old.entries) }
+    ensures answer { result ≡ is_needed_in (lookup (is_at (C.cmp peer.now)) records.old.entries) }
     ensures after { records.new.entries ≡ written C.cmp (lookup (is_at (C.cmp peer.now)) records.old.entries) records.old.entries peer.now released }
 {
     match records.get_mut(peer) {
         Some(record) => {
             record.release();
-            record.deletable()
+            !record.deletable()
         }
-        None => false,
+        None => true,
     }
 }
 
@@ -96,7 +96,8 @@ pub(super) fn end_hold<C: Ord + Drop>(records: &mut BTreeMap<C, Record>, peer: &
     ensures { (q : C) → lookup (is_at (C.cmp q)) records.new.entries ≡ cond (is_at (C.cmp peer.now) q)
         (without_need (lookup (is_at (C.cmp q)) records.old.entries)) (lookup (is_at (C.cmp q)) records.old.entries) }
 {
-    if !let_go(records, peer) {
+    let is_needed = let_go(records, peer);
+    if is_needed {
         return;
     }
     records.remove(peer);

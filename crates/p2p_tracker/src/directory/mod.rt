@@ -1,5 +1,5 @@
 //! `Directory`, which peers are known, tracked, held and blocked.
-ghost use Rattle.std.specs.Prelude.{◌≡◌, [], ◌∷◌, List, Some, None, true, false, not, is_some, IfOk, OnErr, IfSome};
+ghost use Rattle.std.specs.Prelude.{◌≡◌, ◌+◌, [], ◌∷◌, List, Some, None, true, false, not, is_some, IfOk, OnErr, IfSome};
 ghost use Rattle.std.specs.Map.{lookup};
 ghost use Rattle.std.specs.BTreeMap.{is_at};
 ghost use Rattle.p2p_facts.specs.Allows.{is_acceptable, allows_dial, allows_listen};
@@ -238,7 +238,7 @@ impl<C: PublicKey> Directory<C> {
         if self.is_blocked(peer, now) {
             return Ok(false);
         }
-        let end = u128::from(now) + u128::from(self.cfg.block_duration);
+        let end = self.block_end(now);
         self.blocks.put(*peer, end)?;
         Ok(true)
     }
@@ -247,5 +247,12 @@ impl<C: PublicKey> Directory<C> {
         ensures { result ≡ is_local C.cmp self.now.rules peer.now }
     {
         self.local.cmp(peer).is_eq()
+    }
+
+    // When a block ends that begins at `now`.
+    fn block_end(&self, now: u64) -> u128
+        ensures { result ≡ now + self.now.rules.block_duration }
+    {
+        u128::from(now) + u128::from(self.cfg.block_duration)
     }
 }
