@@ -49,7 +49,7 @@ last true true true = refl
 acceptable_step : (local tracked held blocked : Bool) (cooldown n m : ℕ) (joined stale : Bool) (g : Option Grant) (a : Option PeerAddress) (source : IpAddr) (bypass : Bool)
     → tracked ≡ (nat_lt 0 n || nat_lt 0 m) → (local ≡ false → (tracked || held) ≡ is_some a)
     → (((not local && tracked && not blocked) && not held) && (bypass || facts.dials_from source a))
-      ≡ (is_acceptable_in (cond local (Some (own n m)) (option_map (peer cooldown held joined n m stale g) a)) source bypass && not blocked)
+    ≡ (is_acceptable_in (cond local (Some (own n m)) (option_map (peer cooldown held joined n m stale g) a)) source bypass && not blocked)
 unfolding peer own
 acceptable_step true tracked held blocked cooldown n m joined stale g a source bypass t h = refl
 acceptable_step false tracked held blocked cooldown n m joined stale g (Some a) source bypass t h =
@@ -70,7 +70,7 @@ dial_turned tracked x blocked held joined c primary p v t e =
 dial_step : (local tracked held blocked primary : Bool) (cooldown n m : ℕ) (joined stale : Bool) (g : Option Grant) (a : Option PeerAddress) (now : ℕ) (private dns : Bool)
     → tracked ≡ (nat_lt 0 n || nat_lt 0 m) → primary ≡ nat_lt 0 n → (local ≡ false → (tracked || held) ≡ is_some a)
     → (((not local && tracked && not blocked) && not held) && not (nat_lt now (cool_after cooldown g)) && primary && facts.has_valid_ingress private dns a)
-      ≡ (may_dial_in (cond local (Some (own n m)) (option_map (peer cooldown held joined n m stale g) a)) now private dns && not blocked)
+    ≡ (may_dial_in (cond local (Some (own n m)) (option_map (peer cooldown held joined n m stale g) a)) now private dns && not blocked)
 unfolding peer own
 dial_step true tracked held blocked primary cooldown n m joined stale g a now private dns t p h = refl
 dial_step false tracked held blocked primary cooldown n m joined stale g (Some a) now private dns t p h =

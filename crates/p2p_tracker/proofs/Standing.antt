@@ -53,7 +53,7 @@ unfolding IsOther
 may_dial-other None t private dns e = absurd (false≢true e)
 may_dial-other (Some s) t private dns e =
     let within = first (is_eligible_in (Some s) && is_inert s.status && not (nat_lt t s.cool)) (nat_lt 0 s.primary)
-        (first (is_eligible_in (Some s) && is_inert s.status && not (nat_lt t s.cool) && nat_lt 0 s.primary) (has_valid_ingress s.address private dns) e) in
+    (first (is_eligible_in (Some s) && is_inert s.status && not (nat_lt t s.cool) && nat_lt 0 s.primary) (has_valid_ingress s.address private dns) e) in
     let both = three (is_myself s.address) (is_in_sets s) (is_inert s.status) (not (nat_lt t s.cool)) within in
     (s, refl, both.0, both.1)
 
@@ -250,9 +250,9 @@ module _ {P : Type 0} {cmp : P → P → Ordering} (o : IsTotalOrder cmp) {kept 
   stands-connect p es reserved e = record {
     records = λ q. ap (lookup (is_at (cmp q))) e ∙ lookup-written o p q kept.records connected ∙ at_key connected q (is_at (cmp p) q)
         ∙ sym (steps.record_of-connect cmp kept.rules calls q (s.addressed q) p
-          (λ b. (is_reserved_by q (alike (λ r. is_reserved_in r ≡ true) p q reserved b)).0)
-          (λ b. (is_reserved_by q (alike (λ r. is_reserved_in r ≡ true) p q reserved b)).1)
-          (λ b. (is_reserved_by q (alike (λ r. is_reserved_in r ≡ true) p q reserved b)).2));
+        (λ b. (is_reserved_by q (alike (λ r. is_reserved_in r ≡ true) p q reserved b)).0)
+        (λ b. (is_reserved_by q (alike (λ r. is_reserved_in r ≡ true) p q reserved b)).1)
+        (λ b. (is_reserved_by q (alike (λ r. is_reserved_in r ≡ true) p q reserved b)).2));
     blocks = λ q. s.blocks q;
     addressed = λ q. steps.addressed-connect cmp kept.rules calls q (s.addressed q) p;
   }

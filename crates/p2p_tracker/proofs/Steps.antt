@@ -74,7 +74,7 @@ now_held false tracked held known g k h e = sym h ∙ e
 release_step : (b local tracked held : Bool) (cooldown n m : ℕ) (joined stale : Bool) (g : Option Grant) (a : Option PeerAddress)
     → tracked ≡ (nat_lt 0 n || nat_lt 0 m) → (local ≡ false → (tracked || held) ≡ is_some a)
     → cond local (Some (own n m)) (option_map (peer cooldown (not b && held) joined n m (cond b false stale) (cond (tracked || (not b && held)) g None)) (cond ((tracked || (not b && held)) && not local) a None))
-      ≡ cond b (without_need (cond local (Some (own n m)) (option_map (peer cooldown held joined n m stale g) a))) (cond local (Some (own n m)) (option_map (peer cooldown held joined n m stale g) a))
+    ≡ cond b (without_need (cond local (Some (own n m)) (option_map (peer cooldown held joined n m stale g) a))) (cond local (Some (own n m)) (option_map (peer cooldown held joined n m stale g) a))
 unfolding peer own
 release_step true true tracked held cooldown n m joined stale g a t h = refl
 release_step true false true held cooldown n m joined stale g None t h = absurd (false≢true (sym (h refl)))
@@ -89,10 +89,10 @@ release_step false local tracked held cooldown n m joined stale g a t h = still 
 grant_step : (b local tracked held : Bool) (cooldown n m : ℕ) (joined stale : Bool) (g : Option Grant) (a : Option PeerAddress) (at jitter : ℕ)
     → (b ≡ true → local ≡ false) → (b ≡ true → stale ≡ false) → (local ≡ false → (tracked || held) ≡ is_some a)
     → cond local (Some (own n m)) (option_map (peer cooldown (held_by (cond b (Some (at, jitter)) None) false held) (cond (is_some {T = Grant} (cond b (Some (at, jitter)) None)) false joined) n m
-          (cond (is_some {T = Grant} (cond b (Some (at, jitter)) None) || false) false stale)
-          (cond (tracked || held_by (cond b (Some (at, jitter)) None) false held) (option_or (cond b (Some (at, jitter)) None) g) None))
-        (cond ((tracked || held_by (cond b (Some (at, jitter)) None) false held) && not local) a None))
-      ≡ cond b (option_map (λ r. reserved_by answer.Reserved r at cooldown jitter) (cond local (Some (own n m)) (option_map (peer cooldown held joined n m stale g) a))) (cond local (Some (own n m)) (option_map (peer cooldown held joined n m stale g) a))
+    (cond (is_some {T = Grant} (cond b (Some (at, jitter)) None) || false) false stale)
+    (cond (tracked || held_by (cond b (Some (at, jitter)) None) false held) (option_or (cond b (Some (at, jitter)) None) g) None))
+    (cond ((tracked || held_by (cond b (Some (at, jitter)) None) false held) && not local) a None))
+    ≡ cond b (option_map (λ r. reserved_by answer.Reserved r at cooldown jitter) (cond local (Some (own n m)) (option_map (peer cooldown held joined n m stale g) a))) (cond local (Some (own n m)) (option_map (peer cooldown held joined n m stale g) a))
 unfolding peer own
 grant_step true true tracked held cooldown n m joined stale g a at jitter o k h = absurd (false≢true (sym (o refl)))
 grant_step true false true held cooldown n m joined stale g None at jitter o k h = refl
@@ -118,8 +118,8 @@ update_some cooldown n m held joined stale g a given = ap (λ x. Some (peer cool
 update_step : (b local tracked held : Bool) (cooldown n m : ℕ) (joined stale : Bool) (g : Option Grant) (a : Option PeerAddress) (given : PeerAddress)
     → (local ≡ false → (tracked || held) ≡ is_some a)
     → cond local (Some (own n m)) (option_map (peer cooldown held joined n m ((is_change (cond b (Some given) None) a && held) || stale) (cond (tracked || held) g None))
-        (cond ((tracked || held) && not local) (option_or (cond b (Some given) None) a) None))
-      ≡ cond b (option_map (λ r. updated r given) (cond local (Some (own n m)) (option_map (peer cooldown held joined n m stale g) a))) (cond local (Some (own n m)) (option_map (peer cooldown held joined n m stale g) a))
+    (cond ((tracked || held) && not local) (option_or (cond b (Some given) None) a) None))
+    ≡ cond b (option_map (λ r. updated r given) (cond local (Some (own n m)) (option_map (peer cooldown held joined n m stale g) a))) (cond local (Some (own n m)) (option_map (peer cooldown held joined n m stale g) a))
 unfolding own
 update_step true true tracked held cooldown n m joined stale g a given h = refl
 update_step true false true held cooldown n m joined stale g None given h = absurd (false≢true (sym (h refl)))
@@ -134,7 +134,7 @@ update_step false local tracked held cooldown n m joined stale g a given h = sti
 connect_step : (b local tracked held : Bool) (cooldown n m : ℕ) (joined stale : Bool) (g : Option Grant) (a : Option PeerAddress)
     → (b ≡ true → local ≡ false) → (b ≡ true → held ≡ true) → (b ≡ true → joined ≡ false) → (local ≡ false → (tracked || held) ≡ is_some a)
     → cond local (Some (own n m)) (option_map (peer cooldown held ((b && not stale) || joined) n m stale (cond (tracked || held) g None)) (cond ((tracked || held) && not local) a None))
-      ≡ cond b (option_map connected (cond local (Some (own n m)) (option_map (peer cooldown held joined n m stale g) a))) (cond local (Some (own n m)) (option_map (peer cooldown held joined n m stale g) a))
+    ≡ cond b (option_map connected (cond local (Some (own n m)) (option_map (peer cooldown held joined n m stale g) a))) (cond local (Some (own n m)) (option_map (peer cooldown held joined n m stale g) a))
 unfolding peer own
 connect_step true true tracked held cooldown n m joined stale g a o r j h = absurd (false≢true (sym (o refl)))
 connect_step true false tracked false cooldown n m joined stale g a o r j h = absurd (false≢true (r refl))

@@ -10,3 +10,6 @@ pub use directory::{Config, Directory};
 pub use metadata::Metadata;
 pub use record::{Address, DialStatus, Record, ReserveResult, Status};
 pub use reservation::Reservation;
+
+#[cfg(test)]
+mod tests;

@@ -304,9 +304,7 @@ impl Record {
     pub fn acceptable(&self, source: IpAddr, bypass: bool) -> bool
         ensures { result ≡ is_acceptable self.now source bypass }
     {
-        self.eligible()
-            && !self.is_reserved_or_connected()
-            && (bypass || self.dials_from(source))
+        self.eligible() && !self.is_reserved_or_connected() && (bypass || self.dials_from(source))
     }
 
     fn dials_from(&self, source: IpAddr) -> bool

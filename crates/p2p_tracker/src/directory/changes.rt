@@ -5,9 +5,9 @@ ghost use Rattle.std.specs.BTreeMap.{is_at};
 ghost use Rattle.p2p_tracker.specs.Recorded.{may_dial_in, may_listen_in, reserved_by, connected, updated, is_reserved_in, is_held_or_unknown, is_needed_in, released, is_stale_in, differs_in, without_need, written};
 ghost use Rattle.p2p_tracker.specs.declared.record.ReserveResult.TheVariants as reserve;
 
+use crate::Record;
 use crate::directory::Config;
 use crate::directory::grants::{reserve_dial, reserve_listen};
-use crate::Record;
 use p2p_base::{Address, IpAddr};
 use std::collections::BTreeMap;
 

@@ -17,10 +17,9 @@ mod changes;
 mod config;
 mod grants;
 
-pub use config::Config;
-
 use crate::{Metadata, Record, Reservation};
 use changes::{begin, end_hold, grant_dial, grant_listen, readdress};
+pub use config::Config;
 use p2p_base::{Address, Ingress, IpAddr, PrioritySet, PublicKey};
 use std::alloc::{AllocError, Global};
 use std::collections::BTreeMap;
@@ -45,17 +44,17 @@ impl<C: PublicKey> Model for Directory<C> {
     ghost Value = { Kept C };
 
     ghost view = { λ d. record {
-        rules = record {
-            local = d.local;
-            max_sets = d.cfg.max_sets;
-            cooldown = d.cfg.peer_connection_cooldown;
-            block_duration = d.cfg.block_duration;
-            private = d.cfg.allow_private_ips;
-            dns = d.cfg.allow_dns;
-            bypass = d.cfg.bypass_ip_check;
-        };
-        records = d.records.entries;
-        blocks = d.blocks;
+      rules = record {
+        local = d.local;
+        max_sets = d.cfg.max_sets;
+        cooldown = d.cfg.peer_connection_cooldown;
+        block_duration = d.cfg.block_duration;
+        private = d.cfg.allow_private_ips;
+        dns = d.cfg.allow_dns;
+        bypass = d.cfg.bypass_ip_check;
+      };
+      records = d.records.entries;
+      blocks = d.blocks;
     } };
 }
 
@@ -138,7 +137,12 @@ impl<C: PublicKey> Directory<C> {
     ///
     /// `None` exactly where the peer isn't eligible, is held, was granted less than the cooldown before, is primary in no set, or has no
     /// ingress that may be dialed. `Err` only where memory runs out, and then nothing has changed.
-    pub fn dial(&mut self, peer: &C, now: u64, jitter: u64) -> Result<Option<(Reservation<C>, Ingress)>, AllocError>
+    pub fn dial(
+        &mut self,
+        peer: &C,
+        now: u64,
+        jitter: u64,
+    ) -> Result<Option<(Reservation<C>, Ingress)>, AllocError>
         ensures granted { IfOk result (λ o. (calls : List (Call C)) → StandsFor C.cmp self.old calls → is_some o ≡ allows_dial C.cmp self.old.rules calls peer.now now) }
         ensures metadata { IfOk result (λ o. IfSome o (λ g. g.0 ≡ side.Dialer peer.now)) }
         ensures ingress { IfOk result (λ o. IfSome o (λ g. (calls : List (Call C)) → StandsFor C.cmp self.old calls
@@ -175,7 +179,13 @@ impl<C: PublicKey> Directory<C> {
     ///
     /// `None` exactly where the peer isn't eligible, is held, was granted less than the cooldown before, or dials from another address
     /// and that is tested.
-    pub fn listen(&mut self, peer: &C, source: IpAddr, now: u64, jitter: u64) -> Result<Option<Reservation<C>>, AllocError>
+    pub fn listen(
+        &mut self,
+        peer: &C,
+        source: IpAddr,
+        now: u64,
+        jitter: u64,
+    ) -> Result<Option<Reservation<C>>, AllocError>
         ensures granted { IfOk result (λ o. (calls : List (Call C)) → StandsFor C.cmp self.old calls → is_some o ≡ allows_listen C.cmp self.old.rules calls peer.now source now) }
         ensures metadata { IfOk result (λ o. IfSome o (λ g. g ≡ side.Listener peer.now)) }
         ensures rules { self.new.rules ≡ self.old.rules }
