@@ -1,0 +1,6 @@
+pub mod Allows
+pub mod Blocks
+pub mod Grants
+pub mod Lives
+pub mod Rules
+pub mod Sets

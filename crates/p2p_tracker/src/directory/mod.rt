@@ -1,0 +1,268 @@
+//! `Directory`, which peers are known, tracked, held and blocked.
+ghost use Rattle.std.specs.Prelude.{◌≡◌, ◌+◌, [], ◌∷◌, List, Some, None, true, false, not, is_some, IfOk, OnErr, IfSome};
+ghost use Rattle.std.specs.Map.{lookup};
+ghost use Rattle.std.specs.BTreeMap.{is_at};
+ghost use Rattle.p2p_facts.specs.Allows.{is_acceptable, allows_dial, allows_listen};
+ghost use Rattle.p2p_facts.specs.Blocks.{is_local, is_blockable, lasts_at};
+ghost use Rattle.p2p_facts.specs.Lives.{address_of, is_eligible, is_stale, is_overwritten};
+ghost use Rattle.p2p_facts.specs.declared.call.Call.{Call};
+ghost use Rattle.p2p_facts.specs.declared.call.Call.TheVariants as call;
+ghost use Rattle.p2p_tracker.specs.Recorded.{is_eligible_in, is_acceptable_in, is_reserved_in, is_held_or_unknown, peer_of, found_ingress};
+ghost use Rattle.p2p_tracker.specs.Stands.{StandsFor};
+ghost use Rattle.p2p_tracker.specs.declared.metadata.Metadata.TheVariants as side;
+ghost use Rattle.p2p_base.specs.Addresses.{ingress_of};
+ghost use Rattle.std.specs.Option.{option_map};
+
+mod changes;
+mod config;
+mod grants;
+
+use crate::{Metadata, Record, Reservation};
+use changes::{begin, end_hold, grant_dial, grant_listen, readdress};
+pub use config::Config;
+use p2p_base::{Address, Ingress, IpAddr, PrioritySet, PublicKey};
+use std::alloc::{AllocError, Global};
+use std::collections::BTreeMap;
+use std::marker::Model;
+
+/// Which peers are known, tracked, held and blocked. It is answerable to the list of the calls so far.
+///
+/// Ports `Directory` of commonware-p2p's lookup tracker.
+#[derive(Drop)]
+pub struct Directory<C: PublicKey> {
+    local: C,
+    cfg: Config,
+    records: BTreeMap<C, Record>,
+    blocks: PrioritySet<C>,
+    alloc: Global,
+}
+
+impl<C: PublicKey> Model for Directory<C> {
+    ghost use Rattle.p2p_facts.specs.Rules.{Rules};
+    ghost use Rattle.p2p_tracker.specs.Stands.{Kept};
+
+    ghost Value = { Kept C };
+
+    ghost view = { λ d. record {
+      rules = record {
+        local = d.local;
+        max_sets = d.cfg.max_sets;
+        cooldown = d.cfg.peer_connection_cooldown;
+        block_duration = d.cfg.block_duration;
+        private = d.cfg.allow_private_ips;
+        dns = d.cfg.allow_dns;
+        bypass = d.cfg.bypass_ip_check;
+      };
+      records = d.records.entries;
+      blocks = d.blocks;
+    } };
+}
+
+impl<C: PublicKey> Directory<C> {
+    /// A directory that knows of no peer but the `local` one.
+    ///
+    /// `Err` only where memory runs out.
+    pub fn init(alloc: Global, local: C, cfg: Config) -> Result<Directory<C>, AllocError>
+        ensures local { IfOk result (λ d. d.rules.local ≡ local) }
+        ensures max_sets { IfOk result (λ d. d.rules.max_sets ≡ cfg.max_sets) }
+        ensures cooldown { IfOk result (λ d. d.rules.cooldown ≡ cfg.peer_connection_cooldown) }
+        ensures block_duration { IfOk result (λ d. d.rules.block_duration ≡ cfg.block_duration) }
+        ensures private { IfOk result (λ d. d.rules.private ≡ cfg.allow_private_ips) }
+        ensures dns { IfOk result (λ d. d.rules.dns ≡ cfg.allow_dns) }
+        ensures bypass { IfOk result (λ d. d.rules.bypass ≡ cfg.bypass_ip_check) }
+        ensures stands { IfOk result (λ d. StandsFor C.cmp d []) }
+    {
+        let mut records = BTreeMap::new(alloc);
+        records.insert(local, Record::myself())?;
+        Ok(Directory {
+            local,
+            cfg,
+            records,
+            blocks: PrioritySet::new(alloc),
+            alloc,
+        })
+    }
+
+    // Whether the peer's block ends after `now`.
+    fn is_blocked(&self, peer: &C, now: u64) -> bool
+        ensures { result ≡ lasts_at (lookup (is_at (C.cmp peer.now)) self.now.blocks) now }
+    {
+        match self.blocks.get(peer) {
+            Some(end) => u128::from(now) < end,
+            None => false,
+        }
+    }
+
+    /// Whether `peer` may connect at the moment `now`: it is another's key, in a set that is kept, and not blocked.
+    pub fn eligible(&self, peer: &C, now: u64) -> bool
+        ensures { (calls : List (Call C)) → StandsFor C.cmp self.now calls → result ≡ is_eligible C.cmp self.now.rules calls peer.now now }
+    {
+        if self.is_blocked(peer, now) {
+            return false;
+        }
+        self.has_eligible(peer)
+    }
+
+    fn has_eligible(&self, peer: &C) -> bool
+        ensures { result ≡ is_eligible_in (lookup (is_at (C.cmp peer.now)) self.now.records) }
+    {
+        match self.records.get(peer) {
+            Some(record) => record.eligible(),
+            None => false,
+        }
+    }
+
+    /// Whether a connection that `peer` began from `source` may be taken up at the moment `now`. Whether it has waited since its last
+    /// grant is left to `listen`.
+    pub fn acceptable(&self, peer: &C, source: IpAddr, now: u64) -> bool
+        ensures { (calls : List (Call C)) → StandsFor C.cmp self.now calls → result ≡ is_acceptable C.cmp self.now.rules calls peer.now source now }
+    {
+        if self.is_blocked(peer, now) {
+            return false;
+        }
+        self.has_acceptable(peer, source)
+    }
+
+    fn has_acceptable(&self, peer: &C, source: IpAddr) -> bool
+        ensures { result ≡ is_acceptable_in (lookup (is_at (C.cmp peer.now)) self.now.records) source self.now.rules.bypass }
+    {
+        match self.records.get(peer) {
+            Some(record) => record.acceptable(source, self.cfg.bypass_ip_check),
+            None => false,
+        }
+    }
+
+    /// Asks for a reservation to dial `peer` at the moment `now`, and for where to dial it. The peer is then listed for a dial after the
+    /// cooldown and `jitter`.
+    ///
+    /// `None` exactly where the peer isn't eligible, is held, was granted less than the cooldown before, is primary in no set, or has no
+    /// ingress that may be dialed. `Err` only where memory runs out, and then nothing has changed.
+    pub fn dial(
+        &mut self,
+        peer: &C,
+        now: u64,
+        jitter: u64,
+    ) -> Result<Option<(Reservation<C>, Ingress)>, AllocError>
+        ensures granted { IfOk result (λ o. (calls : List (Call C)) → StandsFor C.cmp self.old calls → is_some o ≡ allows_dial C.cmp self.old.rules calls peer.now now) }
+        ensures metadata { IfOk result (λ o. IfSome o (λ g. g.0 ≡ side.Dialer peer.now)) }
+        ensures ingress { IfOk result (λ o. IfSome o (λ g. (calls : List (Call C)) → StandsFor C.cmp self.old calls
+            → option_map ingress_of (address_of C.cmp self.old.rules calls peer.now) ≡ Some g.1)) }
+        ensures rules { self.new.rules ≡ self.old.rules }
+        ensures stands { IfOk result (λ o. (calls : List (Call C)) → StandsFor C.cmp self.old calls → StandsFor C.cmp self.new (call.Dial peer.now now jitter (is_some o) ∷ calls)) }
+        ensures memory { OnErr result (self.new ≡ self.old) }
+    {
+        if self.is_blocked(peer, now) {
+            return Ok(None);
+        }
+        let found = self.ingress_of(peer)?;
+        let Some(ingress) = found else {
+            return Ok(None);
+        };
+        if grant_dial(&mut self.records, &self.cfg, peer, now, jitter) {
+            return Ok(Some((Reservation::new(Metadata::Dialer(*peer)), ingress)));
+        }
+        Ok(None)
+    }
+
+    // Where the peer is dialed, if that is known.
+    fn ingress_of(&self, peer: &C) -> Result<Option<Ingress>, AllocError>
+        ensures { IfOk result (λ i. i ≡ found_ingress (lookup (is_at (C.cmp peer.now)) self.now.records)) }
+    {
+        match self.records.get(peer) {
+            Some(record) => record.ingress(self.alloc),
+            None => Ok(None),
+        }
+    }
+
+    /// Asks for a reservation for `peer`, which dialed from `source`, at the moment `now`. The peer is then listed for a dial after the
+    /// cooldown and `jitter`.
+    ///
+    /// `None` exactly where the peer isn't eligible, is held, was granted less than the cooldown before, or dials from another address
+    /// and that is tested.
+    pub fn listen(
+        &mut self,
+        peer: &C,
+        source: IpAddr,
+        now: u64,
+        jitter: u64,
+    ) -> Result<Option<Reservation<C>>, AllocError>
+        ensures granted { IfOk result (λ o. (calls : List (Call C)) → StandsFor C.cmp self.old calls → is_some o ≡ allows_listen C.cmp self.old.rules calls peer.now source now) }
+        ensures metadata { IfOk result (λ o. IfSome o (λ g. g ≡ side.Listener peer.now)) }
+        ensures rules { self.new.rules ≡ self.old.rules }
+        ensures stands { IfOk result (λ o. (calls : List (Call C)) → StandsFor C.cmp self.old calls → StandsFor C.cmp self.new (call.Listen peer.now now jitter (is_some o) ∷ calls)) }
+        ensures memory { OnErr result (self.new ≡ self.old) }
+    {
+        if self.is_blocked(peer, now) {
+            return Ok(None);
+        }
+        if grant_listen(&mut self.records, &self.cfg, peer, source, now, jitter) {
+            return Ok(Some(Reservation::new(Metadata::Listener(*peer))));
+        }
+        Ok(None)
+    }
+
+    /// Begins the connection of a reserved `peer`. False exactly where its address changed since it was reserved.
+    pub fn connect(&mut self, peer: &C) -> bool
+        requires { is_reserved_in (lookup (is_at (C.cmp peer.now)) self.old.records) ≡ true }
+        ensures answer { (calls : List (Call C)) → StandsFor C.cmp self.old calls → result ≡ not (is_stale C.cmp self.old.rules calls peer.now) }
+        ensures rules { self.new.rules ≡ self.old.rules }
+        ensures stands { (calls : List (Call C)) → StandsFor C.cmp self.old calls → StandsFor C.cmp self.new (call.Connect peer.now None ∷ calls) }
+    {
+        begin(&mut self.records, peer)
+    }
+
+    /// Gives `peer` another address. True exactly where it is another's key of which the directory knows, and that changed it.
+    ///
+    /// No memory is taken, and so there is no `Err`.
+    pub fn overwrite(&mut self, peer: &C, address: Address) -> Result<bool, AllocError>
+        ensures answer { IfOk result (λ b. (calls : List (Call C)) → StandsFor C.cmp self.old calls → b ≡ is_overwritten C.cmp self.old.rules calls peer.now address) }
+        ensures rules { self.new.rules ≡ self.old.rules }
+        ensures stands { IfOk result (λ b. (calls : List (Call C)) → StandsFor C.cmp self.old calls → StandsFor C.cmp self.new (call.Overwrite peer.now address ∷ calls)) }
+        ensures memory { OnErr result (self.new ≡ self.old) }
+    {
+        Ok(readdress(&mut self.records, peer, address))
+    }
+
+    /// Takes back the reservation of a peer, which is held or of which the directory doesn't know. It forgets a peer that is then in no
+    /// set, but for a block.
+    pub fn release(&mut self, metadata: &Metadata<C>)
+        requires { is_held_or_unknown (lookup (is_at (C.cmp (peer_of metadata.now))) self.old.records) ≡ true }
+        ensures rules { self.new.rules ≡ self.old.rules }
+        ensures stands { (calls : List (Call C)) → StandsFor C.cmp self.old calls → StandsFor C.cmp self.new (call.Release (peer_of metadata.now) ∷ calls) }
+    {
+        end_hold(&mut self.records, metadata.public_key());
+    }
+
+    /// Blocks `peer` from the moment `now` on for the block's duration. True exactly where it is another's key and isn't blocked then.
+    ///
+    /// `Err` only where memory runs out, and then nothing has changed.
+    pub fn block(&mut self, peer: &C, now: u64) -> Result<bool, AllocError>
+        ensures answer { IfOk result (λ b. (calls : List (Call C)) → StandsFor C.cmp self.old calls → b ≡ is_blockable C.cmp self.old.rules calls peer.now now) }
+        ensures rules { self.new.rules ≡ self.old.rules }
+        ensures stands { IfOk result (λ b. (calls : List (Call C)) → StandsFor C.cmp self.old calls → StandsFor C.cmp self.new (call.Block peer.now now ∷ calls)) }
+        ensures memory { OnErr result (self.new ≡ self.old) }
+    {
+        if self.is_local(peer) {
+            return Ok(false);
+        }
+        if self.is_blocked(peer, now) {
+            return Ok(false);
+        }
+        let end = self.block_end(now);
+        self.blocks.put(*peer, end)?;
+        Ok(true)
+    }
+
+    fn is_local(&self, peer: &C) -> bool
+        ensures { result ≡ is_local C.cmp self.now.rules peer.now }
+    {
+        self.local.cmp(peer).is_eq()
+    }
+
+    // When a block ends that begins at `now`.
+    fn block_end(&self, now: u64) -> u128
+        ensures { result ≡ now + self.now.rules.block_duration }
+    {
+        u128::from(now) + u128::from(self.cfg.block_duration)
+    }
+}

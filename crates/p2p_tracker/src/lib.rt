@@ -1,0 +1,15 @@
+//! The tracker: which peers may connect, and who holds the right to.
+#![tactic(auto)]
+
+pub mod directory;
+pub mod metadata;
+pub mod record;
+pub mod reservation;
+
+pub use directory::{Config, Directory};
+pub use metadata::Metadata;
+pub use record::{Address, DialStatus, Record, ReserveResult, Status};
+pub use reservation::Reservation;
+
+#[cfg(test)]
+mod tests;
