@@ -34,6 +34,15 @@ module _ {E : Type 0} where
       let r = begins_shorter xs ys zs (p.0, cc (p.1)) (q.0, cc (q.1)) (omega arith) in
       (r.0, cc (heads, r.1))
 
+  -- a beginning that is as long is the whole
+  pub begins_whole : (xs ys : List E) → IsPrefix xs ys → length xs ≡ length ys → xs ≡ ys
+  begins_whole [] [] p n = refl
+  begins_whole [] (y ∷ ys) p n = absurd (omega arith)
+  begins_whole (x ∷ xs) [] p n = absurd (omega arith)
+  begins_whole (x ∷ xs) (y ∷ ys) p n =
+      let heads : x ≡ y = cc (p.1) in
+      let r = begins_whole xs ys (p.0, cc (p.1)) (omega arith) in cc (heads, r)
+
   -- what stands in a beginning stands in the whole
   pub begins_get : (xs ys : List E) (k : ℕ) (x : E) → IsPrefix xs ys → slice_get xs k ≡ Some x → slice_get ys k ≡ Some x
   begins_get [] ys k x p h = absurd (cc)
@@ -88,12 +97,16 @@ module _ {E : Type 0} where
   pub longer_length : (xs ys : List E) → length (shorter xs ys) ≤ length (longer xs ys)
   longer_length xs ys = lengths_by (ltb (length xs) (length ys)) xs ys refl
 
-  whole_by : (b : Bool) (xs ys zs : List E) → ltb (length xs) (length ys) ≡ b → xs ≡ zs → IsPrefix ys zs → cond b ys xs ≡ zs
-  whole_by true xs ys zs e is p = let l = begins_length ys zs p in let n = ap (λ (l : List E). length l) is in let lt : length xs < length ys = grind (arith, nat_tests) in absurd (omega arith)
-  whole_by false xs ys zs e is p = is
+  whole_by : (b : Bool) (xs ys : List E) → ltb (length xs) (length ys) ≡ b → IsPrefix xs ys → (cond b ys xs ≡ ys) × (cond b xs ys ≡ xs)
+  whole_by true xs ys e p = (refl, refl)
+  whole_by false xs ys e p =
+      let le = begins_length xs ys p in
+      let ge : length ys ≤ length xs = grind (arith, nat_tests) in
+      let same = begins_whole xs ys p (omega arith) in (same, sym same)
 
-  pub longer_whole : (xs ys zs : List E) → xs ≡ zs → IsPrefix ys zs → longer xs ys ≡ zs
-  longer_whole xs ys zs is p = whole_by (ltb (length xs) (length ys)) xs ys zs refl is p
+  -- of a beginning and the whole, the whole is the longer
+  pub longer_whole : (xs ys : List E) → IsPrefix xs ys → (longer xs ys ≡ ys) × (shorter xs ys ≡ xs)
+  longer_whole xs ys p = whole_by (ltb (length xs) (length ys)) xs ys refl p
 
 module _ {O C R : Type 0} (reply : O → C → R) (next : O → C → O) where
   pub after-push : (o : O) (h : List (C × R)) (e : C × R) → after reply next o (h ++ e ∷ []) ≡ next (after reply next o h) e.0

@@ -38,6 +38,18 @@ module _ {V : Type 0} where
       let r = total-at f xs i v e in
       total-others f xs i v e (omega arith) j u (λ same. ne (ap suc same)) at
 
+  -- where f is nothing of a seat that has nothing of g, and this seat has all of g, it has all of f
+  pub total-alone : (f g : V → ℕ) (l : List V) (i : ℕ) (v : V) → get_elem? l i ≡ some v → total g l ≡ g v → ((j : ℕ) (u : V) → get_elem? l j ≡ some u → g u ≡ 0 → f u ≡ 0) → total f l ≡ f v
+  total-alone f g [] i v e sum h = absurd (some-ne-none v (sym e))
+  total-alone f g (x ∷ xs) zero v e sum h =
+      let a : f x ≡ f v = ap f (some-injective x v e) in
+      let b : g x ≡ g v = ap g (some-injective x v e) in
+      let r = total-none f xs (λ j u at. h (suc j) u at (let m = total-at g xs j u at in omega arith)) in omega arith
+  total-alone f g (x ∷ xs) (suc i) v e sum h =
+      let b = total-at g xs i v e in
+      let a = h 0 x refl (omega arith) in
+      let r = total-alone f g xs i v e (omega arith) (λ j u at. h (suc j) u at) in omega arith
+
   -- a fact of each seat, where this one's view becomes w
   pub each-set : (P : V → Type 0) (l : List V) (i : ℕ) (w : V) → ((j : ℕ) (u : V) → j ≢ i → get_elem? l j ≡ some u → P u) → P w → (j : ℕ) (u : V) → get_elem? (set l i w) j ≡ some u → P u
   each-set P l i w others mine j u e =

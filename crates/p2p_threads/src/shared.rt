@@ -7,7 +7,7 @@ ghost use Rattle.p2p_threads.specs.History.{after, Replays, longer, IsEachOnce, 
 use crate::board::{Board, Cell, Place};
 use crate::plays::{Cut, Merge};
 use crate::served::Served;
-use crate::steps::{check, give_back, take, turn};
+use crate::steps::{check, give_back, learn, open, take, turn};
 use atomic_table::Table;
 use std::alloc::{AllocError, Global};
 use std::marker::Model;
@@ -47,7 +47,7 @@ impl<T: Served> Model for Pass<T> {
 
     ghost view = { λ p. record { table = p.seat.table_id; first = p.seat.me.0.first; seen = p.seat.me.0.seen; made = p.seat.me.0.made } };
 
-    ghost invariant = { λ p. IsPass p.seat.me p.calls };
+    ghost invariant = { λ p. IsPass p.seat.table_id p.seat.me p.calls };
 }
 
 /// The history has more calls than were made with the pass. Both come back.
@@ -62,14 +62,8 @@ impl<T: Served> Shared<T> {
         ensures blank { IfOk result (λ r. (r.1.seen ≡ []) × (r.1.made ≡ [])) }
     {
         let first = Snapshot::of(&object);
-        let mut slots = Vec::with_capacity(alloc, 1)?;
-        slots.push_reserved(Some(Cell {
-            object,
-            history: Vec::new(alloc),
-        }));
-        let Ok((board, seat)) = Table::new(alloc, &[0, 0], slots, &first) else {
-            return Err(AllocError);
-        };
+        let (board, mut seat) = Table::vacant(alloc, &[1, 0], 1, &first)?;
+        open(&board.shared, &mut seat, object, alloc);
         Ok((Shared { board, alloc }, Pass { seat, calls: 0 }))
     }
 
@@ -140,12 +134,17 @@ impl<T: Served> Shared<T> {
         ensures more { IfErr result (λ o. length pass.made < length o.1.seen) }
     {
         let Pass { mut seat, calls } = pass;
-        let cell = take(rt, &self.board.shared, &mut seat);
-        if calls < cell.history.len() as u64 {
+        let (length, cell) = take(rt, &self.board.shared, &mut seat);
+        if calls < length {
+            let cell = learn(&self.board.shared, &mut seat, cell);
             give_back(&self.board.shared, &mut seat, cell);
             return Err(Out(self, Pass { seat, calls }));
         }
-        let Cell { object, history } = cell;
+        let Cell {
+            object,
+            history,
+            seat: _,
+        } = cell;
         Ok((object, history))
     }
 }

@@ -2,13 +2,14 @@
 ghost use Rattle.std.specs.Prelude.{◌≡◌, ◌+◌, ◌<◌, ◌≤◌, ◌^◌, false, true, [], ◌∷◌, ◌++◌, length, IfOk, OnErr, Some, None};
 ghost use mathlib.Core.List.{IsPrefix};
 ghost use Rattle.p2p_threads.specs.History.{IsEachOnce};
-ghost use Rattle.p2p_threads.specs.Seats.{IsSeatAt, IsOutside, CanLeave, CanRaise, Called, Watched, Back};
+ghost use Rattle.p2p_threads.specs.Seats.{IsSeatAt, KnowsTable, IsOutside, CanGive, CanRaise, CanLeave, Called, Watched, Back};
 ghost use Rattle.p2p_threads.specs.Steps.{Inside, Taken};
-ghost use Rattle.p2p_threads.specs.Turns.{entering, keeping, recording, leaving, settled};
+ghost use Rattle.p2p_threads.specs.Turns.{founding, naming, entering, keeping, learning, recording, leaving, settled};
 
 use crate::board::{BUSY, Cell, LENGTH, Place, Stage};
-use crate::plays::{Check, Enter, Leave, Measure, Raise};
+use crate::plays::{Check, Cut, Enter, Leave, Measure, Merge, Open, Raise};
 use crate::served::Served;
+use atomic_table::Badge;
 use std::alloc::{AllocError, Global};
 use std::sync::Wait;
 use std::thread::yield_now;
@@ -29,15 +30,16 @@ impl<T: Served> Cell<T, T::Call, T::Reply> {
     }
 }
 
-// Waits at the bar, and takes the slot.
+// Waits at the bar.
 fn enter<T: Served, R: Wait>(rt: &R, table: &Stage<T>, seat: &mut Place<T>)
     requires seat { IsSeatAt table.now.table_id seat.old }
+    requires knows { KnowsTable table.now.table_id seat.old }
     requires outside { IsOutside seat.old }
     ensures seat { IsSeatAt table.now.table_id seat.new × (seat.new.id ≡ seat.old.id) }
-    ensures taken { (c : _) × Taken T.reply T.next seat.old.me seat.new.me c }
+    ensures view { seat.new.me ≡ (entering seat.old.me.0, seat.old.me.1) }
 {
     for _ in rt.forever() {
-        if table.compare_exchange::<Enter<T>>(seat, BUSY, 0, 1) == 0 {
+        if table.compare_exchange::<Enter>(seat, BUSY, 0, 1) == 0 {
             return;
         }
         yield_now();
@@ -45,45 +47,88 @@ fn enter<T: Served, R: Wait>(rt: &R, table: &Stage<T>, seat: &mut Place<T>)
     unreachable!()
 }
 
-// The same, and takes what the slot holds.
+// Reads the length, which is the place of the next call. The slot is the seat's from then on.
+fn measure<T: Served>(table: &Stage<T>, seat: &mut Place<T>) -> u64
+    requires seat { IsSeatAt table.now.table_id seat.old }
+    requires knows { KnowsTable table.now.table_id seat.old }
+    requires inside { (seat.old.me.0.inside ≡ true) × (seat.old.me.0.kept ≡ None) }
+    ensures seat { IsSeatAt table.now.table_id seat.new × (seat.new.id ≡ seat.old.id) }
+    ensures taken { (c : _) × Taken T.reply T.next seat.old.me result seat.new.me c }
+{
+    table.load::<Measure<T>>(seat, LENGTH)
+}
+
+/// Waits at the bar, reads the length, and takes what the slot holds.
 pub(crate) fn take<T: Served, R: Wait>(
     rt: &R,
     table: &Stage<T>,
     seat: &mut Place<T>,
-) -> Cell<T, T::Call, T::Reply>
+) -> (u64, Cell<T, T::Call, T::Reply>)
     requires seat { IsSeatAt table.now.table_id seat.old }
+    requires knows { KnowsTable table.now.table_id seat.old }
     requires outside { IsOutside seat.old }
     ensures seat { IsSeatAt table.now.table_id seat.new × (seat.new.id ≡ seat.old.id) }
-    ensures view { seat.new.me ≡ (entering seat.old.me.0 result.history.items, (0, None) ∷ []) }
-    ensures inside { Inside T.reply T.next seat.old.me.0 result }
+    ensures view { seat.new.me ≡ (keeping (entering seat.old.me.0) result.0, (0, None) ∷ []) }
+    ensures length { result.0 ≡ length result.1.history.items }
+    ensures inside { Inside T.reply T.next seat.old.me.0 result.1 }
 {
     enter(rt, table, seat);
+    let length = measure(table, seat);
+    let Some(cell) = table.exchange(seat, 0, None) else {
+        unreachable!()
+    };
+    (length, cell)
+}
+
+/// Joins the slot's seat, with which all of the history was seen.
+pub(crate) fn learn<T: Served>(
+    table: &Stage<T>,
+    seat: &mut Place<T>,
+    cell: Cell<T, T::Call, T::Reply>,
+) -> Cell<T, T::Call, T::Reply>
+    requires seat { IsSeatAt table.now.table_id seat.old }
+    requires knows { KnowsTable table.now.table_id seat.old }
+    requires cell { Inside T.reply T.next seat.old.me.0 cell }
+    ensures seat { IsSeatAt table.now.table_id seat.new × (seat.new.id ≡ seat.old.id) }
+    ensures view { seat.new.me ≡ (learning seat.old.me.0 cell.history.items, seat.old.me.1) }
+    ensures same { (result.object ≡ cell.object) × (result.history.items ≡ cell.history.items) }
+{
+    let Cell {
+        object,
+        history,
+        seat: other,
+    } = cell;
+    table.join_seat::<Merge>(seat, other.into_seat());
+    Cell {
+        object,
+        history,
+        seat: Badge::blank(),
+    }
+}
+
+// Raises the length by the call. The step finds it in the cell, which is in the slot for that time.
+fn raise<T: Served>(
+    table: &Stage<T>,
+    seat: &mut Place<T>,
+    cell: Cell<T, T::Call, T::Reply>,
+    call: T::Call,
+    reply: T::Reply,
+) -> Cell<T, T::Call, T::Reply>
+    requires seat { IsSeatAt table.now.table_id seat.old }
+    requires knows { KnowsTable table.now.table_id seat.old }
+    requires hand { seat.old.me.1 ≡ (0, None) ∷ [] }
+    requires call { CanRaise T.reply T.next seat.old.me.0 cell (call, reply) }
+    ensures seat { IsSeatAt table.now.table_id seat.new × (seat.new.id ≡ seat.old.id) }
+    ensures view { seat.new.me ≡ (recording seat.old.me.0 (call, reply), (0, None) ∷ []) }
+    ensures same { result ≡ cell }
+{
+    let _entry = (call, reply);
+    table.exchange(seat, 0, Some(cell));
+    table.fetch_add::<Raise>(seat, LENGTH, 1);
     let Some(cell) = table.exchange(seat, 0, None) else {
         unreachable!()
     };
     cell
-}
-
-// Reads the length, which is the place of the next call.
-fn measure<T: Served>(table: &Stage<T>, seat: &mut Place<T>) -> u64
-    requires seat { IsSeatAt table.now.table_id seat.old }
-    requires inside { seat.old.me.0.inside ≡ true }
-    ensures seat { IsSeatAt table.now.table_id seat.new × (seat.new.id ≡ seat.old.id) }
-    ensures view { seat.new.me ≡ (keeping seat.old.me.0 result, seat.old.me.1) }
-    ensures length { result ≡ length seat.old.me.0.seen }
-{
-    table.load::<Measure>(seat, LENGTH)
-}
-
-// Raises the length by the call, which the cell in hand has.
-fn raise<T: Served>(table: &Stage<T>, seat: &mut Place<T>, call: T::Call, reply: T::Reply)
-    requires seat { IsSeatAt table.now.table_id seat.old }
-    requires call { CanRaise T.reply T.next seat.old.me (call, reply) }
-    ensures seat { IsSeatAt table.now.table_id seat.new × (seat.new.id ≡ seat.old.id) }
-    ensures view { seat.new.me ≡ (recording seat.old.me.0 (call, reply), seat.old.me.1) }
-{
-    let _entry = (call, reply);
-    table.fetch_add::<Raise>(seat, LENGTH, 1);
 }
 
 // Gives the slot back, and leaves.
@@ -96,14 +141,52 @@ fn leave<T: Served>(table: &Stage<T>, seat: &mut Place<T>)
     table.store::<Leave>(seat, BUSY, 0);
 }
 
-// Records the call that was served, and leaves.
-fn finish<T: Served>(table: &Stage<T>, seat: &mut Place<T>, call: T::Call, reply: T::Reply)
+/// Splits off a seat for the slot, gives the slot back, and leaves.
+pub(crate) fn give_back<T: Served>(
+    table: &Stage<T>,
+    seat: &mut Place<T>,
+    cell: Cell<T, T::Call, T::Reply>,
+)
     requires seat { IsSeatAt table.now.table_id seat.old }
-    requires call { CanRaise T.reply T.next seat.old.me (call, reply) }
+    requires knows { KnowsTable table.now.table_id seat.old }
+    requires hand { seat.old.me.1 ≡ (0, None) ∷ [] }
+    requires cell { CanGive T.reply T.next seat.old.me.0 cell }
     ensures seat { IsSeatAt table.now.table_id seat.new × (seat.new.id ≡ seat.old.id) }
-    ensures view { seat.new.me ≡ (leaving (recording seat.old.me.0 (call, reply)), []) }
+    ensures view { seat.new.me ≡ (leaving seat.old.me.0, []) }
 {
-    raise(table, seat, call, reply);
+    let Cell {
+        object,
+        history,
+        seat: _,
+    } = cell;
+    let other = table.split_seat::<Cut>(seat).into_badge();
+    table.exchange(
+        seat,
+        0,
+        Some(Cell {
+            object,
+            history,
+            seat: other,
+        }),
+    );
+    leave(table, seat);
+}
+
+/// Fills the slot. From then on the seat knows its table.
+pub(crate) fn open<T: Served>(table: &Stage<T>, seat: &mut Place<T>, object: T, alloc: Global)
+    requires seat { IsSeatAt table.now.table_id seat.old }
+    requires first { seat.old.me ≡ (founding object, []) }
+    ensures seat { IsSeatAt table.now.table_id seat.new × (seat.new.id ≡ seat.old.id) }
+    ensures view { seat.new.me ≡ (leaving (naming (founding object) table.now.table_id), []) }
+{
+    let other = table.split_seat::<Cut>(seat).into_badge();
+    let cell = Some(Cell {
+        object,
+        history: Vec::new(alloc),
+        seat: other,
+    });
+    table.compare_exchange_with::<Open>(seat, BUSY, 1, 1, &cell);
+    table.exchange(seat, 0, cell);
     leave(table, seat);
 }
 
@@ -116,6 +199,7 @@ pub(crate) fn turn<T: Served, R: Wait>(
     call: T::Call,
 ) -> Result<(u64, T::Reply), AllocError>
     requires seat { IsSeatAt table.now.table_id seat.old }
+    requires knows { KnowsTable table.now.table_id seat.old }
     requires outside { IsOutside seat.old }
     requires first { (o : T) × (seat.old.me.0.first ≡ Some o) }
     ensures seat { IsSeatAt table.now.table_id seat.new × (seat.new.id ≡ seat.old.id) }
@@ -123,15 +207,15 @@ pub(crate) fn turn<T: Served, R: Wait>(
     ensures called { IfOk result (λ r. Called seat.old.me seat.new.me r.0 (call, r.1)) }
     ensures refused { OnErr result (Watched seat.old.me seat.new.me) }
 {
-    let mut cell = take(rt, table, seat);
-    let place = measure(table, seat);
+    let (place, cell) = take(rt, table, seat);
+    let mut cell = learn(table, seat, cell);
     let served = cell.serve(alloc, call);
-    table.exchange(seat, 0, Some(cell));
     let Ok(reply) = served else {
-        leave(table, seat);
+        give_back(table, seat, cell);
         return Err(AllocError);
     };
-    finish(table, seat, call, reply);
+    let cell = raise(table, seat, cell, call, reply);
+    give_back(table, seat, cell);
     Ok((place, reply))
 }
 
@@ -145,20 +229,4 @@ pub(crate) fn check<T: Served>(table: &Stage<T>, seat: &mut Place<T>) -> u64
     ensures length { length seat.old.me.0.seen ≤ result }
 {
     table.load::<Check>(seat, LENGTH)
-}
-
-/// Gives back a cell that nothing was done to, and leaves.
-pub(crate) fn give_back<T: Served>(
-    table: &Stage<T>,
-    seat: &mut Place<T>,
-    cell: Cell<T, T::Call, T::Reply>,
-)
-    requires seat { IsSeatAt table.now.table_id seat.old }
-    requires hand { seat.old.me.1 ≡ (0, None) ∷ [] }
-    requires cell { CanLeave T.reply T.next (seat.old.me.0, (0, Some cell) ∷ []) }
-    ensures seat { IsSeatAt table.now.table_id seat.new × (seat.new.id ≡ seat.old.id) }
-    ensures view { seat.new.me ≡ (leaving seat.old.me.0, []) }
-{
-    table.exchange(seat, 0, Some(cell));
-    leave(table, seat);
 }

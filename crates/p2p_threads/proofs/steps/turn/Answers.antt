@@ -1,33 +1,21 @@
-use Rattle.std.proofs.Common.{◌∙◌, ap, length, None}
-use Rattle.p2p_threads.proofs.Hands.{in_front, serving, refused_leaves, served_raises, served_back, served_called}
+use Rattle.std.proofs.Common.{◌∙◌, ap, [], ◌∷◌, ◌++◌}
+use Rattle.p2p_threads.proofs.Hands.{serving, served_raises, raised_gives, served_back}
 use Rattle.p2p_threads.proofs.steps.turn.Goals as goal
 
-pub exchange-requires : goal.exchange-requires
-exchange-requires g c =
-    let front = ap (λ m. m.1) c.measure-place.ensures.view ∙ ap (λ m. m.1) c.take-cell.ensures.view in
-    (c.measure-place.ensures.seat.0.0, (None, in_front _ _ _ front))
-
-pub leave-requires-clause-cell : goal.leave-requires-clause-cell
-leave-requires-clause-cell g c κs within =
-    let is = serving g.T.Served.reply g.T.Served.next c.args.seat.now.me _ _ _ c.take-cell.result _ _ c.take-cell.ensures.view c.measure-place.ensures.view c.exchange.ensures.3 in
+pub give_back-requires-2-clause-cell : goal.give_back-requires-2-clause-cell
+give_back-requires-2-clause-cell g c κs within =
+    let t = c.take-place.ensures in
+    let is = serving g.T.Served.reply g.T.Served.next c.args.seat.now.me c.take-place.new.seat.me c.learn-cell.new.seat.me _ _ t.view c.learn-cell.ensures.view in
     let first = c.requires.first in
-    refused_leaves g.T.Served.reply g.T.Served.next c.args.seat.now.me _ c.take-cell.result _ _ first.0 first.1 c.take-cell.ensures.inside is c.in_default.ensures.refused.0 c.in_default.ensures.refused.1
-
-pub finish-requires-clause-call : goal.finish-requires-clause-call
-finish-requires-clause-call g c κs within =
-    let is = serving g.T.Served.reply g.T.Served.next c.args.seat.now.me _ _ _ c.take-cell.result _ _ c.take-cell.ensures.view c.measure-place.ensures.view c.exchange.ensures.3 in
-    let first = c.requires.first in
+    let same = c.learn-cell.ensures.same in
     let served = c.in-Ok.ensures in
-    served_raises g.T.Served.reply g.T.Served.next c.args.seat.now.me _ c.take-cell.result _ _ first.0 _ first.1 c.take-cell.ensures.inside is served.object served.history served.reply served.fits
+    let e : g.row.T-Call.Denot × g.row.T-Reply.Denot = (c.args.call, c.in-Ok.reply) in
+    let raises = served_raises g.T.Served.reply g.T.Served.next c.args.seat.now.me c.learn-cell.new.seat.me c.take-place.result.1 c.serve-served.new.self c.take-place.result.0 first.0 e first.1 t.inside t.length is (served.object ∙ ap (λ o. g.T.Served.next o c.args.call) same.0) (served.history ∙ ap (λ l. l ++ e ∷ []) same.1) (served.reply ∙ ap (λ o. g.T.Served.reply o c.args.call) same.0) served.fits in
+    raised_gives g.T.Served.reply g.T.Served.next c.learn-cell.new.seat.me c.raise-cell.new.seat.me c.serve-served.new.self c.raise-cell.result e raises c.raise-cell.ensures.same c.raise-cell.ensures.view
 
 pub returns-clause-back : goal.returns-clause-back
 returns-clause-back g c =
-    let is = serving g.T.Served.reply g.T.Served.next c.args.seat.now.me _ _ _ c.take-cell.result _ _ c.take-cell.ensures.view c.measure-place.ensures.view c.exchange.ensures.3 in
-    served_back g.T.Served.reply g.T.Served.next c.args.seat.now.me _ _ c.take-cell.result _ _ _ c.take-cell.ensures.inside is c.in-Ok.ensures.reply c.finish.ensures.view
-
-pub returns-clause-called : goal.returns-clause-called
-returns-clause-called g c =
-    let is = serving g.T.Served.reply g.T.Served.next c.args.seat.now.me _ _ _ c.take-cell.result _ _ c.take-cell.ensures.view c.measure-place.ensures.view c.exchange.ensures.3 in
-    let place = c.measure-place.ensures.length ∙ ap (λ m. length m.0.seen) c.take-cell.ensures.view in
-    let served = c.in-Ok.ensures in
-    served_called g.T.Served.reply g.T.Served.next c.args.seat.now.me _ _ c.take-cell.result _ _ _ c.take-cell.ensures.inside is place served.history served.fits c.finish.ensures.view
+    let t = c.take-place.ensures in
+    let is = serving g.T.Served.reply g.T.Served.next c.args.seat.now.me c.take-place.new.seat.me c.learn-cell.new.seat.me _ _ t.view c.learn-cell.ensures.view in
+    let replied = c.in-Ok.ensures.reply ∙ ap (λ o. g.T.Served.reply o c.args.call) c.learn-cell.ensures.same.0 in
+    served_back g.T.Served.reply g.T.Served.next c.args.seat.now.me c.learn-cell.new.seat.me c.raise-cell.new.seat.me c.give_back-2.new.seat.me c.take-place.result.1 c.take-place.result.0 (c.args.call, c.in-Ok.reply) t.inside is replied c.raise-cell.ensures.view c.give_back-2.ensures.view

@@ -1,16 +1,20 @@
-use Rattle.std.proofs.Common.{rules, ◌≤◌, List, length, ap, subst}
+use Rattle.std.proofs.Common.{rules, ◌≡◌, ◌≤◌, List, length, ap, subst}
 use mathlib.Core.List.{IsPrefix}
 use Rattle.p2p_threads.proofs.Passes.{called_begins, called_stands, called_place, called_room, called_pass, watched_pass}
 use Rattle.p2p_threads.proofs.shared.Shared.call.Goals as goal
 
 pub invariant_of-pass : goal.invariant_of-pass
-invariant_of-pass g c = watched_pass g.T.Served.reply g.T.Served.next _ _ _ c.pass.invariant c.in_err-place.ensures.back c.in_err-place.ensures.refused
+invariant_of-pass g c =
+    let same : c.pass.inside.seat.table_id ≡ c.turn.new.seat.table_id = search rules in
+    watched_pass g.T.Served.reply g.T.Served.next _ _ same _ _ _ c.pass.invariant c.in_err-place.ensures.back c.in_err-place.ensures.refused
 
 pub overflow_add-pass : goal.overflow_add-pass
-overflow_add-pass g c = let room = called_room _ _ _ _ _ c.pass.invariant c.in_ok-place.ensures.called in search rules
+overflow_add-pass g c = let room = called_room _ _ _ _ _ _ c.pass.invariant c.in_ok-place.ensures.called in search rules
 
 pub invariant_of-pass-2 : goal.invariant_of-pass-2
-invariant_of-pass-2 g c = called_pass g.T.Served.reply g.T.Served.next _ _ _ _ _ c.pass.invariant c.in_ok-place.ensures.back c.in_ok-place.ensures.called
+invariant_of-pass-2 g c =
+    let same : c.pass.inside.seat.table_id ≡ c.turn.new.seat.table_id = search rules in
+    called_pass g.T.Served.reply g.T.Served.next _ _ same _ _ _ _ _ c.pass.invariant c.in_ok-place.ensures.back c.in_ok-place.ensures.called
 
 pub returns-clause-begins : goal.returns-clause-begins
 returns-clause-begins g c =
