@@ -37,7 +37,7 @@ module _ {O C R : Type 0} where
   abbrev pub merged : Sight O C R → Sight O C R → Sight O C R
   merged v w = record { first = v.first; table = v.table; inside = v.inside; kept = v.kept; seen = longer v.seen w.seen; told = shorter v.seen w.seen; made = v.made ++ w.made }
 
-  -- how a seat's view changes: that knows the table; inside; with this length kept; with the slot's seat joined; with one more call; outside; with nothing told
+  -- how a seat's view changes: it knows the table; is inside; keeps this length; has joined the slot's seat; has one more call; is outside; is told nothing
   abbrev pub naming : Sight O C R → TableId → Sight O C R
   naming v z = record { first = v.first; table = Some z; inside = v.inside; kept = v.kept; seen = v.seen; told = v.told; made = v.made }
 
