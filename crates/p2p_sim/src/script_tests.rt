@@ -27,11 +27,7 @@ const ROWS: [Row; 6] = [
         Status::Ok,
         "{\"end\":[],\"n\":0,\"put\":[],\"reply\":{\"capacity\":8},\"take\":[]}\n{\"end\":[[\"copy\",1,0,\"unbound\"]],\"n\":1,\"put\":[],\"reply\":{\"sent\":[2]},\"take\":[]}\n{\"end\":[],\"n\":2,\"put\":[[\"router:0\",{\"subscribe\":7}]],\"reply\":\"ok\",\"take\":[]}\n{\"copy\":[1,0],\"fate\":[\"dropped\",\"unbound\",1]}\n{\"copies\":1,\"entries\":3}\n",
     ),
-    (
-        b"{\"configs\":[",
-        Status::NotJson,
-        "{\"error\":\"json\"}\n",
-    ),
+    (b"{\"configs\":[", Status::NotJson, "{\"error\":\"json\"}\n"),
     (
         b"{\"configs\":[{\"key\":1,\"preset\":\"local\",\"max_peers_per_set\":2,\"max_message_size\":1024,\"mailbox_size\":4}],\"script\":[{\"node\":0,\"at\":1.5,\"do\":\"start\"}]}",
         Status::NotScript,
