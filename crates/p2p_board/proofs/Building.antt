@@ -36,7 +36,7 @@ placed-append n p (y ∷ ys) x =
 
 -- one more item, last
 pub Holds-push :
-    (old new : Board) (items : List Envelope) (x : Envelope) → Holds old items
+    (old new : Board Envelope) (items : List Envelope) (x : Envelope) → Holds old items
     → ((q : Queue) → held new q ≡ held old q ++ cond (same_queue x.queue q) (x ∷ []) []) → Holds new (items ++ x ∷ [])
 Holds-push old new items x h step = record {
   each = λ q.
@@ -47,7 +47,7 @@ Holds-push old new items x h step = record {
 }
 
 builds_put :
-    (old new : Board) (log : List Entry) (r : Row) (n : ℕ) (q : Queue) (i : Item) → length log ≡ n → Builds old log r
+    (old new : Board Envelope) (log : List Entry) (r : Row) (n : ℕ) (q : Queue) (i : Item) → length log ≡ n → Builds old log r
     → ((p : Queue) → held new p ≡ held old p ++ cond (same_queue q p) (record { entry = n; place = length r.puts; queue = q; item = i } ∷ []) [])
     → Builds new log (record r { puts = r.puts ++ (q, i) ∷ [] })
 builds_put old new log r n q i at h step =
@@ -64,7 +64,7 @@ builds_put old new log r n q i at h step =
 
 -- one put: an envelope with this place and an equal item enters its queue
 pub Builds-put :
-    (old new : Board) (log : List Entry) (r : Row) (puts : List (Queue × Item)) (n p : ℕ) (q : Queue) (i j : Item)
+    (old new : Board Envelope) (log : List Entry) (r : Row) (puts : List (Queue × Item)) (n p : ℕ) (q : Queue) (i j : Item)
     → length log ≡ n → p ≡ length r.puts → j ≡ i → puts ≡ r.puts ++ (q, i) ∷ [] → Builds old log r
     → ((k : Queue) → held new k ≡ held old k ++ cond (same_queue q k) (record { entry = n; place = p; queue = q; item = j } ∷ []) [])
     → Builds new log (record r { puts = puts })
@@ -77,7 +77,7 @@ Builds-put old new log r puts n p q i j at here same all h step =
 
 -- the first item of a queue, taken
 pub Holds-pop :
-    (old new : Board) (items : List Envelope) (q : Queue) (x : Envelope) (rest : List Envelope) → AreApart items → Holds old items
+    (old new : Board Envelope) (items : List Envelope) (q : Queue) (x : Envelope) (rest : List Envelope) → AreApart items → Holds old items
     → held old q ≡ x ∷ rest
     → ((p : Queue) → held new p ≡ cond (same_queue q p) (drop 1 (held old p)) (held old p))
     → Holds new (filter (stays (name_of x ∷ [])) items)
@@ -95,7 +95,7 @@ Holds-pop old new items q x rest apart h first step = record {
 
 -- nothing taken of a queue that holds nothing
 pub Holds-idle :
-    (old new : Board) (items : List Envelope) (q : Queue) → Holds old items → held old q ≡ []
+    (old new : Board Envelope) (items : List Envelope) (q : Queue) → Holds old items → held old q ≡ []
     → ((p : Queue) → held new p ≡ cond (same_queue q p) (drop 1 (held old p)) (held old p)) → Holds new items
 Holds-idle old new items q h none step = record {
   each = λ p.
@@ -126,7 +126,7 @@ only_takes log r np ne =
     ∙ ap (λ g. filter (stays g) (live log)) (ap (λ e. r.takes ++ flat_map ended_item e) ne ∙ append-nil r.takes))
 
 builds_take :
-    (old new : Board) (log : List Entry) (r : Row) (q : Queue) (x : Envelope) (rest : List Envelope)
+    (old new : Board Envelope) (log : List Entry) (r : Row) (q : Queue) (x : Envelope) (rest : List Envelope)
     → r.puts ≡ [] → r.ends ≡ [] → Builds old log r → held old q ≡ x ∷ rest
     → ((p : Queue) → held new p ≡ cond (same_queue q p) (drop 1 (held old p)) (held old p))
     → Builds new log (record r { takes = r.takes ++ name_of x ∷ [] })
@@ -140,7 +140,7 @@ builds_take old new log r q x rest np ne h first step =
 
 -- one take, before anything is put or ended
 pub Builds-take :
-    (old new : Board) (log : List Entry) (r : Row) (takes : List (ℕ × ℕ)) (q : Queue) (x : Envelope)
+    (old new : Board Envelope) (log : List Entry) (r : Row) (takes : List (ℕ × ℕ)) (q : Queue) (x : Envelope)
     → r.puts ≡ [] → r.ends ≡ [] → takes ≡ r.takes ++ name_of x ∷ [] → Builds old log r → Some x ≡ slice_get (held old q) 0
     → ((p : Queue) → held new p ≡ cond (same_queue q p) (drop 1 (held old p)) (held old p))
     → Builds new log (record r { takes = takes })
@@ -149,14 +149,14 @@ Builds-take old new log r takes q x np ne all h first step =
     (builds_take old new log r q x (drop 1 (held old q)) np ne h (names_in-first (held old q) (Some x) first x refl) step)
 
 pub Builds-idle :
-    (old new : Board) (log : List Entry) (r : Row) (q : Queue) → Builds old log r → None ≡ slice_get (held old q) 0
+    (old new : Board Envelope) (log : List Entry) (r : Row) (q : Queue) → Builds old log r → None ≡ slice_get (held old q) 0
     → ((p : Queue) → held new p ≡ cond (same_queue q p) (drop 1 (held old p)) (held old p)) → Builds new log r
 Builds-idle old new log r q h none step =
     Holds-idle old new (filter (stays (row_goes r)) (live log) ++ placed (length log) 0 r.puts) q h (none_first (held old q) (sym none)) step
 
 -- a row that moves nothing yet
 pub Builds-still :
-    (board : Board) (log : List Entry) (r : Row) → r.takes ≡ [] → r.puts ≡ [] → flat_map ended_item r.ends ≡ [] → Holds board (live log)
+    (board : Board Envelope) (log : List Entry) (r : Row) → r.takes ≡ [] → r.puts ≡ [] → flat_map ended_item r.ends ≡ [] → Holds board (live log)
     → Builds board log r
 Builds-still board log r nt np ne h =
     let goes : row_goes r ≡ [] = ap (λ t. t ++ flat_map ended_item r.ends) nt ∙ ne in
@@ -167,7 +167,7 @@ Builds-still board log r nt np ne h =
 
 -- what a row ends of copies alone changes nothing on the board
 pub Builds-same :
-    (board : Board) (log : List Entry) (r s : Row) → s.takes ≡ r.takes → s.puts ≡ r.puts → flat_map ended_item s.ends ≡ flat_map ended_item r.ends
+    (board : Board Envelope) (log : List Entry) (r s : Row) → s.takes ≡ r.takes → s.puts ≡ r.puts → flat_map ended_item s.ends ≡ flat_map ended_item r.ends
     → Builds board log r → Builds board log s
 Builds-same board log r s nt np ne h =
     subst (Holds board)
@@ -208,15 +208,15 @@ with_message-ends r (item.Message b c f) =
     flat_map-append ended_item r.ends (end.Copy c.0 c.1 outcome.Delivered ∷ []) ∙ append-nil (flat_map ended_item r.ends)
 
 -- a message that is read
-pub Builds-with_message : (board : Board) (log : List Entry) (r : Row) (i : Item) → Builds board log r → Builds board log (with_message r i)
+pub Builds-with_message : (board : Board Envelope) (log : List Entry) (r : Row) (i : Item) → Builds board log r → Builds board log (with_message r i)
 Builds-with_message board log r i h =
     Builds-same board log r (with_message r i) (with_message-takes r i) (with_message-puts r i) (with_message-ends r i) h
 
 -- the same, under other names
-pub Builds-is : (a b : Board) (log : List Entry) (r s : Row) → a ≡ b → r ≡ s → Builds b log s → Builds a log r
-Builds-is a b log r s e f h = subst (λ (x : Board). Builds x log r) (sym e) (subst (λ (y : Row). Builds b log y) (sym f) h)
+pub Builds-is : (a b : Board Envelope) (log : List Entry) (r s : Row) → a ≡ b → r ≡ s → Builds b log s → Builds a log r
+Builds-is a b log r s e f h = subst (λ (x : Board Envelope). Builds x log r) (sym e) (subst (λ (y : Row). Builds b log y) (sym f) h)
 
 -- a row of a reply alone
-pub Builds-only : (board : Board) (log : List Entry) (r : Row) (reply : Reply) → r ≡ only reply → Holds board (live log) → Builds board log r
+pub Builds-only : (board : Board Envelope) (log : List Entry) (r : Row) (reply : Reply) → r ≡ only reply → Holds board (live log) → Builds board log r
 Builds-only board log r reply e h =
     Builds-is board board log r (only reply) refl e (Builds-still board log (only reply) refl refl refl h)

@@ -8,7 +8,6 @@ use Rattle.std.specs.declared.alloc.Global.{Global}
 use Rattle.p2p_log.specs.QueueOrder.{queue_cmp}
 use Rattle.p2p_log.specs.QueueCode.{same_queue}
 use Rattle.p2p_log.specs.declared.queue.Queue.{Queue}
-use Rattle.p2p_log.specs.declared.item.Envelope.{Envelope}
 use Rattle.p2p_log.proofs.Queues.{is_eq-queue_cmp, same_queue-congr}
 use Rattle.p2p_board.specs.Board.{items_in}
 
@@ -25,7 +24,7 @@ get-same_queue m p q h =
     (λ k. is_eq-queue_cmp p k ∙ (same_queue-congr p q k h ∙ sym (is_eq-queue_cmp q k))) m.entries
 
 new_line :
-    (b : Bool) (old new : Option (VecDeque Envelope Global)) (line : VecDeque Envelope Global) (x : Envelope)
+    {T : Type 0} (b : Bool) (old new : Option (VecDeque T Global)) (line : VecDeque T Global) (x : T)
     → new ≡ cond b (Some line) old → (b ≡ true → old ≡ None) → line.items ≡ x ∷ []
     → items_in new ≡ items_in old ++ cond b (x ∷ []) []
 new_line true old new line x h absent e =
@@ -34,7 +33,7 @@ new_line false old new line x h absent e = ap items_in h ∙ sym (append-nil (it
 
 -- a line of one item, under a queue that had none
 pub held-new_line :
-    (l m n : BTreeMap Queue (VecDeque Envelope Global)) (p q : Queue) (line : VecDeque Envelope Global) (x : Envelope)
+    {T : Type 0} (l m n : BTreeMap Queue (VecDeque T Global)) (p q : Queue) (line : VecDeque T Global) (x : T)
     → l ≡ m → get queue_cmp n q ≡ cond (is_eq (queue_cmp p q)) (Some line) (get queue_cmp l q)
     → get queue_cmp m p ≡ None → line.items ≡ x ∷ []
     → items_in (get queue_cmp n q) ≡ items_in (get queue_cmp m q) ++ cond (same_queue p q) (x ∷ []) []

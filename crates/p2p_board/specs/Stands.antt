@@ -9,7 +9,7 @@ use Rattle.p2p_board.specs.declared.board.Board.{Board}
 use Rattle.p2p_board.specs.Board.{held}
 
 -- the board holds these items, each in its queue, in this order
-pub record Holds (board : Board) (items : List Envelope) : Type 0 where
+pub record Holds (board : Board Envelope) (items : List Envelope) : Type 0 where
   pub each : (q : Queue) → held board q ≡ filter (stands_in q) items
 
 -- the names of the items that a row takes or ends
@@ -17,7 +17,7 @@ abbrev pub row_goes : Row → List (ℕ × ℕ)
 row_goes r = r.takes ++ flat_map ended_item r.ends
 
 -- the board holds what stands in queues after a row that is in building
-abbrev pub Builds : Board → List Entry → Row → Type 0
+abbrev pub Builds : Board Envelope → List Entry → Row → Type 0
 Builds board log r = Holds board (filter (stays (row_goes r)) (live log) ++ placed (length log) 0 r.puts)
 
 -- the name of an item, where there is one

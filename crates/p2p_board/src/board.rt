@@ -4,19 +4,19 @@ ghost use Rattle.std.specs.Option.{option_copied};
 ghost use Rattle.p2p_log.specs.QueueCode.{same_queue};
 ghost use Rattle.p2p_board.specs.Board.{held};
 
-use p2p_log::{Envelope, Queue};
+use p2p_log::Queue;
 use std::alloc::{AllocError, Global};
 use std::collections::{BTreeMap, VecDeque};
 
-/// The items that stand in queues, by queue, the oldest first.
+/// What stands in queues, by queue, the oldest first.
 #[derive(Drop)]
-pub struct Board {
-    pub lines: BTreeMap<Queue, VecDeque<Envelope>>,
+pub struct Board<T> {
+    pub lines: BTreeMap<Queue, VecDeque<T>>,
 }
 
-impl Board {
+impl<T: Drop> Board<T> {
     /// Empty queues.
-    pub fn new(alloc: Global) -> Board
+    pub fn new(alloc: Global) -> Board<T>
         ensures { (q : _) → held result q ≡ [] }
     {
         Board {
@@ -24,11 +24,10 @@ impl Board {
         }
     }
 
-    /// Puts an item last in its queue.
-    pub fn push(&mut self, alloc: Global, x: Envelope) -> Result<(), AllocError>
-        ensures { OnOk result ((q : _) → held self.new q ≡ held self.old q ++ (if same_queue x.queue q then x ∷ [] else [])) }
+    /// Puts an item last in a queue.
+    pub fn push(&mut self, alloc: Global, queue: Queue, x: T) -> Result<(), AllocError>
+        ensures { OnOk result ((q : _) → held self.new q ≡ held self.old q ++ (if same_queue queue q then x ∷ [] else [])) }
     {
-        let queue = x.queue;
         match self.lines.get_mut(&queue) {
             Some(line) => {
                 line.push_back(x)?;
@@ -44,7 +43,7 @@ impl Board {
     }
 
     /// Takes the oldest item of a queue.
-    pub fn pop(&mut self, queue: Queue) -> Option<Envelope>
+    pub fn pop(&mut self, queue: Queue) -> Option<T>
         ensures first { result ≡ slice_get (held self.old queue) 0 }
         ensures rest { (q : _) → held self.new q ≡ (if same_queue queue q then drop 1 (held self.old q) else held self.old q) }
     {
@@ -55,7 +54,7 @@ impl Board {
     }
 
     /// The oldest item of a queue.
-    pub fn front(&self, queue: Queue) -> Option<&Envelope>
+    pub fn front(&self, queue: Queue) -> Option<&T>
         ensures { option_copied result ≡ slice_get (held self.now queue) 0 }
     {
         match self.lines.get(&queue) {

@@ -25,7 +25,7 @@ pub fn only(alloc: Global, reply: Reply) -> Row
 /// Puts an item last in a queue, for the entry of this number.
 pub fn put(
     alloc: Global,
-    board: &mut Board,
+    board: &mut Board<Envelope>,
     row: &mut Row,
     entry: u64,
     queue: Queue,
@@ -38,6 +38,7 @@ pub fn put(
     let kept = item.try_clone(alloc)?;
     board.push(
         alloc,
+        queue,
         Envelope {
             entry,
             place,
@@ -50,7 +51,11 @@ pub fn put(
 }
 
 /// Takes the oldest item of a queue, before the row puts or ends anything.
-pub fn take(board: &mut Board, row: &mut Row, queue: Queue) -> Result<Option<Envelope>, AllocError>
+pub fn take(
+    board: &mut Board<Envelope>,
+    row: &mut Row,
+    queue: Queue,
+) -> Result<Option<Envelope>, AllocError>
     ensures first { IfOk result (λ taken. taken ≡ slice_get (held board.old queue) 0) }
     ensures row { IfOk result (λ taken. row.new ≡ record row.old { takes = row.old.takes ++ names_in taken }) }
     ensures builds { OnOk result ((log : _) → row.old.puts ≡ [] → row.old.ends ≡ [] → Builds board.old log row.old → Builds board.new log row.new) }

@@ -19,7 +19,7 @@ use Rattle.p2p_board.specs.Board.{held}
 use Rattle.p2p_board.specs.Stands.{Holds}
 
 -- what a board that stands for a log holds is the line
-pub held-line : (board : Board) (log : List Entry) (q : Queue) → Holds board (live log) → held board q ≡ line log q
+pub held-line : (board : Board Envelope) (log : List Entry) (q : Queue) → Holds board (live log) → held board q ≡ line log q
 unfolding line
 held-line board log q h = h.each q
 
@@ -28,7 +28,7 @@ where_registered None r none h = cc
 where_registered (Some k) r none h = refl
 
 pub recv_registered :
-    (configs : List Config) (log : List Entry) (board : Board) (c n : ℕ) (o : Option ℕ) (r : Row)
+    (configs : List Config) (log : List Entry) (board : Board Envelope) (c n : ℕ) (o : Option ℕ) (r : Row)
     → Holds board (live log) → o ≡ capacity_in (channels configs log n) c → is_some o ≡ true
     → r ≡ oldest_read (held board (queue.Channel n c)) → r ≡ recv_row configs log c n
 recv_registered configs log board c n o r h same some e =
@@ -37,7 +37,7 @@ recv_registered configs log board c n o r h same some e =
     ∙ where_registered (capacity_in (channels configs log n) c) (oldest_read (line log (queue.Channel n c))) (only reply.Gone) (ap is_some (sym same) ∙ some)
 
 pub send_registered :
-    (configs : List Config) (log : List Entry) (board : Board) (bytes : List ℕ) (c n entry capacity : ℕ) (priority started : Bool) (to : Recipients) (keys : List Key) (o : Option ℕ) (r : Row)
+    (configs : List Config) (log : List Entry) (board : Board Envelope) (bytes : List ℕ) (c n entry capacity : ℕ) (priority started : Bool) (to : Recipients) (keys : List Key) (o : Option ℕ) (r : Row)
     → Holds board (live log) → o ≡ capacity_in (channels configs log n) c → is_some o ≡ true
     → length log ≡ entry → started ≡ is_up log n → capacity ≡ router_capacity configs log n → keys ≡ keys_of_recipients to
     → r ≡ sent_row started (nat_le capacity (length (held board (queue.Router n)))) n entry c priority (frame_of c bytes) keys

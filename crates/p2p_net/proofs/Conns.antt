@@ -104,7 +104,7 @@ NodeStands-begun configs log e n conn node new answered is t stands a runs rest 
     (λ c. runs c ∙ ap (λ b. cond b (cond (is_eq (nat_cmp conn c)) true (sorted.contains nat_cmp node.running c)) (sorted.contains nat_cmp node.running c)) a) rest
 
 pub write_row-batch :
-    (configs : List Config) (log : List Entry) (board : Board) (n conn size : ℕ) (q : Queue) (r : Row) → Holds board (live log) → size ≡ batch_size_at configs n
+    (configs : List Config) (log : List Entry) (board : Board Envelope) (n conn size : ℕ) (q : Queue) (r : Row) → Holds board (live log) → size ≡ batch_size_at configs n
     → r ≡ write_row q (take size (held board (queue.High n conn) ++ held board (queue.Low n conn))) → r ≡ write_row q (batch configs log n conn)
 write_row-batch configs log board n conn size q r h s e =
     e

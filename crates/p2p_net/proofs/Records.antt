@@ -13,6 +13,7 @@ use Rattle.p2p_log.specs.Effect.{row, entry_of, effect}
 use Rattle.p2p_log.specs.Valid.{last_moment, may_act, is_valid_event}
 use Rattle.p2p_log.proofs.Facts.{events_of-append}
 use Rattle.p2p_log.proofs.Lines.{live-append}
+use Rattle.p2p_log.specs.declared.item.Envelope.{Envelope}
 use Rattle.p2p_board.specs.declared.board.Board.{Board}
 use Rattle.p2p_board.specs.Stands.{Holds, Builds}
 use Rattle.p2p_net.specs.declared.node.Node.{Node}
@@ -35,7 +36,7 @@ entry_of-effect configs log v r h = ap (entry_of v) h
 
 -- the parts, after an act whose row was built
 pub PartsStand-append :
-    (configs : List Config) (log : List Entry) (v : Event) (r : Row) (board : Board) (nodes : List Node)
+    (configs : List Config) (log : List Entry) (v : Event) (r : Row) (board : Board Envelope) (nodes : List Node)
     → Builds board log r → NodesStand configs (log ++ entry_of v r ∷ []) nodes → PartsStand configs (log ++ entry_of v r ∷ []) board nodes v.at
 PartsStand-append configs log v r board nodes builds stand = record {
   holds = subst (λ xs. Holds board xs) (sym (live-append log (entry_of v r))) builds;

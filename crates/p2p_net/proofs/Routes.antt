@@ -44,7 +44,7 @@ taken-none log e t = ap (flat_map (item_named log)) t
 
 -- what a take found is the first of its line
 pub line-first :
-    (board : Board) (log : List Entry) (q : Queue) (x : Envelope) → Holds board (live log) → Some x ≡ slice_get (held board q) 0
+    (board : Board Envelope) (log : List Entry) (q : Queue) (x : Envelope) → Holds board (live log) → Some x ≡ slice_get (held board q) 0
     → line log q ≡ x ∷ drop 1 (held board q)
 line-first board log q x h first = sym (held-line board log q h) ∙ names_in-first (held board q) (Some x) first x refl
 
@@ -52,7 +52,7 @@ none_of : (xs : List Envelope) → None ≡ slice_get xs 0 → xs ≡ []
 none_of [] h = refl
 none_of (y ∷ ys) h = cc
 
-pub line-none : (board : Board) (log : List Entry) (q : Queue) → Holds board (live log) → None ≡ slice_get (held board q) 0 → line log q ≡ []
+pub line-none : (board : Board Envelope) (log : List Entry) (q : Queue) → Holds board (live log) → None ≡ slice_get (held board q) 0 → line log q ≡ []
 line-none board log q h none = sym (held-line board log q h) ∙ none_of (held board q) none
 
 -- the row of a node that has started

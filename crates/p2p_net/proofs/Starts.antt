@@ -14,6 +14,7 @@ use Rattle.p2p_log.specs.Facts.{has_started, registered, subscribers, routed, ro
 use Rattle.p2p_log.specs.Effect.{mailbox_size_at}
 use Rattle.p2p_log.specs.Valid.{fits, has_key, is_valid_config, config_fault_from, config_fault}
 use Rattle.p2p_log.proofs.Places.{slice_get-append}
+use Rattle.p2p_log.specs.declared.item.Envelope.{Envelope}
 use Rattle.p2p_board.specs.declared.board.Board.{Board}
 use Rattle.p2p_board.specs.Board.{held}
 use Rattle.p2p_board.specs.Stands.{Holds}
@@ -103,6 +104,6 @@ each-append P xs x each last n y s =
     last_or_before P xs x each last n y (nat_lt n (length xs)) (n == length xs) refl refl (sym (slice_get-append xs x n) ∙ s)
 
 -- empty queues hold what stands there before anything was asked
-pub Holds-nothing : (board : Board) → ((q : Queue) → held board q ≡ []) → Holds board (live [])
+pub Holds-nothing : (board : Board Envelope) → ((q : Queue) → held board q ≡ []) → Holds board (live [])
 unfolding live_from
 Holds-nothing board h = record { each = h }

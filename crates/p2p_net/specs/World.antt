@@ -6,6 +6,7 @@ use Rattle.p2p_log.specs.declared.entry.Entry.{Entry}
 use Rattle.p2p_log.specs.Lines.{live}
 use Rattle.p2p_log.specs.Facts.{events_of}
 use Rattle.p2p_log.specs.Valid.{last_moment}
+use Rattle.p2p_log.specs.declared.item.Envelope.{Envelope}
 use Rattle.p2p_board.specs.declared.board.Board.{Board}
 use Rattle.p2p_board.specs.Stands.{Holds}
 use Rattle.p2p_net.specs.declared.node.Node.{Node}
@@ -22,7 +23,7 @@ abbrev pub with_entry : WorldView → Entry → WorldView
 with_entry w e = record { configs = w.configs; log = w.log ++ e ∷ []; failed = false }
 
 -- the parts of a world against its log
-pub record PartsStand (configs : List Config) (log : List Entry) (board : Board) (nodes : List Node) (last : ℕ) : Type 0 where
+pub record PartsStand (configs : List Config) (log : List Entry) (board : Board Envelope) (nodes : List Node) (last : ℕ) : Type 0 where
   pub holds : Holds board (live log)
   pub nodes_stand : NodesStand configs log nodes
   pub last_is : last ≡ last_moment (events_of log)

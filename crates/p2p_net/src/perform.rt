@@ -19,14 +19,14 @@ use crate::node::Node;
 use crate::valid::{capacity_of, limit_of};
 use bytes::Bytes;
 use p2p_board::Board;
-use p2p_log::{Act, Config, Rate, Recipients, Row};
+use p2p_log::{Act, Config, Envelope, Rate, Recipients, Row};
 use std::alloc::{AllocError, Global};
 
 /// Registers a channel that may be registered.
 fn perform_register(
     alloc: Global,
     configs: &[Config],
-    board: &Board,
+    board: &Board<Envelope>,
     nodes: &mut Vec<Node>,
     channel: u64,
     number: u64,
@@ -58,7 +58,7 @@ fn perform_register(
 fn perform_start(
     alloc: Global,
     configs: &[Config],
-    board: &mut Board,
+    board: &mut Board<Envelope>,
     nodes: &mut Vec<Node>,
     entry: u64,
     number: u64,
@@ -80,7 +80,7 @@ fn perform_start(
 fn perform_join(
     alloc: Global,
     configs: &[Config],
-    board: &mut Board,
+    board: &mut Board<Envelope>,
     nodes: &mut Vec<Node>,
     entry: u64,
     a: u64,
@@ -103,7 +103,7 @@ fn perform_join(
 fn perform_send(
     alloc: Global,
     configs: &[Config],
-    board: &mut Board,
+    board: &mut Board<Envelope>,
     nodes: &[Node],
     entry: u64,
     bytes: &Bytes,
@@ -133,7 +133,7 @@ fn perform_send(
 fn perform_recv(
     alloc: Global,
     configs: &[Config],
-    board: &mut Board,
+    board: &mut Board<Envelope>,
     nodes: &[Node],
     channel: u64,
     number: u64,
@@ -154,7 +154,7 @@ fn perform_recv(
 fn perform_router(
     alloc: Global,
     configs: &[Config],
-    board: &mut Board,
+    board: &mut Board<Envelope>,
     nodes: &mut Vec<Node>,
     entry: u64,
     number: u64,
@@ -176,7 +176,7 @@ fn perform_router(
 fn perform_send_step(
     alloc: Global,
     configs: &[Config],
-    board: &mut Board,
+    board: &mut Board<Envelope>,
     nodes: &mut Vec<Node>,
     entry: u64,
     conn: u64,
@@ -199,7 +199,7 @@ fn perform_send_step(
 fn perform_recv_step(
     alloc: Global,
     configs: &[Config],
-    board: &mut Board,
+    board: &mut Board<Envelope>,
     nodes: &[Node],
     entry: u64,
     conn: u64,
@@ -222,7 +222,7 @@ fn perform_recv_step(
 pub fn perform(
     alloc: Global,
     configs: &[Config],
-    board: &mut Board,
+    board: &mut Board<Envelope>,
     nodes: &mut Vec<Node>,
     entry: u64,
     act: &Act,

@@ -16,7 +16,7 @@ use crate::perform::perform;
 use crate::valid::{is_valid, mailbox_of};
 use p2p_base::List;
 use p2p_board::Board;
-use p2p_log::{Config, Entry, Event, Report, Row};
+use p2p_log::{Config, Entry, Envelope, Event, Report, Row};
 use std::alloc::{AllocError, Global};
 use std::marker::Model;
 
@@ -28,7 +28,7 @@ pub struct World {
     alloc: Global,
     configs: List<Config>,
     report: Report,
-    board: Board,
+    board: Board<Envelope>,
     nodes: Vec<Node>,
     last: u64,
     failed: bool,
@@ -49,7 +49,7 @@ impl Model for World {
 fn record(
     alloc: Global,
     configs: &[Config],
-    board: &mut Board,
+    board: &mut Board<Envelope>,
     nodes: &mut Vec<Node>,
     report: &mut Report,
     last: u64,

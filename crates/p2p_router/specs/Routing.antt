@@ -6,12 +6,17 @@ use Rattle.std.specs.Map.{keys_of, lookup, set_value}
 use Rattle.p2p_base.specs.declared.outcome.Sent.{Sent}
 use Rattle.p2p_base.specs.declared.outcome.Sent.TheVariants as sent
 use Rattle.p2p_wire.specs.declared.encoded.EncodedData.{EncodedData}
-use Rattle.p2p_flow.specs.Lanes.{send_answer, sent_on}
+use Rattle.p2p_flow.specs.Lanes.{Lanes, send_answer, sent_on}
 use Rattle.p2p_flow.specs.declared.plain.Recipients.{Recipients}
 use Rattle.p2p_flow.specs.declared.plain.Recipients.TheVariants as to
 use Rattle.p2p_router.specs.declared.link.Link.{Link}
 use Rattle.p2p_router.specs.declared.stepped.Routed.{Routed}
 use Rattle.p2p_router.specs.declared.stepped.Routed.TheVariants as routed
+
+-- the relay of a link
+abbrev pub relay_over : Option Link → Option (Lanes EncodedData)
+relay_over None = None
+relay_over (Some l) = Some l.relay
 
 module _ {P : Type 0} where
   -- what a relay's answer says of a copy
@@ -32,6 +37,19 @@ module _ {P : Type 0} where
 
     abbrev pub with_link : List (P × Link) → P → Link → List (P × Link)
     with_link links peer l = set_value (is_at (cmp peer)) links l
+
+  module _ (cmp : P → P → Ordering) where
+    -- the relay of a peer's connection
+    abbrev pub relay_of : List (P × Link) → P → Option (Lanes EncodedData)
+    relay_of links peer = relay_over (link_of cmp links peer)
+
+    abbrev pub relay_set : Option Link → List (P × Link) → P → Lanes EncodedData → List (P × Link)
+    relay_set None links peer relay = links
+    relay_set (Some l) links peer relay = with_link cmp links peer (record { conn = l.conn; relay = relay })
+
+    -- with another relay for a peer's connection
+    abbrev pub with_relay : List (P × Link) → P → Lanes EncodedData → List (P × Link)
+    with_relay links peer relay = relay_set (link_of cmp links peer) links peer relay
 
   module _ (cmp : P → P → Ordering) where
     abbrev pub put_over : Option Link → List (P × Link) → P → EncodedData → Bool → List (P × Link)

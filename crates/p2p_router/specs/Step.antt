@@ -49,7 +49,7 @@ module _ {P : Type 0} where
     abbrev pub stepped_by : Routes P → Desk P → Message P → Stepped P
     stepped_by r d (message.Ready peer relay conn) = stepped.Ready peer conn (told_of d (links_after cmp r.links (message.Ready peer relay conn)) r.subscriptions)
     stepped_by r d (message.Release peer) = stepped.Release peer (told_of d (links_after cmp r.links (message.Release peer)) r.subscriptions)
-    stepped_by r d (message.Content recipients encoded priority) = stepped.Content (copies cmp r.links encoded priority (addressed r.links recipients))
+    stepped_by r d (message.Content recipients encoded priority) = stepped.Content encoded (copies cmp r.links encoded priority (addressed r.links recipients))
     stepped_by r d (message.SubscribePeers subscription) = stepped.SubscribePeers subscription (told_of d r.links (subscription ∷ []))
 
     -- the router after that step

@@ -6,8 +6,8 @@ ghost use Rattle.std.specs.Map.{keys_of};
 ghost use Rattle.std.specs.Option.{option_copied_mut};
 ghost use Rattle.p2p_base.specs.Queue.{empty_queue};
 ghost use Rattle.p2p_router.specs.Messenger.{message_waiting, told_all};
-ghost use Rattle.p2p_router.specs.Routes.{new_routes, peer_of, relay_of};
-ghost use Rattle.p2p_router.specs.Routing.{addressed, copies, copies_put};
+ghost use Rattle.p2p_router.specs.Routes.{new_routes};
+ghost use Rattle.p2p_router.specs.Routing.{addressed, copies, copies_put, relay_of};
 ghost use Rattle.p2p_router.specs.Step.{heard, told_of, stepped_by, routes_by, desk_by, stepped_on, routes_on, desk_on};
 ghost use Rattle.p2p_router.specs.declared.message.Message.TheVariants as message;
 ghost use Rattle.p2p_router.specs.declared.stepped.Stepped.TheVariants as stepped;
@@ -52,12 +52,18 @@ impl<P: PublicKey> Actor<P> {
         ensures mailbox { IfOk result (λ r. r.1 ≡ empty_queue cfg.mailbox_size) }
     {
         let mailbox = Mailbox::new(alloc, cfg.mailbox_size)?;
-        let actor = Actor {
+        Ok((Actor::without_peers(alloc), mailbox))
+    }
+
+    /// A router without peers, whose mailbox is made elsewhere.
+    pub fn without_peers(alloc: Global) -> Actor<P>
+        ensures { result ≡ new_routes }
+    {
+        Actor {
             links: BTreeMap::new(alloc),
             subscriptions: Vec::new(alloc),
             failed: false,
-        };
-        Ok((actor, mailbox))
+        }
     }
 
     /// How many peers are connected.
@@ -91,15 +97,12 @@ impl<P: PublicKey> Actor<P> {
         Ok(stepped)
     }
 
-    /// The relay of a connection. `None` exactly where no peer's connection is this one.
-    pub fn relay(&mut self, conn: u64) -> Option<&mut Relay<EncodedData>>
-        ensures* writes_back { sem 𝓛 (lends_relay_of P.row P.Ord self.entry conn result) }
-        ensures value { option_copied_mut result ≡ relay_of self.old.links conn }
+    /// The relay of a peer's connection. `None` exactly where the peer isn't connected.
+    pub fn relay(&mut self, peer: &P) -> Option<&mut Relay<EncodedData>>
+        ensures* writes_back { sem 𝓛 (lends_relay_of P.row P.Ord self.entry peer.now result) }
+        ensures value { option_copied_mut result ≡ relay_of P.cmp self.old.links peer.now }
     {
-        let Some(peer) = find(&self.links, conn) else {
-            return None;
-        };
-        let Some(link) = self.links.get_mut(&peer) else {
+        let Some(link) = self.links.get_mut(peer) else {
             return None;
         };
         Some(link.relay())
@@ -124,7 +127,7 @@ impl<P: PublicKey> Actor<P> {
                     encoded,
                     priority,
                 },
-            ) => self.content(recipients, &encoded, priority),
+            ) => self.content(recipients, encoded, priority),
             Some(Message::SubscribePeers { subscription }) => {
                 self.subscribe(messenger, subscription)
             }
@@ -171,17 +174,18 @@ impl<P: PublicKey> Actor<P> {
     fn content(
         &mut self,
         recipients: Recipients<P>,
-        encoded: &EncodedData,
+        encoded: EncodedData,
         priority: bool,
     ) -> Result<Stepped<P>, AllocError>
-        ensures stepped { IfOk result (λ s. s ≡ stepped.Content (copies P.cmp self.old.links encoded.now priority (addressed self.old.links recipients))) }
-        ensures actor { OnOk result (self.new ≡ record self.old { links = copies_put P.cmp self.old.links encoded.now priority (addressed self.old.links recipients) }) }
+        ensures stepped { IfOk result (λ s. s ≡ stepped.Content encoded (copies P.cmp self.old.links encoded priority (addressed self.old.links recipients))) }
+        ensures actor { OnOk result (self.new ≡ record self.old { links = copies_put P.cmp self.old.links encoded priority (addressed self.old.links recipients) }) }
         ensures failed { self.new.failed ≡ self.old.failed }
     {
         let alloc = *self.subscriptions.allocator();
         let peers = recipients_of(alloc, &self.links, recipients)?;
-        let routed = route(alloc, &mut self.links, &peers, encoded, priority)?;
+        let routed = route(alloc, &mut self.links, &peers, &encoded, priority)?;
         Ok(Stepped::Content {
+            encoded,
             copies: List::new(routed),
         })
     }
@@ -224,17 +228,4 @@ fn tell<P: PublicKey>(
         peers: List::new(peers),
         subscriptions: List::new(heard),
     })
-}
-
-// The peer of a connection.
-#[tactic(auto, unfolding(crate::specs::Routes::peer_of))]
-fn find<P: PublicKey>(links: &BTreeMap<P, Link>, conn: u64) -> Option<P>
-    ensures { result ≡ peer_of links.now.entries conn }
-{
-    for (peer, link) in links {
-        if link.conn == conn {
-            return Some(*peer);
-        }
-    }
-    None
 }

@@ -1,5 +1,6 @@
 //! `Stepped`, what a step of the router answers.
 use p2p_base::List;
+use p2p_wire::EncodedData;
 
 /// What became of the copy of a frame for one peer.
 #[derive(Drop, Clone, PartialEq, Eq, Debug)]
@@ -66,6 +67,8 @@ pub enum Stepped<P> {
     },
     /// Content was routed.
     Content {
+        /// The frame that was routed.
+        encoded: EncodedData,
         /// What became of the copy for each recipient, in order.
         copies: List<Routed<P>>,
     },

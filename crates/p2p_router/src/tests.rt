@@ -128,7 +128,7 @@ fn sent(
 ) -> Result<Vec<Routed<Key>>, Fail> {
     messenger.content(alloc, recipients, 7, Bytes::from_static(b"hello"), false)?;
     match actor.step(messenger)? {
-        Stepped::Content { copies } => Ok(copies.into_inner()),
+        Stepped::Content { copies, .. } => Ok(copies.into_inner()),
         _ => Err(Fail::new("content was taken")),
     }
 }
@@ -159,8 +159,8 @@ fn each_recipient_gets_a_copy_or_a_cause(rt: HostRuntime) -> Result<(), Fail> {
         },
     ];
     assert!(rt; copies.as_slice() == wanted.as_slice());
-    assert!(rt; actor.relay(25).is_none());
-    let relay = actor.relay(24).ok_or("connection 24")?;
+    assert!(rt; actor.relay(&Key(3)).is_none());
+    let relay = actor.relay(&Key(2)).ok_or("the relay of 2")?;
     assert!(rt; relay.take_low() == Some(frame(alloc)?));
     relay.close();
     let copies = sent(alloc, &mut actor, &mut messenger, Recipients::All)?;

@@ -38,7 +38,7 @@ peers_ends-append items n c (d ∷ ds) =
 
 -- the first item of a queue goes, and its end names it
 pub Holds-ended :
-    (old new : Board) (log : List Entry) (gone : List (ℕ × ℕ)) (q : Queue) (x : Envelope)
+    (old new : Board Envelope) (log : List Entry) (gone : List (ℕ × ℕ)) (q : Queue) (x : Envelope)
     → Holds old (filter (stays gone) (live log)) → Some x ≡ slice_get (held old q) 0
     → ((p : Queue) → held new p ≡ cond (same_queue q p) (drop 1 (held old p)) (held old p))
     → Holds new (filter (stays (gone ++ flat_map ended_item (overwritten (held old q)))) (live log))
@@ -53,7 +53,7 @@ Holds-ended old new log gone q x h first step =
 
 -- nothing goes of a queue that holds nothing
 pub Holds-none_ended :
-    (old new : Board) (log : List Entry) (gone : List (ℕ × ℕ)) (q : Queue)
+    (old new : Board Envelope) (log : List Entry) (gone : List (ℕ × ℕ)) (q : Queue)
     → Holds old (filter (stays gone) (live log)) → None ≡ slice_get (held old q) 0
     → ((p : Queue) → held new p ≡ cond (same_queue q p) (drop 1 (held old p)) (held old p))
     → Holds new (filter (stays (gone ++ flat_map ended_item (overwritten (held old q)))) (live log))
@@ -66,7 +66,7 @@ Holds-none_ended old new log gone q h none step =
 
 -- one more channel, whose list ended
 pub row_ended :
-    (r s t : Row) (old : Board) (items kept : List Envelope) (n c : ℕ) (cs : List ℕ)
+    (r s t : Row) (old : Board Envelope) (items kept : List Envelope) (n c : ℕ) (cs : List ℕ)
     → s ≡ record r { ends = r.ends ++ peers_ends items n cs }
     → kept ≡ filter (stays (flat_map ended_item (peers_ends items n cs))) items → Holds old kept
     → t ≡ record s { ends = s.ends ++ overwritten (held old (queue.Peers n c)) }
@@ -84,7 +84,7 @@ row_ended r s t old items kept n c cs so_far left h more =
     (ap (λ l. before ++ overwritten l) last ∙ sym (peers_ends-append items n c cs))))
 
 pub Holds-more_ended :
-    (old new : Board) (log : List Entry) (gone : List (ℕ × ℕ)) (n c : ℕ) (cs : List ℕ)
+    (old new : Board Envelope) (log : List Entry) (gone : List (ℕ × ℕ)) (n c : ℕ) (cs : List ℕ)
     → Holds old (filter (stays (gone ++ flat_map ended_item (peers_ends (filter (stays gone) (live log)) n cs))) (live log))
     → ((g : List (ℕ × ℕ)) → Holds old (filter (stays g) (live log)) → Holds new (filter (stays (g ++ flat_map ended_item (overwritten (held old (queue.Peers n c))))) (live log)))
     → Holds new (filter (stays (gone ++ flat_map ended_item (peers_ends (filter (stays gone) (live log)) n (cs ++ c ∷ [])))) (live log))

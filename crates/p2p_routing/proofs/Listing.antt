@@ -26,14 +26,14 @@ row_taken r s o x e f g =
 
 -- what stands once the item was taken
 pub Holds-taken :
-    (board : Board) (log : List Entry) (r : Row) (name : ℕ × ℕ) → r ≡ taken_row name → Builds board log r → Holds board (filter (stays (name ∷ [])) (live log))
+    (board : Board Envelope) (log : List Entry) (r : Row) (name : ℕ × ℕ) → r ≡ taken_row name → Builds board log r → Holds board (filter (stays (name ∷ [])) (live log))
 Holds-taken board log r name e h =
     let same : Builds board log (taken_row name) = subst (λ (x : Row). Builds board log x) e h in
     subst (Holds board) (append-nil (filter (stays (name ∷ [])) (live log))) same
 
 -- items that end, once the item was taken
 pub Builds-ended :
-    (board : Board) (log : List Entry) (r s : Row) (name : ℕ × ℕ) (ends : List End)
+    (board : Board Envelope) (log : List Entry) (r s : Row) (name : ℕ × ℕ) (ends : List End)
     → r ≡ taken_row name → s ≡ record r { ends = r.ends ++ ends }
     → Holds board (filter (stays (name ∷ flat_map ended_item ends)) (live log)) → Builds board log s
 Builds-ended board log r s name ends e f h =

@@ -23,7 +23,7 @@ use Rattle.p2p_routing.specs.Arrivals.{arrival_of, arrival_in, first_arrival, de
 use Rattle.p2p_routing.specs.Taken.{taken_row}
 use Rattle.p2p_routing.proofs.Listing.{row_taken}
 
-pub held-line : (board : Board) (log : List Entry) (q : Queue) → Holds board (live log) → held board q ≡ line log q
+pub held-line : (board : Board Envelope) (log : List Entry) (q : Queue) → Holds board (live log) → held board q ≡ line log q
 unfolding line
 held-line board log q h = h.each q
 

@@ -44,7 +44,7 @@ placed_in q n p (x ∷ xs) =
 
 -- how many items a queue holds while a row is built that ended no item
 held_in :
-    (board : Board) (log : List Entry) (r : Row) (q : Queue) → flat_map ended_item r.ends ≡ [] → Builds board log r
+    (board : Board Envelope) (log : List Entry) (r : Row) (q : Queue) → flat_map ended_item r.ends ≡ [] → Builds board log r
     → length (held board q) ≡ length (filter (stands_in q) (filter (stays r.takes) (live log))) + count_by (goes_to q) r.puts
 held_in board log r q copies h =
     let goes : row_goes r ≡ r.takes = ap (λ e. r.takes ++ e) copies ∙ append-nil r.takes in
@@ -67,7 +67,7 @@ relayed_by b q send p frame r size items h =
     ])
 
 pub relayed-spread :
-    (board : Board) (log : List Entry) (r : Row) (size n : ℕ) (priority : Bool) (o : Option ℕ) (conn send p : ℕ) (frame : List ℕ)
+    (board : Board Envelope) (log : List Entry) (r : Row) (size n : ℕ) (priority : Bool) (o : Option ℕ) (conn send p : ℕ) (frame : List ℕ)
     → flat_map ended_item r.ends ≡ [] → Builds board log r → o ≡ Some conn
     → relayed (nat_le size (length (held board (relay_queue priority n conn)))) (relay_queue priority n conn) send p frame r
     ≡ with_spread r (spread_to size (filter (stays r.takes) (live log)) n priority o send p frame (spread_of r))

@@ -16,7 +16,7 @@ use Rattle.p2p_board.specs.declared.board.Board.{Board}
 use Rattle.p2p_board.specs.Board.{held, items_in}
 use Rattle.p2p_board.proofs.Kept.{get-same_queue}
 
-pub held-same : (board : Board) (p q : Queue) → same_queue p q ≡ true → held board p ≡ held board q
+pub held-same : (board : Board Envelope) (p q : Queue) → same_queue p q ≡ true → held board p ≡ held board q
 held-same board p q h = ap items_in (get-same_queue board.lines p q h)
 
 drop_more : (i : ℕ) (xs : List Envelope) → drop 1 (drop i xs) ≡ drop (suc i) xs
@@ -46,7 +46,7 @@ map-take_next f before so_far after i xs line x e at first more =
 
 -- a queue after one more item was taken
 pub held-next :
-    (first old new : Board) (p q : Queue) (i : ℕ)
+    (first old new : Board Envelope) (p q : Queue) (i : ℕ)
     → held old q ≡ cond (same_queue p q) (drop i (held first q)) (held first q)
     → held new q ≡ cond (same_queue p q) (drop 1 (held old q)) (held old q)
     → held new q ≡ cond (same_queue p q) (drop (i + 1) (held first q)) (held first q)
@@ -69,7 +69,7 @@ take_spent i most xs line le at none =
     take_all i xs few ∙ sym (take_all most xs (omega arith))
 
 pub held-spent :
-    (first old new : Board) (p q : Queue) (i most : ℕ) → i ≤ most
+    (first old new : Board Envelope) (p q : Queue) (i most : ℕ) → i ≤ most
     → held old p ≡ drop i (held first p) → None ≡ slice_get (held old p) 0
     → held old q ≡ cond (same_queue p q) (drop i (held first q)) (held first q)
     → held new q ≡ cond (same_queue p q) (drop 1 (held old q)) (held old q)
@@ -85,7 +85,7 @@ held-spent first old new p q i most le at none h step =
     ]) refl)
 
 -- the queue itself
-pub held-front : (first old : Board) (p : Queue) (i : ℕ) → held old p ≡ cond (same_queue p p) (drop i (held first p)) (held first p) → held old p ≡ drop i (held first p)
+pub held-front : (first old : Board Envelope) (p : Queue) (i : ℕ) → held old p ≡ cond (same_queue p p) (drop i (held first p)) (held first p) → held old p ≡ drop i (held first p)
 held-front first old p i h = h ∙ ap (λ b. cond b (drop i (held first p)) (held first p)) (same_queue-refl p)
 
 -- a batch of two lines

@@ -8,12 +8,12 @@ ghost use Rattle.p2p_board.specs.Stands.{Holds, Builds};
 use p2p_base::{Key, List};
 use p2p_board::board::Board;
 use p2p_board::draft::put;
-use p2p_log::{End, Item, Queue, Row};
+use p2p_log::{End, Envelope, Item, Queue, Row};
 use std::alloc::{AllocError, Global};
 
 /// Ends the list of peers that waits for a channel, where there is one.
 pub fn end_list(
-    board: &mut Board,
+    board: &mut Board<Envelope>,
     row: &mut Row,
     number: u64,
     channel: u64,
@@ -37,7 +37,7 @@ pub fn end_list(
 
 /// Ends the lists of peers that wait for these channels.
 pub fn end_lists(
-    board: &mut Board,
+    board: &mut Board<Envelope>,
     row: &mut Row,
     number: u64,
     channels: &[u64],
@@ -56,7 +56,7 @@ pub fn end_lists(
 /// Puts a list of these peers for each of these channels.
 pub fn put_lists(
     alloc: Global,
-    board: &mut Board,
+    board: &mut Board<Envelope>,
     row: &mut Row,
     entry: u64,
     number: u64,

@@ -13,12 +13,12 @@ use crate::arrival::{Arrived, open};
 use p2p_base::Key;
 use p2p_board::board::Board;
 use p2p_board::draft::{only, put, take};
-use p2p_log::{Cause, End, Item, Outcome, Queue, Reply, Row, Side};
+use p2p_log::{Cause, End, Envelope, Item, Outcome, Queue, Reply, Row, Side};
 use std::alloc::{AllocError, Global};
 use std::collections::BTreeMap;
 
 /// The message at the front of a queue, where one stands there.
-fn look(board: &Board, queue: Queue, limit: usize) -> Result<Option<Arrived>, AllocError>
+fn look(board: &Board<Envelope>, queue: Queue, limit: usize) -> Result<Option<Arrived>, AllocError>
     ensures { IfOk result (λ arrived. arrived ≡ first_arrival limit (held board.now queue)) }
 {
     match board.front(queue) {
@@ -30,7 +30,7 @@ fn look(board: &Board, queue: Queue, limit: usize) -> Result<Option<Arrived>, Al
 /// A message enters its channel's queue, or is dropped where that is full.
 fn deliver(
     alloc: Global,
-    board: &mut Board,
+    board: &mut Board<Envelope>,
     row: &mut Row,
     entry: u64,
     number: u64,
@@ -64,7 +64,7 @@ fn deliver(
 /// most `limit` bytes.
 pub fn receive(
     alloc: Global,
-    board: &mut Board,
+    board: &mut Board<Envelope>,
     entry: u64,
     number: u64,
     conn: u64,

@@ -12,7 +12,7 @@ use bytes::Bytes;
 use p2p_base::{Key, List};
 use p2p_board::board::Board;
 use p2p_board::draft::put;
-use p2p_log::{Item, Queue, Row};
+use p2p_log::{Envelope, Item, Queue, Row};
 use std::alloc::{AllocError, Global};
 use std::collections::BTreeMap;
 
@@ -30,7 +30,7 @@ pub fn route_keys(alloc: Global, routes: &BTreeMap<u64, u64>) -> Result<List<Key
 /// A subscription: its channel gets the list of these peers.
 pub fn route_subscription(
     alloc: Global,
-    board: &mut Board,
+    board: &mut Board<Envelope>,
     row: &mut Row,
     entry: u64,
     number: u64,
@@ -51,7 +51,7 @@ pub fn route_subscription(
 /// A connection that has begun: it gets the answer, and each subscriber the list of these peers.
 pub fn route_ready(
     alloc: Global,
-    board: &mut Board,
+    board: &mut Board<Envelope>,
     row: &mut Row,
     entry: u64,
     number: u64,
@@ -75,7 +75,7 @@ pub fn route_ready(
 /// Content: a copy to each recipient, in order, whose relay holds `size` messages.
 pub fn route_content(
     alloc: Global,
-    board: &mut Board,
+    board: &mut Board<Envelope>,
     row: &mut Row,
     entry: u64,
     number: u64,

@@ -11,7 +11,7 @@ ghost use Rattle.p2p_routing.specs.Taken.{is_answered};
 use p2p_base::List;
 use p2p_board::board::Board;
 use p2p_board::draft::{only, put, take as take_first};
-use p2p_log::{Item, Queue, Reply, Row, Side};
+use p2p_log::{Envelope, Item, Queue, Reply, Row, Side};
 use std::alloc::{AllocError, Global};
 
 /// Whether an item is the router's answer.
@@ -27,7 +27,7 @@ fn is_answer(item: &Item) -> bool
 /// Takes the router's answer, and tells whether the item taken was one.
 pub fn begin(
     alloc: Global,
-    board: &mut Board,
+    board: &mut Board<Envelope>,
     number: u64,
     conn: u64,
 ) -> Result<(Row, bool), AllocError>
@@ -49,7 +49,7 @@ pub fn begin(
 
 /// Takes the oldest items of a queue, as many as this at most.
 fn take_items(
-    board: &mut Board,
+    board: &mut Board<Envelope>,
     row: &mut Row,
     items: &mut List<Item>,
     queue: Queue,
@@ -75,7 +75,7 @@ fn take_items(
 /// Puts these items into a queue, in order.
 fn put_items(
     alloc: Global,
-    board: &mut Board,
+    board: &mut Board<Envelope>,
     row: &mut Row,
     entry: u64,
     queue: Queue,
@@ -93,7 +93,7 @@ fn put_items(
 /// Writes a batch of at most `size` frames to the link, those with priority first.
 pub fn write_batch(
     alloc: Global,
-    board: &mut Board,
+    board: &mut Board<Envelope>,
     entry: u64,
     number: u64,
     conn: u64,

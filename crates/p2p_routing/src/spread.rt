@@ -11,7 +11,7 @@ use bytes::Bytes;
 use p2p_base::Key;
 use p2p_board::board::Board;
 use p2p_board::draft::put;
-use p2p_log::{Cause, End, Item, Outcome, Queue, Row};
+use p2p_log::{Cause, End, Envelope, Item, Outcome, Queue, Row};
 use std::alloc::{AllocError, Global};
 use std::collections::BTreeMap;
 
@@ -29,7 +29,7 @@ fn relay_of(priority: bool, node: u64, conn: u64) -> Queue
 /// A copy enters its relay, or is dropped where that is full.
 fn relay(
     alloc: Global,
-    board: &mut Board,
+    board: &mut Board<Envelope>,
     row: &mut Row,
     entry: u64,
     size: usize,
@@ -57,7 +57,7 @@ fn relay(
 /// A copy to one recipient, which is dropped where that has no connection.
 pub fn spread_copy(
     alloc: Global,
-    board: &mut Board,
+    board: &mut Board<Envelope>,
     row: &mut Row,
     entry: u64,
     number: u64,
@@ -92,7 +92,7 @@ pub fn spread_copy(
 /// A copy to each recipient, in order.
 pub fn spread_copies(
     alloc: Global,
-    board: &mut Board,
+    board: &mut Board<Envelope>,
     row: &mut Row,
     entry: u64,
     number: u64,

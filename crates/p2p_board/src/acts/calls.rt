@@ -10,7 +10,7 @@ use crate::board::Board;
 use crate::draft::{only, put};
 use bytes::Bytes;
 use p2p_base::{Key, List};
-use p2p_log::{Cause, End, Item, Outcome, Queue, Reply, Row};
+use p2p_log::{Cause, End, Envelope, Item, Outcome, Queue, Reply, Row};
 use p2p_wire::EncodedData;
 use std::alloc::{AllocError, Global};
 
@@ -51,7 +51,7 @@ fn send_unbound(alloc: Global, entry: u64, to: List<Key>) -> Result<Row, AllocEr
 /// A message, of a started node or of one that has not started, to these keys.
 pub fn send_message(
     alloc: Global,
-    board: &mut Board,
+    board: &mut Board<Envelope>,
     started: bool,
     capacity: u128,
     entry: u64,

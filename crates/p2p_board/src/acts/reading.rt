@@ -8,7 +8,7 @@ ghost use Rattle.p2p_board.specs.Rows.{is_message as message_test, with_message}
 
 use crate::board::Board;
 use crate::draft::{only, take};
-use p2p_log::{End, Item, Outcome, Queue, Reply, Row};
+use p2p_log::{End, Envelope, Item, Outcome, Queue, Reply, Row};
 use std::alloc::{AllocError, Global};
 
 /// Whether an item is a message for a reader.
@@ -39,7 +39,7 @@ fn read_into(row: &mut Row, item: Item) -> Result<(), AllocError>
 /// The oldest message of a channel.
 pub fn read_message(
     alloc: Global,
-    board: &mut Board,
+    board: &mut Board<Envelope>,
     number: u64,
     channel: u64,
 ) -> Result<Row, AllocError>

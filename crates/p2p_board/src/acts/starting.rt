@@ -6,13 +6,13 @@ ghost use Rattle.p2p_board.specs.Rows.{subscription};
 
 use crate::board::Board;
 use crate::draft::{only, put};
-use p2p_log::{Item, Queue, Reply, Row};
+use p2p_log::{Envelope, Item, Queue, Reply, Row};
 use std::alloc::{AllocError, Global};
 
 /// Puts a subscription for each of these channels into the mailbox of a node's router.
 pub fn put_subscriptions(
     alloc: Global,
-    board: &mut Board,
+    board: &mut Board<Envelope>,
     row: &mut Row,
     entry: u64,
     number: u64,
@@ -37,7 +37,7 @@ pub fn put_subscriptions(
 /// Starts a node: its subscriptions that waited are put, in order of registration.
 pub fn start_node(
     alloc: Global,
-    board: &mut Board,
+    board: &mut Board<Envelope>,
     channels: &[(u64, usize)],
     entry: u64,
     number: u64,

@@ -12,7 +12,7 @@ use crate::node::Node;
 use crate::valid::limit_of;
 use p2p_board::Board;
 use p2p_board::draft::only;
-use p2p_log::{Act, Config, Half, Queue, Reply, Row, Side};
+use p2p_log::{Act, Config, Envelope, Half, Queue, Reply, Row, Side};
 use p2p_routing::receiving::receive;
 use p2p_routing::sending::{begin, write_batch};
 use std::alloc::{AllocError, Global};
@@ -59,7 +59,7 @@ fn runs(configs: &[Config], nodes: &[Node], number: u64, conn: u64) -> bool
 fn begin_half(
     alloc: Global,
     configs: &[Config],
-    board: &mut Board,
+    board: &mut Board<Envelope>,
     node: &mut Node,
     number: u64,
     conn: u64,
@@ -82,7 +82,7 @@ fn begin_half(
 fn write_half(
     alloc: Global,
     configs: &[Config],
-    board: &mut Board,
+    board: &mut Board<Envelope>,
     node: &Node,
     entry: u64,
     number: u64,
@@ -108,7 +108,7 @@ fn write_half(
 fn step_half(
     alloc: Global,
     configs: &[Config],
-    board: &mut Board,
+    board: &mut Board<Envelope>,
     node: &mut Node,
     entry: u64,
     number: u64,
@@ -137,7 +137,7 @@ fn step_half(
 pub fn send_step(
     alloc: Global,
     configs: &[Config],
-    board: &mut Board,
+    board: &mut Board<Envelope>,
     nodes: &mut Vec<Node>,
     entry: u64,
     number: u64,
@@ -166,7 +166,7 @@ pub fn send_step(
 fn receive_half(
     alloc: Global,
     configs: &[Config],
-    board: &mut Board,
+    board: &mut Board<Envelope>,
     node: &Node,
     entry: u64,
     number: u64,
@@ -201,7 +201,7 @@ fn receive_half(
 pub fn recv_step(
     alloc: Global,
     configs: &[Config],
-    board: &mut Board,
+    board: &mut Board<Envelope>,
     nodes: &[Node],
     entry: u64,
     number: u64,

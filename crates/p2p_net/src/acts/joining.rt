@@ -14,7 +14,7 @@ use crate::node::Node;
 use p2p_base::Key;
 use p2p_board::Board;
 use p2p_board::draft::{only, put};
-use p2p_log::{Act, Config, Half, Item, Queue, Reply, Row, Side};
+use p2p_log::{Act, Config, Envelope, Half, Item, Queue, Reply, Row, Side};
 use std::alloc::{AllocError, Global};
 
 /// Whether two nodes may be joined: both run, they are two, and were not joined before.
@@ -41,7 +41,7 @@ fn key_of(configs: &[Config], number: u64) -> Key
 /// Tells the routers of two nodes that they are joined by this entry's connection.
 fn put_ready(
     alloc: Global,
-    board: &mut Board,
+    board: &mut Board<Envelope>,
     configs: &[Config],
     entry: u64,
     a: u64,
@@ -156,7 +156,7 @@ fn tell_halves(
 pub fn join(
     alloc: Global,
     configs: &[Config],
-    board: &mut Board,
+    board: &mut Board<Envelope>,
     nodes: &mut Vec<Node>,
     entry: u64,
     a: u64,

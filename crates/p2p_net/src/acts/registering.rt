@@ -12,14 +12,14 @@ ghost use Rattle.p2p_net.specs.declared.node.Node.{Node};
 use crate::node::Node;
 use p2p_board::Board;
 use p2p_board::draft::only;
-use p2p_log::{Act, Config, Rate, Reply, Row};
+use p2p_log::{Act, Config, Envelope, Rate, Reply, Row};
 use std::alloc::{AllocError, Global};
 
 /// Registers a channel of this capacity.
 pub fn register(
     alloc: Global,
     configs: &[Config],
-    board: &Board,
+    board: &Board<Envelope>,
     nodes: &mut Vec<Node>,
     number: u64,
     channel: u64,

@@ -15,7 +15,7 @@ use bytes::Bytes;
 use p2p_base::Key;
 use p2p_board::Board;
 use p2p_board::draft::{only, take};
-use p2p_log::{Act, Config, Item, Queue, Reply, Row};
+use p2p_log::{Act, Config, Envelope, Item, Queue, Reply, Row};
 use p2p_routing::route::{route_content, route_keys, route_ready, route_subscription};
 use std::alloc::{AllocError, Global};
 
@@ -23,7 +23,7 @@ use std::alloc::{AllocError, Global};
 fn take_subscription(
     alloc: Global,
     configs: &[Config],
-    board: &mut Board,
+    board: &mut Board<Envelope>,
     node: &mut Node,
     row: &mut Row,
     entry: u64,
@@ -49,7 +49,7 @@ fn take_subscription(
 fn take_ready(
     alloc: Global,
     configs: &[Config],
-    board: &mut Board,
+    board: &mut Board<Envelope>,
     node: &mut Node,
     row: &mut Row,
     entry: u64,
@@ -85,7 +85,7 @@ fn take_ready(
 fn take_content(
     alloc: Global,
     configs: &[Config],
-    board: &mut Board,
+    board: &mut Board<Envelope>,
     node: &Node,
     row: &mut Row,
     entry: u64,
@@ -125,7 +125,7 @@ fn take_content(
 fn take_item(
     alloc: Global,
     configs: &[Config],
-    board: &mut Board,
+    board: &mut Board<Envelope>,
     node: &mut Node,
     row: &mut Row,
     entry: u64,
@@ -179,7 +179,7 @@ fn take_item(
 fn route_next(
     alloc: Global,
     configs: &[Config],
-    board: &mut Board,
+    board: &mut Board<Envelope>,
     node: &mut Node,
     entry: u64,
     number: u64,
@@ -208,7 +208,7 @@ fn route_next(
 pub fn step_router(
     alloc: Global,
     configs: &[Config],
-    board: &mut Board,
+    board: &mut Board<Envelope>,
     nodes: &mut Vec<Node>,
     entry: u64,
     number: u64,

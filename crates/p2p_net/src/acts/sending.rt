@@ -13,14 +13,14 @@ use p2p_board::Board;
 use p2p_board::acts::calls::send_message;
 use p2p_board::acts::reading::read_message;
 use p2p_board::draft::only;
-use p2p_log::{Config, Recipients, Reply, Row};
+use p2p_log::{Config, Envelope, Recipients, Reply, Row};
 use std::alloc::{AllocError, Global};
 
 /// Sends a message on a channel.
 pub fn send(
     alloc: Global,
     configs: &[Config],
-    board: &mut Board,
+    board: &mut Board<Envelope>,
     nodes: &[Node],
     entry: u64,
     number: u64,
@@ -63,7 +63,7 @@ pub fn send(
 pub fn recv(
     alloc: Global,
     configs: &[Config],
-    board: &mut Board,
+    board: &mut Board<Envelope>,
     nodes: &[Node],
     number: u64,
     channel: u64,

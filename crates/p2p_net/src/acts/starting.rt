@@ -10,14 +10,14 @@ ghost use Rattle.p2p_net.specs.Stands.{NodesStand};
 use crate::node::Node;
 use p2p_board::Board;
 use p2p_board::acts::starting::start_node;
-use p2p_log::{Act, Config, Row};
+use p2p_log::{Act, Config, Envelope, Row};
 use std::alloc::{AllocError, Global};
 
 /// Starts a node.
 pub fn start(
     alloc: Global,
     configs: &[Config],
-    board: &mut Board,
+    board: &mut Board<Envelope>,
     nodes: &mut Vec<Node>,
     entry: u64,
     number: u64,

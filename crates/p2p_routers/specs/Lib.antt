@@ -1,0 +1,10 @@
+pub mod Batches
+pub mod Building
+pub mod Copies
+pub mod Frames
+pub mod Holds
+pub mod Items
+pub mod Names
+pub mod Oldest
+pub mod Sound
+pub mod Stands
