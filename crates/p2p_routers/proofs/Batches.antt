@@ -1,5 +1,5 @@
 -- What is left of lines whose fronts were taken.
-use Rattle.std.proofs.Common.{◌≡◌, ℕ, zero, suc, ◌+◌, ◌-◌, ◌≤◌, Bool, true, false, cond, List, [], ◌∷◌, ◌++◌, length, take, drop, refl, ap, sym, subst, ◌∙◌, arith, append_assoc, append-nil, add-one, Option, Some, None}
+use Rattle.std.proofs.Common.{◌≡◌, ℕ, zero, suc, ◌+◌, ◌-◌, ◌≤◌, Bool, true, false, cond, List, [], ◌∷◌, ◌++◌, length, take, drop, refl, ap, sym, subst, ◌∙◌, append-nil, Option, Some, None}
 use Rattle.std.specs.Prelude.{filter, map, slice_get}
 use Rattle.std.proofs.lemmas.List.{map-append, length-map}
 use Rattle.p2p_log.specs.declared.queue.Queue.{Queue}
@@ -147,17 +147,16 @@ batch_taken size old mid new items conn most count none some all apart kept e f 
     in
     let so_far : some ≡ map named (take most high) = f.taken ∙ ap (λ l. l ++ map named (take most high)) e in
     let few : most - count ≡ most - length (take most high) = ap (λ k. most - k) (long ∙ (ap length so_far ∙ length-map (take most high) named)) in
-    let both : take most high ++ take (most - count) low ≡ batch_of old.number conn most items = take_two most (most - count) high low few in
-    (
+    let both : take most high ++ take (most - count) low ≡ batch_of old.number conn most items = take_two most (most - count) high low few in (
       g.taken
-      ∙ (ap (λ l. l ++ map named (take (most - count) (filter (stands_in (relay_queue false mid.number conn)) first))) so_far
-      ∙ (ap (λ l. map named (take most high) ++ map named (take (most - count) l)) same
-      ∙ (sym (map-append named (take most high) (take (most - count) low)) ∙ ap (map named) both))),
+          ∙ (ap (λ l. l ++ map named (take (most - count) (filter (stands_in (relay_queue false mid.number conn)) first))) so_far
+          ∙ (ap (λ l. map named (take most high) ++ map named (take (most - count) l)) same
+          ∙ (sym (map-append named (take most high) (take (most - count) low)) ∙ ap (map named) both))),
       subst (Holds size new)
-      (ap (λ l. left (take (most - count) l) first) same
-      ∙ (sym (filter_stays-append (map name_of (take most high)) (map name_of (take (most - count) low)) items)
-      ∙ (ap (λ g. filter (stays g) items) (sym (map-append name_of (take most high) (take (most - count) low))) ∙ ap (λ l. left l items) both)))
-      g.holds,
+          (ap (λ l. left (take (most - count) l) first) same
+          ∙ (sym (filter_stays-append (map name_of (take most high)) (map name_of (take (most - count) low)) items)
+          ∙ (ap (λ g. filter (stays g) items) (sym (map-append name_of (take most high) (take (most - count) low))) ∙ ap (λ l. left l items) both)))
+          g.holds,
     )
 
 pub AreKept-taken :

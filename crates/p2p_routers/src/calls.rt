@@ -121,12 +121,7 @@ fn take_frame(actor: &mut Actor<Key>, key: Key, priority: bool) -> Option<Encode
 
 impl Router {
     /// Gives the messenger its mailbox with so many places, where the subscriptions that waited are put, in order.
-    pub fn start(
-        &mut self,
-        alloc: Global,
-        entry: u64,
-        places: usize,
-    ) -> Result<Row, AllocError>
+    pub fn start(&mut self, alloc: Global, entry: u64, places: usize) -> Result<Row, AllocError>
         requires places { 1 ≤ places }
         requires unbound { IsTrue (is_unbound self.old.messenger.binding) }
         ensures row { IfOk result (λ row. (configs : _) (log : _) → StandsFor configs log self.old → row ≡ start_row configs log self.old.number) }

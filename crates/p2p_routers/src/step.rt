@@ -27,20 +27,13 @@ fn send_in(name: Option<Name>) -> u64
     ensures { result ≡ send_named name }
 {
     match name {
-        Some(Name {
-            tag: Some(tag),
-            ..
-        }) => tag.0,
+        Some(Name { tag: Some(tag), .. }) => tag.0,
         _ => 0,
     }
 }
 
 /// The row that took the oldest message, and the send of its tag.
-fn took(
-    alloc: Global,
-    names: &mut Board<Name>,
-    number: u64,
-) -> Result<(Row, u64), AllocError>
+fn took(alloc: Global, names: &mut Board<Name>, number: u64) -> Result<(Row, u64), AllocError>
     ensures row { IfOk result (λ r. (items : _) (x : _) (rest : _) → IsOldest number names.old items x rest → r.0 ≡ taken_row (name_of x)) }
     ensures send { IfOk result (λ r. (items : _) (x : _) (rest : _) → IsOldest number names.old items x rest → r.1 ≡ send_of (tag_of x.item)) }
     ensures names { IfOk result (λ r. (items : _) (x : _) (rest : _) → IsOldest number names.old items x rest → Agrees number label (held names.new) (without x items)) }
@@ -123,8 +116,6 @@ pub fn note_content(
     ensures names { IfOk result (λ row. (items : _) (x : _) (rest : _) → IsOldest number names.old items x rest → Agrees number label (held names.new) (after entry row items)) }
 {
     let (mut row, send) = took(alloc, names, number)?;
-    note_copies(
-        alloc, names, &mut row, entry, number, send, frame, copies,
-    )?;
+    note_copies(alloc, names, &mut row, entry, number, send, frame, copies)?;
     Ok(row)
 }
