@@ -51,7 +51,11 @@ pub fn put(
 }
 
 /// Takes the oldest item of a queue, before the row puts or ends anything.
-pub fn take(board: &mut Board<Envelope>, row: &mut Row, queue: Queue) -> Result<Option<Envelope>, AllocError>
+pub fn take(
+    board: &mut Board<Envelope>,
+    row: &mut Row,
+    queue: Queue,
+) -> Result<Option<Envelope>, AllocError>
     ensures first { IfOk result (λ taken. taken ≡ slice_get (held board.old queue) 0) }
     ensures row { IfOk result (λ taken. row.new ≡ record row.old { takes = row.old.takes ++ names_in taken }) }
     ensures builds { OnOk result ((log : _) → row.old.puts ≡ [] → row.old.ends ≡ [] → Builds board.old log row.old → Builds board.new log row.new) }
