@@ -1,5 +1,5 @@
 -- Of what kind the message was that a step took, by what the step answered.
-use Rattle.std.proofs.Common.{◌≡◌, ℕ, Bool, List, [], ◌∷◌, refl, ap, sym, ◌∙◌, Option, Some, None}
+use Rattle.std.proofs.Common.{◌≡◌, ℕ, Bool, List, [], ◌∷◌, refl, ap, ◌∙◌, Option, Some, None}
 use Rattle.std.specs.BTreeMap.{insert_entry}
 use Rattle.p2p_base.specs.declared.key.Key.{Key}
 use Rattle.p2p_flow.specs.Lanes.{Lanes}

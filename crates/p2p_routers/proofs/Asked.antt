@@ -1,6 +1,6 @@
 -- A router that was asked for something holds one more message.
-use Rattle.std.proofs.Common.{◌≡◌, ◌⊎◌, inl, inr, ℕ, ◌+◌, ◌≤◌, Bool, true, false, cond, List, [], ◌∷◌, ◌++◌, length, refl, ap, sym, subst, ◌∙◌, arith, append_assoc, append-nil, Option, Some, None}
-use Rattle.std.specs.Prelude.{filter, flat_map, map, ◌==◌}
+use Rattle.std.proofs.Common.{◌≡◌, ◌⊎◌, inl, inr, ℕ, ◌+◌, ◌≤◌, Bool, true, false, cond, List, [], ◌∷◌, ◌++◌, refl, ap, sym, subst, ◌∙◌, arith, append-nil, Some, None}
+use Rattle.std.specs.Prelude.{flat_map, map, ◌==◌}
 use Rattle.std.specs.List.{AllByRecursion}
 use Rattle.std.specs.BTreeMap.{BTreeMap, get}
 use Rattle.std.specs.Ordering.{nat_cmp, is_eq}
@@ -14,7 +14,6 @@ use Rattle.p2p_flow.specs.Lanes.{empty_lanes}
 use Rattle.p2p_router.specs.Mailbox.{appended}
 use Rattle.p2p_router.specs.Messenger.{Desk, is_bound, in_mailbox}
 use Rattle.p2p_router.specs.Routing.{link_of}
-use Rattle.p2p_router.specs.declared.link.Link.{Link}
 use Rattle.p2p_router.specs.declared.message.Message.{Message}
 use Rattle.p2p_router.specs.declared.message.Message.TheVariants as message
 use Rattle.p2p_router.specs.declared.messenger.Binding.{Binding}
@@ -22,7 +21,6 @@ use Rattle.p2p_router.specs.declared.messenger.Binding.TheVariants.{Unbound, Bou
 use Rattle.p2p_log.specs.declared.queue.Queue.{Queue}
 use Rattle.p2p_log.specs.declared.queue.Queue.TheVariants as queue
 use Rattle.p2p_log.specs.declared.queue.Side.TheVariants as side
-use Rattle.p2p_log.specs.declared.item.Item.{Item}
 use Rattle.p2p_log.specs.declared.item.Item.TheVariants as item
 use Rattle.p2p_log.specs.declared.item.Envelope.{Envelope}
 use Rattle.p2p_log.specs.QueueCode.{same_queue}
@@ -30,7 +28,7 @@ use Rattle.p2p_board.specs.declared.board.Board.{Board}
 use Rattle.p2p_board.specs.Board.{held}
 use Rattle.p2p_routers.specs.Names.{Agrees, is_routers, label, bare_item}
 use Rattle.p2p_routers.specs.Items.{key_cmp, message_item, messages_in, frame_item, link_with, link_to, frames_in, frames_of, items_of}
-use Rattle.p2p_routers.specs.Sound.{IsSound, IsKnown, IsLinked, counted, readies, told_times, subscription_in}
+use Rattle.p2p_routers.specs.Sound.{IsSound, IsKnown, counted, readies, told_times, subscription_in}
 use Rattle.p2p_routers.specs.Holds.{Holds, IsStranger}
 use Rattle.p2p_routers.specs.Stands.{HasPlaces}
 use Rattle.p2p_routers.specs.declared.router.Router.{Router}

@@ -1,5 +1,5 @@
 -- What is left of lines whose fronts were taken.
-use Rattle.std.proofs.Common.{◌≡◌, ℕ, zero, suc, ◌+◌, ◌-◌, ◌≤◌, Bool, true, false, cond, List, [], ◌∷◌, ◌++◌, length, take, drop, refl, ap, sym, subst, ◌∙◌, arith, append_assoc, append-nil, add-one, Option, Some, None}
+use Rattle.std.proofs.Common.{◌≡◌, ℕ, zero, suc, ◌+◌, ◌-◌, ◌≤◌, Bool, true, false, cond, List, [], ◌∷◌, ◌++◌, length, take, drop, refl, ap, sym, subst, ◌∙◌, append-nil, Option, Some, None}
 use Rattle.std.specs.Prelude.{filter, map, slice_get}
 use Rattle.std.proofs.lemmas.List.{map-append, length-map}
 use Rattle.p2p_log.specs.declared.queue.Queue.{Queue}

@@ -1,7 +1,6 @@
 -- A router stands for the log with one more entry that is none of its node's steps, registrations and starts.
 use Rattle.std.proofs.Common.{◌≡◌, ℕ, suc, ◌+◌, Bool, true, false, cond, List, [], ◌∷◌, ◌++◌, length, refl, ap, sym, subst, ◌∙◌, arith, append-nil}
-use Rattle.std.specs.Prelude.{filter, flat_map, map, ◌==◌, ◌||◌}
-use Rattle.std.specs.List.{AllByRecursion}
+use Rattle.std.specs.Prelude.{filter, flat_map, map, ◌||◌}
 use Rattle.std.specs.BTreeMap.{BTreeMap}
 use Rattle.std.proofs.lemmas.List.Elements.{filter-append}
 use Rattle.p2p_base.specs.declared.key.Key.{Key}
@@ -16,7 +15,7 @@ use Rattle.p2p_log.specs.declared.queue.Queue.{Queue}
 use Rattle.p2p_log.specs.declared.queue.Queue.TheVariants as queue
 use Rattle.p2p_log.specs.QueueCode.{same_queue}
 use Rattle.p2p_log.specs.Lines.{name_of, ended_item, stays, placed, live, stands_in}
-use Rattle.p2p_log.specs.Facts.{events_of, starts, has_started, registers_at, registered, channels, routed_by, subscriber_of, subscribers, routes_after, routes, sum_capacities}
+use Rattle.p2p_log.specs.Facts.{events_of, has_started, registered, channels, subscriber_of, subscribers, routes_after, routes, sum_capacities}
 use Rattle.p2p_log.specs.Effect.{mailbox_size_at, router_capacity}
 use Rattle.p2p_log.proofs.Facts.{events_of-append, has_started-append, registered-append, subscribers-append, routes-append}
 use Rattle.p2p_log.proofs.Lines.{live-append, filter_stays-nil}

@@ -1,6 +1,6 @@
 -- The names of a router, once a row puts one more item, or ends the list of one more channel.
-use Rattle.std.proofs.Common.{◌≡◌, ℕ, Bool, true, false, cond, List, [], ◌∷◌, ◌++◌, length, drop, refl, ap, sym, subst, ◌∙◌, arith, append_assoc, append-nil, Option, Some, None}
-use Rattle.std.specs.Prelude.{filter, flat_map, map, slice_get, ◌==◌}
+use Rattle.std.proofs.Common.{◌≡◌, ℕ, true, cond, List, [], ◌∷◌, ◌++◌, length, drop, refl, ap, sym, subst, ◌∙◌, arith, append_assoc, Option}
+use Rattle.std.specs.Prelude.{filter, flat_map, map, ◌==◌}
 use Rattle.std.proofs.lemmas.Bool.Decides.{nat_tests}
 use Rattle.std.proofs.lemmas.Grind.{flat_map-append}
 use Rattle.p2p_log.specs.declared.queue.Queue.{Queue}
@@ -9,7 +9,7 @@ use Rattle.p2p_log.specs.declared.item.Item.{Item}
 use Rattle.p2p_log.specs.declared.item.Envelope.{Envelope}
 use Rattle.p2p_log.specs.declared.row.Row.{Row}
 use Rattle.p2p_log.specs.QueueCode.{same_queue}
-use Rattle.p2p_log.specs.Lines.{name_of, ended_item, stays, placed, stands_in}
+use Rattle.p2p_log.specs.Lines.{ended_item, stays, placed, stands_in}
 use Rattle.p2p_log.specs.Effect.{overwritten, peers_ends}
 use Rattle.p2p_log.proofs.Lines.{filter_stays-append, filter_stays-nil}
 use Rattle.p2p_log.proofs.Names.{AreApart, AreApart-filter}

@@ -1,8 +1,6 @@
 -- A step that routed content, as the log has it.
-use Rattle.std.proofs.Common.{◌≡◌, ℕ, ◌+◌, ◌<◌, ◌≤◌, Bool, true, false, cond, List, [], ◌∷◌, ◌++◌, length, drop, refl, ap, sym, subst, ◌∙◌, arith, append_assoc, append-nil, Option, Some, None}
-use Rattle.std.specs.Prelude.{filter, flat_map, map, ◌==◌, ◌&&◌}
-use Rattle.std.specs.List.{AllByRecursion}
-use Rattle.std.specs.Map.{keys_of}
+use Rattle.std.proofs.Common.{◌≡◌, ℕ, ◌+◌, ◌≤◌, Bool, true, false, cond, List, [], ◌∷◌, ◌++◌, length, refl, ap, sym, subst, ◌∙◌, arith, append-nil, Option, Some, None}
+use Rattle.std.specs.Prelude.{filter, flat_map, map, ◌==◌}
 use Rattle.std.proofs.lemmas.Bool.Decides.{nat_tests}
 use Rattle.std.proofs.lemmas.Bool.{false≢true}
 use Rattle.std.proofs.lemmas.List.{map-append, length-map}
@@ -14,11 +12,10 @@ use Rattle.p2p_flow.specs.declared.plain.Recipients.TheVariants as to
 use Rattle.p2p_wire.specs.declared.encoded.EncodedData.{EncodedData}
 use Rattle.p2p_flow.specs.Lanes.{sent_on}
 use Rattle.p2p_router.specs.Routes.{Routes}
-use Rattle.p2p_router.specs.Routing.{link_of, with_link, addressed, copies, copies_put, put_over}
+use Rattle.p2p_router.specs.Routing.{link_of, addressed, copies, copies_put, put_over}
 use Rattle.p2p_router.specs.Messenger.{Desk, message_taken, message_waiting, in_mailbox, told_all}
 use Rattle.p2p_router.specs.Step.{stepped_on, routes_on, desk_on}
 use Rattle.p2p_router.specs.declared.link.Link.{Link}
-use Rattle.p2p_router.specs.declared.message.Message.{Message}
 use Rattle.p2p_router.specs.declared.message.Message.TheVariants as message
 use Rattle.p2p_router.specs.declared.stepped.Routed.{Routed}
 use Rattle.p2p_router.specs.declared.stepped.Routed.TheVariants as routed
@@ -26,7 +23,6 @@ use Rattle.p2p_router.specs.declared.stepped.Stepped.TheVariants as stepped
 use Rattle.p2p_log.specs.declared.config.Config.{Config}
 use Rattle.p2p_log.specs.declared.queue.Queue.{Queue}
 use Rattle.p2p_log.specs.declared.queue.Queue.TheVariants as queue
-use Rattle.p2p_log.specs.declared.queue.Side.TheVariants as side
 use Rattle.p2p_log.specs.declared.item.Item.{Item}
 use Rattle.p2p_log.specs.declared.item.Item.TheVariants as item
 use Rattle.p2p_log.specs.declared.item.Envelope.{Envelope}
@@ -43,8 +39,8 @@ use Rattle.p2p_routing.specs.Taken.{taken_row}
 use Rattle.p2p_routing.specs.Relays.{with_spread}
 use Rattle.p2p_routers.specs.Names.{Agrees, is_routers, label, bare, bare_item, tag_of}
 use Rattle.p2p_routers.specs.Items.{key_cmp, channel_of, named_keys, message_item, messages_in, lists_in, frame_item, frames_of, items_of}
-use Rattle.p2p_routers.specs.Sound.{AreNamed, counted, told_times, subscription_in, numbers_from}
-use Rattle.p2p_routers.specs.Holds.{Holds, after, routes_in, channels_told}
+use Rattle.p2p_routers.specs.Sound.{AreNamed, counted, told_times, subscription_in}
+use Rattle.p2p_routers.specs.Holds.{Holds, after, routes_in}
 use Rattle.p2p_routers.specs.Copies.{copy_spread, copies_spread}
 use Rattle.p2p_routers.specs.Oldest.{IsOldest, without, send_of}
 use Rattle.p2p_routers.specs.Stands.{StandsFor}
@@ -59,7 +55,7 @@ use Rattle.p2p_routers.proofs.Others.{copied_adds}
 use Rattle.p2p_routers.proofs.Rings.{IsTold, told_all-told}
 use Rattle.p2p_routers.proofs.Routed.{IsRouted, sound_stepped}
 use Rattle.p2p_routers.proofs.Steps.{later_messages, oldest_item, is_oldest, known_first, once_first, subscriptions_first}
-use Rattle.p2p_routers.proofs.Telling.{after_row, copies_ends}
+use Rattle.p2p_routers.proofs.Telling.{copies_ends}
 use Rattle.p2p_routers.proofs.Told.{stepped_to, same_router, map-cond}
 
 -- ---- the links of a router that spreads

@@ -13,13 +13,11 @@ use Rattle.p2p_base.specs.declared.policy.Keep.TheVariants.{Refuse}
 use Rattle.p2p_base.specs.declared.key.Key.{Key}
 use Rattle.p2p_base.specs.declared.outcome.Sent.TheVariants as sent
 use Rattle.p2p_wire.specs.declared.encoded.EncodedData.{EncodedData}
-use Rattle.p2p_flow.specs.Lanes.{Lanes, lane, with_lane, send_answer, sent_on}
+use Rattle.p2p_flow.specs.Lanes.{Lanes, lane, with_lane, send_answer}
 use Rattle.p2p_router.specs.declared.link.Link.{Link}
-use Rattle.p2p_router.specs.declared.stepped.Routed.{Routed}
 use Rattle.p2p_router.specs.declared.stepped.Routed.TheVariants as routed
-use Rattle.p2p_router.specs.Routing.{link_of, with_link, routed_as, routed_over, put_over, copy_routed, copy_put, copies, copies_put}
+use Rattle.p2p_router.specs.Routing.{link_of, with_link, routed_as, routed_over, put_over, copies, copies_put}
 use Rattle.p2p_log.specs.declared.queue.Queue.{Queue}
-use Rattle.p2p_log.specs.declared.queue.Queue.TheVariants as queue
 use Rattle.p2p_log.specs.declared.item.Item.{Item}
 use Rattle.p2p_log.specs.declared.item.Item.TheVariants as item
 use Rattle.p2p_log.specs.declared.item.Envelope.{Envelope}

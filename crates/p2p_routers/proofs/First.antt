@@ -1,8 +1,7 @@
 -- The oldest message of a router's mailbox, and the item that it is.
-use Rattle.std.proofs.Common.{◌≡◌, ℕ, Bool, true, false, cond, List, [], ◌∷◌, ◌++◌, drop, refl, ap, sym, ◌∙◌, Option, Some, None}
+use Rattle.std.proofs.Common.{◌≡◌, ℕ, Bool, true, List, [], ◌∷◌, drop, refl, ap, sym, ◌∙◌, Some, None}
 use Rattle.std.specs.Prelude.{map, slice_get}
 use Rattle.p2p_base.specs.declared.key.Key.{Key}
-use Rattle.p2p_router.specs.Messenger.{Desk, message_waiting, message_taken}
 use Rattle.p2p_router.specs.declared.message.Message.{Message}
 use Rattle.p2p_router.specs.declared.messenger.Binding.{Binding}
 use Rattle.p2p_router.specs.declared.messenger.Binding.TheVariants.{Unbound, Bound, Closed}

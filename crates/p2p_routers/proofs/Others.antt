@@ -1,7 +1,6 @@
 -- A router's step takes and ends nothing of queues that are not its own.
-use Rattle.std.proofs.Common.{◌≡◌, ℕ, Bool, true, false, cond, List, [], ◌∷◌, ◌++◌, drop, refl, ap, sym, ◌∙◌, arith, append-nil}
-use Rattle.std.specs.Prelude.{filter, flat_map, map, ◌==◌, ◌&&◌}
-use Rattle.std.proofs.lemmas.Bool.Decides.{nat_tests}
+use Rattle.std.proofs.Common.{◌≡◌, ℕ, false, cond, List, [], ◌∷◌, ◌++◌, drop, refl, ap, sym, ◌∙◌, append-nil}
+use Rattle.std.specs.Prelude.{filter, flat_map, ◌==◌, ◌&&◌}
 use Rattle.std.proofs.lemmas.List.Elements.{filter-append}
 use Rattle.p2p_base.specs.declared.key.Key.{Key}
 use Rattle.p2p_log.specs.declared.queue.Queue.{Queue}
@@ -23,7 +22,7 @@ use Rattle.p2p_routers.specs.Sound.{AreDistinct}
 use Rattle.p2p_routers.specs.Holds.{after, Adds}
 use Rattle.p2p_routers.specs.Oldest.{without, told_row}
 use Rattle.p2p_routers.proofs.Beside.{filter-first_away}
-use Rattle.p2p_routers.proofs.Ended.{is_told, ended_lines}
+use Rattle.p2p_routers.proofs.Ended.{ended_lines}
 use Rattle.p2p_routers.proofs.Standing.{told_none}
 use Rattle.p2p_routers.proofs.Telling.{after_row, apart_without}
 

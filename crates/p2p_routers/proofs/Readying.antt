@@ -1,13 +1,13 @@
 -- A connection that is ready is put into the links.
-use Rattle.std.proofs.Common.{◌≡◌, ℕ, zero, suc, ◌+◌, ◌≤◌, Bool, true, false, cond, List, [], ◌∷◌, ◌++◌, length, refl, ap, sym, subst, ◌∙◌, arith, Option, Some, None}
-use Rattle.std.specs.Prelude.{map, ◌==◌}
+use Rattle.std.proofs.Common.{◌≡◌, ℕ, ◌+◌, ◌≤◌, Bool, true, false, cond, List, [], ◌∷◌, refl, ap, sym, subst, ◌∙◌, arith, Option, Some, None}
+use Rattle.std.specs.Prelude.{◌==◌}
 use Rattle.std.specs.BTreeMap.{BTreeMap, get, insert_entry}
 use Rattle.std.specs.Ordering.{nat_cmp}
 use Rattle.std.proofs.lemmas.Bool.Decides.{nat_tests}
 use Rattle.std.proofs.lemmas.Bool.{false≢true}
 use Rattle.p2p_base.specs.declared.key.Key.{Key}
 use Rattle.p2p_wire.specs.declared.encoded.EncodedData.{EncodedData}
-use Rattle.p2p_flow.specs.Lanes.{Lanes, lane, empty_lanes}
+use Rattle.p2p_flow.specs.Lanes.{Lanes, empty_lanes}
 use Rattle.p2p_router.specs.declared.link.Link.{Link}
 use Rattle.p2p_router.specs.declared.message.Message.{Message}
 use Rattle.p2p_router.specs.declared.message.Message.TheVariants as message

@@ -1,13 +1,13 @@
 -- The rings of the subscriptions, once a list was put for some of them.
-use Rattle.std.proofs.Common.{◌≡◌, ℕ, zero, suc, ◌+◌, ◌<◌, ◌≤◌, Bool, true, false, cond, List, [], ◌∷◌, ◌++◌, length, drop, refl, ap, sym, subst, ◌∙◌, arith, if◌then◌else◌}
-use Rattle.std.specs.Prelude.{nat_lt, slice_index_or, slice_set, slice_get, ◌==◌, ◌||◌, not, Some, filter}
+use Rattle.std.proofs.Common.{◌≡◌, ℕ, zero, suc, ◌<◌, ◌≤◌, Bool, true, false, cond, List, [], ◌∷◌, ◌++◌, length, drop, refl, ap, sym, subst, ◌∙◌, arith, if◌then◌else◌}
+use Rattle.std.specs.Prelude.{nat_lt, slice_index_or, slice_set, ◌==◌, ◌||◌, not, filter}
 use Rattle.std.specs.List.{list_any, AllByRecursion}
 use Rattle.std.proofs.Math.ListN.{length-set}
 use Rattle.std.proofs.lemmas.Bool.Decides.{nat_tests}
 use Rattle.std.proofs.lemmas.Bool.{false≢true}
-use Rattle.p2p_base.specs.Queue.{Queue, pushed_on, empty_queue, has_room}
+use Rattle.p2p_base.specs.Queue.{Queue, pushed_on, empty_queue}
 use Rattle.p2p_base.specs.declared.key.Key.{Key}
-use Rattle.p2p_router.specs.Messenger.{Desk, lists_of, told_one, told_all, is_heard, is_open}
+use Rattle.p2p_router.specs.Messenger.{Desk, lists_of, told_one, told_all, is_heard}
 use Rattle.p2p_routers.specs.Items.{channel_of, lists_in}
 use Rattle.p2p_routers.specs.Sound.{IsRing, AreDistinct}
 

@@ -1,12 +1,11 @@
 -- A router that was handed content.
-use Rattle.std.proofs.Common.{◌≡◌, ℕ, ◌+◌, ◌≤◌, Bool, true, false, cond, List, [], ◌∷◌, ◌++◌, length, refl, ap, sym, subst, ◌∙◌, arith, append-nil, Option, Some, None, if◌then◌else◌}
-use Rattle.std.specs.Prelude.{filter, flat_map, map, nat_le, nat_lt, not, ◌==◌, ◌||◌}
+use Rattle.std.proofs.Common.{◌≡◌, ℕ, ◌+◌, ◌≤◌, Bool, true, false, List, [], ◌∷◌, ◌++◌, length, refl, ap, sym, subst, ◌∙◌, arith, append-nil, if◌then◌else◌}
+use Rattle.std.specs.Prelude.{filter, flat_map, map, nat_le, nat_lt, not, ◌||◌}
 use Rattle.std.proofs.lemmas.Bool.Decides.{nat_tests}
 use Rattle.std.proofs.lemmas.Bool.{false≢true}
 use Rattle.std.proofs.lemmas.List.{length-map}
 use Rattle.p2p_base.specs.declared.key.Key.{Key}
 use Rattle.p2p_base.specs.declared.outcome.Feedback.TheVariants as feedback
-use Rattle.p2p_base.specs.declared.outcome.Unreliable.{Unreliable}
 use Rattle.p2p_base.specs.declared.outcome.Unreliable.TheVariants.{Outcome, Rejected}
 use Rattle.p2p_base.specs.Queue.{Queue as Waiting, has_room}
 use Rattle.p2p_flow.specs.declared.plain.Recipients.{Recipients}
@@ -43,7 +42,7 @@ use Rattle.p2p_board.proofs.Building.{ended_item-copies}
 use Rattle.p2p_routers.specs.Names.{Agrees, label, bare_item}
 use Rattle.p2p_routers.specs.Building.{NamesBuild}
 use Rattle.p2p_routers.specs.Frames.{refuses}
-use Rattle.p2p_routers.specs.Items.{key_cmp, message_item, messages_in}
+use Rattle.p2p_routers.specs.Items.{key_cmp, message_item}
 use Rattle.p2p_routers.specs.Sound.{IsSound, counted, told_times}
 use Rattle.p2p_routers.specs.Holds.{Holds, after}
 use Rattle.p2p_routers.specs.Stands.{StandsFor, HasPlaces}

@@ -1,26 +1,24 @@
 -- What stands in each queue of a router once its step put lists of peers.
-use Rattle.std.proofs.Common.{◌≡◌, ℕ, ◌+◌, ◌≤◌, Bool, true, false, cond, List, [], ◌∷◌, ◌++◌, length, drop, refl, ap, sym, subst, ◌∙◌, arith, append-nil}
-use Rattle.std.specs.Prelude.{filter, flat_map, map, ◌==◌, ◌||◌, ◌&&◌}
-use Rattle.std.specs.List.{list_any, AllByRecursion}
+use Rattle.std.proofs.Common.{◌≡◌, ℕ, ◌+◌, ◌≤◌, Bool, true, false, cond, List, [], ◌∷◌, ◌++◌, length, drop, refl, ap, sym, ◌∙◌, arith, append-nil}
+use Rattle.std.specs.Prelude.{filter, flat_map, map, ◌==◌, ◌||◌}
+use Rattle.std.specs.List.{AllByRecursion}
 use Rattle.std.proofs.lemmas.Bool.Decides.{nat_tests}
-use Rattle.std.proofs.lemmas.Bool.{false≢true}
 use Rattle.std.proofs.lemmas.List.{map-append}
 use Rattle.std.proofs.lemmas.List.Elements.{filter-append}
 use Rattle.p2p_base.specs.Queue.{Queue as Waiting}
 use Rattle.p2p_base.specs.declared.key.Key.{Key}
 use Rattle.p2p_log.specs.declared.queue.Queue.{Queue}
 use Rattle.p2p_log.specs.declared.queue.Queue.TheVariants as queue
-use Rattle.p2p_log.specs.declared.queue.Side.TheVariants as side
 use Rattle.p2p_log.specs.declared.item.Item.{Item}
 use Rattle.p2p_log.specs.declared.item.Item.TheVariants as item
 use Rattle.p2p_log.specs.declared.item.Envelope.{Envelope}
 use Rattle.p2p_log.specs.declared.row.Row.{Row}
 use Rattle.p2p_log.specs.QueueCode.{same_queue}
-use Rattle.p2p_log.specs.Lines.{name_of, ended_item, stays, placed, stands_in}
-use Rattle.p2p_log.specs.Effect.{peers_put, peers_ends, goes_to}
+use Rattle.p2p_log.specs.Lines.{ended_item, stays, placed, stands_in}
+use Rattle.p2p_log.specs.Effect.{peers_put, peers_ends}
 use Rattle.p2p_log.proofs.Queues.{same_queue-sym}
 use Rattle.p2p_log.proofs.Names.{AreApart, filter_stays-first}
-use Rattle.p2p_routers.specs.Names.{is_routers, bare, bare_item}
+use Rattle.p2p_routers.specs.Names.{is_routers, bare_item}
 use Rattle.p2p_routers.specs.Items.{lists_in, channel_of}
 use Rattle.p2p_routers.specs.Sound.{AreDistinct, IsRing}
 use Rattle.p2p_routers.specs.Holds.{after}

@@ -1,5 +1,5 @@
 -- A router that got its mailbox: the subscriptions that waited are put there.
-use Rattle.std.proofs.Common.{◌≡◌, ℕ, ◌+◌, ◌≤◌, Bool, true, false, cond, List, [], ◌∷◌, ◌++◌, length, refl, ap, sym, subst, ◌∙◌, arith, append-nil, Option, Some, None}
+use Rattle.std.proofs.Common.{◌≡◌, ℕ, Bool, true, false, cond, List, [], ◌∷◌, ◌++◌, length, refl, ap, sym, subst, ◌∙◌, arith, append-nil}
 use Rattle.std.specs.Prelude.{filter, flat_map, map, ◌==◌, ◌||◌}
 use Rattle.std.specs.List.{AllByRecursion}
 use Rattle.std.specs.BTreeMap.{BTreeMap}
@@ -10,7 +10,6 @@ use Rattle.std.proofs.lemmas.List.Elements.{filter-append}
 use Rattle.p2p_base.specs.declared.key.Key.{Key}
 use Rattle.p2p_base.specs.Queue.{empty_queue}
 use Rattle.p2p_router.specs.Messenger.{Desk, bound_to, is_unbound, is_bound}
-use Rattle.p2p_router.specs.declared.message.Message.{Message}
 use Rattle.p2p_router.specs.declared.message.Message.TheVariants as message
 use Rattle.p2p_router.specs.declared.messenger.Binding.{Binding}
 use Rattle.p2p_router.specs.declared.messenger.Binding.TheVariants.{Unbound, Bound, Closed}
@@ -32,13 +31,12 @@ use Rattle.p2p_log.specs.Facts.{channels, is_up}
 use Rattle.p2p_log.specs.Effect.{only, entry_of, goes_to, start_row, mailbox_size_at, router_capacity}
 use Rattle.p2p_log.proofs.Lines.{filter_stays-nil}
 use Rattle.p2p_board.specs.declared.board.Board.{Board}
-use Rattle.p2p_board.specs.Board.{held}
-use Rattle.p2p_routers.specs.Names.{Agrees, is_routers, label, bare_item}
+use Rattle.p2p_routers.specs.Names.{Agrees, bare_item}
 use Rattle.p2p_routers.specs.Building.{NamesBuild, subscription}
-use Rattle.p2p_routers.specs.Items.{channel_of, message_item, messages_in, frame_item, frames_of, lists_in, items_of}
+use Rattle.p2p_routers.specs.Items.{channel_of, message_item, messages_in, items_of}
 use Rattle.p2p_routers.specs.Sound.{IsSound, IsKnown, told_times, subscription_in, numbers_from}
 use Rattle.p2p_routers.specs.Holds.{Holds, after}
-use Rattle.p2p_routers.specs.Stands.{StandsFor, HasPlaces}
+use Rattle.p2p_routers.specs.Stands.{StandsFor}
 use Rattle.p2p_routers.specs.declared.router.Router.{Router}
 use Rattle.p2p_routers.specs.declared.name.Name.{Name}
 use Rattle.p2p_routers.proofs.Contents.{placed_bare}

@@ -1,28 +1,25 @@
 -- Each kind of step, as the log has it.
-use Rattle.std.proofs.Common.{◌≡◌, ℕ, ◌+◌, ◌<◌, ◌≤◌, Bool, true, false, cond, List, [], ◌∷◌, ◌++◌, length, refl, ap, sym, subst, ◌∙◌, arith, append_assoc, append-nil, Option, Some, None}
-use Rattle.std.specs.Prelude.{filter, flat_map, map, ◌==◌, ◌&&◌}
+use Rattle.std.proofs.Common.{◌≡◌, ℕ, ◌+◌, ◌<◌, ◌≤◌, List, [], ◌∷◌, ◌++◌, length, refl, ap, sym, subst, ◌∙◌, append_assoc, append-nil, Some, None}
+use Rattle.std.specs.Prelude.{filter, flat_map, map}
 use Rattle.std.specs.List.{AllByRecursion}
-use Rattle.std.specs.BTreeMap.{get, insert_entry}
+use Rattle.std.specs.BTreeMap.{insert_entry}
 use Rattle.std.specs.Map.{keys_of}
 use Rattle.std.specs.Ordering.{nat_cmp}
 use Rattle.std.proofs.lemmas.List.{map-append}
 use Rattle.p2p_base.specs.declared.key.Key.{Key}
 use Rattle.p2p_base.specs.Queue.{without_oldest}
-use Rattle.p2p_flow.specs.Lanes.{Lanes, empty_lanes}
-use Rattle.p2p_wire.specs.declared.encoded.EncodedData.{EncodedData}
+use Rattle.p2p_flow.specs.Lanes.{empty_lanes}
 use Rattle.p2p_router.specs.Routes.{Routes}
 use Rattle.p2p_router.specs.Routing.{link_of}
 use Rattle.p2p_router.specs.Messenger.{Desk, message_taken, message_waiting, in_mailbox, told_all}
-use Rattle.p2p_router.specs.Step.{heard, told_of, stepped_on, routes_on, desk_on, routes_by, desk_by}
+use Rattle.p2p_router.specs.Step.{heard, told_of, stepped_on, routes_on, desk_on}
 use Rattle.p2p_router.specs.declared.link.Link.{Link}
 use Rattle.p2p_router.specs.declared.message.Message.{Message}
 use Rattle.p2p_router.specs.declared.message.Message.TheVariants as message
 use Rattle.p2p_router.specs.declared.stepped.Stepped.TheVariants as stepped
 use Rattle.p2p_router.specs.declared.stepped.Told.{Told}
 use Rattle.p2p_log.specs.declared.config.Config.{Config}
-use Rattle.p2p_log.specs.declared.queue.Queue.{Queue}
 use Rattle.p2p_log.specs.declared.queue.Queue.TheVariants as queue
-use Rattle.p2p_log.specs.declared.item.Item.{Item}
 use Rattle.p2p_log.specs.declared.item.Item.TheVariants as item
 use Rattle.p2p_log.specs.declared.item.Envelope.{Envelope}
 use Rattle.p2p_log.specs.declared.entry.Entry.{Entry}
@@ -32,27 +29,27 @@ use Rattle.p2p_log.specs.declared.event.Event.{Event}
 use Rattle.p2p_log.specs.declared.event.Act.TheVariants as act
 use Rattle.p2p_log.specs.Lines.{name_of, stays, live, line, stands_in}
 use Rattle.p2p_log.specs.Facts.{subscriber_of, subscribers, with_route, routes, keys_in}
-use Rattle.p2p_log.specs.Effect.{only, entry_of, mailbox_size_at, peers_put, peers_ends, route_row}
+use Rattle.p2p_log.specs.Effect.{only, entry_of, mailbox_size_at, route_row}
 use Rattle.p2p_log.proofs.Names.{AreApart-live_from}
 use Rattle.p2p_board.specs.declared.board.Board.{Board}
 use Rattle.p2p_board.specs.Board.{held}
 use Rattle.p2p_routers.specs.Names.{Agrees, label, bare_item}
 use Rattle.p2p_routers.specs.Items.{key_cmp, channel_of, message_item, messages_in, frames_of}
 use Rattle.p2p_routers.specs.Sound.{IsSound, IsKnown, counted, told_times, subscription_in, numbers_from}
-use Rattle.p2p_routers.specs.Holds.{Holds, after, routes_in, channels_told}
+use Rattle.p2p_routers.specs.Holds.{after, routes_in}
 use Rattle.p2p_routers.specs.Oldest.{IsOldest, told_row}
 use Rattle.p2p_routers.specs.Stands.{StandsFor}
 use Rattle.p2p_routers.specs.declared.router.Router.{Router}
 use Rattle.p2p_routers.specs.declared.name.Name.{Name}
 use Rattle.p2p_routers.proofs.First.{IsFirst, first_same, none_same, messages_first, messages_none, bound_first, bare-ready, bare-subscribe}
-use Rattle.p2p_routers.proofs.Answered.{WasReady, was_ready, WasSubscription, was_subscription, was_release, was_idle}
+use Rattle.p2p_routers.proofs.Answered.{was_ready, was_subscription, was_release, was_idle}
 use Rattle.p2p_routers.proofs.Linking.{routes_in-insert, keys_in-links}
 use Rattle.p2p_routers.proofs.Others.{told_adds}
 use Rattle.p2p_routers.proofs.Numbers.{numbers_within, all_left, all_right, distinct_told}
 use Rattle.p2p_routers.proofs.Readying.{not_linked, once_insert, linked_insert, frames_insert}
 use Rattle.p2p_routers.proofs.Rings.{IsTold, told_all-told, heard_all}
 use Rattle.p2p_routers.proofs.Routed.{IsRouted, sound_stepped, line_is, idle_stands}
-use Rattle.p2p_routers.proofs.Standing.{IsPutBefore, answer, nothing}
+use Rattle.p2p_routers.proofs.Standing.{answer, nothing}
 use Rattle.p2p_routers.proofs.Building.{own_peers as own_queue}
 use Rattle.p2p_routers.proofs.Told.{IsStep, each_told, stepped_to}
 

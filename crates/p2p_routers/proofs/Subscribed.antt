@@ -1,8 +1,7 @@
 -- A router before its start: with nothing, and with one more channel that wants lists of peers.
-use Rattle.std.proofs.Common.{◌≡◌, ℕ, zero, suc, ◌+◌, ◌≤◌, Bool, true, false, cond, List, [], ◌∷◌, ◌++◌, length, length-append, refl, ap, sym, subst, ◌∙◌, arith, append_assoc, append-nil, Option, Some, None}
-use Rattle.std.specs.Prelude.{filter, flat_map, map, slice_get, ◌==◌, ◌||◌, if◌then◌else◌}
+use Rattle.std.proofs.Common.{◌≡◌, ℕ, zero, suc, ◌+◌, ◌≤◌, Bool, true, false, cond, List, [], ◌∷◌, ◌++◌, length, length-append, refl, ap, sym, subst, ◌∙◌, arith, append_assoc, append-nil, Some, None}
+use Rattle.std.specs.Prelude.{filter, flat_map, map, slice_get, ◌==◌, ◌||◌}
 use Rattle.std.specs.List.{AllByRecursion, list_any}
-use Rattle.std.specs.Map.{lookup}
 use Rattle.std.specs.BTreeMap.{get}
 use Rattle.std.specs.Ordering.{nat_cmp}
 use Rattle.std.proofs.lemmas.Bool.Decides.{nat_tests}
@@ -12,35 +11,25 @@ use Rattle.p2p_base.specs.declared.key.Key.{Key}
 use Rattle.p2p_base.specs.Queue.{Queue as Waiting, empty_queue}
 use Rattle.p2p_router.specs.Routes.{Routes, new_routes}
 use Rattle.p2p_router.specs.Routing.{link_of}
-use Rattle.p2p_router.specs.Messenger.{Desk, new_desk, subscribed, in_mailbox, is_unbound, is_bound}
-use Rattle.p2p_router.specs.declared.link.Link.{Link}
-use Rattle.p2p_router.specs.declared.messenger.Binding.{Binding}
-use Rattle.p2p_router.specs.declared.messenger.Binding.TheVariants.{Unbound, Bound, Closed}
+use Rattle.p2p_router.specs.Messenger.{Desk, new_desk, subscribed, is_unbound, is_bound}
+use Rattle.p2p_router.specs.declared.messenger.Binding.TheVariants.{Unbound}
 use Rattle.p2p_log.specs.declared.config.Config.{Config}
 use Rattle.p2p_log.specs.declared.entry.Entry.{Entry}
-use Rattle.p2p_log.specs.declared.event.Event.{Event}
-use Rattle.p2p_log.specs.declared.event.Rate.{Rate}
-use Rattle.p2p_log.specs.declared.event.Act.TheVariants as act
 use Rattle.p2p_log.specs.declared.queue.Queue.{Queue}
 use Rattle.p2p_log.specs.declared.queue.Queue.TheVariants as queue
 use Rattle.p2p_log.specs.declared.queue.Side.TheVariants as side
 use Rattle.p2p_log.specs.declared.item.Item.TheVariants as item
-use Rattle.p2p_log.specs.declared.item.Envelope.{Envelope}
-use Rattle.p2p_log.specs.declared.row.Row.{Row}
-use Rattle.p2p_log.specs.Lines.{live_from, live, ended_item, stays, placed, stands_in}
-use Rattle.p2p_log.specs.Facts.{events_of, starts, has_started, is_up, capacity_for, registers_at, registered, channels, capacity_in, taken, steps_router, routed_by, routed, history_from, subscriber_of, subscribers, routes_after, routes}
+use Rattle.p2p_log.specs.Lines.{live_from, live, ended_item, stays, placed}
+use Rattle.p2p_log.specs.Facts.{events_of, starts, has_started, capacity_for, registers_at, registered, channels, capacity_in, taken, steps_router, routed_by, routed, history_from, subscriber_of, subscribers, routes_after, routes}
 use Rattle.p2p_log.specs.Effect.{mailbox_size_at, router_capacity}
 use Rattle.p2p_log.proofs.Facts.{events_of-append, has_started-append, registered-append, subscribers-append, routes-append}
 use Rattle.p2p_log.proofs.Lines.{live-append, filter_stays-nil}
-use Rattle.p2p_board.specs.declared.board.Board.{Board}
 use Rattle.p2p_board.specs.Board.{held}
-use Rattle.p2p_routers.specs.Names.{is_routers, bare_item}
 use Rattle.p2p_routers.specs.Items.{key_cmp, lists_in, message_item, messages_in, frame_item, frames_in, link_to, items_of, channel_of}
 use Rattle.p2p_routers.specs.Sound.{IsSound, IsRing, IsKnown, AreDistinct, counted, told_times, subscription_in, numbers_from}
 use Rattle.p2p_routers.specs.Holds.{Holds, routes_in}
 use Rattle.p2p_routers.specs.Stands.{StandsFor, HasPlaces, IsRegistration}
 use Rattle.p2p_routers.specs.declared.router.Router.{Router}
-use Rattle.p2p_routers.proofs.Numbers.{channels_numbered}
 use Rattle.p2p_routers.proofs.Started.{is_none}
 
 -- ---- nothing

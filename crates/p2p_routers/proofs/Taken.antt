@@ -1,5 +1,5 @@
 -- A frame that is taken out of a relay.
-use Rattle.std.proofs.Common.{◌≡◌, ℕ, ◌+◌, ◌≤◌, Bool, true, false, cond, List, [], ◌∷◌, ◌++◌, length, drop, refl, ap, sym, subst, ◌∙◌, arith, Option, Some, None}
+use Rattle.std.proofs.Common.{◌≡◌, ℕ, ◌+◌, ◌≤◌, Bool, true, false, cond, List, [], ◌∷◌, drop, refl, ap, sym, subst, ◌∙◌, arith, Option, Some, None}
 use Rattle.std.specs.Prelude.{filter, map, slice_get, ◌==◌, ◌&&◌}
 use Rattle.std.specs.BTreeMap.{get}
 use Rattle.std.specs.Ordering.{nat_cmp}
@@ -11,7 +11,6 @@ use Rattle.p2p_base.specs.declared.key.Key.{Key}
 use Rattle.p2p_base.specs.Queue.{Queue as Waiting, oldest, without_oldest}
 use Rattle.p2p_flow.specs.Lanes.{Lanes, lane, with_lane}
 use Rattle.p2p_wire.specs.declared.encoded.EncodedData.{EncodedData}
-use Rattle.p2p_router.specs.Routes.{Routes}
 use Rattle.p2p_router.specs.Routing.{link_of, with_link, relay_over, relay_set}
 use Rattle.p2p_router.specs.declared.link.Link.{Link}
 use Rattle.p2p_log.specs.declared.queue.Queue.{Queue}
@@ -27,7 +26,7 @@ use Rattle.p2p_log.proofs.Lines.{filter_stays-nil}
 use Rattle.p2p_log.proofs.Names.{AreApart}
 use Rattle.p2p_board.specs.declared.board.Board.{Board}
 use Rattle.p2p_board.specs.Board.{held}
-use Rattle.p2p_routers.specs.Names.{Agrees, is_routers, label, bare_item, tag_of}
+use Rattle.p2p_routers.specs.Names.{is_routers, label, bare_item}
 use Rattle.p2p_routers.specs.Items.{key_cmp, messages_in, frame_item, frames_of, frames_in, link_to, link_with, items_of}
 use Rattle.p2p_routers.specs.Sound.{IsSound, counted, told_times}
 use Rattle.p2p_routers.specs.Holds.{Holds, frame_taken, frame_gone, routes_in}
@@ -36,7 +35,7 @@ use Rattle.p2p_routers.specs.declared.router.Router.{Router}
 use Rattle.p2p_routers.specs.declared.name.Name.{Name}
 use Rattle.p2p_routers.proofs.Agreeing.{Agrees-pop}
 use Rattle.p2p_routers.proofs.Contents.{own_lane, lane_items}
-use Rattle.p2p_routers.proofs.Copying.{same_lane, same_relay, relayed, frames_set, frames_own, linked_set, lane_size, lane_open, lane_conn, key_from}
+use Rattle.p2p_routers.proofs.Copying.{same_lane, relayed, frames_set, frames_own, linked_set, lane_size, lane_open, lane_conn, key_from}
 use Rattle.p2p_routers.proofs.First.{IsFirst, first_same, none_same, first_of, none_of, bare-frame}
 use Rattle.p2p_routers.proofs.Linking.{link_of-with_link, routes_in-with_link}
 

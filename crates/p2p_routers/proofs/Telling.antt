@@ -1,6 +1,6 @@
 -- The row of a step that took the oldest message, and the names after it.
-use Rattle.std.proofs.Common.{◌≡◌, ℕ, Bool, true, false, List, [], ◌∷◌, ◌++◌, ◌+◌, cond, length, drop, refl, ap, sym, subst, ◌∙◌, append_assoc, append-nil, Option, Some, None}
-use Rattle.std.specs.Prelude.{filter, flat_map, map, slice_get, ◌==◌}
+use Rattle.std.proofs.Common.{◌≡◌, ℕ, List, [], ◌∷◌, ◌++◌, ◌+◌, cond, length, drop, refl, ap, sym, subst, ◌∙◌, append-nil, Option, Some}
+use Rattle.std.specs.Prelude.{filter, flat_map, map, slice_get}
 use Rattle.std.proofs.lemmas.Grind.{flat_map-append}
 use Rattle.p2p_base.specs.declared.key.Key.{Key}
 use Rattle.p2p_log.specs.declared.queue.Queue.{Queue}
@@ -12,7 +12,7 @@ use Rattle.p2p_log.specs.declared.end.End.{End}
 use Rattle.p2p_log.specs.declared.entry.Reply.TheVariants as reply
 use Rattle.p2p_log.specs.declared.row.Row.{Row}
 use Rattle.p2p_log.specs.QueueCode.{same_queue}
-use Rattle.p2p_log.specs.Lines.{name_of, ended_item, stays, placed, stands_in}
+use Rattle.p2p_log.specs.Lines.{name_of, ended_item, stays, placed}
 use Rattle.p2p_log.specs.Effect.{only, peers_put, peers_ends, Spread}
 use Rattle.p2p_log.proofs.Lines.{filter_stays-append}
 use Rattle.p2p_log.proofs.Names.{AreApart, AreApart-filter}

@@ -1,14 +1,12 @@
 -- A router holds what stands in its queues once its step took one message and put lists of peers.
-use Rattle.std.proofs.Common.{◌≡◌, ℕ, ◌+◌, ◌<◌, ◌≤◌, Bool, true, false, cond, List, [], ◌∷◌, ◌++◌, length, drop, refl, ap, sym, subst, ◌∙◌, arith, append_assoc, append-nil, Option, Some, None}
-use Rattle.std.specs.Prelude.{filter, flat_map, map, count_by, ◌==◌, ◌&&◌}
-use Rattle.std.specs.List.{AllByRecursion}
+use Rattle.std.proofs.Common.{◌≡◌, ℕ, Bool, true, false, cond, List, [], ◌∷◌, ◌++◌, drop, refl, ap, sym, ◌∙◌, arith, append-nil}
+use Rattle.std.specs.Prelude.{filter, map, ◌==◌}
 use Rattle.std.proofs.lemmas.Bool.Decides.{nat_tests}
 use Rattle.std.proofs.lemmas.Bool.{false≢true}
 use Rattle.p2p_base.specs.declared.key.Key.{Key}
 use Rattle.p2p_base.specs.Queue.{without_oldest}
 use Rattle.p2p_router.specs.Routes.{Routes}
 use Rattle.p2p_router.specs.Messenger.{Desk, message_taken, in_mailbox}
-use Rattle.p2p_router.specs.declared.message.Message.{Message}
 use Rattle.p2p_log.specs.declared.queue.Queue.{Queue}
 use Rattle.p2p_log.specs.declared.queue.Queue.TheVariants as queue
 use Rattle.p2p_log.specs.declared.queue.Side.TheVariants as side
@@ -22,7 +20,7 @@ use Rattle.p2p_log.proofs.Names.{AreApart}
 use Rattle.p2p_board.specs.declared.board.Board.{Board}
 use Rattle.p2p_routers.specs.Names.{Agrees, is_routers, bare_item}
 use Rattle.p2p_routers.specs.Items.{message_item, messages_in, lists_in, channel_of, frame_item, frames_of, items_of}
-use Rattle.p2p_routers.specs.Sound.{IsSound, AreDistinct}
+use Rattle.p2p_routers.specs.Sound.{AreDistinct}
 use Rattle.p2p_routers.specs.Holds.{Holds, after}
 use Rattle.p2p_routers.specs.Oldest.{told_row}
 use Rattle.p2p_routers.specs.declared.router.Router.{Router}

@@ -1,10 +1,10 @@
 -- The frames of a router's relays, and what a mailbox says of content.
-use Rattle.std.specs.Prelude.{◌≡◌, ℕ, Bool, true, false, List, Option, Some, None}
+use Rattle.std.specs.Prelude.{Bool, true, false, List, Option, Some, None}
 use Rattle.p2p_base.specs.Queue.{oldest, without_oldest}
 use Rattle.p2p_base.specs.declared.key.Key.{Key}
 use Rattle.p2p_base.specs.declared.outcome.Unreliable.{Unreliable}
 use Rattle.p2p_base.specs.declared.outcome.Unreliable.TheVariants.{Outcome, Rejected}
-use Rattle.p2p_flow.specs.Lanes.{Lanes, lane, with_lane}
+use Rattle.p2p_flow.specs.Lanes.{lane, with_lane}
 use Rattle.p2p_wire.specs.declared.encoded.EncodedData.{EncodedData}
 use Rattle.p2p_router.specs.Routing.{with_link}
 use Rattle.p2p_router.specs.declared.link.Link.{Link}

@@ -2,70 +2,90 @@
 use crate::Router;
 use bytes::Bytes;
 use p2p_base::{Key, List};
-use p2p_log::Item;
+use p2p_log::{Item, Row};
+use std::alloc::Global;
 use std::test::Fail;
 
-#[test]
-fn a_message_waits_in_the_relay_of_its_recipient(rt: HostRuntime) -> Result<(), Fail> {
-    let alloc = rt.alloc();
+// How many items a row takes, puts and ends.
+fn counts(row: &Row) -> (usize, usize, usize) {
+    (row.takes.len(), row.puts.len(), row.ends.len())
+}
+
+// A router with one channel, which was told of a connection 2 with the key 5.
+fn started(alloc: Global) -> Result<Router, Fail> {
     let mut router = Router::new(alloc, 3);
     router.subscribe(alloc, 7)?;
-    let started = router.start(alloc, 1, 4)?;
-    assert_eq!(rt; started.puts.len(), 1);
+    router.start(alloc, 1, 4)?;
     router.ready(alloc, 2, 0, 2, Key(5), 1)?;
-    let told = router.step(alloc, 3)?;
-    assert_eq!(rt; (told.puts.len(), told.ends.len()), (1, 0));
+    Ok(router)
+}
 
-    // The connection is answered, and a newer list overwrites the one that waits.
-    let ready = router.step(alloc, 4)?;
-    assert_eq!(rt; (ready.puts.len(), ready.ends.len()), (2, 1));
+// What a step takes, puts and ends.
+fn stepped(alloc: Global, router: &mut Router, entry: u64) -> Result<(usize, usize, usize), Fail> {
+    Ok(counts(&router.step(alloc, entry)?))
+}
 
-    // One copy finds room in the relay, one has no connection, and one finds the relay full.
-    let to = List::from_slice(alloc, &[Key(5), Key(6), Key(5)])?;
-    let sent = router.send(alloc, 5, 7, true, &Bytes::from_static(b"hi"), to)?;
-    assert_eq!(rt; sent.puts.len(), 1);
-    let routed = router.step(alloc, 6)?;
-    assert_eq!(rt; (routed.puts.len(), routed.ends.len()), (1, 2));
-    let idle = router.step(alloc, 7)?;
-    assert_eq!(rt; idle.takes.len(), 0);
+// What a send to these keys takes, puts and ends.
+fn sent(
+    alloc: Global,
+    router: &mut Router,
+    entry: u64,
+    to: &[Key],
+) -> Result<(usize, usize, usize), Fail> {
+    let to = List::from_slice(alloc, to)?;
+    let bytes = Bytes::from_static(b"hi");
+    Ok(counts(&router.send(alloc, entry, 7, true, &bytes, to)?))
+}
 
-    assert!(rt; router.take(2, false).is_none());
-    assert!(rt;
-        matches!(
-            router.take(2, true),
-            Some((
-                (6, 0),
+// The name of the oldest frame of connection 2, and of its copy.
+fn taken(router: &mut Router, priority: bool) -> Option<((u64, u64), (u64, u64))> {
+    match router.take(2, priority) {
+        Some(
+            (
+                name,
                 Item::Frame {
-                    copy: Some((5, 0)),
+                    copy: Some(copy),
                     ..
                 },
-            ),)
-        )
-    );
-    assert!(rt; router.take(2, true).is_none());
-    Ok(())
+            ),
+        ) => Some((name, copy)),
+        _ => None,
+    }
 }
 
 #[test]
-fn a_router_that_has_not_started_loses_all_copies(rt: HostRuntime) -> Result<(), Fail> {
+fn each_copy_waits_in_a_relay_or_ends(rt: HostRuntime) -> Result<(), Fail> {
     let alloc = rt.alloc();
-    let mut router = Router::new(alloc, 3);
-    let to = List::from_slice(alloc, &[Key(5), Key(6)])?;
-    let sent = router.send(alloc, 0, 7, false, &Bytes::from_static(b"hi"), to)?;
-    assert_eq!(rt; (sent.puts.len(), sent.ends.len()), (0, 2));
+    let mut router = started(alloc)?;
+    // The subscription is told; then the connection is answered, and a newer list overwrites the one that waits.
+    assert_eq!(rt; stepped(alloc, &mut router, 3)?, (1, 1, 0));
+    assert_eq!(rt; stepped(alloc, &mut router, 4)?, (1, 2, 1));
+    // One copy finds room in the relay, one has no connection, and one finds the relay full.
+    let to = [Key(5), Key(6), Key(5)];
+    assert_eq!(rt; sent(alloc, &mut router, 5, &to)?, (0, 1, 0));
+    assert_eq!(rt; stepped(alloc, &mut router, 6)?, (1, 1, 2));
+    assert_eq!(rt; stepped(alloc, &mut router, 7)?, (0, 0, 0));
+    assert_eq!(rt; taken(&mut router, false), None);
+    assert_eq!(rt; taken(&mut router, true), Some(((6, 0), (5, 0))));
+    assert_eq!(rt; taken(&mut router, true), None);
     Ok(())
 }
 
 #[test]
 fn a_full_mailbox_refuses_a_message(rt: HostRuntime) -> Result<(), Fail> {
     let alloc = rt.alloc();
-    let mut router = Router::new(alloc, 3);
-    let started = router.start(alloc, 0, 1)?;
-    assert_eq!(rt; started.puts.len(), 0);
-    for (event, puts) in [(1, 1), (2, 0)] {
-        let to = List::from_slice(alloc, &[Key(5)])?;
-        let sent = router.send(alloc, event, 7, false, &Bytes::from_static(b"hi"), to)?;
-        assert_eq!(rt; sent.puts.len(), puts);
+    let mut router = started(alloc)?;
+    let to = [Key(5)];
+    for (entry, puts) in [(3, 1), (4, 1), (5, 0)] {
+        assert_eq!(rt; sent(alloc, &mut router, entry, &to)?, (0, puts, 0));
     }
+    Ok(())
+}
+
+#[test]
+fn a_router_without_a_mailbox_loses_all_copies(rt: HostRuntime) -> Result<(), Fail> {
+    let alloc = rt.alloc();
+    let mut router = Router::new(alloc, 3);
+    assert_eq!(rt; sent(alloc, &mut router, 0, &[Key(5), Key(6)])?, (0, 0, 2));
     Ok(())
 }

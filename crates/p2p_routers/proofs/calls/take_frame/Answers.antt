@@ -1,4 +1,4 @@
-use Rattle.std.proofs.Common.{◌≡◌, List, Bool, true, false, ap, sym, ◌∙◌}
+use Rattle.std.proofs.Common.{List, Bool, ap, sym, ◌∙◌}
 use Rattle.p2p_base.specs.declared.key.Key.{Key}
 use Rattle.p2p_base.specs.Queue.{without_oldest}
 use Rattle.p2p_flow.specs.Lanes.{lane, with_lane}

@@ -1,4 +1,4 @@
-use Rattle.std.proofs.Common.{◌≡◌, ℕ, ◌++◌, List, take}
+use Rattle.std.proofs.Common.{◌≡◌, ◌++◌, List, take}
 use Rattle.std.specs.Prelude.{filter, flat_map}
 use Rattle.p2p_log.specs.declared.item.Envelope.{Envelope}
 use Rattle.p2p_log.specs.Lines.{stays, ended_item}

@@ -1,4 +1,4 @@
-use Rattle.std.proofs.Common.{◌≡◌, [], ◌∙◌, ap}
+use Rattle.std.proofs.Common.{ap}
 use Rattle.p2p_log.specs.declared.row.Row.{Row}
 use Rattle.p2p_routers.specs.Names.{tag_of}
 use Rattle.p2p_routers.specs.Oldest.{without, send_of}

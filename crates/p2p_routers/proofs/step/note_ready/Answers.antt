@@ -1,4 +1,4 @@
-use Rattle.std.proofs.Common.{◌≡◌, ℕ, [], ◌∷◌, ◌++◌, List, ap, sym, subst, ◌∙◌}
+use Rattle.std.proofs.Common.{◌≡◌, ℕ, [], ◌∷◌, List, ap, subst, ◌∙◌}
 use Rattle.std.specs.Prelude.{map}
 use Rattle.p2p_log.specs.declared.row.Row.{Row}
 use Rattle.p2p_log.specs.declared.queue.Queue.TheVariants as queue
@@ -6,7 +6,7 @@ use Rattle.p2p_log.specs.declared.item.Item.TheVariants as item
 use Rattle.p2p_board.specs.Board.{held}
 use Rattle.p2p_routers.specs.Names.{Agrees, label}
 use Rattle.p2p_routers.specs.Items.{channel_of}
-use Rattle.p2p_routers.specs.Oldest.{without, told_row}
+use Rattle.p2p_routers.specs.Oldest.{without}
 use Rattle.p2p_routers.proofs.Telling.{listless, row_readied, NamesBuild-answer, names_told, apart_without, NamesBuild-start}
 use Rattle.p2p_routers.proofs.step.note_ready.Goals as goal
 

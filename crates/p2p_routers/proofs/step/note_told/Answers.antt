@@ -1,10 +1,10 @@
-use Rattle.std.proofs.Common.{◌≡◌, ℕ, [], ◌∷◌, ◌++◌, List, ap, sym, subst, ◌∙◌}
+use Rattle.std.proofs.Common.{◌≡◌, ℕ, [], List, ap, subst, ◌∙◌}
 use Rattle.std.specs.Prelude.{map}
 use Rattle.p2p_log.specs.declared.row.Row.{Row}
 use Rattle.p2p_board.specs.Board.{held}
 use Rattle.p2p_routers.specs.Names.{Agrees, label}
 use Rattle.p2p_routers.specs.Items.{channel_of}
-use Rattle.p2p_routers.specs.Oldest.{without, told_row}
+use Rattle.p2p_routers.specs.Oldest.{without}
 use Rattle.p2p_routers.proofs.Telling.{listless, row_told, names_told, apart_without, NamesBuild-start}
 use Rattle.p2p_routers.proofs.step.note_told.Goals as goal
 

@@ -1,5 +1,3 @@
-use Rattle.std.proofs.Common.{◌≡◌, ap, sym, subst, ◌∙◌}
-use Rattle.p2p_log.specs.declared.queue.Queue.TheVariants as queue
 use Rattle.p2p_routers.proofs.Batches.{batch_taken, AreApart-left, AreKept-trans}
 use Rattle.p2p_routers.proofs.router.Router.batch.Goals as goal
 

@@ -1,15 +1,12 @@
-use Rattle.std.proofs.Common.{◌≡◌, [], ◌∷◌, ◌++◌, List, true, false, ap, sym, ◌∙◌, rules}
-use Rattle.p2p_base.specs.declared.key.Key.{Key}
+use Rattle.std.proofs.Common.{◌≡◌, [], ◌∷◌, ◌++◌, true, false, ap, sym, ◌∙◌, rules}
 use Rattle.p2p_log.specs.declared.row.Row.{Row}
 use Rattle.p2p_log.specs.declared.entry.Reply.TheVariants as reply
-use Rattle.p2p_log.specs.declared.queue.Queue.TheVariants as queue
-use Rattle.p2p_log.specs.declared.item.Item.TheVariants as item
 use Rattle.p2p_log.specs.Frames.{frame_of}
 use Rattle.p2p_log.specs.Effect.{only}
 use Rattle.p2p_flow.specs.declared.plain.Recipients.TheVariants as to
 use Rattle.p2p_router.specs.Messenger.{content_taken, is_bound}
 use Rattle.p2p_routers.specs.Frames.{refuses}
-use Rattle.p2p_routers.proofs.Sent.{row_lost, row_refused, row_accepted, sent_item, lost_stands, refused_stands, accepted_stands}
+use Rattle.p2p_routers.proofs.Sent.{row_refused, row_accepted, sent_item, lost_stands, refused_stands, accepted_stands}
 use Rattle.p2p_routers.proofs.router.Router.send.Goals as goal
 
 pub returns-then-not-bound-clause-stands : goal.returns-then-not-bound-clause-stands

@@ -1,4 +1,4 @@
-use Rattle.std.proofs.Common.{◌≡◌, ap, ◌∙◌}
+use Rattle.std.proofs.Common.{ap, ◌∙◌}
 use Rattle.p2p_router.specs.Messenger.{bound_to}
 use Rattle.p2p_routers.proofs.Started.{started_row, started_stands}
 use Rattle.p2p_routers.proofs.router.Router.start.Goals as goal

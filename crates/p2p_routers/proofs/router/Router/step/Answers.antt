@@ -1,13 +1,10 @@
-use Rattle.std.proofs.Common.{◌≡◌, [], ◌∷◌, ap, sym, ◌∙◌, None, Some}
+use Rattle.std.proofs.Common.{[], ◌∷◌, ap, sym, ◌∙◌}
 use Rattle.std.specs.Prelude.{map}
-use Rattle.std.proofs.lemmas.Bool.{false≢true}
-use Rattle.p2p_router.specs.declared.message.Message.TheVariants as message
 use Rattle.p2p_log.specs.declared.queue.Queue.TheVariants as queue
 use Rattle.p2p_log.specs.declared.item.Item.TheVariants as item
-use Rattle.p2p_log.specs.Lines.{live, line}
+use Rattle.p2p_log.specs.Lines.{live}
 use Rattle.p2p_log.specs.Effect.{route_oldest}
-use Rattle.p2p_routers.specs.Items.{channel_of, message_item}
-use Rattle.p2p_routers.specs.Names.{bare_item}
+use Rattle.p2p_routers.specs.Items.{channel_of}
 use Rattle.p2p_log.specs.Lines.{name_of}
 use Rattle.p2p_routing.specs.Taken.{taken_row}
 use Rattle.p2p_routing.specs.Relays.{with_spread}
@@ -17,7 +14,7 @@ use Rattle.p2p_routers.specs.Oldest.{told_row, send_of}
 use Rattle.p2p_routers.proofs.Answered.{was_idle}
 use Rattle.p2p_routers.proofs.Contents.{routed_content}
 use Rattle.p2p_routers.proofs.Others.{idle_adds}
-use Rattle.p2p_routers.proofs.Routed.{routed_row, routed_stands, idle_stands}
+use Rattle.p2p_routers.proofs.Routed.{routed_row, routed_stands}
 use Rattle.p2p_routers.proofs.Steps.{routed_ready, routed_subscription, idle_row, idle_stepped, not_released}
 use Rattle.p2p_routers.proofs.router.Router.step.Goals as goal
 

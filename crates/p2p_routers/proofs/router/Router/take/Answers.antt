@@ -1,14 +1,12 @@
-use Rattle.std.proofs.Common.{◌≡◌, Some, None, List, [], ◌∷◌, refl, ap, sym, subst, ◌∙◌, cond, drop}
+use Rattle.std.proofs.Common.{◌≡◌, Some, None, [], ◌∷◌, refl, ap, sym, subst, ◌∙◌, cond, drop}
 use Rattle.std.specs.Prelude.{slice_get, filter}
 use Rattle.std.specs.BTreeMap.{get}
 use Rattle.std.specs.Ordering.{nat_cmp}
 use Rattle.p2p_base.specs.declared.key.Key.{Key}
 use Rattle.p2p_router.specs.Routes.{Routes}
 use Rattle.p2p_router.specs.Routing.{link_of}
-use Rattle.p2p_log.specs.declared.queue.Queue.{Queue}
 use Rattle.p2p_log.specs.QueueCode.{same_queue}
 use Rattle.p2p_log.specs.Lines.{stays}
-use Rattle.p2p_log.specs.Effect.{relay_queue}
 use Rattle.p2p_board.specs.Board.{held}
 use Rattle.p2p_routers.specs.Frames.{frame_waiting}
 use Rattle.p2p_routers.specs.Holds.{Holds, routes_in}
