@@ -13,17 +13,16 @@ use Rattle.p2p_base.specs.declared.address.ip.IpAddr.{IpAddr}
 use Rattle.p2p_base.specs.declared.address.peer.Address.{Address as PeerAddress}
 use Rattle.p2p_facts.specs.declared.call.Call.{Call}
 use Rattle.p2p_facts.specs.declared.call.Call.TheVariants as call
-use Rattle.p2p_facts.specs.Rules.{Rules}
 use Rattle.p2p_facts.specs.Sets.{PeerSet, how_many, accepted_sets, kept_sets, is_tracked, is_primary_in, is_secondary_in, primary_sets, secondary_sets}
 use Rattle.p2p_facts.specs.Grants.{Grant, is_held}
 use Rattle.p2p_facts.specs.Blocks.{is_local, lasts_at, is_blocked, block_of}
 use Rattle.p2p_facts.specs.Lives.{address_of, last_grant, is_stale, is_connected, is_eligible}
 use Rattle.p2p_facts.specs.Allows as facts
-use Rattle.p2p_tracker.specs.Recorded.{Recorded, fresh, is_eligible_in, is_acceptable_in, is_acceptable, is_in_sets, has_valid_ingress, dials_from, is_myself, is_inert, is_reserved, is_reserved_in, may_dial_in, may_dial, may_listen_in, may_listen, reserved_by, updated, connected, without_need, written}
+use Rattle.p2p_tracker.specs.Recorded.{Recorded, fresh, is_eligible_in, is_acceptable_in, is_acceptable, is_in_sets, has_valid_ingress, dials_from, is_myself, is_inert, is_reserved_in, may_dial_in, may_listen_in, reserved_by, updated, connected, without_need, written}
 use Rattle.p2p_tracker.specs.declared.record.Address.TheVariants as address
 use Rattle.p2p_tracker.specs.declared.record.Status.TheVariants as status
 use Rattle.p2p_tracker.specs.declared.record.ReserveResult.TheVariants as answer
-use Rattle.p2p_tracker.specs.Stands.{Kept, StandsFor, status_of, record_of}
+use Rattle.p2p_tracker.specs.Stands.{Kept, StandsFor, record_of}
 use Rattle.p2p_tracker.proofs.Reading.{eligible-record, acceptable-record, dial-record, listen-record}
 use Rattle.p2p_tracker.proofs.Steps as steps
 use Rattle.p2p_tracker.proofs.Steps.{own, peer, IsAddressed}

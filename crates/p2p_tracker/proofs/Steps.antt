@@ -1,5 +1,5 @@
 -- What one more call makes of a key's record.
-use Rattle.std.proofs.Common.{◌≡◌, ℕ, ◌+◌, Bool, true, false, cond, ◌&&◌, ◌||◌, not, List, [], ◌∷◌, Option, Some, None, refl, sym, ap, ◌∙◌, subst}
+use Rattle.std.proofs.Common.{◌≡◌, ℕ, Bool, true, false, cond, ◌&&◌, ◌||◌, not, List, [], ◌∷◌, Option, Some, None, refl, sym, ap, ◌∙◌}
 use Rattle.std.proofs.lemmas.Bool.{false≢true}
 use Rattle.std.specs.Prelude.{is_some, nat_lt}
 use Rattle.std.specs.Option.{option_map, option_or}
@@ -11,7 +11,7 @@ use Rattle.p2p_facts.specs.declared.call.Call.TheVariants as call
 use Rattle.p2p_facts.specs.Rules.{Rules}
 use Rattle.p2p_facts.specs.Sets.{accepted_sets, kept_sets, is_tracked, primary_sets, secondary_sets}
 use Rattle.p2p_facts.specs.Grants.{Grant, grant_by, releases, held_by, is_held}
-use Rattle.p2p_facts.specs.Blocks.{is_local, is_blocked}
+use Rattle.p2p_facts.specs.Blocks.{is_local}
 use Rattle.p2p_facts.specs.Lives.{is_alive, given_by, address_of, last_grant, is_stale, is_connected, is_change, cool_after, next_after}
 use Rattle.p2p_tracker.specs.Recorded.{Recorded, without_need, is_inert, reserved_by, updated, connected}
 use Rattle.p2p_tracker.specs.Stands.{status_of, record_of}

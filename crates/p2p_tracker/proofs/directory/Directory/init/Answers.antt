@@ -1,4 +1,4 @@
-use Rattle.std.proofs.Common.{cond, [], Some, None, ap, ◌∙◌}
+use Rattle.std.proofs.Common.{cond, Some, ap, ◌∙◌}
 use Rattle.std.specs.Map.{lookup}
 use Rattle.std.specs.BTreeMap.{is_at}
 use Rattle.p2p_tracker.specs.Recorded.{fresh}
