@@ -14,11 +14,19 @@ pub enum Call<P> {
         secondary: List<(P, Address)>,
     },
     /// A peer got another address.
-    Overwrite { peer: P, address: Address },
+    Overwrite {
+        peer: P,
+        address: Address,
+    },
     /// A peer was blocked.
-    Block { peer: P, at: u64 },
+    Block {
+        peer: P,
+        at: u64,
+    },
     /// The blocks that had ended were taken away.
-    UnblockExpired { at: u64 },
+    UnblockExpired {
+        at: u64,
+    },
     /// A reservation to dial was asked for.
     Dial {
         peer: P,
@@ -35,7 +43,12 @@ pub enum Call<P> {
     },
     /// A connection of a reserved peer began. It has a moment where a tracker took it, and none where the directory
     /// itself was called.
-    Connect { peer: P, at: Option<u64> },
+    Connect {
+        peer: P,
+        at: Option<u64>,
+    },
     /// A reservation was given back.
-    Release { peer: P },
+    Release {
+        peer: P,
+    },
 }

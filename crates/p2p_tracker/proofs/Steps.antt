@@ -242,6 +242,10 @@ module _ {P : Type 0} (cmp : P → P → Ordering) (rules : Rules P) (calls : Li
   unfolding address_of is_held is_tracked kept_sets accepted_sets
   addressed-block p t = λ o. has_address (is_alive cmp rules calls q) (is_local cmp rules q) None (address_of cmp rules calls q) o (λ e. sym (h o) ∙ e)
 
+  pub addressed-unblock : (t : ℕ) → IsAddressed cmp rules (call.UnblockExpired t ∷ calls) q
+  unfolding address_of is_held is_tracked kept_sets accepted_sets
+  addressed-unblock t = λ o. has_address (is_alive cmp rules calls q) (is_local cmp rules q) None (address_of cmp rules calls q) o (λ e. sym (h o) ∙ e)
+
   pub addressed-refused_dial : (p : P) (t j : ℕ) → IsAddressed cmp rules (call.Dial p t j false ∷ calls) q
   unfolding address_of is_held is_tracked kept_sets accepted_sets
   addressed-refused_dial p t j = λ o. has_address (is_alive cmp rules calls q) (is_local cmp rules q) None (address_of cmp rules calls q) o (λ e. sym (h o) ∙ e)
