@@ -1,9 +1,8 @@
 -- The facts on short lists of calls, newest first. The own key is 0.
-use Rattle.std.proofs.Common.{◌≡◌, ℕ, true, false, List, [], ◌∷◌, Some, None, refl}
+use Rattle.std.proofs.Common.{◌≡◌, ℕ, true, false, List, [], ◌∷◌, refl}
 use Rattle.std.specs.Ordering.{nat_cmp}
 use Rattle.p2p_base.specs.declared.address.ip.IpAddr.{IpAddr}
 use Rattle.p2p_base.specs.declared.address.ip.IpAddr.TheVariants.{V4}
-use Rattle.p2p_base.specs.declared.address.ip.SocketAddr.{SocketAddr}
 use Rattle.p2p_base.specs.declared.address.peer.Address.{Address}
 use Rattle.p2p_base.specs.declared.address.peer.Address.TheVariants.{Symmetric}
 use Rattle.p2p_facts.specs.declared.call.Call.{Call}

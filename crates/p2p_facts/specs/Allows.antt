@@ -1,5 +1,5 @@
 -- When a reservation is granted.
-use Rattle.std.specs.Prelude.{ℕ, Bool, true, false, not, ◌&&◌, ◌||◌, nat_lt, List, Option, Some, None}
+use Rattle.std.specs.Prelude.{ℕ, Bool, false, not, ◌&&◌, ◌||◌, nat_lt, List, Option, Some, None}
 use Rattle.std.specs.declared.cmp.Ordering.{Ordering}
 use Rattle.p2p_base.specs.Addresses.{ingress_of, egress_of, is_valid}
 use Rattle.p2p_base.specs.declared.address.ip.IpAddr.{IpAddr}

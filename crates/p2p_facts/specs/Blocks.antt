@@ -1,5 +1,5 @@
 -- Who is blocked, and until when.
-use Rattle.std.specs.Prelude.{ℕ, ◌+◌, Bool, true, false, cond, not, ◌&&◌, nat_lt, List, [], ◌∷◌, Option, Some, None}
+use Rattle.std.specs.Prelude.{ℕ, ◌+◌, Bool, false, cond, not, ◌&&◌, nat_lt, List, [], ◌∷◌, Option, Some, None}
 use Rattle.std.specs.BTreeMap.{is_at}
 use Rattle.std.specs.declared.cmp.Ordering.{Ordering}
 use Rattle.p2p_facts.specs.declared.call.Call.{Call}
@@ -10,6 +10,11 @@ use Rattle.p2p_facts.specs.Rules.{Rules}
 abbrev pub lasts_at : Option ℕ → ℕ → Bool
 lasts_at None t = false
 lasts_at (Some end) t = nat_lt t end
+
+-- the block has ended at the moment
+abbrev pub is_over : Option ℕ → ℕ → Bool
+is_over None t = false
+is_over (Some end) t = not (nat_lt t end)
 
 -- the block without one that has ended
 abbrev pub unless_ended : Option ℕ → ℕ → Option ℕ

@@ -1,5 +1,5 @@
 -- The peer sets that are kept. The calls stand newest first.
-use Rattle.std.specs.Prelude.{ℕ, Bool, true, false, cond, not, ◌||◌, suc, nat_lt, List, [], ◌∷◌, Option, Some, None, take}
+use Rattle.std.specs.Prelude.{ℕ, Bool, true, cond, not, ◌||◌, suc, nat_lt, List, [], ◌∷◌, take}
 use Rattle.std.specs.List.{list_any, filter}
 use Rattle.std.specs.Map.{keys_of}
 use Rattle.std.specs.BTreeMap.{is_at}

@@ -1,5 +1,6 @@
 pub mod Asked
 pub mod Counts
+pub mod Ended
 pub mod Reading
 pub mod Standing
 pub mod Steps

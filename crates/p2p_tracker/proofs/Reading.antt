@@ -1,9 +1,8 @@
 -- What a key's record tells of the calls.
-use Rattle.std.proofs.Common.{◌≡◌, ℕ, ◌+◌, Bool, true, false, cond, ◌&&◌, ◌||◌, not, List, [], ◌∷◌, Option, Some, None, refl, sym, ap, ◌∙◌, subst}
+use Rattle.std.proofs.Common.{◌≡◌, ℕ, Bool, true, false, cond, ◌&&◌, ◌||◌, not, List, Option, Some, None, refl, sym, ap, ◌∙◌, subst}
 use Rattle.std.proofs.lemmas.Bool.{false≢true}
 use Rattle.std.specs.Prelude.{is_some, nat_lt}
 use Rattle.std.specs.Option.{option_map, unwrap_or}
-use Rattle.std.specs.BTreeMap.{is_at}
 use Rattle.std.specs.declared.cmp.Ordering.{Ordering}
 use Rattle.p2p_base.specs.declared.address.ip.IpAddr.{IpAddr}
 use Rattle.p2p_base.specs.declared.address.peer.Address.{Address as PeerAddress}
@@ -11,7 +10,7 @@ use Rattle.p2p_facts.specs.declared.call.Call.{Call}
 use Rattle.p2p_facts.specs.Rules.{Rules}
 use Rattle.p2p_facts.specs.Sets.{is_tracked, is_primary, primary_sets, secondary_sets}
 use Rattle.p2p_facts.specs.Grants.{Grant, is_held}
-use Rattle.p2p_facts.specs.Blocks.{is_local, is_blocked, lasts_at}
+use Rattle.p2p_facts.specs.Blocks.{is_local, is_blocked}
 use Rattle.p2p_facts.specs.Lives.{address_of, last_grant, is_stale, is_connected, is_eligible, cool_after}
 use Rattle.p2p_facts.specs.Allows as facts
 use Rattle.p2p_tracker.specs.Recorded.{Recorded, is_inert, is_acceptable, is_eligible_in, is_acceptable_in, may_dial_in, may_listen_in}

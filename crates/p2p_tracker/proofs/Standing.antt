@@ -6,24 +6,26 @@ use Rattle.std.specs.Prelude.{is_some, nat_lt, zero, suc}
 use Rattle.std.specs.List.{list_any}
 use Rattle.std.specs.Option.{option_map, unwrap_or}
 use Rattle.std.specs.Cmp.{IsTotalOrder}
-use Rattle.std.specs.Map.{lookup}
+use Rattle.std.specs.List.Sorted.{IsStrictlySortedBy}
+use Rattle.std.specs.Map.{lookup, keys_of}
 use Rattle.std.specs.BTreeMap.{is_at}
 use Rattle.std.specs.declared.cmp.Ordering.{Ordering}
 use Rattle.p2p_base.specs.declared.address.ip.IpAddr.{IpAddr}
 use Rattle.p2p_base.specs.declared.address.peer.Address.{Address as PeerAddress}
+use Rattle.p2p_base.specs.Moments.{soonest}
 use Rattle.p2p_facts.specs.declared.call.Call.{Call}
 use Rattle.p2p_facts.specs.declared.call.Call.TheVariants as call
-use Rattle.p2p_facts.specs.Rules.{Rules}
 use Rattle.p2p_facts.specs.Sets.{PeerSet, how_many, accepted_sets, kept_sets, is_tracked, is_primary_in, is_secondary_in, primary_sets, secondary_sets}
 use Rattle.p2p_facts.specs.Grants.{Grant, is_held}
-use Rattle.p2p_facts.specs.Blocks.{is_local, lasts_at, is_blocked, block_of}
+use Rattle.p2p_facts.specs.Blocks.{is_local, lasts_at, is_blocked, block_of, unless_ended, is_over}
 use Rattle.p2p_facts.specs.Lives.{address_of, last_grant, is_stale, is_connected, is_eligible}
 use Rattle.p2p_facts.specs.Allows as facts
-use Rattle.p2p_tracker.specs.Recorded.{Recorded, fresh, is_eligible_in, is_acceptable_in, is_acceptable, is_in_sets, has_valid_ingress, dials_from, is_myself, is_inert, is_reserved, is_reserved_in, may_dial_in, may_dial, may_listen_in, may_listen, reserved_by, updated, connected, without_need, written}
+use Rattle.p2p_tracker.specs.Recorded.{Recorded, fresh, is_eligible_in, is_acceptable_in, is_acceptable, is_in_sets, has_valid_ingress, dials_from, is_myself, is_inert, is_reserved_in, may_dial_in, may_listen_in, reserved_by, updated, connected, without_need, written}
 use Rattle.p2p_tracker.specs.declared.record.Address.TheVariants as address
 use Rattle.p2p_tracker.specs.declared.record.Status.TheVariants as status
 use Rattle.p2p_tracker.specs.declared.record.ReserveResult.TheVariants as answer
-use Rattle.p2p_tracker.specs.Stands.{Kept, StandsFor, status_of, record_of}
+use Rattle.p2p_tracker.specs.Stands.{Kept, StandsFor, record_of, ends_by}
+use Rattle.p2p_tracker.proofs.Ended.{some_over, none_over}
 use Rattle.p2p_tracker.proofs.Reading.{eligible-record, acceptable-record, dial-record, listen-record}
 use Rattle.p2p_tracker.proofs.Steps as steps
 use Rattle.p2p_tracker.proofs.Steps.{own, peer, IsAddressed}
@@ -106,8 +108,8 @@ new_block false l m x y h k = refl
 
 module _ {P : Type 0} (cmp : P → P → Ordering) (kept : Kept P) where
   pub stands-init : ((q : P) → lookup (is_at (cmp q)) kept.records ≡ cond (is_local cmp kept.rules q) (Some (fresh address.Myself)) None)
-      → ((q : P) → lookup (is_at (cmp q)) kept.blocks ≡ None) → StandsFor cmp kept []
-  unfolding record_of address_of is_tracked is_held primary_sets secondary_sets kept_sets accepted_sets block_of how_many
+      → kept.blocks ≡ [] → StandsFor cmp kept []
+  unfolding record_of address_of is_tracked is_held primary_sets secondary_sets kept_sets accepted_sets block_of how_many IsStrictlySortedBy
   stands-init r b = record {
     records = λ q. r q ∙ ap (λ (sets : List (PeerSet P)). cond (is_local cmp kept.rules q) (Some (record {
       address = address.Myself;
@@ -118,7 +120,8 @@ module _ {P : Type 0} (cmp : P → P → Ordering) (kept : Kept P) where
       cool = 0;
       next_dial = 0;
     })) None) (sym (none_kept kept.rules.max_sets [] refl));
-    blocks = b;
+    blocks = λ q. ap (lookup (is_at (cmp q))) b;
+    ordered = subst (λ bs. IsStrictlySortedBy cmp (keys_of bs)) (sym b) tt;
     addressed = λ q o. ap (λ (sets : List (PeerSet P)). list_any (λ s. is_primary_in cmp q s || is_secondary_in cmp q s) sets || false) (none_kept kept.rules.max_sets [] refl);
   }
 
@@ -181,6 +184,7 @@ module _ {P : Type 0} {cmp : P → P → Ordering} (o : IsTotalOrder cmp) {kept 
   stands-refused_dial p t j = record {
     records = λ q. s.records q ∙ sym (steps.record_of-refused_dial cmp kept.rules calls q (s.addressed q) p t j);
     blocks = λ q. s.blocks q;
+    ordered = s.ordered;
     addressed = λ q. steps.addressed-refused_dial cmp kept.rules calls q (s.addressed q) p t j;
   }
 
@@ -189,6 +193,7 @@ module _ {P : Type 0} {cmp : P → P → Ordering} (o : IsTotalOrder cmp) {kept 
   stands-refused_listen p t j = record {
     records = λ q. s.records q ∙ sym (steps.record_of-refused_listen cmp kept.rules calls q (s.addressed q) p t j);
     blocks = λ q. s.blocks q;
+    ordered = s.ordered;
     addressed = λ q. steps.addressed-refused_listen cmp kept.rules calls q (s.addressed q) p t j;
   }
 
@@ -202,6 +207,7 @@ module _ {P : Type 0} {cmp : P → P → Ordering} (o : IsTotalOrder cmp) {kept 
         ∙ at_key (λ r. reserved_by answer.Reserved r t kept.rules.cooldown j) q (is_at (cmp p) q)
         ∙ sym (steps.record_of-dial cmp kept.rules calls q (s.addressed q) p t j (λ b. (is_other q (alike IsOther p q other b)).0) (λ b. not_stale_by q (alike IsOther p q other b)));
     blocks = λ q. s.blocks q;
+    ordered = s.ordered;
     addressed = λ q. steps.addressed-dial cmp kept.rules calls q (s.addressed q) p t j (λ b. (is_other q (alike IsOther p q other b)).1);
   }
 
@@ -215,6 +221,7 @@ module _ {P : Type 0} {cmp : P → P → Ordering} (o : IsTotalOrder cmp) {kept 
         ∙ at_key (λ r. reserved_by answer.Reserved r t kept.rules.cooldown j) q (is_at (cmp p) q)
         ∙ sym (steps.record_of-listen cmp kept.rules calls q (s.addressed q) p t j (λ b. (is_other q (alike IsOther p q other b)).0) (λ b. not_stale_by q (alike IsOther p q other b)));
     blocks = λ q. s.blocks q;
+    ordered = s.ordered;
     addressed = λ q. steps.addressed-listen cmp kept.rules calls q (s.addressed q) p t j (λ b. (is_other q (alike IsOther p q other b)).1);
   }
 
@@ -228,6 +235,7 @@ module _ {P : Type 0} {cmp : P → P → Ordering} (o : IsTotalOrder cmp) {kept 
     records = λ q. ap (lookup (is_at (cmp q))) w ∙ lookup-written o p q kept.records (λ r. r) ∙ unchanged (is_at (cmp p) q) (lookup (is_at (cmp q)) kept.records)
         ∙ (stands-refused_dial p t j).records q;
     blocks = λ q. s.blocks q;
+    ordered = s.ordered;
     addressed = λ q. (stands-refused_dial p t j).addressed q;
   }
 
@@ -241,6 +249,7 @@ module _ {P : Type 0} {cmp : P → P → Ordering} (o : IsTotalOrder cmp) {kept 
     records = λ q. ap (lookup (is_at (cmp q))) w ∙ lookup-written o p q kept.records (λ r. r) ∙ unchanged (is_at (cmp p) q) (lookup (is_at (cmp q)) kept.records)
         ∙ (stands-refused_listen p t j).records q;
     blocks = λ q. s.blocks q;
+    ordered = s.ordered;
     addressed = λ q. (stands-refused_listen p t j).addressed q;
   }
 
@@ -254,6 +263,7 @@ module _ {P : Type 0} {cmp : P → P → Ordering} (o : IsTotalOrder cmp) {kept 
         (λ b. (is_reserved_by q (alike (λ r. is_reserved_in r ≡ true) p q reserved b)).1)
         (λ b. (is_reserved_by q (alike (λ r. is_reserved_in r ≡ true) p q reserved b)).2));
     blocks = λ q. s.blocks q;
+    ordered = s.ordered;
     addressed = λ q. steps.addressed-connect cmp kept.rules calls q (s.addressed q) p;
   }
 
@@ -264,6 +274,7 @@ module _ {P : Type 0} {cmp : P → P → Ordering} (o : IsTotalOrder cmp) {kept 
     records = λ q. ap (lookup (is_at (cmp q))) e ∙ lookup-written o p q kept.records (λ r. updated r given) ∙ at_key (λ r. updated r given) q (is_at (cmp p) q)
         ∙ sym (steps.record_of-overwrite cmp kept.rules calls q (s.addressed q) p given);
     blocks = λ q. s.blocks q;
+    ordered = s.ordered;
     addressed = λ q. steps.addressed-overwrite cmp kept.rules calls q (s.addressed q) p given;
   }
 
@@ -274,6 +285,7 @@ module _ {P : Type 0} {cmp : P → P → Ordering} (o : IsTotalOrder cmp) {kept 
   stands-release p es e = record {
     records = λ q. e q ∙ ap (λ r. cond (is_at (cmp p) q) (without_need r) r) (s.records q) ∙ sym (steps.record_of-release cmp kept.rules calls q (s.addressed q) p);
     blocks = λ q. s.blocks q;
+    ordered = s.ordered;
     addressed = λ q. steps.addressed-release cmp kept.rules calls q (s.addressed q) p;
   }
 
@@ -290,17 +302,37 @@ module _ {P : Type 0} {cmp : P → P → Ordering} (o : IsTotalOrder cmp) {kept 
     records = λ q. s.records q ∙ sym (steps.record_of-block cmp kept.rules calls q (s.addressed q) p t);
     blocks = λ q. s.blocks q ∙ no_block (is_at (cmp p) q) (is_local cmp kept.rules q) (lasts_at (block_of cmp kept.rules calls q) t) (Some (t + kept.rules.block_duration)) (block_of cmp kept.rules calls q)
         (λ b. sym (ap (λ l. l || lasts_at (lookup (is_at (cmp p)) kept.blocks) t) (same_local p q b) ∙ ap (λ m. is_local cmp kept.rules q || lasts_at m t) (same_block p q b)) ∙ e);
+    ordered = s.ordered;
     addressed = λ q. steps.addressed-block cmp kept.rules calls q (s.addressed q) p t;
   }
 
   pub stands-block : (p : P) (t : ℕ) (bs : List (P × ℕ)) → is_local cmp kept.rules p ≡ false → lasts_at (lookup (is_at (cmp p)) kept.blocks) t ≡ false
       → ((q : P) → lookup (is_at (cmp q)) bs ≡ cond (is_at (cmp p) q) (Some (t + kept.rules.block_duration)) (lookup (is_at (cmp q)) kept.blocks))
-      → StandsFor cmp (record kept { blocks = bs }) (call.Block p t ∷ calls)
+      → IsStrictlySortedBy cmp (keys_of bs) → StandsFor cmp (record kept { blocks = bs }) (call.Block p t ∷ calls)
   unfolding block_of
-  stands-block p t bs l m e = record {
+  stands-block p t bs l m e ordered = record {
     records = λ q. s.records q ∙ sym (steps.record_of-block cmp kept.rules calls q (s.addressed q) p t);
     blocks = λ q. e q ∙ ap (cond (is_at (cmp p) q) (Some (t + kept.rules.block_duration))) (s.blocks q)
         ∙ new_block (is_at (cmp p) q) (is_local cmp kept.rules q) (lasts_at (block_of cmp kept.rules calls q) t) (Some (t + kept.rules.block_duration)) (block_of cmp kept.rules calls q)
         (λ b. sym (same_local p q b) ∙ l) (λ b. ap (λ x. lasts_at x t) (sym (same_block p q b)) ∙ m);
+    ordered = ordered;
     addressed = λ q. steps.addressed-block cmp kept.rules calls q (s.addressed q) p t;
   }
+
+  pub stands-unblock : (t : ℕ) (bs : List (P × ℕ)) → ((q : P) → lookup (is_at (cmp q)) bs ≡ unless_ended (lookup (is_at (cmp q)) kept.blocks) t) → IsStrictlySortedBy cmp (keys_of bs)
+      → StandsFor cmp (record kept { blocks = bs }) (call.UnblockExpired t ∷ calls)
+  unfolding block_of
+  stands-unblock t bs e ordered = record {
+    records = λ q. s.records q ∙ sym (steps.record_of-unblock cmp kept.rules calls q (s.addressed q) t);
+    blocks = λ q. e q ∙ ap (λ r. unless_ended r t) (s.blocks q);
+    ordered = ordered;
+    addressed = λ q. steps.addressed-unblock cmp kept.rules calls q (s.addressed q) t;
+  }
+
+  -- some block has ended, and which
+  pub over-kept : (t : ℕ) → ends_by (soonest kept.blocks) t ≡ true → (q : P) × (is_over (block_of cmp kept.rules calls q) t ≡ true)
+  over-kept t e = let found = some_over o kept.blocks t s.ordered e in (found.0, ap (λ r. is_over r t) (sym (s.blocks found.0)) ∙ found.1)
+
+  -- none has
+  pub none_over-kept : (t : ℕ) → ends_by (soonest kept.blocks) t ≡ false → (q : P) → is_over (block_of cmp kept.rules calls q) t ≡ false
+  none_over-kept t e q = ap (λ r. is_over r t) (sym (s.blocks q)) ∙ none_over (is_at (cmp q)) kept.blocks t e

@@ -1,5 +1,5 @@
 -- What one more call makes of a key's record.
-use Rattle.std.proofs.Common.{◌≡◌, ℕ, ◌+◌, Bool, true, false, cond, ◌&&◌, ◌||◌, not, List, [], ◌∷◌, Option, Some, None, refl, sym, ap, ◌∙◌, subst}
+use Rattle.std.proofs.Common.{◌≡◌, ℕ, Bool, true, false, cond, ◌&&◌, ◌||◌, not, List, [], ◌∷◌, Option, Some, None, refl, sym, ap, ◌∙◌}
 use Rattle.std.proofs.lemmas.Bool.{false≢true}
 use Rattle.std.specs.Prelude.{is_some, nat_lt}
 use Rattle.std.specs.Option.{option_map, option_or}
@@ -11,7 +11,7 @@ use Rattle.p2p_facts.specs.declared.call.Call.TheVariants as call
 use Rattle.p2p_facts.specs.Rules.{Rules}
 use Rattle.p2p_facts.specs.Sets.{accepted_sets, kept_sets, is_tracked, primary_sets, secondary_sets}
 use Rattle.p2p_facts.specs.Grants.{Grant, grant_by, releases, held_by, is_held}
-use Rattle.p2p_facts.specs.Blocks.{is_local, is_blocked}
+use Rattle.p2p_facts.specs.Blocks.{is_local}
 use Rattle.p2p_facts.specs.Lives.{is_alive, given_by, address_of, last_grant, is_stale, is_connected, is_change, cool_after, next_after}
 use Rattle.p2p_tracker.specs.Recorded.{Recorded, without_need, is_inert, reserved_by, updated, connected}
 use Rattle.p2p_tracker.specs.Stands.{status_of, record_of}
@@ -241,6 +241,10 @@ module _ {P : Type 0} (cmp : P → P → Ordering) (rules : Rules P) (calls : Li
   pub addressed-block : (p : P) (t : ℕ) → IsAddressed cmp rules (call.Block p t ∷ calls) q
   unfolding address_of is_held is_tracked kept_sets accepted_sets
   addressed-block p t = λ o. has_address (is_alive cmp rules calls q) (is_local cmp rules q) None (address_of cmp rules calls q) o (λ e. sym (h o) ∙ e)
+
+  pub addressed-unblock : (t : ℕ) → IsAddressed cmp rules (call.UnblockExpired t ∷ calls) q
+  unfolding address_of is_held is_tracked kept_sets accepted_sets
+  addressed-unblock t = λ o. has_address (is_alive cmp rules calls q) (is_local cmp rules q) None (address_of cmp rules calls q) o (λ e. sym (h o) ∙ e)
 
   pub addressed-refused_dial : (p : P) (t j : ℕ) → IsAddressed cmp rules (call.Dial p t j false ∷ calls) q
   unfolding address_of is_held is_tracked kept_sets accepted_sets

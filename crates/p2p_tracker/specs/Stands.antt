@@ -1,7 +1,8 @@
 -- What a directory keeps, and the calls that it stands for.
-use Rattle.std.specs.Prelude.{◌≡◌, ℕ, Bool, true, false, cond, List, [], ◌∷◌, Option, Some, None, is_some}
+use Rattle.std.specs.Prelude.{◌≡◌, ℕ, Bool, false, cond, List, Option, Some, is_some, not, nat_lt, None}
 use Rattle.std.specs.Option.{option_map}
-use Rattle.std.specs.Map.{lookup}
+use Rattle.std.specs.List.Sorted.{IsStrictlySortedBy}
+use Rattle.std.specs.Map.{lookup, keys_of}
 use Rattle.std.specs.BTreeMap.{is_at}
 use Rattle.std.specs.declared.cmp.Ordering.{Ordering}
 use Rattle.p2p_base.specs.declared.address.peer.Address.{Address as PeerAddress}
@@ -21,6 +22,11 @@ pub record Kept (P : Type 0) : Type 0 where
   pub rules : Rules P
   pub records : List (P × Recorded)
   pub blocks : List (P × ℕ)
+
+-- the block of an entry has ended at the moment
+abbrev pub ends_by : {P : Type 0} → Option (P × ℕ) → ℕ → Bool
+ends_by None t = false
+ends_by (Some e) t = not (nat_lt t e.1)
 
 abbrev pub status_of : Bool → Bool → Status
 status_of held connected = cond held (cond connected status.Active status.Reserved) status.Inert
@@ -55,9 +61,10 @@ module _ {P : Type 0} (cmp : P → P → Ordering) (rules : Rules P) where
   unfoldable pub record_of : List (Call P) → P → Option Recorded
   record_of calls q = cond (is_local cmp rules q) (Some (own_record cmp rules calls q)) (option_map (peer_record cmp rules calls q) (address_of cmp rules calls q))
 
--- a directory stands for a list of calls, newest first: its records and blocks are those that follow from the calls, key by key, and
--- each other peer that is tracked or held has an address
+-- a directory stands for a list of calls, newest first: its records and blocks are those that follow from the calls, key by key, the
+-- blocks stand in the order of their keys, and each other peer that is tracked or held has an address
 pub record StandsFor {P : Type 0} (cmp : P → P → Ordering) (kept : Kept P) (calls : List (Call P)) : Type 0 where
   pub records : (q : P) → lookup (is_at (cmp q)) kept.records ≡ record_of cmp kept.rules calls q
   pub blocks : (q : P) → lookup (is_at (cmp q)) kept.blocks ≡ block_of cmp kept.rules calls q
+  pub ordered : IsStrictlySortedBy cmp (keys_of kept.blocks)
   pub addressed : (q : P) → is_local cmp kept.rules q ≡ false → is_alive cmp kept.rules calls q ≡ is_some (address_of cmp kept.rules calls q)

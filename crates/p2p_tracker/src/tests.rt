@@ -56,3 +56,13 @@ fn who_is_in_no_set_is_refused(rt: HostRuntime) -> Result<(), Fail> {
     assert!(rt; directory.listen(&Key(7), ip(7), 0, 0)?.is_none());
     Ok(())
 }
+
+#[test]
+fn a_block_that_has_ended_is_taken_away_once(rt: HostRuntime) -> Result<(), Fail> {
+    let mut directory = alone(rt.alloc(), Key(0))?;
+    assert!(rt; directory.block(&Key(7), 10)?);
+    assert!(rt; !directory.unblock_expired(14));
+    assert!(rt; directory.unblock_expired(15));
+    assert!(rt; !directory.unblock_expired(15));
+    Ok(())
+}

@@ -3,7 +3,7 @@ ghost use Rattle.std.specs.Prelude.{◌≡◌, ◌+◌, [], ◌∷◌, List, Som
 ghost use Rattle.std.specs.Map.{lookup};
 ghost use Rattle.std.specs.BTreeMap.{is_at};
 ghost use Rattle.p2p_facts.specs.Allows.{is_acceptable, allows_dial, allows_listen};
-ghost use Rattle.p2p_facts.specs.Blocks.{is_local, is_blockable, lasts_at};
+ghost use Rattle.p2p_facts.specs.Blocks.{is_local, is_blockable, lasts_at, is_over, block_of};
 ghost use Rattle.p2p_facts.specs.Lives.{address_of, is_eligible, is_stale, is_overwritten};
 ghost use Rattle.p2p_facts.specs.declared.call.Call.{Call};
 ghost use Rattle.p2p_facts.specs.declared.call.Call.TheVariants as call;
@@ -13,11 +13,13 @@ ghost use Rattle.p2p_tracker.specs.declared.metadata.Metadata.TheVariants as sid
 ghost use Rattle.p2p_base.specs.Addresses.{ingress_of};
 ghost use Rattle.std.specs.Option.{option_map};
 
+mod blocks;
 mod changes;
 mod config;
 mod grants;
 
 use crate::{Metadata, Record, Reservation};
+use blocks::take_ended;
 use changes::{begin, end_hold, grant_dial, grant_listen, readdress};
 pub use config::Config;
 use p2p_base::{Address, Ingress, IpAddr, PrioritySet, PublicKey};
@@ -251,6 +253,16 @@ impl<C: PublicKey> Directory<C> {
         let end = self.block_end(now);
         self.blocks.put(*peer, end)?;
         Ok(true)
+    }
+
+    /// Takes away the blocks that have ended at the moment `now`. True exactly where there was one.
+    pub fn unblock_expired(&mut self, now: u64) -> bool
+        ensures due { result ≡ true → (calls : List (Call C)) → StandsFor C.cmp self.old calls → (q : C) × (is_over (block_of C.cmp self.old.rules calls q) now ≡ true) }
+        ensures none_due { result ≡ false → (calls : List (Call C)) → StandsFor C.cmp self.old calls → (q : C) → is_over (block_of C.cmp self.old.rules calls q) now ≡ false }
+        ensures rules { self.new.rules ≡ self.old.rules }
+        ensures stands { (calls : List (Call C)) → StandsFor C.cmp self.old calls → StandsFor C.cmp self.new (call.UnblockExpired now ∷ calls) }
+    {
+        take_ended(&mut self.blocks, now)
     }
 
     fn is_local(&self, peer: &C) -> bool

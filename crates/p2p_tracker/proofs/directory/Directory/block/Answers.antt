@@ -1,9 +1,11 @@
-use Rattle.std.proofs.Common.{◌≡◌, true, false, cond, Some, ◌+◌, ◌||◌, sym, ap, ◌∙◌, subst}
-use Rattle.std.specs.Map.{lookup}
+use Rattle.std.proofs.Common.{◌≡◌, false, cond, Some, ◌+◌, ◌||◌, sym, ap, ◌∙◌, subst}
+use Rattle.std.specs.List.Sorted.{IsStrictlySortedBy}
+use Rattle.std.specs.Map.{lookup, keys_of}
 use Rattle.std.specs.BTreeMap.{is_at}
 use Rattle.p2p_facts.specs.Blocks.{is_local, lasts_at}
 use Rattle.p2p_tracker.specs.Stands.{StandsFor}
 use Rattle.p2p_tracker.proofs.Standing.{stands-unblockable, stands-block}
+use Rattle.p2p_tracker.proofs.Ended.{sorted-inserted}
 use Rattle.p2p_tracker.proofs.directory.Directory.block.Goals as goal
 
 pub returns-then-is_local-clause-stands : goal.returns-then-is_local-clause-stands
@@ -25,3 +27,5 @@ returns-clause-stands g c = λ calls s.
     (λ q. c.in_ok-put.ensures.each q
     ∙ ap (λ e. cond (is_at (g.C.Ord.cmp c.args.peer.now) q) (Some e) (lookup (is_at (g.C.Ord.cmp q)) c.self.inside.blocks))
     (subst (λ k. c.block_end-end.result ≡ c.args.now + k.rules.block_duration) (sym c.self.view_is) c.block_end-end.ensures))
+    (subst (λ bs. IsStrictlySortedBy g.C.Ord.cmp (keys_of bs)) (sym c.in_ok-put.ensures.after)
+    (sorted-inserted g.met.C.Ord.total c.self.inside.blocks c.args.peer.now c.block_end-end.result (subst (λ k. StandsFor g.C.Ord.cmp k calls) (sym c.self.view_is) s).ordered))
