@@ -1,6 +1,6 @@
 -- The sets that are kept once one more is accepted, and what that makes of a key's record.
-use Rattle.std.proofs.Common.{◌≡◌, ℕ, zero, suc, ◌+◌, ◌-◌, ◌<◌, ◌≤◌, Bool, true, false, cond, ◌&&◌, ◌||◌, not, List, [], ◌∷◌, ◌++◌, length, take, Option, Some, None, refl, sym, ap, ◌∙◌, subst, arith}
-use Rattle.std.proofs.lemmas.Bool.{false≢true, lt-ltb, ltb-true, ltb-false}
+use Rattle.std.proofs.Common.{◌≡◌, ℕ, zero, suc, ◌+◌, ◌-◌, ◌≤◌, Bool, true, false, cond, ◌&&◌, ◌||◌, not, List, [], ◌∷◌, ◌++◌, length, take, Option, Some, None, refl, sym, ap, ◌∙◌, subst, arith}
+use Rattle.std.proofs.lemmas.Bool.{false≢true, lt-ltb, ltb-true}
 use Rattle.std.proofs.Math.Seq.{take-append_seam}
 use Rattle.std.specs.Prelude.{is_some, nat_lt}
 use Rattle.std.specs.Option.{option_map, option_or}
@@ -95,6 +95,7 @@ within held n m k l p s e = at (nat_lt 0 (n - k)) (nat_lt 0 (m - l)) refl refl e
     right : (a b : Bool) → b ≡ true → (a || b) ≡ true
     right true b h = refl
     right false b h = h
+
     at : (a b : Bool) → nat_lt 0 (n - k) ≡ a → nat_lt 0 (m - l) ≡ b → ((a || b) || held) ≡ true → ((nat_lt 0 n || nat_lt 0 m) || held) ≡ true
     at true b f g h = let less = ltb-true 0 (n - k) f in ap (λ x. (x || nat_lt 0 m) || held) (lt-ltb 0 n (omega (arith, less)))
     at false true f g h = let less = ltb-true 0 (m - l) g in ap (λ x. x || held) (right (nat_lt 0 n) (nat_lt 0 m) (lt-ltb 0 m (omega (arith, less))))

@@ -1,15 +1,11 @@
 -- A directory stands for its calls with one more peer set.
-use Rattle.std.proofs.Common.{◌≡◌, ℕ, ◌≤◌, Bool, true, false, cond, ◌&&◌, ◌||◌, not, List, [], ◌∷◌, ◌++◌, length, take, Option, Some, None, refl, sym, ap, ◌∙◌}
-use Rattle.std.specs.Prelude.{is_some}
-use Rattle.std.specs.List.{list_any}
-use Rattle.std.specs.Option.{option_map, option_or}
+use Rattle.std.proofs.Common.{◌≡◌, ℕ, ◌≤◌, true, false, List, [], ◌∷◌, ◌++◌, length, sym, ap, ◌∙◌}
 use Rattle.std.specs.Map.{lookup}
 use Rattle.std.specs.BTreeMap.{is_at}
 use Rattle.std.specs.declared.cmp.Ordering.{Ordering}
 use Rattle.p2p_base.specs.declared.address.peer.Address.{Address as PeerAddress}
 use Rattle.p2p_facts.specs.declared.call.Call.{Call}
 use Rattle.p2p_facts.specs.declared.call.Call.TheVariants as call
-use Rattle.p2p_facts.specs.Rules.{Rules}
 use Rattle.p2p_facts.specs.Sets.{PeerSet, is_above, set_of, is_primary_in, is_secondary_in, accepted_sets, kept_sets}
 use Rattle.p2p_facts.specs.Blocks.{block_of}
 use Rattle.p2p_facts.specs.Lives.{given_by}

@@ -1,6 +1,6 @@
 -- What a peer set makes of a key's record.
-use Rattle.std.proofs.Common.{◌≡◌, ℕ, ◌+◌, ◌-◌, ◌<◌, Bool, true, false, cond, ◌&&◌, ◌||◌, not, List, [], ◌∷◌, Option, Some, None, refl, sym, ap, ◌∙◌, subst, arith}
-use Rattle.std.proofs.lemmas.Bool.{false≢true, lt-ltb, le-ltb, ltb-true, ltb-false}
+use Rattle.std.proofs.Common.{◌≡◌, ℕ, ◌+◌, ◌-◌, Bool, true, false, cond, ◌&&◌, ◌||◌, not, Option, Some, None, refl, sym, ap, ◌∙◌, arith}
+use Rattle.std.proofs.lemmas.Bool.{false≢true, lt-ltb, ltb-true, ltb-false}
 use Rattle.std.specs.Prelude.{is_some, nat_lt}
 use Rattle.std.specs.Option.{option_map, option_or}
 use Rattle.p2p_base.specs.declared.address.peer.Address.{Address as PeerAddress}
@@ -26,6 +26,7 @@ stays_in n m p s e = at (nat_lt 0 n) refl e
     right : (b : Bool) → (b || true) ≡ true
     right true = refl
     right false = refl
+
     at : (b : Bool) → nat_lt 0 n ≡ b → (b || nat_lt 0 m) ≡ true → (nat_lt 0 (n + one_if p) || nat_lt 0 (m + one_if s)) ≡ true
     at true f h = let first = ltb-true 0 n f in ap (λ b. b || nat_lt 0 (m + one_if s)) (lt-ltb 0 (n + one_if p) (omega arith))
     at false f h = let second = ltb-true 0 m h in ap (λ b. nat_lt 0 (n + one_if p) || b) (lt-ltb 0 (m + one_if s) (omega arith)) ∙ right (nat_lt 0 (n + one_if p))
@@ -123,8 +124,8 @@ begun cooldown n m true joined stale g (Some b) p s d k t i = absurd (false≢tr
 begun cooldown n m false joined stale g (Some b) p s d k t i =
     let counts = none_of n m (or_false (nat_lt 0 n || nat_lt 0 m) false d).0 in
     let alive : ((nat_lt 0 (n + one_if p) || nat_lt 0 (m + one_if s)) || false) ≡ true =
-        ap (λ x. (nat_lt 0 (x + one_if p) || nat_lt 0 (m + one_if s)) || false) counts.0 ∙ (ap (λ x. (nat_lt 0 (0 + one_if p) || nat_lt 0 (x + one_if s)) || false) counts.1
-        ∙ ap (λ x. x || false) (comes_in p s (sym i))) in
+    ap (λ x. (nat_lt 0 (x + one_if p) || nat_lt 0 (m + one_if s)) || false) counts.0 ∙ (ap (λ x. (nat_lt 0 (0 + one_if p) || nat_lt 0 (x + one_if s)) || false) counts.1
+    ∙ ap (λ x. x || false) (comes_in p s (sym i))) in
     newcomer cooldown n m joined stale g b p s counts.0 counts.1 (unmarked stale false t refl) (k d)
     ∙ sym (ap (λ x. option_map (peer cooldown false joined (n + one_if p) (m + one_if s) stale (cond x g None)) (cond (x && true) (Some b) None)) alive)
 

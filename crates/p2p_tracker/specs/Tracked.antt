@@ -1,5 +1,5 @@
 -- What an accepted peer set makes of a record: first the set that is new counts, and then the one that is kept no longer.
-use Rattle.std.specs.Prelude.{ℕ, ◌+◌, ◌-◌, Bool, true, false, cond, ◌||◌, Option, Some, None}
+use Rattle.std.specs.Prelude.{ℕ, ◌+◌, ◌-◌, Bool, cond, ◌||◌, Option, Some, None}
 use Rattle.p2p_base.specs.declared.address.peer.Address.{Address as PeerAddress}
 use Rattle.p2p_tracker.specs.declared.record.Address.TheVariants as address
 use Rattle.p2p_tracker.specs.Recorded.{Recorded, fresh, updated, is_deletable}
