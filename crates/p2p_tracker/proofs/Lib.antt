@@ -1,7 +1,11 @@
 pub mod Asked
 pub mod Counts
 pub mod Ended
+pub mod Keeping
 pub mod Reading
 pub mod Standing
+pub mod StandingTracks
 pub mod Steps
+pub mod Tracking
+pub mod Walks
 pub mod Written

@@ -102,7 +102,7 @@ grant_step true false false held cooldown n m joined stale g (Some a) at jitter 
 grant_step false local tracked held cooldown n m joined stale g a at jitter o k h = still local (tracked || held) a g (peer cooldown held joined n m stale) (own n m) h
 
 -- a change of the address
-and_swap : (x held joined : Bool) → (x && held) ≡ (not (is_inert (status_of held joined)) && x)
+pub and_swap : (x held joined : Bool) → (x && held) ≡ (not (is_inert (status_of held joined)) && x)
 and_swap true true true = refl
 and_swap true true false = refl
 and_swap true false joined = refl
