@@ -6,6 +6,7 @@ ghost use Rattle.p2p_base.specs.Moments.{soonest, without};
 
 use crate::PublicKey;
 use std::alloc::{AllocError, Global};
+use std::collections::btree_map::Iter;
 use std::collections::{BTreeMap, BTreeSet};
 use std::marker::Model;
 
@@ -72,6 +73,13 @@ impl<P: PublicKey> PrioritySet<P> {
         ensures { result ≡ lookup (is_at (P.cmp key.now)) self.now }
     {
         self.moments.get(key).copied()
+    }
+
+    /// The keys with their moments, in key order.
+    pub fn iter(&self) -> Iter<'_, P, u128>
+        ensures { result ≡ self.now }
+    {
+        self.moments.iter()
     }
 
     /// The key of the least moment, with that moment. Of keys with equal moments the least comes first. `None` exactly where

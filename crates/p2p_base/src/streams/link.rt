@@ -45,6 +45,7 @@ pub trait Link {
     fn write(&mut self, alloc: Global, frame: Bytes) -> Result<(), LinkFault>
         ensures count { faults_of self.old ≤ faults_of self.new }
         ensures fault { result ≡ Err fault.Failed → Rose (faults_of self.old) (faults_of self.new) }
+        ensures no_fault { OnOk result (faults_of self.new ≡ faults_of self.old) }
         ensures told { IfSome (write_fails self.old) (λ b. IsTrue b ↔ (result ≡ Err fault.Failed)) }
         ensures ok { OnOk result (in_flight self.new ≡ in_flight self.old ++ frame ∷ []) }
         ensures err { OnErr result (in_flight self.new ≡ in_flight self.old) }
@@ -58,6 +59,7 @@ pub trait Link {
     fn read(&mut self) -> Result<Option<Bytes>, Failed>
         ensures count { faults_of self.old ≤ faults_of self.new }
         ensures fault { OnErr result (Rose (faults_of self.old) (faults_of self.new)) }
+        ensures no_fault { OnOk result (faults_of self.new ≡ faults_of self.old) }
         ensures told { IfSome (read_fails self.old) (λ b. b ≡ is_err result) }
         ensures frame { IfOk result (λ frame. frame ≡ slice_get (waiting self.old) 0) }
         ensures rest { OnOk result (waiting self.new ≡ drop 1 (waiting self.old)) }
