@@ -21,7 +21,8 @@ use Rattle.p2p_log.specs.declared.entry.Reply.{Reply}
 use Rattle.p2p_log.specs.Effect.{copies_end, only}
 use Rattle.p2p_board.specs.Rows.{with_message}
 use Rattle.p2p_log.proofs.Lines.{filter_stays-append, filter_stays-nil}
-use Rattle.p2p_log.proofs.Names.{AreApart, AreApart-filter, AreApart-live_from, filter_stays-first}
+use Rattle.p2p_log.specs.Apart.{AreApart}
+use Rattle.p2p_log.proofs.Names.{AreApart-filter, AreApart-live_from, filter_stays-first}
 use Rattle.p2p_board.specs.declared.board.Board.{Board}
 use Rattle.p2p_board.specs.Board.{held}
 use Rattle.p2p_board.specs.Stands.{Holds, Builds, row_goes, names_in}

@@ -27,7 +27,8 @@ use Rattle.p2p_ledger.proofs.Each.{Each-has, Each-from_has, Each-append, Each-ma
 use Rattle.p2p_ledger.proofs.Fitting.{Fits, StandsFit, fits, is_bare}
 use Rattle.p2p_ledger.proofs.Shape.{Shape, Origin, Moved, Moved-nothing, Moved-taken, Moved-put, accepts, still, no_delivery, no_router, bare_balanced, no_items_end, one_taken, stands_first, first_has, count_by-single, accepts-none}
 use Rattle.p2p_log.specs.QueueCode.{same_queue}
-use Rattle.p2p_log.proofs.Names.{AreApart, AreApart-filter, AreApart-live_from, filter_stays-first}
+use Rattle.p2p_log.specs.Apart.{AreApart}
+use Rattle.p2p_log.proofs.Names.{AreApart-filter, AreApart-live_from, filter_stays-first}
 use Rattle.p2p_log.proofs.Queues.{same_queue-refl, same_queue-sym}
 use Rattle.p2p_ledger.proofs.Each.{Each-take}
 use Rattle.p2p_ledger.proofs.Queues.{Each-in_queue}

@@ -7,7 +7,8 @@ use Rattle.p2p_log.specs.QueueCode.{same_queue}
 use Rattle.p2p_log.specs.Lines.{name_of, stays, stands_in}
 use Rattle.p2p_log.proofs.Filters.{filter-same}
 use Rattle.p2p_log.proofs.Lines.{filter_stays-append, filter_stays-nil}
-use Rattle.p2p_log.proofs.Names.{AreApart, AreApart-filter, filter_stays-first}
+use Rattle.p2p_log.specs.Apart.{AreApart}
+use Rattle.p2p_log.proofs.Names.{AreApart-filter, filter_stays-first}
 use Rattle.p2p_log.proofs.Queues.{same_queue-congr, same_queue-sym}
 use Rattle.p2p_ledger.proofs.Weights.{AreTaken}
 

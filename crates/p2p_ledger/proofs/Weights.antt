@@ -7,7 +7,8 @@ use Rattle.p2p_log.specs.declared.queue.Queue.{Queue}
 use Rattle.p2p_log.specs.declared.item.Envelope.{Envelope}
 use Rattle.p2p_log.specs.Lines.{name_of, same_name, stays, stands_in}
 use Rattle.p2p_log.proofs.Lines.{filter_stays-append, filter_stays-nil}
-use Rattle.p2p_log.proofs.Names.{NoneNamed, AreApart, AreApart-filter, same_name-refl, same_name-sym, filter_stays-none}
+use Rattle.p2p_log.specs.Apart.{NoneNamed, AreApart}
+use Rattle.p2p_log.proofs.Names.{AreApart-filter, same_name-refl, same_name-sym, filter_stays-none}
 use Rattle.p2p_ledger.proofs.Each.{Each-filter, Each-first}
 
 -- each of these is the first of its queue when its turn comes

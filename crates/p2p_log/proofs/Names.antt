@@ -9,18 +9,9 @@ use Rattle.p2p_log.specs.declared.item.Envelope.{Envelope}
 use Rattle.p2p_log.specs.declared.entry.Entry.{Entry}
 use Rattle.p2p_log.specs.QueueCode.{same_queue}
 use Rattle.p2p_log.specs.Lines.{name_of, same_name, placed, goes, stays, live_from, live, stands_in, line}
+use Rattle.p2p_log.specs.Apart.{NoneNamed, AreApart}
 use Rattle.p2p_log.proofs.Filters.{filter-same}
 use Rattle.p2p_log.proofs.Queues.{same_queue-congr, same_queue-sym}
-
--- none of these items has this name
-abbrev pub NoneNamed : ℕ × ℕ → List Envelope → Type 0
-NoneNamed name [] = Unit {0}
-NoneNamed name (x ∷ xs) = (same_name (name_of x) name ≡ false) × NoneNamed name xs
-
--- no two of these items have one name
-abbrev pub AreApart : List Envelope → Type 0
-AreApart [] = Unit {0}
-AreApart (x ∷ xs) = NoneNamed (name_of x) xs × AreApart xs
 
 pub same_name-refl : (n : ℕ × ℕ) → same_name n n ≡ true
 same_name-refl n = grind (arith, nat_tests)

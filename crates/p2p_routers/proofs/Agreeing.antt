@@ -13,7 +13,8 @@ use Rattle.p2p_log.specs.QueueCode.{same_queue}
 use Rattle.p2p_log.specs.Lines.{name_of, stays, placed, stands_in}
 use Rattle.p2p_log.proofs.Filters.{filter-same}
 use Rattle.p2p_log.proofs.Queues.{same_queue-sym, same_queue-congr}
-use Rattle.p2p_log.proofs.Names.{AreApart, filter_stays-first}
+use Rattle.p2p_log.specs.Apart.{AreApart}
+use Rattle.p2p_log.proofs.Names.{filter_stays-first}
 use Rattle.p2p_board.proofs.Building.{placed-append}
 use Rattle.p2p_routers.specs.Names.{Agrees, is_routers}
 

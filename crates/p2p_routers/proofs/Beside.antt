@@ -19,7 +19,8 @@ use Rattle.p2p_log.specs.Facts.{events_of, has_started, registered, channels, su
 use Rattle.p2p_log.specs.Effect.{mailbox_size_at, router_capacity}
 use Rattle.p2p_log.proofs.Facts.{events_of-append, has_started-append, registered-append, subscribers-append, routes-append}
 use Rattle.p2p_log.proofs.Lines.{live-append, filter_stays-nil}
-use Rattle.p2p_log.proofs.Names.{AreApart, filter_stays-first}
+use Rattle.p2p_log.specs.Apart.{AreApart}
+use Rattle.p2p_log.proofs.Names.{filter_stays-first}
 use Rattle.p2p_board.specs.declared.board.Board.{Board}
 use Rattle.p2p_routers.specs.Names.{is_routers, label, bare_item}
 use Rattle.p2p_routers.specs.Items.{channel_of}

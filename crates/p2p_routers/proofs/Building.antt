@@ -12,7 +12,8 @@ use Rattle.p2p_log.specs.QueueCode.{same_queue}
 use Rattle.p2p_log.specs.Lines.{ended_item, stays, placed, stands_in}
 use Rattle.p2p_log.specs.Effect.{overwritten, peers_ends}
 use Rattle.p2p_log.proofs.Lines.{filter_stays-append, filter_stays-nil}
-use Rattle.p2p_log.proofs.Names.{AreApart, AreApart-filter}
+use Rattle.p2p_log.specs.Apart.{AreApart}
+use Rattle.p2p_log.proofs.Names.{AreApart-filter}
 use Rattle.p2p_board.specs.declared.board.Board.{Board}
 use Rattle.p2p_board.specs.Board.{held}
 use Rattle.p2p_routing.proofs.Ending.{peers_ends-append}

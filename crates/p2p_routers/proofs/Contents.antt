@@ -32,7 +32,8 @@ use Rattle.p2p_log.specs.QueueCode.{same_queue}
 use Rattle.p2p_log.specs.Lines.{name_of, ended_item, stays, placed, live, stands_in}
 use Rattle.p2p_log.specs.Facts.{subscriber_of, subscribers, with_route, routes}
 use Rattle.p2p_log.specs.Effect.{mailbox_size_at, route_row, Spread, goes_to, relay_queue, spread, row_of_spread}
-use Rattle.p2p_log.proofs.Names.{AreApart, AreApart-live_from, filter_stays-first}
+use Rattle.p2p_log.specs.Apart.{AreApart}
+use Rattle.p2p_log.proofs.Names.{AreApart-live_from, filter_stays-first}
 use Rattle.p2p_board.specs.declared.board.Board.{Board}
 use Rattle.p2p_board.specs.Board.{held}
 use Rattle.p2p_routing.specs.Taken.{taken_row}

@@ -13,7 +13,8 @@ use Rattle.p2p_log.specs.Effect.{overwritten, peers_ends}
 use Rattle.p2p_log.proofs.Filters.{filter-same}
 use Rattle.p2p_log.proofs.Lines.{filter_stays-append, filter_stays-nil}
 use Rattle.p2p_log.proofs.Queues.{same_queue-sym, same_queue-congr}
-use Rattle.p2p_log.proofs.Names.{AreApart, AreApart-filter, filter_stays-first}
+use Rattle.p2p_log.specs.Apart.{AreApart}
+use Rattle.p2p_log.proofs.Names.{AreApart-filter, filter_stays-first}
 use Rattle.p2p_routers.specs.Sound.{AreDistinct}
 
 -- whether a queue has the lists of one of these channels

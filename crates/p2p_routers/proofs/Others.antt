@@ -14,7 +14,7 @@ use Rattle.p2p_log.specs.QueueCode.{same_queue}
 use Rattle.p2p_log.specs.Lines.{name_of, ended_item, stays, placed, stands_in}
 use Rattle.p2p_log.specs.Effect.{only, peers_ends, Spread}
 use Rattle.p2p_log.proofs.Lines.{filter_stays-nil}
-use Rattle.p2p_log.proofs.Names.{AreApart}
+use Rattle.p2p_log.specs.Apart.{AreApart}
 use Rattle.p2p_routing.specs.Taken.{taken_row}
 use Rattle.p2p_routing.specs.Relays.{with_spread}
 use Rattle.p2p_routers.specs.Names.{is_routers}

@@ -17,7 +17,8 @@ use Rattle.p2p_log.specs.QueueCode.{same_queue}
 use Rattle.p2p_log.specs.Lines.{ended_item, stays, placed, stands_in}
 use Rattle.p2p_log.specs.Effect.{peers_put, peers_ends}
 use Rattle.p2p_log.proofs.Queues.{same_queue-sym}
-use Rattle.p2p_log.proofs.Names.{AreApart, filter_stays-first}
+use Rattle.p2p_log.specs.Apart.{AreApart}
+use Rattle.p2p_log.proofs.Names.{filter_stays-first}
 use Rattle.p2p_routers.specs.Names.{is_routers, bare_item}
 use Rattle.p2p_routers.specs.Items.{lists_in, channel_of}
 use Rattle.p2p_routers.specs.Sound.{AreDistinct, IsRing}

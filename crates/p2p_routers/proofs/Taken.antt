@@ -23,7 +23,7 @@ use Rattle.p2p_log.specs.QueueCode.{same_queue}
 use Rattle.p2p_log.specs.Lines.{name_of, stays, stands_in}
 use Rattle.p2p_log.specs.Effect.{relay_queue}
 use Rattle.p2p_log.proofs.Lines.{filter_stays-nil}
-use Rattle.p2p_log.proofs.Names.{AreApart}
+use Rattle.p2p_log.specs.Apart.{AreApart}
 use Rattle.p2p_board.specs.declared.board.Board.{Board}
 use Rattle.p2p_board.specs.Board.{held}
 use Rattle.p2p_routers.specs.Names.{is_routers, label, bare_item}

@@ -15,7 +15,8 @@ use Rattle.p2p_log.specs.QueueCode.{same_queue}
 use Rattle.p2p_log.specs.Lines.{name_of, ended_item, stays, placed}
 use Rattle.p2p_log.specs.Effect.{only, peers_put, peers_ends, Spread}
 use Rattle.p2p_log.proofs.Lines.{filter_stays-append}
-use Rattle.p2p_log.proofs.Names.{AreApart, AreApart-filter}
+use Rattle.p2p_log.specs.Apart.{AreApart}
+use Rattle.p2p_log.proofs.Names.{AreApart-filter}
 use Rattle.p2p_board.specs.declared.board.Board.{Board}
 use Rattle.p2p_board.specs.Board.{held}
 use Rattle.p2p_router.specs.declared.stepped.Routed.{Routed}

@@ -16,7 +16,7 @@ use Rattle.p2p_log.specs.declared.item.Envelope.{Envelope}
 use Rattle.p2p_log.specs.declared.row.Row.{Row}
 use Rattle.p2p_log.specs.QueueCode.{same_queue}
 use Rattle.p2p_log.specs.Lines.{stands_in}
-use Rattle.p2p_log.proofs.Names.{AreApart}
+use Rattle.p2p_log.specs.Apart.{AreApart}
 use Rattle.p2p_board.specs.declared.board.Board.{Board}
 use Rattle.p2p_routers.specs.Names.{Agrees, is_routers, bare_item}
 use Rattle.p2p_routers.specs.Items.{message_item, messages_in, lists_in, channel_of, frame_item, frames_of, items_of}

@@ -9,7 +9,7 @@ use Rattle.p2p_log.specs.declared.entry.Reply.TheVariants as reply
 use Rattle.p2p_log.specs.declared.row.Row.{Row}
 use Rattle.p2p_log.specs.Lines.{name_of, stays, stands_in}
 use Rattle.p2p_log.specs.Effect.{peers_put, peers_ends}
-use Rattle.p2p_log.proofs.Names.{AreApart}
+use Rattle.p2p_log.specs.Apart.{AreApart}
 use Rattle.p2p_board.specs.declared.board.Board.{Board}
 use Rattle.p2p_board.specs.Board.{held}
 use Rattle.p2p_routers.specs.Names.{Agrees, label}

@@ -2,7 +2,7 @@
 ghost use Rattle.std.specs.Prelude.{◌≡◌, ◌≤◌, ◌+◌, ◌++◌, length, map, take as first_of, filter, IfOk, OnOk};
 ghost use Rattle.p2p_log.specs.Lines.{name_of, stays, stands_in};
 ghost use Rattle.p2p_log.specs.Effect.{relay_queue};
-ghost use Rattle.p2p_log.proofs.Names.{AreApart};
+ghost use Rattle.p2p_log.specs.Apart.{AreApart};
 ghost use Rattle.p2p_routers.specs.Batches.{named, batch_of, AreKept};
 ghost use Rattle.p2p_routers.specs.Holds.{Holds};
 

@@ -6,7 +6,7 @@ ghost use Rattle.p2p_log.specs.Frames.{frame_of};
 ghost use Rattle.p2p_log.specs.Facts.{is_up};
 ghost use Rattle.p2p_log.specs.Lines.{line, stands_in, stays};
 ghost use Rattle.p2p_log.specs.Effect.{entry_of, mailbox_size_at, copies_end, relay_queue, router_capacity, sent_row, start_row};
-ghost use Rattle.p2p_log.proofs.Names.{AreApart};
+ghost use Rattle.p2p_log.specs.Apart.{AreApart};
 ghost use Rattle.p2p_router.specs.Mailbox.{appended};
 ghost use Rattle.p2p_router.specs.Messenger.{is_unbound, is_bound, bound_to, in_mailbox};
 ghost use Rattle.p2p_router.specs.declared.message.Message.TheVariants as message;

@@ -3,7 +3,7 @@ ghost use Rattle.std.specs.Prelude.{◌≡◌, ℕ, ◌++◌, ◌∷◌, [], dro
 ghost use Rattle.p2p_log.specs.QueueCode.{same_queue};
 ghost use Rattle.p2p_log.specs.Lines.{stays, ended_item};
 ghost use Rattle.p2p_log.specs.Effect.{peers_put, peers_ends};
-ghost use Rattle.p2p_log.proofs.Names.{AreApart};
+ghost use Rattle.p2p_log.specs.Apart.{AreApart};
 ghost use Rattle.p2p_board.specs.Board.{held};
 ghost use Rattle.p2p_routers.specs.Names.{Agrees, label, ends_of};
 ghost use Rattle.p2p_routers.specs.Items.{channel_of};

@@ -6,7 +6,7 @@ ghost use Rattle.p2p_log.specs.Frames.{frame_of};
 ghost use Rattle.p2p_log.specs.Facts.{channels, capacity_in};
 ghost use Rattle.p2p_log.specs.Lines.{line, live};
 ghost use Rattle.p2p_log.specs.Effect.{entry_of, relay_queue, route_oldest, router_capacity, sent_row, start_row};
-ghost use Rattle.p2p_log.proofs.Names.{AreApart};
+ghost use Rattle.p2p_log.specs.Apart.{AreApart};
 ghost use Rattle.p2p_board.specs.Board.{held};
 ghost use Rattle.p2p_router.specs.Messenger.{is_unbound, is_bound, subscribed, new_desk};
 ghost use Rattle.p2p_router.specs.Routes.{new_routes};

@@ -1,6 +1,6 @@
 use Rattle.std.proofs.Common.{ℕ, ◌+◌, ◌≤◌, List, length}
 use Rattle.p2p_log.specs.declared.item.Envelope.{Envelope}
-use Rattle.p2p_log.proofs.Names.{AreApart}
+use Rattle.p2p_log.specs.Apart.{AreApart}
 use Rattle.p2p_routers.specs.Batches.{AreKept}
 use Rattle.p2p_routers.specs.Holds.{Holds}
 use Rattle.p2p_routers.proofs.Batches.{IsFrontTaken}

@@ -3,7 +3,7 @@ use Rattle.std.specs.Prelude.{filter, flat_map}
 use Rattle.p2p_log.specs.declared.item.Envelope.{Envelope}
 use Rattle.p2p_log.specs.Lines.{stays, ended_item}
 use Rattle.p2p_log.specs.Effect.{peers_ends}
-use Rattle.p2p_log.proofs.Names.{AreApart}
+use Rattle.p2p_log.specs.Apart.{AreApart}
 use Rattle.p2p_board.specs.Board.{held}
 use Rattle.p2p_routers.specs.Names.{Agrees, label}
 use Rattle.p2p_routers.proofs.lists.end_lists.Given as goal
