@@ -25,7 +25,7 @@ use Rattle.p2p_log.specs.Apart.{AreApart}
 use Rattle.p2p_log.proofs.Names.{AreApart-filter, AreApart-live_from, filter_stays-first}
 use Rattle.p2p_board.specs.declared.board.Board.{Board}
 use Rattle.p2p_board.specs.Board.{held}
-use Rattle.p2p_board.specs.Stands.{Holds, Builds, row_goes, names_in}
+use Rattle.p2p_board.specs.Stands.{is_boards, Holds, Builds, row_goes, names_in}
 
 pub placed-append :
     (n p : ℕ) (xs : List (Queue × Item)) (x : Queue × Item)
@@ -40,9 +40,9 @@ pub Holds-push :
     (old new : Board Envelope) (items : List Envelope) (x : Envelope) → Holds old items
     → ((q : Queue) → held new q ≡ held old q ++ cond (same_queue x.queue q) (x ∷ []) []) → Holds new (items ++ x ∷ [])
 Holds-push old new items x h step = record {
-  each = λ q.
+  each = λ q own.
       step q
-      ∙ (ap (λ l. l ++ cond (same_queue x.queue q) (x ∷ []) []) (h.each q)
+      ∙ (ap (λ l. l ++ cond (same_queue x.queue q) (x ∷ []) []) (h.each q own)
       ∙ (ap (λ b. filter (stands_in q) items ++ cond b (x ∷ []) []) (same_queue-sym x.queue q)
       ∙ sym (filter-append (stands_in q) items (x ∷ []))));
 }
@@ -78,38 +78,38 @@ Builds-put old new log r puts n p q i j at here same all h step =
 
 -- the first item of a queue, taken
 pub Holds-pop :
-    (old new : Board Envelope) (items : List Envelope) (q : Queue) (x : Envelope) (rest : List Envelope) → AreApart items → Holds old items
+    (old new : Board Envelope) (items : List Envelope) (q : Queue) (x : Envelope) (rest : List Envelope) → is_boards q ≡ true → AreApart items → Holds old items
     → held old q ≡ x ∷ rest
     → ((p : Queue) → held new p ≡ cond (same_queue q p) (drop 1 (held old p)) (held old p))
     → Holds new (filter (stays (name_of x ∷ [])) items)
-Holds-pop old new items q x rest apart h first step = record {
-  each = λ p.
+Holds-pop old new items q x rest on apart h first step = record {
+  each = λ p own.
       step p
       ∙ ((elim (same_queue q p) as (λ b. same_queue q p ≡ b → cond b (drop 1 (held old p)) (held old p) ≡ cond b rest (filter (stands_in p) items)) [
         | true ↦ λ k.
             ap (drop 1)
-            (h.each p ∙ (filter-same (stands_in p) (stands_in q) (λ z. sym (same_queue-congr q p z.queue k)) items ∙ (sym (h.each q) ∙ first)))
-        | false ↦ λ k. h.each p
+            (h.each p own ∙ (filter-same (stands_in p) (stands_in q) (λ z. sym (same_queue-congr q p z.queue k)) items ∙ (sym (h.each q on) ∙ first)))
+        | false ↦ λ k. h.each p own
       ]) refl
-      ∙ sym (filter_stays-first items q p x rest apart (sym (h.each q) ∙ first)));
+      ∙ sym (filter_stays-first items q p x rest apart (sym (h.each q on) ∙ first)));
 }
 
 -- nothing taken of a queue that holds nothing
 pub Holds-idle :
-    (old new : Board Envelope) (items : List Envelope) (q : Queue) → Holds old items → held old q ≡ []
+    (old new : Board Envelope) (items : List Envelope) (q : Queue) → is_boards q ≡ true → Holds old items → held old q ≡ []
     → ((p : Queue) → held new p ≡ cond (same_queue q p) (drop 1 (held old p)) (held old p)) → Holds new items
-Holds-idle old new items q h none step = record {
-  each = λ p.
+Holds-idle old new items q on h none step = record {
+  each = λ p own.
       step p
       ∙ ((elim (same_queue q p) as (λ b. same_queue q p ≡ b → cond b (drop 1 (held old p)) (held old p) ≡ held old p) [
         | true ↦ λ k.
             let empty : held old p ≡ [] =
-            h.each p ∙ (filter-same (stands_in p) (stands_in q) (λ z. sym (same_queue-congr q p z.queue k)) items ∙ (sym (h.each q) ∙ none))
+            h.each p own ∙ (filter-same (stands_in p) (stands_in q) (λ z. sym (same_queue-congr q p z.queue k)) items ∙ (sym (h.each q on) ∙ none))
             in
             ap (drop 1) empty ∙ sym empty
         | false ↦ λ k. refl
       ]) refl
-      ∙ h.each p);
+      ∙ h.each p own);
 }
 
 pub none_first : (xs : List Envelope) → slice_get xs 0 ≡ None → xs ≡ []
@@ -128,32 +128,32 @@ only_takes log r np ne =
 
 builds_take :
     (old new : Board Envelope) (log : List Entry) (r : Row) (q : Queue) (x : Envelope) (rest : List Envelope)
-    → r.puts ≡ [] → r.ends ≡ [] → Builds old log r → held old q ≡ x ∷ rest
+    → is_boards q ≡ true → r.puts ≡ [] → r.ends ≡ [] → Builds old log r → held old q ≡ x ∷ rest
     → ((p : Queue) → held new p ≡ cond (same_queue q p) (drop 1 (held old p)) (held old p))
     → Builds new log (record r { takes = r.takes ++ name_of x ∷ [] })
-builds_take old new log r q x rest np ne h first step =
+builds_take old new log r q x rest on np ne h first step =
     let items = filter (stays r.takes) (live log) in
     let before : Holds old items = subst (Holds old) (only_takes log r np ne) h in
     let apart : AreApart items = AreApart-filter (stays r.takes) (live log) (AreApart-live_from 0 log) in
-    let after : Holds new (filter (stays (name_of x ∷ [])) items) = Holds-pop old new items q x rest apart before first step in
+    let after : Holds new (filter (stays (name_of x ∷ [])) items) = Holds-pop old new items q x rest on apart before first step in
     let more : Row = record r { takes = r.takes ++ name_of x ∷ [] } in
     subst (Holds new) (sym (filter_stays-append r.takes (name_of x ∷ []) (live log)) ∙ sym (only_takes log more np ne)) after
 
 -- one take, before anything is put or ended
 pub Builds-take :
     (old new : Board Envelope) (log : List Entry) (r : Row) (takes : List (ℕ × ℕ)) (q : Queue) (x : Envelope)
-    → r.puts ≡ [] → r.ends ≡ [] → takes ≡ r.takes ++ name_of x ∷ [] → Builds old log r → Some x ≡ slice_get (held old q) 0
+    → is_boards q ≡ true → r.puts ≡ [] → r.ends ≡ [] → takes ≡ r.takes ++ name_of x ∷ [] → Builds old log r → Some x ≡ slice_get (held old q) 0
     → ((p : Queue) → held new p ≡ cond (same_queue q p) (drop 1 (held old p)) (held old p))
     → Builds new log (record r { takes = takes })
-Builds-take old new log r takes q x np ne all h first step =
+Builds-take old new log r takes q x on np ne all h first step =
     subst (λ l. Builds new log (record r { takes = l })) (sym all)
-    (builds_take old new log r q x (drop 1 (held old q)) np ne h (names_in-first (held old q) (Some x) first x refl) step)
+    (builds_take old new log r q x (drop 1 (held old q)) on np ne h (names_in-first (held old q) (Some x) first x refl) step)
 
 pub Builds-idle :
-    (old new : Board Envelope) (log : List Entry) (r : Row) (q : Queue) → Builds old log r → None ≡ slice_get (held old q) 0
+    (old new : Board Envelope) (log : List Entry) (r : Row) (q : Queue) → is_boards q ≡ true → Builds old log r → None ≡ slice_get (held old q) 0
     → ((p : Queue) → held new p ≡ cond (same_queue q p) (drop 1 (held old p)) (held old p)) → Builds new log r
-Builds-idle old new log r q h none step =
-    Holds-idle old new (filter (stays (row_goes r)) (live log) ++ placed (length log) 0 r.puts) q h (none_first (held old q) (sym none)) step
+Builds-idle old new log r q on h none step =
+    Holds-idle old new (filter (stays (row_goes r)) (live log) ++ placed (length log) 0 r.puts) q on h (none_first (held old q) (sym none)) step
 
 -- a row that moves nothing yet
 pub Builds-still :

@@ -4,14 +4,12 @@ use Rattle.p2p_log.specs.declared.row.Row.{Row}
 use Rattle.p2p_log.specs.declared.entry.Reply.TheVariants as reply
 use Rattle.p2p_log.specs.declared.end.End.TheVariants as end
 use Rattle.p2p_log.specs.declared.end.Outcome.TheVariants as outcome
-use Rattle.p2p_log.specs.declared.queue.Queue.{Queue}
-use Rattle.p2p_log.specs.declared.queue.Queue.TheVariants as queue
 use Rattle.p2p_log.specs.declared.item.Item.{Item}
 use Rattle.p2p_log.specs.declared.item.Item.TheVariants as item
 
--- the subscription of a channel
-abbrev pub subscription : ℕ → ℕ × ℕ → Queue × Item
-subscription n c = (queue.Router n, item.Subscribe c.0)
+-- the row that takes the item of this name, and does no more
+abbrev pub taken_row : ℕ × ℕ → Row
+taken_row name = record { reply = reply.Ok; takes = name ∷ []; puts = []; ends = [] }
 
 -- whether an item is a message for a reader
 abbrev pub is_message : Item → Bool

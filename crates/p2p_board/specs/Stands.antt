@@ -1,6 +1,7 @@
 -- When a board holds what stands in queues.
-use Rattle.std.specs.Prelude.{◌≡◌, ℕ, List, [], ◌∷◌, ◌++◌, length, filter, flat_map, Option, Some, None}
+use Rattle.std.specs.Prelude.{◌≡◌, ℕ, Bool, true, false, List, [], ◌∷◌, ◌++◌, length, filter, flat_map, Option, Some, None}
 use Rattle.p2p_log.specs.declared.queue.Queue.{Queue}
+use Rattle.p2p_log.specs.declared.queue.Queue.TheVariants as queue
 use Rattle.p2p_log.specs.declared.item.Envelope.{Envelope}
 use Rattle.p2p_log.specs.declared.entry.Entry.{Entry}
 use Rattle.p2p_log.specs.declared.row.Row.{Row}
@@ -8,9 +9,16 @@ use Rattle.p2p_log.specs.Lines.{name_of, ended_item, stays, placed, live, stands
 use Rattle.p2p_board.specs.declared.board.Board.{Board}
 use Rattle.p2p_board.specs.Board.{held}
 
--- the board holds these items, each in its queue, in this order
+-- whether a queue stands on the board: the others are a router's own
+abbrev pub is_boards : Queue → Bool
+is_boards (queue.Ready n conn) = true
+is_boards (queue.Link conn side) = true
+is_boards (queue.Channel n c) = true
+is_boards _ = false
+
+-- of these items the board holds those of its queues, each in its queue, in this order
 pub record Holds (board : Board Envelope) (items : List Envelope) : Type 0 where
-  pub each : (q : Queue) → held board q ≡ filter (stands_in q) items
+  pub each : (q : Queue) → is_boards q ≡ true → held board q ≡ filter (stands_in q) items
 
 -- the names of the items that a row takes or ends
 abbrev pub row_goes : Row → List (ℕ × ℕ)

@@ -1,9 +1,9 @@
 //! A row in building: what it takes, ends and puts so far, which the board follows.
-ghost use Rattle.std.specs.Prelude.{◌≡◌, ℕ, ◌++◌, ◌∷◌, [], length, map, flat_map, slice_get, OnOk, IfOk};
+ghost use Rattle.std.specs.Prelude.{◌≡◌, ℕ, ◌++◌, ◌∷◌, [], true, length, map, flat_map, slice_get, OnOk, IfOk};
 ghost use Rattle.p2p_log.specs.Lines.{name_of, ended_item};
 ghost use Rattle.p2p_log.specs.Effect.{only as only_reply};
 ghost use Rattle.p2p_board.specs.Board.{held};
-ghost use Rattle.p2p_board.specs.Stands.{Builds, names_in};
+ghost use Rattle.p2p_board.specs.Stands.{is_boards, Builds, names_in};
 
 use crate::board::Board;
 use p2p_base::List;
@@ -58,7 +58,7 @@ pub fn take(
 ) -> Result<Option<Envelope>, AllocError>
     ensures first { IfOk result (λ taken. taken ≡ slice_get (held board.old queue) 0) }
     ensures row { IfOk result (λ taken. row.new ≡ record row.old { takes = row.old.takes ++ names_in taken }) }
-    ensures builds { OnOk result ((log : _) → row.old.puts ≡ [] → row.old.ends ≡ [] → Builds board.old log row.old → Builds board.new log row.new) }
+    ensures builds { OnOk result ((log : _) → is_boards queue ≡ true → row.old.puts ≡ [] → row.old.ends ≡ [] → Builds board.old log row.old → Builds board.new log row.new) }
 {
     match board.pop(queue) {
         None => Ok(None),

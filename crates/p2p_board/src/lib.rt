@@ -1,8 +1,13 @@
-//! What stands in the queues of a network, and what each act moves there.
+//! What stands in the queues between nodes, and how rows move it.
 #![tactic(auto)]
 
-pub mod acts;
 pub mod board;
 pub mod draft;
+pub mod ending;
+pub mod posting;
+pub mod reading;
 
 pub use board::Board;
+pub use ending::end_copies;
+pub use posting::post;
+pub use reading::read_message;

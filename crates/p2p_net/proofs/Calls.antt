@@ -1,6 +1,6 @@
 -- The rows of calls on a channel, by what a node and the board hold.
-use Rattle.std.proofs.Common.{◌≡◌, ℕ, ◌+◌, Bool, true, false, List, length, refl, ap, sym, ◌∙◌, Option, Some, None}
-use Rattle.std.specs.Prelude.{is_some, nat_le}
+use Rattle.std.proofs.Common.{◌≡◌, ℕ, Bool, true, false, List, [], length, refl, ap, sym, subst, ◌∙◌, Option, Some, None}
+use Rattle.std.specs.Prelude.{is_some, nat_le, flat_map}
 use Rattle.p2p_base.specs.declared.key.Key.{Key}
 use Rattle.p2p_log.specs.declared.config.Config.{Config}
 use Rattle.p2p_log.specs.declared.queue.Queue.{Queue}
@@ -10,18 +10,22 @@ use Rattle.p2p_log.specs.declared.entry.Entry.{Entry}
 use Rattle.p2p_log.specs.declared.entry.Reply.TheVariants as reply
 use Rattle.p2p_log.specs.declared.event.Recipients.{Recipients}
 use Rattle.p2p_log.specs.declared.row.Row.{Row}
-use Rattle.p2p_log.specs.Lines.{line, live}
+use Rattle.p2p_log.specs.declared.end.Cause.TheVariants as cause
+use Rattle.p2p_log.specs.declared.end.Outcome.TheVariants as outcome
+use Rattle.p2p_log.specs.Lines.{line, live, ended_item}
 use Rattle.p2p_log.specs.Facts.{channels, capacity_in, is_up}
 use Rattle.p2p_log.specs.Frames.{frame_of}
 use Rattle.p2p_log.specs.Effect.{only, oldest_read, recv_row, sent_row, send_row, router_capacity, keys_of_recipients}
 use Rattle.p2p_board.specs.declared.board.Board.{Board}
 use Rattle.p2p_board.specs.Board.{held}
-use Rattle.p2p_board.specs.Stands.{Holds}
+use Rattle.p2p_board.specs.Stands.{is_boards, Holds, Builds}
+use Rattle.p2p_board.proofs.Building.{ended_item-copies}
+use Rattle.p2p_board.proofs.Posted.{AreRouters, Builds-routers}
 
 -- what a board that stands for a log holds is the line
-pub held-line : (board : Board Envelope) (log : List Entry) (q : Queue) → Holds board (live log) → held board q ≡ line log q
+pub held-line : (board : Board Envelope) (log : List Entry) (q : Queue) → is_boards q ≡ true → Holds board (live log) → held board q ≡ line log q
 unfolding line
-held-line board log q h = h.each q
+held-line board log q on h = h.each q on
 
 where_registered : (o : Option ℕ) (r none : Row) → is_some o ≡ true → r ≡ elim o [ None ↦ none | Some _ ↦ r ]
 where_registered None r none h = cc
@@ -32,27 +36,48 @@ pub recv_registered :
     → Holds board (live log) → o ≡ capacity_in (channels configs log n) c → is_some o ≡ true
     → r ≡ oldest_read (held board (queue.Channel n c)) → r ≡ recv_row configs log c n
 recv_registered configs log board c n o r h same some e =
-    let it : r ≡ oldest_read (line log (queue.Channel n c)) = e ∙ ap oldest_read (held-line board log (queue.Channel n c) h) in
+    let it : r ≡ oldest_read (line log (queue.Channel n c)) = e ∙ ap oldest_read (held-line board log (queue.Channel n c) refl h) in
     it
     ∙ where_registered (capacity_in (channels configs log n) c) (oldest_read (line log (queue.Channel n c))) (only reply.Gone) (ap is_some (sym same) ∙ some)
 
 pub send_registered :
-    (configs : List Config) (log : List Entry) (board : Board Envelope) (bytes : List ℕ) (c n entry capacity : ℕ) (priority started : Bool) (to : Recipients) (keys : List Key) (o : Option ℕ) (r : Row)
-    → Holds board (live log) → o ≡ capacity_in (channels configs log n) c → is_some o ≡ true
-    → length log ≡ entry → started ≡ is_up log n → capacity ≡ router_capacity configs log n → keys ≡ keys_of_recipients to
-    → r ≡ sent_row started (nat_le capacity (length (held board (queue.Router n)))) n entry c priority (frame_of c bytes) keys
+    (configs : List Config) (log : List Entry) (bytes : List ℕ) (c n m entry : ℕ) (priority : Bool) (to : Recipients) (keys : List Key) (o : Option ℕ) (r : Row)
+    → o ≡ capacity_in (channels configs log n) c → is_some o ≡ true → length log ≡ entry → m ≡ n → keys ≡ keys_of_recipients to
+    → r ≡ sent_row (is_up log m) (nat_le (router_capacity configs log m) (length (line log (queue.Router m)))) m entry c priority (frame_of c bytes) keys
     → r ≡ send_row configs log bytes c n priority to
-send_registered configs log board bytes c n entry capacity priority started to keys o r h same some at up room ks e =
+send_registered configs log bytes c n m entry priority to keys o r same some at number ks e =
     let full = nat_le (router_capacity configs log n) (length (line log (queue.Router n))) in
     let it : r ≡ sent_row (is_up log n) full n (length log) c priority (frame_of c bytes) (keys_of_recipients to) =
     e
-    ∙ (ap (λ k. sent_row started (nat_le k (length (held board (queue.Router n)))) n entry c priority (frame_of c bytes) keys) room
-    ∙ (ap (λ l. sent_row started (nat_le (router_capacity configs log n) (length l)) n entry c priority (frame_of c bytes) keys) (held-line board log (queue.Router n) h)
-    ∙ (ap (λ b. sent_row b full n entry c priority (frame_of c bytes) keys) up
+    ∙ (ap (λ k. sent_row (is_up log k) (nat_le (router_capacity configs log k) (length (line log (queue.Router k)))) k entry c priority (frame_of c bytes) keys) number
     ∙ (ap (λ k. sent_row (is_up log n) full n k c priority (frame_of c bytes) keys) (sym at)
-    ∙ ap (λ k. sent_row (is_up log n) full n (length log) c priority (frame_of c bytes) k) ks))))
+    ∙ ap (λ k. sent_row (is_up log n) full n (length log) c priority (frame_of c bytes) k) ks))
     in
     it
     ∙ where_registered (capacity_in (channels configs log n) c)
     (sent_row (is_up log n) full n (length log) c priority (frame_of c bytes) (keys_of_recipients to)) (only reply.Gone)
     (ap is_some (sym same) ∙ some)
+
+-- a send puts for a router alone, and ends copies alone
+pub sent-takes : (up full : Bool) (n send c : ℕ) (priority : Bool) (frame : List ℕ) (to : List Key) → (sent_row up full n send c priority frame to).takes ≡ []
+sent-takes false full n send c priority frame to = refl
+sent-takes true true n send c priority frame to = refl
+sent-takes true false n send c priority frame to = refl
+
+pub sent-ends : (up full : Bool) (n send c : ℕ) (priority : Bool) (frame : List ℕ) (to : List Key) → flat_map ended_item (sent_row up full n send c priority frame to).ends ≡ []
+sent-ends false full n send c priority frame to = ended_item-copies send 0 to (outcome.Dropped cause.Unbound)
+sent-ends true true n send c priority frame to = refl
+sent-ends true false n send c priority frame to = refl
+
+pub sent-puts : (up full : Bool) (n send c : ℕ) (priority : Bool) (frame : List ℕ) (to : List Key) → AreRouters (sent_row up full n send c priority frame to).puts
+sent-puts false full n send c priority frame to = tt
+sent-puts true true n send c priority frame to = tt
+sent-puts true false n send c priority frame to = (refl, tt)
+
+pub Builds-sent :
+    (board : Board Envelope) (log : List Entry) (up full : Bool) (n send c : ℕ) (priority : Bool) (frame : List ℕ) (to : List Key) (r : Row)
+    → r ≡ sent_row up full n send c priority frame to → Holds board (live log) → Builds board log r
+Builds-sent board log up full n send c priority frame to r is h =
+    subst (λ (x : Row). Builds board log x) (sym is)
+    (Builds-routers board log (sent_row up full n send c priority frame to) (sent-takes up full n send c priority frame to) (sent-ends up full n send c priority frame to)
+    (sent-puts up full n send c priority frame to) h)

@@ -21,13 +21,13 @@ use Rattle.p2p_log.specs.declared.item.Item.TheVariants as item
 use Rattle.p2p_log.specs.declared.row.Half.{Half}
 use Rattle.p2p_log.specs.declared.queue.Side.TheVariants as side
 use Rattle.p2p_log.specs.Effect.{mailbox_size_at}
-use Rattle.p2p_log.specs.Facts.{starts, registers_at, capacity_for, taken, steps_router, steps_sender, routed_by, is_answer, subscriber_of, with_route, routes_after, capacity_in, sum_capacities, half_of, key_at, answers_by, joins}
+use Rattle.p2p_log.specs.Facts.{starts, registers_at, capacity_for, taken, steps_sender, is_answer, capacity_in, sum_capacities, half_of, key_at, answers_by, joins}
 use Rattle.p2p_log.specs.Valid.{joins_node}
 use Rattle.p2p_net.specs.declared.node.Node.{Node}
-use Rattle.p2p_net.specs.Stands.{NodeStands}
+use Rattle.p2p_net.specs.Stands.{FactsStand}
 use Rattle.p2p_net.proofs.Keeps.{Leaves}
-use Rattle.p2p_net.proofs.Moves.{Moves, NodeStands-moved}
-use Rattle.p2p_net.proofs.Still.{still_flag, still_list, still_subscribers, still_routes, still_running, still_capacities, still_total, still_halves, still_names, entered_half, entered_name, added}
+use Rattle.p2p_net.proofs.Moves.{Moves, FactsStand-moved}
+use Rattle.p2p_net.proofs.Still.{still_flag, still_list, still_running, still_capacities, still_total, still_halves, still_names, entered_half, entered_name, added}
 
 same_number : (n : ℕ) → (n == n) ≡ true
 same_number n = grind (arith, nat_tests)
@@ -45,11 +45,11 @@ named n v a h = ap (λ b. names_act n v b) h
 
 -- ---- start
 
-pub NodeStands-start :
-    (configs : List Config) (log : List Entry) (e : Entry) (n : ℕ) (node : Node) → e.event.act ≡ act.Start n → NodeStands configs log n node
-    → NodeStands configs (log ++ e ∷ []) n (record node { started = true })
-NodeStands-start configs log e n node is h =
-    NodeStands-moved configs log e n node (record node { started = true }) h
+pub FactsStand-start :
+    (configs : List Config) (log : List Entry) (e : Entry) (n : ℕ) (node : Node) → e.event.act ≡ act.Start n → FactsStand configs log n node
+    → FactsStand configs (log ++ e ∷ []) n (record node { started = true })
+FactsStand-start configs log e n node is h =
+    FactsStand-moved configs log e n node (record node { started = true }) h
     (record {
       started = or-true node.started ∙ ap (λ b. node.started || b) (sym (ap (starts n) is ∙ same_number n));
       retained = refl;
@@ -57,8 +57,6 @@ NodeStands-start configs log e n node is h =
       capacities = still_capacities configs log n node h;
       total = still_total configs log n node h;
       room = h.room;
-      subscribers = still_subscribers node.subscribers.items (routed_by n log e) (ap (λ x. cond (steps_router n x) (taken log e) []) is);
-      routes = still_routes node.routes.entries (routed_by n log e) (ap (λ x. cond (steps_router n x) (taken log e) []) is);
       halves = still_halves configs log n node h (half_of configs n e.event.act e.reply) (ap (λ x. half_of configs n x e.reply) is);
       running = λ c. still_running (sorted.contains nat_cmp node.running c) (answers_by n c log e) (ap (λ x. cond (steps_sender n c x) (map is_answer (taken log e)) []) is);
       partners = λ m. still_flag (sorted.contains nat_cmp node.partners m) (joins n m e.event.act e.reply) (ap (λ x. joins n m x e.reply) is);
@@ -93,23 +91,23 @@ sum_capacities-last (x ∷ xs) c k = let ih = sum_capacities-last xs c k in omeg
 is_eq-same : (c d : ℕ) → is_eq (nat_cmp c d) ≡ (d == c)
 is_eq-same c d = grind (arith, nat_tests)
 
-pub NodeStands-register :
+pub FactsStand-register :
     (configs : List Config) (log : List Entry) (e : Entry) (n c k : ℕ) (rate : Rate) (node new : Node)
-    → e.event.act ≡ act.Register c n rate → NodeStands configs log n node
+    → e.event.act ≡ act.Register c n rate → FactsStand configs log n node
     → k ≡ capacity_for (slice_get configs n) rate → capacity_in node.channels.items c ≡ None → mailbox_size_at configs n + (node.total + k) < 2 ^ 64
     → new.channels.items ≡ node.channels.items ++ (c, k) ∷ []
     → ((d : ℕ) → tree.get nat_cmp new.capacities d ≡ cond (is_eq (nat_cmp c d)) (Some k) (tree.get nat_cmp node.capacities d))
-    → new ≡ record node { channels = new.channels; capacities = new.capacities; total = node.total + k }
-    → NodeStands configs (log ++ e ∷ []) n new
-NodeStands-register configs log e n c k rate node new is h amount absent room more put rest =
+    → new ≡ record node { router = new.router; channels = new.channels; capacities = new.capacities; total = node.total + k }
+    → FactsStand configs (log ++ e ∷ []) n new
+FactsStand-register configs log e n c k rate node new is h amount absent room more put rest =
     let here : registers_at configs n e.event.act ≡ (c, k) ∷ [] =
     ap (registers_at configs n) is
     ∙ (ap (λ b. cond b ((c, capacity_for (slice_get configs n) rate) ∷ []) []) (same_number n)
     ∙ ap (λ j. (c, j) ∷ []) (sym amount))
     in
-    let whole : Node = record node { channels = new.channels; capacities = new.capacities; total = node.total + k } in
-    subst (NodeStands configs (log ++ e ∷ []) n) (sym rest)
-    (NodeStands-moved configs log e n node whole h
+    let whole : Node = record node { router = new.router; channels = new.channels; capacities = new.capacities; total = node.total + k } in
+    subst (FactsStand configs (log ++ e ∷ []) n) (sym rest)
+    (FactsStand-moved configs log e n node whole h
     (record {
       started = still_flag node.started (starts n e.event.act) (ap (starts n) is);
       retained = refl;
@@ -122,57 +120,24 @@ NodeStands-register configs log e n c k rate node new is h amount absent room mo
           ∙ (sym (lookup-last node.channels.items c k d) ∙ ap (λ l. capacity_in l d) (sym more)))));
       total = ap (λ t. t + k) (still_total configs log n node h) ∙ (sym (sum_capacities-last node.channels.items c k) ∙ ap sum_capacities (sym more));
       room = room;
-      subscribers = still_subscribers node.subscribers.items (routed_by n log e) (ap (λ x. cond (steps_router n x) (taken log e) []) is);
-      routes = still_routes node.routes.entries (routed_by n log e) (ap (λ x. cond (steps_router n x) (taken log e) []) is);
       halves = still_halves configs log n node h (half_of configs n e.event.act e.reply) (ap (λ x. half_of configs n x e.reply) is);
       running = λ d. still_running (sorted.contains nat_cmp node.running d) (answers_by n d log e) (ap (λ x. cond (steps_sender n d x) (map is_answer (taken log e)) []) is);
       partners = λ m. still_flag (sorted.contains nat_cmp node.partners m) (joins n m e.event.act e.reply) (ap (λ x. joins n m x e.reply) is);
       joins_named = still_names configs log n node h (joins_node n (Some e.event)) (named n e.event (act.Register c n rate) is);
     }))
 
--- ---- the router's step
-
-pub NodeStands-routed :
-    (configs : List Config) (log : List Entry) (e : Entry) (n : ℕ) (items : List Item) (node new : Node)
-    → e.event.act ≡ act.Router n → NodeStands configs log n node → taken log e ≡ items
-    → new.subscribers.items ≡ node.subscribers.items ++ flat_map subscriber_of items
-    → new.routes.entries ≡ routes_after node.routes.entries items
-    → new ≡ record node { subscribers = new.subscribers; routes = new.routes }
-    → NodeStands configs (log ++ e ∷ []) n new
-NodeStands-routed configs log e n items node new is h took subs rts rest =
-    let whole : Node = record node { subscribers = new.subscribers; routes = new.routes } in
-    let here : routed_by n log e ≡ items =
-    ap (λ x. cond (steps_router n x) (taken log e) []) is ∙ (ap (λ b. cond b (taken log e) []) (same_number n) ∙ took)
-    in
-    subst (NodeStands configs (log ++ e ∷ []) n) (sym rest)
-    (NodeStands-moved configs log e n node whole h
-    (record {
-      started = still_flag node.started (starts n e.event.act) (ap (starts n) is);
-      retained = refl;
-      channels = still_list node.channels.items (registers_at configs n e.event.act) (ap (registers_at configs n) is);
-      capacities = still_capacities configs log n node h;
-      total = still_total configs log n node h;
-      room = h.room;
-      subscribers = subs ∙ ap (λ l. node.subscribers.items ++ flat_map subscriber_of l) (sym here);
-      routes = rts ∙ ap (routes_after node.routes.entries) (sym here);
-      halves = still_halves configs log n node h (half_of configs n e.event.act e.reply) (ap (λ x. half_of configs n x e.reply) is);
-      running = λ c. still_running (sorted.contains nat_cmp node.running c) (answers_by n c log e) (ap (λ x. cond (steps_sender n c x) (map is_answer (taken log e)) []) is);
-      partners = λ m. still_flag (sorted.contains nat_cmp node.partners m) (joins n m e.event.act e.reply) (ap (λ x. joins n m x e.reply) is);
-      joins_named = still_names configs log n node h (joins_node n (Some e.event)) (named n e.event (act.Router n) is);
-    }))
-
 -- ---- the sending half's step
 
-pub NodeStands-sent :
+pub FactsStand-sent :
     (configs : List Config) (log : List Entry) (e : Entry) (n conn : ℕ) (node new : Node)
-    → e.event.act ≡ act.SendStep conn n → NodeStands configs log n node
+    → e.event.act ≡ act.SendStep conn n → FactsStand configs log n node
     → ((c : ℕ) → sorted.contains nat_cmp new.running c ≡ (sorted.contains nat_cmp node.running c || list_any (λ b. b) (cond (conn == c) (map is_answer (taken log e)) [])))
     → new ≡ record node { running = new.running }
-    → NodeStands configs (log ++ e ∷ []) n new
-NodeStands-sent configs log e n conn node new is h runs rest =
+    → FactsStand configs (log ++ e ∷ []) n new
+FactsStand-sent configs log e n conn node new is h runs rest =
     let whole : Node = record node { running = new.running } in
-    subst (NodeStands configs (log ++ e ∷ []) n) (sym rest)
-    (NodeStands-moved configs log e n node whole h
+    subst (FactsStand configs (log ++ e ∷ []) n) (sym rest)
+    (FactsStand-moved configs log e n node whole h
     (record {
       started = still_flag node.started (starts n e.event.act) (ap (starts n) is);
       retained = refl;
@@ -180,8 +145,6 @@ NodeStands-sent configs log e n conn node new is h runs rest =
       capacities = still_capacities configs log n node h;
       total = still_total configs log n node h;
       room = h.room;
-      subscribers = still_subscribers node.subscribers.items (routed_by n log e) (ap (λ x. cond (steps_router n x) (taken log e) []) is);
-      routes = still_routes node.routes.entries (routed_by n log e) (ap (λ x. cond (steps_router n x) (taken log e) []) is);
       halves = still_halves configs log n node h (half_of configs n e.event.act e.reply) (ap (λ x. half_of configs n x e.reply) is);
       running = λ c.
           runs c
@@ -196,19 +159,19 @@ NodeStands-sent configs log e n conn node new is h runs rest =
 -- ---- join
 
 -- a node that a join names, whatever comes of it
-pub NodeStands-named :
+pub FactsStand-named :
     (configs : List Config) (log : List Entry) (e : Entry) (n a b : ℕ) (node new : Node)
-    → e.event.act ≡ act.Join a b → NodeStands configs log n node
+    → e.event.act ≡ act.Join a b → FactsStand configs log n node
     → joins_node n (Some e.event) ≡ true
     → ((c : ℕ) → tree.get nat_cmp new.halves c ≡ cond (nat_lt c (length log)) (tree.get nat_cmp node.halves c) (cond (c == length log) (half_of configs n e.event.act e.reply) None))
     → ((m : ℕ) → sorted.contains nat_cmp new.partners m ≡ (sorted.contains nat_cmp node.partners m || joins n m e.event.act e.reply))
     → ((c : ℕ) → sorted.contains nat_cmp new.joins c ≡ cond (is_eq (nat_cmp (length log) c)) true (sorted.contains nat_cmp node.joins c))
     → new ≡ record node { halves = new.halves; partners = new.partners; joins = new.joins }
-    → NodeStands configs (log ++ e ∷ []) n new
-NodeStands-named configs log e n a b node new is h told half partner name rest =
+    → FactsStand configs (log ++ e ∷ []) n new
+FactsStand-named configs log e n a b node new is h told half partner name rest =
     let whole : Node = record node { halves = new.halves; partners = new.partners; joins = new.joins } in
-    subst (NodeStands configs (log ++ e ∷ []) n) (sym rest)
-    (NodeStands-moved configs log e n node whole h
+    subst (FactsStand configs (log ++ e ∷ []) n) (sym rest)
+    (FactsStand-moved configs log e n node whole h
     (record {
       started = still_flag node.started (starts n e.event.act) (ap (starts n) is);
       retained = refl;
@@ -216,8 +179,6 @@ NodeStands-named configs log e n a b node new is h told half partner name rest =
       capacities = still_capacities configs log n node h;
       total = still_total configs log n node h;
       room = h.room;
-      subscribers = still_subscribers node.subscribers.items (routed_by n log e) (ap (λ x. cond (steps_router n x) (taken log e) []) is);
-      routes = still_routes node.routes.entries (routed_by n log e) (ap (λ x. cond (steps_router n x) (taken log e) []) is);
       halves = half;
       running = λ c. still_running (sorted.contains nat_cmp node.running c) (answers_by n c log e) (ap (λ x. cond (steps_sender n c x) (map is_answer (taken log e)) []) is);
       partners = partner;

@@ -17,15 +17,12 @@ use Rattle.p2p_log.specs.declared.row.Row.{Row}
 use Rattle.p2p_log.specs.Lines.{name_of, line, live}
 use Rattle.p2p_log.specs.Facts.{taken, is_answer, is_running}
 use Rattle.p2p_log.specs.Effect.{batch, batch_size_at, begin_row, write_row}
-use Rattle.p2p_board.specs.declared.board.Board.{Board}
-use Rattle.p2p_board.specs.Board.{held}
-use Rattle.p2p_board.specs.Stands.{Holds}
-use Rattle.p2p_routing.specs.Taken.{is_answered}
+use Rattle.p2p_routers.specs.Batches.{batch_of}
+use Rattle.p2p_halves.specs.Answered.{is_answered}
 use Rattle.p2p_net.specs.declared.node.Node.{Node}
-use Rattle.p2p_net.specs.Stands.{NodeStands}
-use Rattle.p2p_net.proofs.Calls.{held-line}
-use Rattle.p2p_net.proofs.Changes.{NodeStands-sent}
-use Rattle.p2p_net.proofs.Routes.{taken-first, taken-none}
+use Rattle.p2p_net.specs.Stands.{FactsStand}
+use Rattle.p2p_net.proofs.Changes.{FactsStand-sent}
+use Rattle.p2p_net.proofs.Takes.{taken-first, taken-none}
 
 or-false : (b : Bool) → b ≡ (b || false)
 or-false true = refl
@@ -59,33 +56,33 @@ runs_first f conn false xs h c new false e step = step ∙ or-false (f c)
 is_eq-test : (p m : ℕ) → is_eq (nat_cmp p m) ≡ (p == m)
 is_eq-test p m = grind (arith, nat_tests)
 
-pub NodeStands-wrote :
+pub FactsStand-wrote :
     (configs : List Config) (log : List Entry) (e : Entry) (n conn : ℕ) (node : Node) → e.event.act ≡ act.SendStep conn n
-    → is_running log n conn ≡ true → NodeStands configs log n node → NodeStands configs (log ++ e ∷ []) n node
-NodeStands-wrote configs log e n conn node is runs h =
-    NodeStands-sent configs log e n conn node node is h
+    → is_running log n conn ≡ true → FactsStand configs log n node → FactsStand configs (log ++ e ∷ []) n node
+FactsStand-wrote configs log e n conn node is runs h =
+    FactsStand-sent configs log e n conn node node is h
     (λ c. runs_on (λ k. sorted.contains nat_cmp node.running k) conn (map is_answer (taken log e)) (h.running conn ∙ runs) c (conn == c) refl) refl
 
-pub NodeStands-unsent :
+pub FactsStand-unsent :
     (configs : List Config) (log : List Entry) (e : Entry) (n conn : ℕ) (node : Node) → e.event.act ≡ act.SendStep conn n
-    → e.takes ≡ [] → NodeStands configs log n node → NodeStands configs (log ++ e ∷ []) n node
-NodeStands-unsent configs log e n conn node is none h =
-    NodeStands-sent configs log e n conn node node is h
+    → e.takes ≡ [] → FactsStand configs log n node → FactsStand configs (log ++ e ∷ []) n node
+FactsStand-unsent configs log e n conn node is none h =
+    FactsStand-sent configs log e n conn node node is h
     (λ c. runs_none (λ k. sorted.contains nat_cmp node.running k) (map is_answer (taken log e)) (ap (map is_answer) (taken-none log e none)) c (conn == c)) refl
 
 begun :
     (configs : List Config) (log : List Entry) (e : Entry) (n conn : ℕ) (xs : List Envelope) (node new : Node) → e.event.act ≡ act.SendStep conn n
-    → line log (queue.Ready n conn) ≡ xs → e.takes ≡ (begin_row xs).takes → NodeStands configs log n node
+    → line log (queue.Ready n conn) ≡ xs → e.takes ≡ (begin_row xs).takes → FactsStand configs log n node
     → ((c : ℕ) → sorted.contains nat_cmp new.running c ≡ cond (is_answered xs) (cond (is_eq (nat_cmp conn c)) true (sorted.contains nat_cmp node.running c)) (sorted.contains nat_cmp node.running c))
-    → new ≡ record node { running = new.running } → NodeStands configs (log ++ e ∷ []) n new
+    → new ≡ record node { running = new.running } → FactsStand configs (log ++ e ∷ []) n new
 begun configs log e n conn [] node new is h t stands runs rest =
-    NodeStands-sent configs log e n conn node new is stands
+    FactsStand-sent configs log e n conn node new is stands
     (λ c.
     runs c
     ∙ runs_none (λ k. sorted.contains nat_cmp node.running k) (map is_answer (taken log e)) (ap (map is_answer) (taken-none log e t)) c (conn == c))
     rest
 begun configs log e n conn (x ∷ xs) node new is h t stands runs rest =
-    NodeStands-sent configs log e n conn node new is stands
+    FactsStand-sent configs log e n conn node new is stands
     (λ c.
     runs_first (λ k. sorted.contains nat_cmp node.running k) conn (is_answer x.item) (map is_answer (taken log e))
     (ap (map is_answer) (taken-first log e (queue.Ready n conn) x xs h t)) c (sorted.contains nat_cmp new.running c) (conn == c) refl
@@ -93,24 +90,22 @@ begun configs log e n conn (x ∷ xs) node new is h t stands runs rest =
     rest
 
 -- a half that took its router's answer, or found none
-pub NodeStands-begun :
+pub FactsStand-begun :
     (configs : List Config) (log : List Entry) (e : Entry) (n conn : ℕ) (node new : Node) (answered : Bool) → e.event.act ≡ act.SendStep conn n
-    → e.takes ≡ (begin_row (line log (queue.Ready n conn))).takes → NodeStands configs log n node
+    → e.takes ≡ (begin_row (line log (queue.Ready n conn))).takes → FactsStand configs log n node
     → answered ≡ is_answered (line log (queue.Ready n conn))
     → ((c : ℕ) → sorted.contains nat_cmp new.running c ≡ cond answered (cond (is_eq (nat_cmp conn c)) true (sorted.contains nat_cmp node.running c)) (sorted.contains nat_cmp node.running c))
-    → new ≡ record node { running = new.running } → NodeStands configs (log ++ e ∷ []) n new
-NodeStands-begun configs log e n conn node new answered is t stands a runs rest =
+    → new ≡ record node { running = new.running } → FactsStand configs (log ++ e ∷ []) n new
+FactsStand-begun configs log e n conn node new answered is t stands a runs rest =
     begun configs log e n conn (line log (queue.Ready n conn)) node new is refl t stands
     (λ c. runs c ∙ ap (λ b. cond b (cond (is_eq (nat_cmp conn c)) true (sorted.contains nat_cmp node.running c)) (sorted.contains nat_cmp node.running c)) a) rest
 
+-- the batch, by the log
 pub write_row-batch :
-    (configs : List Config) (log : List Entry) (board : Board Envelope) (n conn size : ℕ) (q : Queue) (r : Row) → Holds board (live log) → size ≡ batch_size_at configs n
-    → r ≡ write_row q (take size (held board (queue.High n conn) ++ held board (queue.Low n conn))) → r ≡ write_row q (batch configs log n conn)
-write_row-batch configs log board n conn size q r h s e =
-    e
-    ∙ (ap (λ k. write_row q (take k (held board (queue.High n conn) ++ held board (queue.Low n conn)))) s
-    ∙ (ap (λ l. write_row q (take (batch_size_at configs n) (l ++ held board (queue.Low n conn)))) (held-line board log (queue.High n conn) h)
-    ∙ ap (λ l. write_row q (take (batch_size_at configs n) (line log (queue.High n conn) ++ l))) (held-line board log (queue.Low n conn) h)))
+    (configs : List Config) (log : List Entry) (n conn size : ℕ) (q : Queue) (r : Row) → size ≡ batch_size_at configs n
+    → r ≡ write_row q (batch_of n conn size (live log)) → r ≡ write_row q (batch configs log n conn)
+unfolding line
+write_row-batch configs log n conn size q r s e = e ∙ ap (λ k. write_row q (batch_of n conn k (live log))) s
 
 -- the row of a half that is there
 pub where_half : (o : Option Half) (half : Half) (f : Half → Row) (none r : Row) → o ≡ Some half → r ≡ f half → r ≡ elim o [ None ↦ none | Some h ↦ f h ]

@@ -11,12 +11,14 @@ use Rattle.p2p_log.specs.declared.event.Act.{Act}
 use Rattle.p2p_log.specs.declared.event.Act.TheVariants as act
 use Rattle.p2p_log.specs.declared.entry.Entry.{Entry}
 use Rattle.p2p_log.specs.declared.row.Half.{Half}
-use Rattle.p2p_log.specs.Facts.{events_of, starts, has_started, registers_at, registered, taken, routed_by, steps_router, steps_sender, is_answer, subscriber_of, subscribers, routes_after, routes, capacity_in, sum_capacities, half_of, half_in, half_at, answers_by, is_running, joins, is_joined}
+use Rattle.p2p_log.specs.Facts.{events_of, starts, has_started, registers_at, registered, taken, steps_sender, is_answer, capacity_in, sum_capacities, half_of, half_in, half_at, answers_by, is_running, joins, is_joined}
 use Rattle.p2p_log.specs.Valid.{joins_node, names_join}
-use Rattle.p2p_log.proofs.Facts.{events_of-append, has_started-append, registered-append, subscribers-append, routes-append, half_at-append, is_running-append, is_joined-append}
+use Rattle.p2p_log.proofs.Facts.{events_of-append, has_started-append, registered-append, half_at-append, is_running-append, is_joined-append}
 use Rattle.p2p_log.proofs.Places.{slice_get-append}
+use Rattle.p2p_routers.specs.Passes.{passes}
+use Rattle.p2p_routers.specs.declared.router.Router.{Router}
 use Rattle.p2p_net.specs.declared.node.Node.{Node}
-use Rattle.p2p_net.specs.Stands.{NodeStands}
+use Rattle.p2p_net.specs.Stands.{FactsStand}
 
 or-false : (b : Bool) → (b || false) ≡ b
 or-false true = refl
@@ -70,12 +72,6 @@ started-kept log e n h = started-more log e n ∙ (ap (λ b. has_started (events
 pub registered-kept : (configs : List Config) (log : List Entry) (e : Entry) (n : ℕ) → registers_at configs n e.event.act ≡ [] → registered configs (events_of (log ++ e ∷ [])) n ≡ registered configs (events_of log) n
 registered-kept configs log e n h = registered-more configs log e n ∙ (ap (λ l. registered configs (events_of log) n ++ l) h ∙ append-nil (registered configs (events_of log) n))
 
-pub subscribers-kept : (log : List Entry) (e : Entry) (n : ℕ) → routed_by n log e ≡ [] → subscribers (log ++ e ∷ []) n ≡ subscribers log n
-subscribers-kept log e n h = subscribers-append log e n ∙ (ap (λ l. subscribers log n ++ flat_map subscriber_of l) h ∙ append-nil (subscribers log n))
-
-pub routes-kept : (log : List Entry) (e : Entry) (n : ℕ) → routed_by n log e ≡ [] → routes (log ++ e ∷ []) n ≡ routes log n
-routes-kept log e n h = routes-append log e n ∙ ap (routes_after (routes log n)) h
-
 pub half-kept : (configs : List Config) (log : List Entry) (e : Entry) (n conn : ℕ) → half_of configs n e.event.act e.reply ≡ None → half_at configs (log ++ e ∷ []) n conn ≡ half_at configs log n conn
 half-kept configs log e n conn h =
     half_at-append configs log e n conn
@@ -100,14 +96,13 @@ names-kept log e n conn h =
 pub record Leaves (configs : List Config) (log : List Entry) (e : Entry) (n : ℕ) : Type 0 where
   pub starts_other : starts n e.event.act ≡ false
   pub registers_other : registers_at configs n e.event.act ≡ []
-  pub routes_other : routed_by n log e ≡ []
   pub makes_no_half : half_of configs n e.event.act e.reply ≡ None
   pub runs_other : (conn : ℕ) → answers_by n conn log e ≡ []
   pub joins_other : (m : ℕ) → joins n m e.event.act e.reply ≡ false
   pub names_other : joins_node n (Some e.event) ≡ false
 
-pub NodeStands-kept : (configs : List Config) (log : List Entry) (e : Entry) (n : ℕ) (node : Node) → Leaves configs log e n → NodeStands configs log n node → NodeStands configs (log ++ e ∷ []) n node
-NodeStands-kept configs log e n node l h =
+pub FactsStand-kept : (configs : List Config) (log : List Entry) (e : Entry) (n : ℕ) (node : Node) → Leaves configs log e n → FactsStand configs log n node → FactsStand configs (log ++ e ∷ []) n node
+FactsStand-kept configs log e n node l h =
     let channels = registered-kept configs log e n l.registers_other in
     record {
       started = h.started ∙ sym (started-kept log e n l.starts_other);
@@ -116,21 +111,45 @@ NodeStands-kept configs log e n node l h =
       capacities = λ c. h.capacities c ∙ ap (λ k. capacity_in k c) (sym channels);
       total = h.total ∙ ap sum_capacities (sym channels);
       room = h.room;
-      subscribers = h.subscribers ∙ sym (subscribers-kept log e n l.routes_other);
-      routes = h.routes ∙ sym (routes-kept log e n l.routes_other);
       halves = λ conn. h.halves conn ∙ sym (half-kept configs log e n conn l.makes_no_half);
       running = λ conn. h.running conn ∙ sym (running-kept log e n conn (l.runs_other conn));
       partners = λ m. h.partners m ∙ sym (joined-kept log e n m (l.joins_other m));
       joins = λ conn. h.joins conn ∙ sym (names-kept log e n conn l.names_other);
     }
 
--- whether an act changes nothing that stands of a node
+-- whether an act changes nothing that a node knows beside its router
 abbrev pub spares : ℕ → Act → Bool
 spares n (act.Register c m rate) = not (m == n)
 spares n (act.Start m) = not (m == n)
 spares n (act.Join a b) = not (a == n) && not (b == n)
 spares n (act.Send bytes c m priority to) = true
-spares n (act.Router m) = not (m == n)
+spares n (act.Router m) = true
 spares n (act.SendStep conn m) = not (m == n)
 spares n (act.RecvStep conn m) = true
 spares n (act.Recv c m) = true
+
+-- an act that a router has no part in spares its node
+pub spares-passes : (n : ℕ) (a : Act) → passes n a ≡ true → spares n a ≡ true
+spares-passes n (act.Register c m rate) h = h
+spares-passes n (act.Start m) h = h
+spares-passes n (act.Join a b) h = h
+spares-passes n (act.Send bytes c m priority to) h = refl
+spares-passes n (act.Router m) h = refl
+spares-passes n (act.SendStep conn m) h = h
+spares-passes n (act.RecvStep conn m) h = refl
+spares-passes n (act.Recv c m) h = refl
+
+-- the same facts, with another router
+pub FactsStand-rerouted : (configs : List Config) (log : List Entry) (n : ℕ) (node : Node) (router : Router) → FactsStand configs log n node → FactsStand configs log n (record node { router = router })
+FactsStand-rerouted configs log n node router h = record {
+  started = h.started;
+  retained = h.retained;
+  channels = h.channels;
+  capacities = h.capacities;
+  total = h.total;
+  room = h.room;
+  halves = h.halves;
+  running = h.running;
+  partners = h.partners;
+  joins = h.joins;
+}

@@ -4,12 +4,14 @@ pub mod Conns
 pub mod Faults
 pub mod Joins
 pub mod Keeps
+pub mod Keys
 pub mod Moves
 pub mod Nodes
 pub mod Records
-pub mod Routes
+pub mod Routers
 pub mod Running
 pub mod Spares
 pub mod Starts
 pub mod Still
+pub mod Takes
 pub mod Tells

@@ -10,11 +10,11 @@ use Rattle.p2p_log.specs.declared.config.Config.{Config}
 use Rattle.p2p_log.specs.declared.event.Event.{Event}
 use Rattle.p2p_log.specs.declared.entry.Entry.{Entry}
 use Rattle.p2p_log.specs.Effect.{mailbox_size_at}
-use Rattle.p2p_log.specs.Facts.{events_of, starts, has_started, registers_at, registered, routed_by, subscriber_of, subscribers, routes_after, routes, capacity_in, sum_capacities, half_of, half_at, answers_by, is_running, joins, is_joined}
+use Rattle.p2p_log.specs.Facts.{events_of, starts, has_started, registers_at, registered, capacity_in, sum_capacities, half_of, half_at, answers_by, is_running, joins, is_joined}
 use Rattle.p2p_log.specs.Valid.{joins_node, names_join}
-use Rattle.p2p_log.proofs.Facts.{subscribers-append, routes-append, half_at-append, is_running-append, is_joined-append}
+use Rattle.p2p_log.proofs.Facts.{half_at-append, is_running-append, is_joined-append}
 use Rattle.p2p_net.specs.declared.node.Node.{Node}
-use Rattle.p2p_net.specs.Stands.{NodeStands}
+use Rattle.p2p_net.specs.Stands.{FactsStand}
 use Rattle.p2p_net.proofs.Keeps.{started-more, registered-more, names-more}
 
 -- what an entry makes of a node
@@ -25,8 +25,6 @@ pub record Moves (configs : List Config) (log : List Entry) (e : Entry) (n : ℕ
   pub capacities : (c : ℕ) → tree.get nat_cmp new.capacities c ≡ capacity_in new.channels.items c
   pub total : new.total ≡ sum_capacities new.channels.items
   pub room : mailbox_size_at configs n + new.total < 2 ^ 64
-  pub subscribers : new.subscribers.items ≡ old.subscribers.items ++ flat_map subscriber_of (routed_by n log e)
-  pub routes : new.routes.entries ≡ routes_after old.routes.entries (routed_by n log e)
   pub halves : (c : ℕ) → tree.get nat_cmp new.halves c ≡ cond (nat_lt c (length log)) (tree.get nat_cmp old.halves c) (cond (c == length log) (half_of configs n e.event.act e.reply) None)
   pub running : (c : ℕ) → sorted.contains nat_cmp new.running c ≡ (sorted.contains nat_cmp old.running c || list_any (λ b. b) (answers_by n c log e))
   pub partners : (m : ℕ) → sorted.contains nat_cmp new.partners m ≡ (sorted.contains nat_cmp old.partners m || joins n m e.event.act e.reply)
@@ -35,10 +33,10 @@ pub record Moves (configs : List Config) (log : List Entry) (e : Entry) (n : ℕ
 events_length : (log : List Entry) → length (events_of log) ≡ length log
 events_length log = length-map log (λ (e : Entry). e.event)
 
-pub NodeStands-moved :
+pub FactsStand-moved :
     (configs : List Config) (log : List Entry) (e : Entry) (n : ℕ) (old new : Node)
-    → NodeStands configs log n old → Moves configs log e n old new → NodeStands configs (log ++ e ∷ []) n new
-NodeStands-moved configs log e n old new h m =
+    → FactsStand configs log n old → Moves configs log e n old new → FactsStand configs (log ++ e ∷ []) n new
+FactsStand-moved configs log e n old new h m =
     let channels : new.channels.items ≡ registered configs (events_of (log ++ e ∷ [])) n =
     m.channels ∙ (ap (λ l. l ++ registers_at configs n e.event.act) h.channels ∙ sym (registered-more configs log e n))
     in
@@ -49,8 +47,6 @@ NodeStands-moved configs log e n old new h m =
       capacities = λ c. m.capacities c ∙ ap (λ l. capacity_in l c) channels;
       total = m.total ∙ ap sum_capacities channels;
       room = m.room;
-      subscribers = m.subscribers ∙ (ap (λ l. l ++ flat_map subscriber_of (routed_by n log e)) h.subscribers ∙ sym (subscribers-append log e n));
-      routes = m.routes ∙ (ap (λ l. routes_after l (routed_by n log e)) h.routes ∙ sym (routes-append log e n));
       halves = λ c.
           m.halves c
           ∙ (ap (λ o. cond (nat_lt c (length log)) o (cond (c == length log) (half_of configs n e.event.act e.reply) None)) (h.halves c)

@@ -13,7 +13,7 @@ use Rattle.p2p_log.specs.declared.entry.Reply.{Reply}
 use Rattle.p2p_log.specs.declared.entry.Reply.TheVariants as reply
 use Rattle.p2p_log.specs.declared.row.Half.{Half}
 use Rattle.p2p_log.specs.declared.queue.Side.TheVariants as side
-use Rattle.p2p_log.specs.Facts.{starts, registers_at, capacity_for, taken, steps_router, steps_sender, routed_by, is_answer, half_of, key_at, answers_by, joins}
+use Rattle.p2p_log.specs.Facts.{starts, registers_at, capacity_for, taken, steps_sender, is_answer, half_of, key_at, answers_by, joins}
 use Rattle.p2p_log.specs.Valid.{joins_node}
 use Rattle.p2p_net.proofs.Keeps.{Leaves, spares}
 
@@ -50,7 +50,6 @@ leaves configs log e n (act.Register c m rate) h s =
     record {
       starts_other = ap (starts n) h;
       registers_other = ap (registers_at configs n) h ∙ ap (λ b. cond b ((c, capacity_for (slice_get configs n) rate) ∷ []) []) ne;
-      routes_other = ap (λ x. cond (steps_router n x) (taken log e) []) h;
       makes_no_half = ap (λ x. half_of configs n x e.reply) h;
       runs_other = λ conn. ap (λ x. cond (steps_sender n conn x) (map is_answer (taken log e)) []) h;
       joins_other = λ k. ap (λ x. joins n k x e.reply) h;
@@ -61,7 +60,6 @@ leaves configs log e n (act.Start m) h s =
     record {
       starts_other = ap (starts n) h ∙ ne;
       registers_other = ap (registers_at configs n) h;
-      routes_other = ap (λ x. cond (steps_router n x) (taken log e) []) h;
       makes_no_half = ap (λ x. half_of configs n x e.reply) h;
       runs_other = λ conn. ap (λ x. cond (steps_sender n conn x) (map is_answer (taken log e)) []) h;
       joins_other = λ k. ap (λ x. joins n k x e.reply) h;
@@ -74,7 +72,6 @@ leaves configs log e n (act.Join a b) h s =
     record {
       starts_other = ap (starts n) h;
       registers_other = ap (registers_at configs n) h;
-      routes_other = ap (λ x. cond (steps_router n x) (taken log e) []) h;
       makes_no_half = ap (λ x. half_of configs n x e.reply) h ∙ half_other configs n a b e.reply p q;
       runs_other = λ conn. ap (λ x. cond (steps_sender n conn x) (map is_answer (taken log e)) []) h;
       joins_other = λ k. ap (λ x. joins n k x e.reply) h ∙ joins_other n k a b e.reply p q;
@@ -83,29 +80,24 @@ leaves configs log e n (act.Join a b) h s =
 leaves configs log e n (act.Send bytes c m priority to) h s = record {
   starts_other = ap (starts n) h;
   registers_other = ap (registers_at configs n) h;
-  routes_other = ap (λ x. cond (steps_router n x) (taken log e) []) h;
   makes_no_half = ap (λ x. half_of configs n x e.reply) h;
   runs_other = λ conn. ap (λ x. cond (steps_sender n conn x) (map is_answer (taken log e)) []) h;
   joins_other = λ k. ap (λ x. joins n k x e.reply) h;
   names_other = joins_node_by n e.event (act.Send bytes c m priority to) h;
 }
-leaves configs log e n (act.Router m) h s =
-    let ne : (m == n) ≡ false = not-true (m == n) s in
-    record {
-      starts_other = ap (starts n) h;
-      registers_other = ap (registers_at configs n) h;
-      routes_other = ap (λ x. cond (steps_router n x) (taken log e) []) h ∙ ap (λ b. cond b (taken log e) []) ne;
-      makes_no_half = ap (λ x. half_of configs n x e.reply) h;
-      runs_other = λ conn. ap (λ x. cond (steps_sender n conn x) (map is_answer (taken log e)) []) h;
-      joins_other = λ k. ap (λ x. joins n k x e.reply) h;
-      names_other = joins_node_by n e.event (act.Router m) h;
-    }
+leaves configs log e n (act.Router m) h s = record {
+  starts_other = ap (starts n) h;
+  registers_other = ap (registers_at configs n) h;
+  makes_no_half = ap (λ x. half_of configs n x e.reply) h;
+  runs_other = λ conn. ap (λ x. cond (steps_sender n conn x) (map is_answer (taken log e)) []) h;
+  joins_other = λ k. ap (λ x. joins n k x e.reply) h;
+  names_other = joins_node_by n e.event (act.Router m) h;
+}
 leaves configs log e n (act.SendStep conn m) h s =
     let ne : (m == n) ≡ false = not-true (m == n) s in
     record {
       starts_other = ap (starts n) h;
       registers_other = ap (registers_at configs n) h;
-      routes_other = ap (λ x. cond (steps_router n x) (taken log e) []) h;
       makes_no_half = ap (λ x. half_of configs n x e.reply) h;
       runs_other = λ k.
           ap (λ x. cond (steps_sender n k x) (map is_answer (taken log e)) []) h
@@ -116,7 +108,6 @@ leaves configs log e n (act.SendStep conn m) h s =
 leaves configs log e n (act.RecvStep conn m) h s = record {
   starts_other = ap (starts n) h;
   registers_other = ap (registers_at configs n) h;
-  routes_other = ap (λ x. cond (steps_router n x) (taken log e) []) h;
   makes_no_half = ap (λ x. half_of configs n x e.reply) h;
   runs_other = λ k. ap (λ x. cond (steps_sender n k x) (map is_answer (taken log e)) []) h;
   joins_other = λ k. ap (λ x. joins n k x e.reply) h;
@@ -125,7 +116,6 @@ leaves configs log e n (act.RecvStep conn m) h s = record {
 leaves configs log e n (act.Recv c m) h s = record {
   starts_other = ap (starts n) h;
   registers_other = ap (registers_at configs n) h;
-  routes_other = ap (λ x. cond (steps_router n x) (taken log e) []) h;
   makes_no_half = ap (λ x. half_of configs n x e.reply) h;
   runs_other = λ k. ap (λ x. cond (steps_sender n k x) (map is_answer (taken log e)) []) h;
   joins_other = λ k. ap (λ x. joins n k x e.reply) h;

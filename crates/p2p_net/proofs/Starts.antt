@@ -10,7 +10,7 @@ use Rattle.std.proofs.lemmas.Bool.{and_parts}
 use Rattle.std.proofs.lemmas.Bool.Decides.{nat_tests}
 use Rattle.p2p_log.specs.declared.config.Config.{Config}
 use Rattle.p2p_log.specs.Lines.{live, live_from, stands_in}
-use Rattle.p2p_log.specs.Facts.{has_started, registered, subscribers, routed, routes, history_from, half_at, is_running, is_joined}
+use Rattle.p2p_log.specs.Facts.{has_started, registered, history_from, half_at, is_running, is_joined}
 use Rattle.p2p_log.specs.Effect.{mailbox_size_at}
 use Rattle.p2p_log.specs.Valid.{fits, has_key, is_valid_config, config_fault_from, config_fault}
 use Rattle.p2p_log.proofs.Places.{slice_get-append}
@@ -20,7 +20,7 @@ use Rattle.p2p_board.specs.Board.{held}
 use Rattle.p2p_board.specs.Stands.{Holds}
 use Rattle.p2p_log.specs.declared.queue.Queue.{Queue}
 use Rattle.p2p_net.specs.declared.node.Node.{Node}
-use Rattle.p2p_net.specs.Stands.{NodeStands, NodesStand}
+use Rattle.p2p_net.specs.Stands.{FactsStand, NodesStand}
 
 -- what an index past the end gives
 abbrev pub absent : Config
@@ -54,8 +54,6 @@ pub record IsNew (node : Node) : Type 0 where
   pub channels : node.channels.items ≡ []
   pub capacities : (c : ℕ) → tree.get nat_cmp node.capacities c ≡ None
   pub total : node.total ≡ 0
-  pub subscribers : node.subscribers.items ≡ []
-  pub routes : node.routes.entries ≡ []
   pub halves : (c : ℕ) → tree.get nat_cmp node.halves c ≡ None
   pub running : (c : ℕ) → sorted.contains nat_cmp node.running c ≡ false
   pub partners : (c : ℕ) → sorted.contains nat_cmp node.partners c ≡ false
@@ -67,19 +65,17 @@ retained_of :
 retained_of cs n retained it s h c t =
     let same : it ≡ c = cc in h ∙ ap (λ (x : Config). x.max_peers_per_set * x.tracked_peer_sets) same
 
-pub NodeStands-new :
+pub FactsStand-new :
     (cs : List Config) (n : ℕ) (node : Node) (it : Config) → slice_get cs n ≡ Some it → node.retained ≡ it.max_peers_per_set * it.tracked_peer_sets
-    → mailbox_size_at cs n < 2 ^ 64 → IsNew node → NodeStands cs [] n node
-unfolding has_started registered subscribers routed routes history_from half_at is_running is_joined
-NodeStands-new cs n node it s retained mailbox h = record {
+    → mailbox_size_at cs n < 2 ^ 64 → IsNew node → FactsStand cs [] n node
+unfolding has_started registered history_from half_at is_running is_joined
+FactsStand-new cs n node it s retained mailbox h = record {
   started = h.started;
   retained = retained_of cs n node.retained it s retained;
   channels = h.channels;
   capacities = h.capacities;
   total = h.total;
   room = room_left (mailbox_size_at cs n) node.total (2 ^ 64) mailbox h.total;
-  subscribers = h.subscribers;
-  routes = h.routes;
   halves = h.halves;
   running = h.running;
   partners = h.partners;
@@ -106,4 +102,4 @@ each-append P xs x each last n y s =
 -- empty queues hold what stands there before anything was asked
 pub Holds-nothing : (board : Board Envelope) → ((q : Queue) → held board q ≡ []) → Holds board (live [])
 unfolding live_from
-Holds-nothing board h = record { each = h }
+Holds-nothing board h = record { each = λ q on. h q }

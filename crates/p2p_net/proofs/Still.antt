@@ -13,10 +13,10 @@ use Rattle.p2p_log.specs.declared.event.Event.{Event}
 use Rattle.p2p_log.specs.declared.entry.Entry.{Entry}
 use Rattle.p2p_log.specs.declared.row.Half.{Half}
 use Rattle.p2p_log.specs.declared.item.Item.{Item}
-use Rattle.p2p_log.specs.Facts.{events_of, subscriber_of, routes_after, capacity_in, sum_capacities, half_in, half_at}
+use Rattle.p2p_log.specs.Facts.{events_of, capacity_in, sum_capacities, half_in, half_at}
 use Rattle.p2p_log.specs.Valid.{joins_node, names_join}
 use Rattle.p2p_net.specs.declared.node.Node.{Node}
-use Rattle.p2p_net.specs.Stands.{NodeStands}
+use Rattle.p2p_net.specs.Stands.{FactsStand}
 
 pub still_flag : (b c : Bool) → c ≡ false → b ≡ (b || c)
 still_flag true c h = refl
@@ -25,19 +25,13 @@ still_flag false c h = sym h
 pub still_list : {X : Type 0} (xs ys : List X) → ys ≡ [] → xs ≡ xs ++ ys
 still_list xs ys h = sym (append-nil xs) ∙ ap (λ l. xs ++ l) (sym h)
 
-pub still_subscribers : (xs : List ℕ) (items : List Item) → items ≡ [] → xs ≡ xs ++ flat_map subscriber_of items
-still_subscribers xs items h = still_list xs (flat_map subscriber_of items) (ap (flat_map subscriber_of) h)
-
-pub still_routes : (r : List (ℕ × ℕ)) (items : List Item) → items ≡ [] → r ≡ routes_after r items
-still_routes r items h = ap (routes_after r) (sym h)
-
 pub still_running : (b : Bool) (xs : List Bool) → xs ≡ [] → b ≡ (b || list_any (λ x. x) xs)
 still_running b xs h = still_flag b (list_any (λ x. x) xs) (ap (list_any (λ (x : Bool). x)) h)
 
-pub still_capacities : (configs : List Config) (log : List Entry) (n : ℕ) (node : Node) → NodeStands configs log n node → (c : ℕ) → tree.get nat_cmp node.capacities c ≡ capacity_in node.channels.items c
+pub still_capacities : (configs : List Config) (log : List Entry) (n : ℕ) (node : Node) → FactsStand configs log n node → (c : ℕ) → tree.get nat_cmp node.capacities c ≡ capacity_in node.channels.items c
 still_capacities configs log n node h c = h.capacities c ∙ ap (λ l. capacity_in l c) (sym h.channels)
 
-pub still_total : (configs : List Config) (log : List Entry) (n : ℕ) (node : Node) → NodeStands configs log n node → node.total ≡ sum_capacities node.channels.items
+pub still_total : (configs : List Config) (log : List Entry) (n : ℕ) (node : Node) → FactsStand configs log n node → node.total ≡ sum_capacities node.channels.items
 still_total configs log n node h = h.total ∙ ap sum_capacities (sym h.channels)
 
 -- a choice between what stands at a list's place and what its end adds, where it adds nothing
@@ -61,14 +55,14 @@ names_past : (log : List Entry) (n conn : ℕ) → length log ≤ conn → names
 names_past log n conn h = ap (joins_node n) (slice_get_past (events_of log) conn (let l = events_length log in omega arith))
 
 pub still_halves :
-    (configs : List Config) (log : List Entry) (n : ℕ) (node : Node) → NodeStands configs log n node → (o : Option Half) → o ≡ None → (c : ℕ)
+    (configs : List Config) (log : List Entry) (n : ℕ) (node : Node) → FactsStand configs log n node → (o : Option Half) → o ≡ None → (c : ℕ)
     → tree.get nat_cmp node.halves c ≡ cond (nat_lt c (length log)) (tree.get nat_cmp node.halves c) (cond (c == length log) o None)
 still_halves configs log n node h o e c =
     settled (tree.get nat_cmp node.halves c) None c (length log) (λ past. h.halves c ∙ half_past configs log n c past)
     ∙ ap (λ x. cond (nat_lt c (length log)) (tree.get nat_cmp node.halves c) (cond (c == length log) x None)) (sym e)
 
 pub still_names :
-    (configs : List Config) (log : List Entry) (n : ℕ) (node : Node) → NodeStands configs log n node → (b : Bool) → b ≡ false → (c : ℕ)
+    (configs : List Config) (log : List Entry) (n : ℕ) (node : Node) → FactsStand configs log n node → (b : Bool) → b ≡ false → (c : ℕ)
     → sorted.contains nat_cmp node.joins c ≡ cond (nat_lt c (length log)) (sorted.contains nat_cmp node.joins c) (cond (c == length log) b false)
 still_names configs log n node h b e c =
     settled (sorted.contains nat_cmp node.joins c) false c (length log) (λ past. h.joins c ∙ names_past log n c past)
@@ -92,7 +86,7 @@ entered x none some i k past =
 
 -- the place of the event itself, once it is taken in
 pub entered_half :
-    (configs : List Config) (log : List Entry) (n : ℕ) (node : Node) → NodeStands configs log n node → (o : Option Half) (half : Half) → o ≡ Some half
+    (configs : List Config) (log : List Entry) (n : ℕ) (node : Node) → FactsStand configs log n node → (o : Option Half) (half : Half) → o ≡ Some half
     → (c : ℕ) (new : Option Half) → new ≡ cond (is_eq (nat_cmp (length log) c)) (Some half) (tree.get nat_cmp node.halves c)
     → new ≡ cond (nat_lt c (length log)) (tree.get nat_cmp node.halves c) (cond (c == length log) o None)
 entered_half configs log n node h o half e c new step =
@@ -101,7 +95,7 @@ entered_half configs log n node h o half e c new step =
     ∙ ap (λ x. cond (nat_lt c (length log)) (tree.get nat_cmp node.halves c) (cond (c == length log) x None)) (sym e))
 
 pub entered_name :
-    (configs : List Config) (log : List Entry) (n : ℕ) (node : Node) → NodeStands configs log n node → (b : Bool) → b ≡ true
+    (configs : List Config) (log : List Entry) (n : ℕ) (node : Node) → FactsStand configs log n node → (b : Bool) → b ≡ true
     → (c : ℕ) (new : Bool) → new ≡ cond (is_eq (nat_cmp (length log) c)) true (sorted.contains nat_cmp node.joins c)
     → new ≡ cond (nat_lt c (length log)) (sorted.contains nat_cmp node.joins c) (cond (c == length log) b false)
 entered_name configs log n node h b e c new step =

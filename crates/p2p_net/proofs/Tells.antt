@@ -10,9 +10,9 @@ use Rattle.p2p_log.specs.declared.entry.Entry.{Entry}
 use Rattle.p2p_log.specs.declared.row.Half.{Half}
 use Rattle.p2p_log.specs.Facts.{half_of, joins}
 use Rattle.p2p_net.specs.declared.node.Node.{Node}
-use Rattle.p2p_net.specs.Stands.{NodeStands}
+use Rattle.p2p_net.specs.Stands.{FactsStand}
 use Rattle.p2p_net.specs.Tells.{TellsOf}
-use Rattle.p2p_net.proofs.Changes.{NodeStands-named}
+use Rattle.p2p_net.proofs.Changes.{FactsStand-named}
 use Rattle.p2p_net.proofs.Still.{still_halves, entered_half, still_flag, added}
 
 is_eq-test : (p m : ℕ) → is_eq (nat_cmp p m) ≡ (p == m)
@@ -21,19 +21,19 @@ is_eq-test p m = grind (arith, nat_tests)
 -- a join that came about: the node has its half and its partner
 pub told_half :
     (configs : List Config) (log : List Entry) (e : Entry) (n a b entry partner : ℕ) (half : Half) (old joined new : Node)
-    → TellsOf configs log e n a b entry (Some half) partner → NodeStands configs log n old
+    → TellsOf configs log e n a b entry (Some half) partner → FactsStand configs log n old
     → ((c : ℕ) → tree.get nat_cmp joined.halves c ≡ cond (is_eq (nat_cmp entry c)) (Some half) (tree.get nat_cmp old.halves c))
     → ((m : ℕ) → sorted.contains nat_cmp joined.partners m ≡ cond (is_eq (nat_cmp partner m)) true (sorted.contains nat_cmp old.partners m))
     → joined ≡ record old { halves = joined.halves; partners = joined.partners }
     → ((c : ℕ) → sorted.contains nat_cmp new.joins c ≡ cond (is_eq (nat_cmp entry c)) true (sorted.contains nat_cmp joined.joins c))
     → new ≡ record joined { joins = new.joins }
-    → NodeStands configs (log ++ e ∷ []) n new
+    → FactsStand configs (log ++ e ∷ []) n new
 told_half configs log e n a b entry partner half old joined new t h halves partners rest names last =
     let at : entry ≡ length log = sym t.at in
     let halves_kept : new.halves ≡ joined.halves = ap (λ (x : Node). x.halves) last in
     let partners_kept : new.partners ≡ joined.partners = ap (λ (x : Node). x.partners) last in
     let joins_kept : joined.joins ≡ old.joins = ap (λ (x : Node). x.joins) rest in
-    NodeStands-named configs log e n a b old new t.is h t.told
+    FactsStand-named configs log e n a b old new t.is h t.told
     (λ c.
     ap (λ m. tree.get nat_cmp m c) halves_kept
     ∙ entered_half configs log n old h (half_of configs n e.event.act e.reply) half t.half_is c (tree.get nat_cmp joined.halves c)
@@ -53,15 +53,15 @@ told_half configs log e n a b entry partner half old joined new t h halves partn
 -- a join that is gone: the node was named
 pub told_nothing :
     (configs : List Config) (log : List Entry) (e : Entry) (n a b entry partner : ℕ) (old new : Node)
-    → TellsOf configs log e n a b entry None partner → NodeStands configs log n old
+    → TellsOf configs log e n a b entry None partner → FactsStand configs log n old
     → ((c : ℕ) → sorted.contains nat_cmp new.joins c ≡ cond (is_eq (nat_cmp entry c)) true (sorted.contains nat_cmp old.joins c))
     → new ≡ record old { joins = new.joins }
-    → NodeStands configs (log ++ e ∷ []) n new
+    → FactsStand configs (log ++ e ∷ []) n new
 told_nothing configs log e n a b entry partner old new t h names last =
     let at : entry ≡ length log = sym t.at in
     let halves_kept : new.halves ≡ old.halves = ap (λ (x : Node). x.halves) last in
     let partners_kept : new.partners ≡ old.partners = ap (λ (x : Node). x.partners) last in
-    NodeStands-named configs log e n a b old new t.is h t.told
+    FactsStand-named configs log e n a b old new t.is h t.told
     (λ c. ap (λ m. tree.get nat_cmp m c) halves_kept ∙ still_halves configs log n old h (half_of configs n e.event.act e.reply) t.half_is c)
     (λ m.
     ap (λ s. sorted.contains nat_cmp s m) partners_kept

@@ -1,17 +1,22 @@
-//! What a node knows beside its queues.
-ghost use Rattle.std.specs.Prelude.{◌≡◌, ℕ, ◌+◌, ◌^◌, ◌<◌, ◌++◌, ◌∷◌, [], OnOk, Some, None, if◌then◌else◌, true, false};
+//! A node: its router, and what it knows beside it.
+ghost use Rattle.std.specs.Prelude.{◌≡◌, ℕ, ◌+◌, ◌^◌, ◌<◌, ◌++◌, ◌∷◌, [], OnOk, IsTrue, Some, None, if◌then◌else◌, true, false};
 ghost use Rattle.std.specs.Ordering.{nat_cmp, is_eq};
 ghost use Rattle.std.specs.BTreeMap as tree;
-ghost use Rattle.std.specs.BTreeMap.{insert_entry};
 ghost use Rattle.std.specs.BTreeSet as sorted;
+ghost use Rattle.p2p_log.specs.Facts.{channels, capacity_in};
+ghost use Rattle.p2p_router.specs.Messenger.{is_unbound};
+ghost use Rattle.p2p_routers.specs.Stands.{StandsFor, IsRegistration};
 
 use p2p_log::Half;
+use p2p_routers::Router;
 use std::alloc::{AllocError, Global};
 use std::collections::{BTreeMap, BTreeSet};
 
-/// What a node knows beside its queues.
+/// A node: its router, and what it knows beside it.
 #[derive(Drop)]
 pub struct Node {
+    /// Its router, with the queues that only it and its connections use.
+    pub router: Router,
     /// Whether it has started.
     pub started: bool,
     /// How many peers are retained.
@@ -22,10 +27,6 @@ pub struct Node {
     pub capacities: BTreeMap<u64, usize>,
     /// The sum of the capacities.
     pub total: usize,
-    /// The channels that want lists of peers, in order.
-    pub subscribers: Vec<u64>,
-    /// The connection of each key that the router reaches.
-    pub routes: BTreeMap<u64, u64>,
     /// Its halves of connections.
     pub halves: BTreeMap<u64, Half>,
     /// The connections that took their router's answer.
@@ -38,27 +39,27 @@ pub struct Node {
 
 impl Node {
     /// A node that was not yet started.
-    pub fn new(alloc: Global, retained: usize) -> Node
+    pub fn new(alloc: Global, number: u64, retained: usize) -> Node
+        ensures number { result.router.number ≡ number }
+        ensures router { (configs : _) → StandsFor configs [] result.router }
+        ensures peers { (c : ℕ) → tree.get nat_cmp result.router.peers c ≡ None }
         ensures started { result.started ≡ false }
         ensures retained { result.retained ≡ retained }
         ensures channels { result.channels.items ≡ [] }
         ensures capacities { (c : ℕ) → tree.get nat_cmp result.capacities c ≡ None }
         ensures total { result.total ≡ 0 }
-        ensures subscribers { result.subscribers.items ≡ [] }
-        ensures routes { result.routes.entries ≡ [] }
         ensures halves { (c : ℕ) → tree.get nat_cmp result.halves c ≡ None }
         ensures running { (c : ℕ) → sorted.contains nat_cmp result.running c ≡ false }
         ensures partners { (c : ℕ) → sorted.contains nat_cmp result.partners c ≡ false }
         ensures joins { (c : ℕ) → sorted.contains nat_cmp result.joins c ≡ false }
     {
         Node {
+            router: Router::new(alloc, number),
             started: false,
             retained,
             channels: Vec::new(alloc),
             capacities: BTreeMap::new(alloc),
             total: 0,
-            subscribers: Vec::new(alloc),
-            routes: BTreeMap::new(alloc),
             halves: BTreeMap::new(alloc),
             running: BTreeSet::new(alloc),
             partners: BTreeSet::new(alloc),
@@ -66,36 +67,29 @@ impl Node {
         }
     }
 
-    /// Registers a channel.
-    pub fn register(&mut self, channel: u64, capacity: usize) -> Result<(), AllocError>
+    /// Registers a channel, whose lists of peers the router is asked for.
+    pub fn register(
+        &mut self,
+        alloc: Global,
+        channel: u64,
+        capacity: usize,
+    ) -> Result<(), AllocError>
         requires { self.old.total + capacity < 2 ^ 64 }
         ensures channels { OnOk result (self.new.channels.items ≡ self.old.channels.items ++ (channel, capacity) ∷ []) }
         ensures capacities { OnOk result ((c : ℕ) → tree.get nat_cmp self.new.capacities c
             ≡ (if is_eq (nat_cmp channel c) then Some capacity else tree.get nat_cmp self.old.capacities c)) }
         ensures rest { OnOk result (self.new ≡ record self.old
-            { channels = self.new.channels; capacities = self.new.capacities; total = self.old.total + capacity }) }
+            { router = self.new.router; channels = self.new.channels; capacities = self.new.capacities; total = self.old.total + capacity }) }
+        ensures router { OnOk result ((configs : _) (log : _) (e : _) → StandsFor configs log self.old.router
+            → IsTrue (is_unbound self.old.router.messenger.binding) → IsRegistration e self.old.router.number channel
+            → capacity_in (channels configs log self.old.router.number) channel ≡ None → StandsFor configs (log ++ e ∷ []) self.new.router) }
+        ensures number { OnOk result (self.new.router.number ≡ self.old.router.number) }
+        ensures peers { OnOk result (self.new.router.peers ≡ self.old.router.peers) }
     {
         self.channels.push((channel, capacity))?;
         self.capacities.insert(channel, capacity)?;
         self.total += capacity;
-        Ok(())
-    }
-
-    /// A channel wants lists of peers.
-    pub fn subscribe(&mut self, channel: u64) -> Result<(), AllocError>
-        ensures subscribers { OnOk result (self.new.subscribers.items ≡ self.old.subscribers.items ++ channel ∷ []) }
-        ensures rest { OnOk result (self.new ≡ record self.old { subscribers = self.new.subscribers }) }
-    {
-        self.subscribers.push(channel)?;
-        Ok(())
-    }
-
-    /// The router reaches a key by a connection.
-    pub fn route(&mut self, key: u64, conn: u64) -> Result<(), AllocError>
-        ensures routes { OnOk result (self.new.routes.entries ≡ insert_entry nat_cmp self.old.routes.entries key conn) }
-        ensures rest { OnOk result (self.new ≡ record self.old { routes = self.new.routes }) }
-    {
-        self.routes.insert(key, conn)?;
+        self.router.subscribe(alloc, channel)?;
         Ok(())
     }
 

@@ -13,7 +13,7 @@ use Rattle.p2p_log.proofs.Lines.{filter_stays-append, filter_stays-nil}
 use Rattle.p2p_log.proofs.Queues.{same_queue-refl}
 use Rattle.p2p_log.specs.Apart.{AreApart}
 use Rattle.p2p_log.proofs.Names.{AreApart-filter, filter_stays-first}
-use Rattle.p2p_routing.proofs.Taking.{map-take_next, take_spent, take_two}
+use Rattle.p2p_routers.proofs.Taking.{map-take_next, take_spent, take_two}
 use Rattle.p2p_routers.specs.Batches.{named, batch_of, AreKept}
 use Rattle.p2p_routers.specs.Holds.{Holds, frame_taken, frame_gone, routes_in}
 use Rattle.p2p_routers.specs.declared.router.Router.{Router}

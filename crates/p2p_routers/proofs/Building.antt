@@ -16,7 +16,7 @@ use Rattle.p2p_log.specs.Apart.{AreApart}
 use Rattle.p2p_log.proofs.Names.{AreApart-filter}
 use Rattle.p2p_board.specs.declared.board.Board.{Board}
 use Rattle.p2p_board.specs.Board.{held}
-use Rattle.p2p_routing.proofs.Ending.{peers_ends-append}
+use Rattle.p2p_routers.proofs.Overwritten.{peers_ends-append}
 use Rattle.p2p_routers.specs.Names.{Agrees, label, tag_of, ends_of}
 use Rattle.p2p_routers.specs.Building.{NamesBuild}
 use Rattle.p2p_routers.specs.declared.name.Name.{Name}

@@ -36,8 +36,8 @@ use Rattle.p2p_log.specs.Apart.{AreApart}
 use Rattle.p2p_log.proofs.Names.{AreApart-live_from, filter_stays-first}
 use Rattle.p2p_board.specs.declared.board.Board.{Board}
 use Rattle.p2p_board.specs.Board.{held}
-use Rattle.p2p_routing.specs.Taken.{taken_row}
-use Rattle.p2p_routing.specs.Relays.{with_spread}
+use Rattle.p2p_board.specs.Rows.{taken_row}
+use Rattle.p2p_routers.specs.Relays.{with_spread}
 use Rattle.p2p_routers.specs.Names.{Agrees, is_routers, label, bare, bare_item, tag_of}
 use Rattle.p2p_routers.specs.Items.{key_cmp, channel_of, named_keys, message_item, messages_in, lists_in, frame_item, frames_of, items_of}
 use Rattle.p2p_routers.specs.Sound.{AreNamed, counted, told_times, subscription_in}

@@ -12,6 +12,7 @@ pub mod Kept
 pub mod Linking
 pub mod Numbers
 pub mod Others
+pub mod Overwritten
 pub mod Readying
 pub mod Rings
 pub mod Routed
@@ -21,5 +22,6 @@ pub mod Started
 pub mod Steps
 pub mod Subscribed
 pub mod Taken
+pub mod Taking
 pub mod Telling
 pub mod Told

@@ -15,8 +15,8 @@ use Rattle.p2p_log.specs.Lines.{name_of, ended_item, stays, placed, stands_in}
 use Rattle.p2p_log.specs.Effect.{only, peers_ends, Spread}
 use Rattle.p2p_log.proofs.Lines.{filter_stays-nil}
 use Rattle.p2p_log.specs.Apart.{AreApart}
-use Rattle.p2p_routing.specs.Taken.{taken_row}
-use Rattle.p2p_routing.specs.Relays.{with_spread}
+use Rattle.p2p_board.specs.Rows.{taken_row}
+use Rattle.p2p_routers.specs.Relays.{with_spread}
 use Rattle.p2p_routers.specs.Names.{is_routers}
 use Rattle.p2p_routers.specs.Sound.{AreDistinct}
 use Rattle.p2p_routers.specs.Holds.{after, Adds}

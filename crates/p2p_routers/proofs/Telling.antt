@@ -21,8 +21,8 @@ use Rattle.p2p_board.specs.declared.board.Board.{Board}
 use Rattle.p2p_board.specs.Board.{held}
 use Rattle.p2p_router.specs.declared.stepped.Routed.{Routed}
 use Rattle.p2p_router.specs.declared.stepped.Routed.TheVariants as routed
-use Rattle.p2p_routing.specs.Taken.{taken_row}
-use Rattle.p2p_routing.specs.Relays.{spread_of, with_spread}
+use Rattle.p2p_board.specs.Rows.{taken_row}
+use Rattle.p2p_routers.specs.Relays.{spread_of, with_spread}
 use Rattle.p2p_routers.specs.Names.{Agrees, label, tag_of, takes_of}
 use Rattle.p2p_routers.specs.Building.{NamesBuild}
 use Rattle.p2p_routers.specs.Copies.{copy_spread, copies_spread}

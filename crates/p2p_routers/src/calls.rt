@@ -23,7 +23,7 @@ use crate::{Name, Router};
 use bytes::Bytes;
 use p2p_base::{Key, List, Unreliable};
 use p2p_board::Board;
-use p2p_board::acts::calls::end_copies;
+use p2p_board::end_copies;
 use p2p_board::draft::only;
 use p2p_flow::{Carrier, Recipients, Relay};
 use p2p_log::{Act, Cause, Item, Outcome, Queue, Reply, Row};
@@ -129,6 +129,7 @@ impl Router {
             → event.act ≡ Act.Start self.old.number → places ≡ router_capacity configs log self.old.number
             → StandsFor configs (log ++ entry_of event row ∷ []) self.new) }
         ensures bound { OnOk result (IsTrue (is_bound self.new.messenger.binding)) }
+        ensures rest { OnOk result (self.new ≡ record self.old { messenger = self.new.messenger; names = self.new.names }) }
     {
         let mailbox = Mailbox::new(alloc, places)?;
         bind(&mut self.messenger, mailbox)?;
@@ -197,6 +198,7 @@ impl Router {
             self.old.number entry channel priority (frame_of channel bytes.now) to) }
         ensures stands { IfOk result (λ row. (configs : _) (log : _) (event : _) (whom : _) → StandsFor configs log self.old → length log ≡ entry
             → event.act ≡ Act.Send bytes.now channel self.old.number priority whom → StandsFor configs (log ++ entry_of event row ∷ []) self.new) }
+        ensures rest { OnOk result (self.new ≡ record self.old { messenger = self.new.messenger; names = self.new.names }) }
     {
         let bound = self.messenger.bound();
         let whom = Recipients::Some(to.try_clone(alloc)?);

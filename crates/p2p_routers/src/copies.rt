@@ -1,7 +1,7 @@
 //! The copies that the router put into relays, or dropped.
 ghost use Rattle.std.specs.Prelude.{◌≡◌, ℕ, OnOk};
 ghost use Rattle.p2p_log.specs.Effect.{relay_queue};
-ghost use Rattle.p2p_routing.specs.Relays.{spread_of, with_spread};
+ghost use Rattle.p2p_routers.specs.Relays.{spread_of, with_spread};
 ghost use Rattle.p2p_routers.specs.Building.{NamesBuild};
 ghost use Rattle.p2p_routers.specs.Copies.{copy_spread, copies_spread};
 

@@ -95,6 +95,7 @@ impl Router {
             → Adds entry row (live log) q) }
         ensures stands { IfOk result (λ row. (configs : _) (log : _) (event : _) → StandsFor configs log self.old → length log ≡ entry
             → event.act ≡ Act.Router self.old.number → StandsFor configs (log ++ entry_of event row ∷ []) self.new) }
+        ensures rest { OnOk result (self.new ≡ record self.old { messenger = self.new.messenger; actor = self.new.actor; names = self.new.names }) }
     {
         let number = self.number;
         let names = &mut self.names;

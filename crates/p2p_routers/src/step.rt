@@ -2,8 +2,8 @@
 ghost use Rattle.std.specs.Prelude.{◌≡◌, ℕ, ◌++◌, ◌∷◌, [], map, OnOk, IfOk, IfSome};
 ghost use Rattle.p2p_log.specs.Lines.{name_of};
 ghost use Rattle.p2p_board.specs.Board.{held};
-ghost use Rattle.p2p_routing.specs.Taken.{taken_row};
-ghost use Rattle.p2p_routing.specs.Relays.{spread_of, with_spread};
+ghost use Rattle.p2p_board.specs.Rows.{taken_row};
+ghost use Rattle.p2p_routers.specs.Relays.{spread_of, with_spread};
 ghost use Rattle.p2p_routers.specs.Names.{Agrees, label, tag_of};
 ghost use Rattle.p2p_routers.specs.Items.{channel_of};
 ghost use Rattle.p2p_routers.specs.Copies.{copies_spread};

@@ -13,8 +13,8 @@ use crate::valid::limit_of;
 use p2p_board::Board;
 use p2p_board::draft::only;
 use p2p_log::{Act, Config, Envelope, Half, Queue, Reply, Row, Side};
-use p2p_routing::receiving::receive;
-use p2p_routing::sending::{begin, write_batch};
+use p2p_halves::receiving::receive;
+use p2p_halves::sending::{begin, write_batch};
 use std::alloc::{AllocError, Global};
 
 /// How many messages a batch of a node has at most.

@@ -6,7 +6,7 @@ ghost use Rattle.p2p_log.specs.Lines.{line, live, stays};
 ghost use Rattle.p2p_log.specs.Facts.{subscriber_of, with_route};
 ghost use Rattle.p2p_log.specs.Effect.{entry_of, route_row, route_oldest, router_row};
 ghost use Rattle.p2p_board.specs.Stands.{Holds, Builds};
-ghost use Rattle.p2p_routing.specs.Taken.{taken_row};
+ghost use Rattle.p2p_board.specs.Rows.{taken_row};
 ghost use Rattle.p2p_net.specs.Stands.{NodeStands, NodesStand};
 
 use crate::node::Node;
@@ -16,7 +16,7 @@ use p2p_base::Key;
 use p2p_board::Board;
 use p2p_board::draft::{only, take};
 use p2p_log::{Act, Config, Envelope, Item, Queue, Reply, Row};
-use p2p_routing::route::{route_content, route_keys, route_ready, route_subscription};
+use p2p_halves::route::{route_content, route_keys, route_ready, route_subscription};
 use std::alloc::{AllocError, Global};
 
 /// A channel wants lists of peers.

@@ -1,6 +1,6 @@
 use Rattle.std.proofs.Common.{◌≡◌, ℕ, List, drop}
 use Rattle.p2p_log.specs.declared.item.Envelope.{Envelope}
-use Rattle.p2p_routing.specs.Relays.{spread_of, with_spread}
+use Rattle.p2p_routers.specs.Relays.{spread_of, with_spread}
 use Rattle.p2p_routers.specs.Building.{NamesBuild}
 use Rattle.p2p_routers.specs.Copies.{copies_spread}
 use Rattle.p2p_routers.proofs.copies.note_copies.Given as goal

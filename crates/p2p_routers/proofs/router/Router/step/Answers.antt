@@ -6,8 +6,8 @@ use Rattle.p2p_log.specs.Lines.{live}
 use Rattle.p2p_log.specs.Effect.{route_oldest}
 use Rattle.p2p_routers.specs.Items.{channel_of}
 use Rattle.p2p_log.specs.Lines.{name_of}
-use Rattle.p2p_routing.specs.Taken.{taken_row}
-use Rattle.p2p_routing.specs.Relays.{with_spread}
+use Rattle.p2p_board.specs.Rows.{taken_row}
+use Rattle.p2p_routers.specs.Relays.{with_spread}
 use Rattle.p2p_routers.specs.Copies.{copies_spread}
 use Rattle.p2p_routers.specs.Names.{tag_of}
 use Rattle.p2p_routers.specs.Oldest.{told_row, send_of}

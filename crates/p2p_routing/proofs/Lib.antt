@@ -1,5 +1,0 @@
-pub mod Ending
-pub mod Listing
-pub mod Receipts
-pub mod Spreading
-pub mod Taking
