@@ -1,5 +1,6 @@
 pub mod Agreeing
 pub mod Answered
+pub mod Aside
 pub mod Asked
 pub mod Batches
 pub mod Beside
