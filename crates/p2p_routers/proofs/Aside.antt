@@ -1,5 +1,5 @@
 -- A router stands for the log with one more entry that leaves its queues alone.
-use Rattle.std.proofs.Common.{◌≡◌, ℕ, Bool, true, false, List, [], ◌∷◌, ◌++◌, refl, ap, sym, ◌∙◌, arith, append-nil}
+use Rattle.std.proofs.Common.{◌≡◌, ℕ, Bool, true, false, List, [], ◌∷◌, ◌++◌, length, refl, ap, sym, ◌∙◌, arith, append-nil}
 use Rattle.std.specs.Prelude.{filter, flat_map, ◌==◌, ◌&&◌, ◌||◌}
 use Rattle.std.specs.List.{AllByRecursion}
 use Rattle.std.proofs.lemmas.Bool.Decides.{nat_tests}
@@ -74,17 +74,21 @@ pub go_begun :
 go_begun n p items [] other apart first = go_none n items
 go_begun n p items (x ∷ rest) other apart first = go_first n p items x rest other apart first
 
+-- a line of which nothing is put is what does not go
+pub line_after :
+    (log : List Entry) (e : Entry) (gone : List (ℕ × ℕ)) (q : Queue)
+    → goes e ≡ gone → AreAway q e.puts → filter (stands_in q) (live (log ++ e ∷ [])) ≡ filter (stands_in q) (filter (stays gone) (live log))
+line_after log e gone q is away =
+    ap (filter (stands_in q)) (live-append log e)
+    ∙ (filter-away q (filter (stays (goes e)) (live log)) (length log) 0 e.puts away ∙ ap (λ g. filter (stands_in q) (filter (stays g) (live log))) is)
+
 pub lines_stay :
     (log : List Entry) (e : Entry) (n : ℕ) (gone : List (ℕ × ℕ)) → goes e ≡ gone → GoBeside n (live log) gone → AreOthers n e.puts → LinesStay log e n
-lines_stay log e n gone is beside others =
-    λ q own.
-    ap (filter (stands_in q)) (live-append log e)
-    ∙ (filter-away q (filter (stays (goes e)) (live log)) _ 0 e.puts (AreAway-others n q e.puts own others)
-    ∙ (ap (λ g. filter (stands_in q) (filter (stays g) (live log))) is ∙ beside q own))
+lines_stay log e n gone is beside others = λ q own. line_after log e gone q is (AreAway-others n q e.puts own others) ∙ beside q own
 
 -- ---- entries of the other actors of a node
 
-takes_alone : (e : Entry) (takes : List (ℕ × ℕ)) → e.takes ≡ takes → flat_map ended_item e.ends ≡ [] → goes e ≡ takes
+pub takes_alone : (e : Entry) (takes : List (ℕ × ℕ)) → e.takes ≡ takes → flat_map ended_item e.ends ≡ [] → goes e ≡ takes
 takes_alone e takes is none = ap (λ l. e.takes ++ l) none ∙ (append-nil e.takes ∙ is)
 
 puts_none : (n : ℕ) (puts : List (Queue × Item)) → puts ≡ [] → AreOthers n puts

@@ -6,5 +6,6 @@ pub mod Holds
 pub mod Items
 pub mod Names
 pub mod Oldest
+pub mod Passes
 pub mod Sound
 pub mod Stands
