@@ -1,6 +1,8 @@
 pub mod Agreeing
 pub mod Answered
+pub mod Aside
 pub mod Asked
+pub mod Batched
 pub mod Batches
 pub mod Beside
 pub mod Building
@@ -13,6 +15,7 @@ pub mod Linking
 pub mod Numbers
 pub mod Others
 pub mod Overwritten
+pub mod Passing
 pub mod Readying
 pub mod Rings
 pub mod Routed

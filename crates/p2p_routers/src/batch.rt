@@ -1,10 +1,12 @@
 //! A batch of frames of one connection.
-ghost use Rattle.std.specs.Prelude.{◌≡◌, ◌≤◌, ◌+◌, ◌++◌, length, map, take as first_of, filter, IfOk, OnOk};
+ghost use Rattle.std.specs.Prelude.{◌≡◌, ◌≤◌, ◌+◌, ◌++◌, ◌∷◌, [], true, length, map, take as first_of, filter, IfOk, OnOk};
 ghost use Rattle.p2p_log.specs.Lines.{name_of, stays, stands_in};
 ghost use Rattle.p2p_log.specs.Effect.{relay_queue};
 ghost use Rattle.p2p_log.specs.Apart.{AreApart};
 ghost use Rattle.p2p_routers.specs.Batches.{named, batch_of, AreKept};
 ghost use Rattle.p2p_routers.specs.Holds.{Holds};
+ghost use Rattle.p2p_routers.specs.Names.{is_routers};
+ghost use Rattle.p2p_routers.specs.Stands.{StandsFor, IsBeside, AreAway};
 
 use crate::Router;
 use p2p_base::List;
@@ -48,6 +50,9 @@ impl Router {
         ensures holds { OnOk result ((places : _) (items : _) → Holds places self.old items → AreApart items
             → Holds places self.new (filter (stays (map name_of (batch_of self.old.number conn size items))) items)) }
         ensures kept { OnOk result (AreKept self.old self.new) }
+        ensures stands { IfOk result (λ taken. (configs : _) (log : _) (e : _) → StandsFor configs log self.old → IsBeside configs log e self.old.number
+            → e.takes ≡ map (λ t. t.0) taken → e.ends ≡ [] → ((q : _) → is_routers self.old.number q ≡ true → AreAway q e.puts)
+            → StandsFor configs (log ++ e ∷ []) self.new) }
     {
         let mut taken = List::empty(alloc);
         take_lane(self, &mut taken, conn, true, size)?;

@@ -1,4 +1,5 @@
 use Rattle.p2p_routers.proofs.Batches.{batch_taken, AreApart-left, AreKept-trans}
+use Rattle.p2p_routers.proofs.Batched.{stands_batched}
 use Rattle.p2p_routers.proofs.router.Router.batch.Goals as goal
 
 pub returns-clause-taken : goal.returns-clause-taken
@@ -27,3 +28,9 @@ returns-clause-holds c =
 
 pub returns-clause-kept : goal.returns-clause-kept
 returns-clause-kept c = AreKept-trans c.args.self.now c.take_lane.new.router c.take_lane-2.new.router c.in_ok-take_lane.ensures.kept c.in_ok-take_lane-2.ensures.kept
+
+pub returns-clause-stands : goal.returns-clause-stands
+returns-clause-stands c =
+    λ configs log e s b takes ends away.
+    stands_batched configs log e c.args.self.now c.take_lane-2.new.router c.args.conn c.args.size c.take_lane-2.new.taken
+    (returns-clause-kept c) (returns-clause-taken c) (returns-clause-holds c) s b takes ends away
