@@ -1,10 +1,11 @@
 -- The rows of calls on a channel, by what a node and the board hold.
-use Rattle.std.proofs.Common.{◌≡◌, ℕ, Bool, true, false, List, [], length, refl, ap, sym, subst, ◌∙◌, Option, Some, None}
-use Rattle.std.specs.Prelude.{is_some, nat_le, flat_map}
+use Rattle.std.proofs.Common.{◌≡◌, ℕ, Bool, true, false, List, [], ◌∷◌, length, refl, ap, sym, subst, ◌∙◌, Option, Some, None}
+use Rattle.std.specs.Prelude.{is_some, nat_le, flat_map, map}
 use Rattle.p2p_base.specs.declared.key.Key.{Key}
 use Rattle.p2p_log.specs.declared.config.Config.{Config}
 use Rattle.p2p_log.specs.declared.queue.Queue.{Queue}
 use Rattle.p2p_log.specs.declared.queue.Queue.TheVariants as queue
+use Rattle.p2p_log.specs.declared.item.Item.TheVariants as item
 use Rattle.p2p_log.specs.declared.item.Envelope.{Envelope}
 use Rattle.p2p_log.specs.declared.entry.Entry.{Entry}
 use Rattle.p2p_log.specs.declared.entry.Reply.TheVariants as reply
@@ -15,12 +16,14 @@ use Rattle.p2p_log.specs.declared.end.Outcome.TheVariants as outcome
 use Rattle.p2p_log.specs.Lines.{line, live, ended_item}
 use Rattle.p2p_log.specs.Facts.{channels, capacity_in, is_up}
 use Rattle.p2p_log.specs.Frames.{frame_of}
-use Rattle.p2p_log.specs.Effect.{only, oldest_read, recv_row, sent_row, send_row, router_capacity, keys_of_recipients}
+use Rattle.p2p_log.specs.Effect.{only, start_row, oldest_read, recv_row, sent_row, send_row, router_capacity, keys_of_recipients}
 use Rattle.p2p_board.specs.declared.board.Board.{Board}
 use Rattle.p2p_board.specs.Board.{held}
 use Rattle.p2p_board.specs.Stands.{is_boards, Holds, Builds}
 use Rattle.p2p_board.proofs.Building.{ended_item-copies}
 use Rattle.p2p_board.proofs.Posted.{AreRouters, Builds-routers}
+use Rattle.p2p_routers.specs.Names.{is_routers}
+use Rattle.p2p_net.specs.Tells.{joined_row}
 
 -- what a board that stands for a log holds is the line
 pub held-line : (board : Board Envelope) (log : List Entry) (q : Queue) → is_boards q ≡ true → Holds board (live log) → held board q ≡ line log q
@@ -81,3 +84,30 @@ Builds-sent board log up full n send c priority frame to r is h =
     subst (λ (x : Row). Builds board log x) (sym is)
     (Builds-routers board log (sent_row up full n send c priority frame to) (sent-takes up full n send c priority frame to) (sent-ends up full n send c priority frame to)
     (sent-puts up full n send c priority frame to) h)
+
+-- a start puts for a router alone
+subscriptions_routers : (n : ℕ) (cs : List (ℕ × ℕ)) → AreRouters (map (λ (c : ℕ × ℕ). (queue.Router n, item.Subscribe c.0)) cs)
+subscriptions_routers n [] = tt
+subscriptions_routers n (c ∷ cs) = (refl, subscriptions_routers n cs)
+
+pub Builds-started :
+    (configs : List Config) (board : Board Envelope) (log : List Entry) (n : ℕ) (r : Row) → r ≡ start_row configs log n → Holds board (live log) → Builds board log r
+Builds-started configs board log n r is h =
+    subst (λ (x : Row). Builds board log x) (sym is)
+    (Builds-routers board log (start_row configs log n) refl refl (subscriptions_routers n (channels configs log n)) h)
+
+-- so does a join that comes about
+pub Builds-joined :
+    (configs : List Config) (board : Board Envelope) (log : List Entry) (a b : ℕ) (r : Row) → r ≡ joined_row configs log a b → Holds board (live log) → Builds board log r
+Builds-joined configs board log a b r is h =
+    subst (λ (x : Row). Builds board log x) (sym is) (Builds-routers board log (joined_row configs log a b) refl refl (refl, (refl, tt)) h)
+
+-- what stands on the board is no router's
+pub is_boards-other : (n : ℕ) (q : Queue) → is_boards q ≡ true → is_routers n q ≡ false
+is_boards-other n (queue.Ready m conn) on = refl
+is_boards-other n (queue.Link conn side) on = refl
+is_boards-other n (queue.Channel m c) on = refl
+is_boards-other n (queue.Router m) on = cc
+is_boards-other n (queue.Peers m c) on = cc
+is_boards-other n (queue.High m conn) on = cc
+is_boards-other n (queue.Low m conn) on = cc

@@ -8,7 +8,6 @@ use Rattle.std.proofs.lemmas.List.Folds.{list_any-append}
 use Rattle.p2p_base.specs.declared.key.Key.{Key}
 use Rattle.p2p_log.specs.declared.config.Config.{Config}
 use Rattle.p2p_log.specs.Facts.{key_at}
-use Rattle.p2p_log.specs.Effect.{mailbox_size_at}
 use Rattle.p2p_log.specs.Valid.{fits, has_key, is_valid_config, config_fault_from, config_fault}
 
 none_there : (b : Bool) (rest : Option ℕ) (k : ℕ) → cond b rest (Some k) ≡ None → b ≡ true × rest ≡ None
@@ -65,22 +64,20 @@ there [] n lt = absurd (omega arith)
 there (c ∷ cs) zero lt = record { config = c; at = refl }
 there (c ∷ cs) (suc n) lt = let t = there cs n (omega arith) in record { config = t.config; at = t.at }
 
+abbrev key_of : Option Config → Key
+key_of None = record { 0 = 0 }
+key_of (Some c) = c.public_key
+
+key_at-of : (o : Option Config) → elim o [ None ↦ record { 0 = 0 } | Some c ↦ c.public_key ] ≡ key_of o
+key_at-of None = refl
+key_at-of (Some c) = refl
+
+key_there : (configs : List Config) (n : ℕ) (c : Config) → slice_get configs n ≡ Some c → key_at configs n ≡ c.public_key
+key_there configs n c h = key_at-of (slice_get configs n) ∙ ap key_of h
+
 pub key_at-distinct : (configs : List Config) (m n : ℕ) → config_fault configs ≡ None → m < length configs → n < length configs → key_at configs m ≡ key_at configs n → m ≡ n
 key_at-distinct configs m n valid lm ln same =
     let c = there configs m lm in
     let d = there configs n ln in
     distinct_from [] configs m n c.config d.config valid c.at d.at
-    (sym (ap (λ o. elim o [ None ↦ record { 0 = 0 } | Some (x : Config) ↦ x.public_key ]) c.at)
-    ∙ (same ∙ ap (λ o. elim o [ None ↦ record { 0 = 0 } | Some (x : Config) ↦ x.public_key ]) d.at))
-
--- a mailbox of a valid configuration has room for one message
-fits_after : (before cs : List Config) (i : ℕ) (c : Config) → config_fault_from before cs ≡ None → slice_get cs i ≡ Some c → fits c ≡ true
-unfolding config_fault_from
-fits_after before [] i c h s = cc
-fits_after before (d ∷ ds) zero c h s =
-    let same : d ≡ c = cc in
-    let first = none_there (is_valid_config before d) (config_fault_from (before ++ d ∷ []) ds) (length before) h in
-    ap fits (sym same) ∙ (and_parts (fits d) (not (list_any (has_key d.public_key) before)) first.0).0
-fits_after before (d ∷ ds) (suc i) c h s =
-    let first = none_there (is_valid_config before d) (config_fault_from (before ++ d ∷ []) ds) (length before) h in
-    fits_after (before ++ d ∷ []) ds i c first.1 s
+    (sym (key_there configs m c.config c.at) ∙ (same ∙ key_there configs n d.config d.at))

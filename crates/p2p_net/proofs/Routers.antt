@@ -24,6 +24,7 @@ use Rattle.p2p_routers.specs.Holds.{IsStranger}
 use Rattle.p2p_routers.specs.Passes.{passes}
 use Rattle.p2p_routers.specs.Stands.{StandsFor, HasPlaces, IsBeside}
 use Rattle.p2p_routers.specs.declared.router.Router.{Router}
+use Rattle.p2p_routers.proofs.Aside.{stands_idle}
 use Rattle.p2p_routers.proofs.Passing.{stands_passed}
 use Rattle.p2p_net.specs.Stands.{HearsOfJoins, RouterStands}
 use Rattle.p2p_net.proofs.Keys.{key_at-distinct}
@@ -115,6 +116,14 @@ RouterStands-passed configs log e a n router is made p h =
     (subst (λ (x : Entry). StandsFor configs (log ++ x ∷ []) router) whole
     (stands_passed configs log e.event router (ap (λ k. passes k e.event.act) h.number ∙ (ap (passes n) is ∙ p)) h.stands)) refl refl
 
+-- an entry that moves nothing
+pub RouterStands-idle :
+    (configs : List Config) (log : List Entry) (e : Entry) (n : ℕ) (router : Router) → IsBeside configs log e n → e.takes ≡ [] → e.puts ≡ [] → e.ends ≡ []
+    → RouterStands configs log n router → RouterStands configs (log ++ e ∷ []) n router
+RouterStands-idle configs log e n router b takes puts ends h =
+    RouterStands-moved configs log e n router router h
+    (stands_idle configs log e router h.stands (subst (IsBeside configs log e) (sym h.number) b) takes puts ends) refl refl
+
 -- ---- acts beside a router's own
 
 -- an act that is no step of a router, no registration and no start
@@ -169,13 +178,13 @@ IsBeside-idle configs log e n m is none = record {
 -- ---- mailboxes
 
 unbound_by : (places : ℕ) (b : Binding Key) → HasPlaces places b → is_bound b ≡ false → IsTrue (is_unbound b)
-unbound_by places Unbound h off = tt
+unbound_by places Unbound h off = refl
 unbound_by places (Bound q) h off = absurd (false≢true (sym off))
 unbound_by places Closed h off = absurd h
 
 bound_by : (b : Binding Key) → is_bound b ≡ true → IsTrue (is_bound b)
 bound_by Unbound on = absurd (false≢true on)
-bound_by (Bound q) on = tt
+bound_by (Bound q) on = refl
 bound_by Closed on = absurd (false≢true on)
 
 -- the router of a node that was not started has no mailbox

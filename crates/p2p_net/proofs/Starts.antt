@@ -1,6 +1,6 @@
 -- A world in which nothing was asked.
 use Rattle.std.proofs.Common.{◌≡◌, ℕ, zero, suc, ◌+◌, ◌*◌, ◌<◌, ◌≤◌, ◌^◌, Bool, true, false, cond, List, [], ◌∷◌, ◌++◌, length, refl, ap, sym, subst, ◌∙◌, arith, Option, Some, None}
-use Rattle.std.specs.Prelude.{slice_get, slice_index_or, nat_lt, ◌==◌, not, ◌&&◌}
+use Rattle.std.specs.Prelude.{slice_get, slice_index_or, nat_lt, nat_le, ◌==◌, not, ◌&&◌}
 use Rattle.std.specs.List.{list_any}
 use Rattle.std.specs.BTreeMap as tree
 use Rattle.std.specs.BTreeSet as sorted
@@ -12,7 +12,7 @@ use Rattle.p2p_log.specs.declared.config.Config.{Config}
 use Rattle.p2p_log.specs.Lines.{live, live_from, stands_in}
 use Rattle.p2p_log.specs.Facts.{has_started, registered, history_from, half_at, is_running, is_joined}
 use Rattle.p2p_log.specs.Effect.{mailbox_size_at}
-use Rattle.p2p_log.specs.Valid.{fits, has_key, is_valid_config, config_fault_from, config_fault}
+use Rattle.p2p_log.specs.Valid.{fits, fits_usize, has_key, is_valid_config, config_fault_from, config_fault}
 use Rattle.p2p_log.proofs.Places.{slice_get-append}
 use Rattle.p2p_log.specs.declared.item.Envelope.{Envelope}
 use Rattle.p2p_board.specs.declared.board.Board.{Board}
@@ -20,7 +20,8 @@ use Rattle.p2p_board.specs.Board.{held}
 use Rattle.p2p_board.specs.Stands.{Holds}
 use Rattle.p2p_log.specs.declared.queue.Queue.{Queue}
 use Rattle.p2p_net.specs.declared.node.Node.{Node}
-use Rattle.p2p_net.specs.Stands.{FactsStand, NodesStand}
+use Rattle.p2p_routers.specs.Stands.{StandsFor}
+use Rattle.p2p_net.specs.Stands.{FactsStand, NodeStands}
 
 -- what an index past the end gives
 abbrev pub absent : Config
@@ -103,3 +104,37 @@ each-append P xs x each last n y s =
 pub Holds-nothing : (board : Board Envelope) → ((q : Queue) → held board q ≡ []) → Holds board (live [])
 unfolding live_from
 Holds-nothing board h = record { each = λ q on. h q }
+
+pub NodeStands-new :
+    (cs : List Config) (n : ℕ) (node : Node) → FactsStand cs [] n node → node.router.number ≡ n → StandsFor cs [] node.router
+    → ((c : ℕ) → tree.get nat_cmp node.router.peers c ≡ None) → NodeStands cs [] n node
+NodeStands-new cs n node facts number stands none = record {
+  facts = facts;
+  router = record {
+    number = number;
+    stands = stands;
+    hears = record {
+      no_conn = λ conn past. none conn;
+      no_key = λ m lt apart conn same. let h = none conn in cc;
+    };
+  };
+}
+
+-- a mailbox of a valid configuration has room for one message
+pub mailbox_size-valid : (cs : List Config) (n : ℕ) → config_fault cs ≡ None → n < length cs → 1 ≤ mailbox_size_at cs n
+mailbox_size-valid cs n valid lt =
+    let c = slice_index_or cs n absent in
+    let fit = valid_fits cs n absent valid lt in
+    room_for_one c fit (mailbox_size_at cs n) (size_of (slice_get cs n) c (slice_get-get_or cs n absent lt))
+  where
+    size_of : (o : Option Config) (c : Config) → o ≡ Some c → elim o [ None ↦ 0 | Some x ↦ x.mailbox_size ] ≡ c.mailbox_size
+    size_of None c h = cc
+    size_of (Some d) c h = let same : d ≡ c = cc in ap (λ (x : Config). x.mailbox_size) same
+
+    room_for_one : (c : Config) → fits c ≡ true → (k : ℕ) → k ≡ c.mailbox_size → 1 ≤ k
+    room_for_one c fit k is =
+        let sizes = and_parts (((nat_lt 0 c.max_peers_per_set && nat_lt 0 c.mailbox_size) && (nat_lt 0 c.tracked_peer_sets && nat_lt 0 c.send_batch_size)) && nat_le c.max_message_size 16777200) (fits_usize (c.max_peers_per_set * c.tracked_peer_sets)) fit in
+        let four = and_parts ((nat_lt 0 c.max_peers_per_set && nat_lt 0 c.mailbox_size) && (nat_lt 0 c.tracked_peer_sets && nat_lt 0 c.send_batch_size)) (nat_le c.max_message_size 16777200) sizes.0 in
+        let two = and_parts (nat_lt 0 c.max_peers_per_set && nat_lt 0 c.mailbox_size) (nat_lt 0 c.tracked_peer_sets && nat_lt 0 c.send_batch_size) four.0 in
+        let one = (and_parts (nat_lt 0 c.max_peers_per_set) (nat_lt 0 c.mailbox_size) two.0).1 in
+        grind (arith, nat_tests)

@@ -38,7 +38,7 @@ pub record RouterStands (configs : List Config) (log : List Entry) (n : ℕ) (ro
   pub stands : StandsFor configs log router
   pub hears : HearsOfJoins configs log n router.peers
 
--- a node, its configuration and its number, against the log
+-- a node against the log
 pub record NodeStands (configs : List Config) (log : List Entry) (n : ℕ) (node : Node) : Type 0 where
   pub facts : FactsStand configs log n node
   pub router : RouterStands configs log n node.router
@@ -47,4 +47,5 @@ pub record NodeStands (configs : List Config) (log : List Entry) (n : ℕ) (node
 pub record NodesStand (configs : List Config) (log : List Entry) (nodes : List Node) : Type 0 where
   pub valid : config_fault configs ≡ None
   pub long : length nodes ≡ length configs
-  pub each : (n : ℕ) (node : Node) → slice_get nodes n ≡ Some node → NodeStands configs log n node
+  pub each : (n : ℕ) (node : Node) → slice_get nodes n ≡ Some node → FactsStand configs log n node
+  pub routers : (n : ℕ) (node : Node) → slice_get nodes n ≡ Some node → RouterStands configs log n node.router

@@ -58,18 +58,18 @@ fn perform_register(
 fn perform_start(
     alloc: Global,
     configs: &[Config],
-    board: &mut Board<Envelope>,
+    board: &Board<Envelope>,
     nodes: &mut Vec<Node>,
     entry: u64,
     number: u64,
 ) -> Result<Row, AllocError>
     ghost log: { List Entry }
     requires at { length log ≡ entry }
-    requires holds { Holds board.old (live log) }
+    requires holds { Holds board.now (live log) }
     requires nodes { NodesStand configs.now log nodes.old.items }
     requires valid { may_act_of configs.now (events_of log) (Act.Start number) ≡ true }
     ensures row { IfOk result (λ r. r ≡ row_of configs.now log (Act.Start number)) }
-    ensures builds { IfOk result (λ r. Builds board.new log r) }
+    ensures builds { IfOk result (λ r. Builds board.now log r) }
     ensures nodes { IfOk result (λ r. (event : Event) → event.act ≡ Act.Start number → NodesStand configs.now (log ++ entry_of event r ∷ []) nodes.new.items) }
 {
     let row = start(alloc, configs, board, nodes, entry, number)?;
@@ -80,7 +80,7 @@ fn perform_start(
 fn perform_join(
     alloc: Global,
     configs: &[Config],
-    board: &mut Board<Envelope>,
+    board: &Board<Envelope>,
     nodes: &mut Vec<Node>,
     entry: u64,
     a: u64,
@@ -88,11 +88,11 @@ fn perform_join(
 ) -> Result<Row, AllocError>
     ghost log: { List Entry }
     requires at { length log ≡ entry }
-    requires holds { Holds board.old (live log) }
+    requires holds { Holds board.now (live log) }
     requires nodes { NodesStand configs.now log nodes.old.items }
     requires valid { may_act_of configs.now (events_of log) (Act.Join a b) ≡ true }
     ensures row { IfOk result (λ r. r ≡ row_of configs.now log (Act.Join a b)) }
-    ensures builds { IfOk result (λ r. Builds board.new log r) }
+    ensures builds { IfOk result (λ r. Builds board.now log r) }
     ensures nodes { IfOk result (λ r. (event : Event) → event.act ≡ Act.Join a b → NodesStand configs.now (log ++ entry_of event r ∷ []) nodes.new.items) }
 {
     let row = join(alloc, configs, board, nodes, entry, a, b)?;
@@ -103,8 +103,8 @@ fn perform_join(
 fn perform_send(
     alloc: Global,
     configs: &[Config],
-    board: &mut Board<Envelope>,
-    nodes: &[Node],
+    board: &Board<Envelope>,
+    nodes: &mut Vec<Node>,
     entry: u64,
     bytes: &Bytes,
     channel: u64,
@@ -114,12 +114,12 @@ fn perform_send(
 ) -> Result<Row, AllocError>
     ghost log: { List Entry }
     requires at { length log ≡ entry }
-    requires holds { Holds board.old (live log) }
-    requires nodes { NodesStand configs.now log nodes.now }
+    requires holds { Holds board.now (live log) }
+    requires nodes { NodesStand configs.now log nodes.old.items }
     requires valid { may_act_of configs.now (events_of log) (Act.Send bytes.now channel number priority to.now) ≡ true }
     ensures row { IfOk result (λ r. r ≡ row_of configs.now log (Act.Send bytes.now channel number priority to.now)) }
-    ensures builds { IfOk result (λ r. Builds board.new log r) }
-    ensures nodes { IfOk result (λ r. (event : Event) → event.act ≡ Act.Send bytes.now channel number priority to.now → NodesStand configs.now (log ++ entry_of event r ∷ []) nodes.now) }
+    ensures builds { IfOk result (λ r. Builds board.now log r) }
+    ensures nodes { IfOk result (λ r. (event : Event) → event.act ≡ Act.Send bytes.now channel number priority to.now → NodesStand configs.now (log ++ entry_of event r ∷ []) nodes.new.items) }
 {
     let limit = limit_of(configs, number);
     prove!(bytes.len() <= limit as usize);
@@ -254,7 +254,7 @@ pub fn perform(
             alloc,
             configs,
             board,
-            nodes.as_slice(),
+            nodes,
             entry,
             bytes,
             *channel,

@@ -112,7 +112,7 @@ fn new_node(alloc: Global, configs: &[Config], number: usize) -> Node
 {
     let mailbox = mailbox_of(configs, number as u64);
     prove!(mailbox <= usize::MAX);
-    Node::new(alloc, retained(&configs[number]))
+    Node::new(alloc, number as u64, retained(&configs[number]))
 }
 
 /// The nodes of valid configurations, none of them started.

@@ -43,6 +43,24 @@ line_beside (suc i) p q items (x ∷ rest) apart h away =
     ∙ (line_beside i p q (filter (stays (name_of x ∷ [])) items) rest (AreApart-filter (stays (name_of x ∷ [])) items apart) (first_goes p items x rest apart h) away
     ∙ filter-first_away q p items x rest apart h away)
 
+-- a batch is of its two lines alone
+pub batch_beside :
+    (n conn size : ℕ) (items : List Envelope) (q : Queue) → AreApart items → same_queue (queue.High n conn) q ≡ false → same_queue (queue.Low n conn) q ≡ false
+    → filter (stands_in q) (left (batch_of n conn size items) items) ≡ filter (stands_in q) items
+batch_beside n conn size items q apart high_away low_away =
+    let high = filter (stands_in (queue.High n conn)) items in
+    let low = filter (stands_in (queue.Low n conn)) items in
+    let front = take size high in
+    let few = size - length front in
+    let names : map name_of front ++ map name_of (take few low) ≡ map name_of (batch_of n conn size items) =
+    sym (map-append name_of front (take few low)) ∙ ap (map name_of) (take_two size few high low refl)
+    in
+    ap (λ g. filter (stands_in q) (filter (stays g) items)) (sym names)
+    ∙ (ap (filter (stands_in q)) (filter_stays-append (map name_of front) (map name_of (take few low)) items)
+    ∙ (line_beside few (queue.Low n conn) q (left front items) low (AreApart-filter (stays (map name_of front)) items apart)
+    (line_beside size (queue.High n conn) (queue.Low n conn) items high apart refl refl) low_away
+    ∙ line_beside size (queue.High n conn) q items high apart refl high_away))
+
 pub AreKept-refl : (r : Router) → AreKept r r
 AreKept-refl r = record { number = refl; messenger = refl; channels = refl; peers = refl; subscriptions = refl; routes = refl }
 

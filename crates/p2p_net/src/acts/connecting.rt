@@ -4,7 +4,7 @@ ghost use Rattle.p2p_log.specs.declared.entry.Entry.{Entry};
 ghost use Rattle.p2p_log.specs.declared.event.Event.{Event};
 ghost use Rattle.p2p_log.specs.Lines.{line, live};
 ghost use Rattle.p2p_log.specs.Facts.{half_at, is_running};
-ghost use Rattle.p2p_log.specs.Effect.{entry_of, only as only_reply, batch_size_at, batch, begin_row, write_row, receive_row, other_side as other_side_of, send_step_row, recv_step_row};
+ghost use Rattle.p2p_log.specs.Effect.{entry_of, only as only_reply, batch_size_at, batch, begin_row, write_row, receive_row, other_side as other_side_of, send_step_row, recv_step_row, row as row_of};
 ghost use Rattle.p2p_board.specs.Stands.{Holds, Builds};
 ghost use Rattle.p2p_net.specs.Stands.{NodeStands, NodesStand};
 
@@ -13,8 +13,7 @@ use crate::valid::limit_of;
 use p2p_board::Board;
 use p2p_board::draft::only;
 use p2p_log::{Act, Config, Envelope, Half, Queue, Reply, Row, Side};
-use p2p_halves::receiving::receive;
-use p2p_halves::sending::{begin, write_batch};
+use p2p_halves::{begin, receive, write_batch};
 use std::alloc::{AllocError, Global};
 
 /// How many messages a batch of a node has at most.
@@ -69,7 +68,7 @@ fn begin_half(
     requires stands { NodeStands configs.now log number node.old }
     ensures row { IfOk result (λ r. r ≡ begin_row (line log (Queue.Ready number conn))) }
     ensures builds { IfOk result (λ r. Builds board.new log r) }
-    ensures node { IfOk result (λ r. (e : Entry) → e.event.act ≡ Act.SendStep conn number → e.takes ≡ r.takes → NodeStands configs.now (log ++ e ∷ []) number node.new) }
+    ensures node { IfOk result (λ r. (event : Event) → event.act ≡ Act.SendStep conn number → NodeStands configs.now (log ++ entry_of event r ∷ []) number node.new) }
 {
     let (row, answered) = begin(alloc, board, number, conn)?;
     if answered {
@@ -83,7 +82,7 @@ fn write_half(
     alloc: Global,
     configs: &[Config],
     board: &mut Board<Envelope>,
-    node: &Node,
+    node: &mut Node,
     entry: u64,
     number: u64,
     conn: u64,
@@ -92,15 +91,16 @@ fn write_half(
     ghost log: { List Entry }
     requires at { length log ≡ entry }
     requires holds { Holds board.old (live log) }
-    requires stands { NodeStands configs.now log number node.now }
+    requires stands { NodeStands configs.now log number node.old }
     requires in_range { number < length configs.now }
     requires runs { is_running log number conn ≡ true }
     ensures row { IfOk result (λ r. r ≡ write_row (Queue.Link conn half.writes) (batch configs.now log number conn)) }
     ensures builds { IfOk result (λ r. Builds board.new log r) }
-    ensures node { IfOk result (λ r. (e : Entry) → e.event.act ≡ Act.SendStep conn number → NodeStands configs.now (log ++ e ∷ []) number node.now) }
+    ensures node { IfOk result (λ r. (event : Event) → event.act ≡ Act.SendStep conn number → NodeStands configs.now (log ++ entry_of event r ∷ []) number node.new) }
 {
     let size = batch_size_of(configs, number);
-    let row = write_batch(alloc, board, entry, number, conn, half.writes, size)?;
+    let taken = node.router.batch(alloc, conn, size)?;
+    let row = write_batch(alloc, board, entry, conn, half.writes, taken)?;
     Ok(row)
 }
 
@@ -123,7 +123,7 @@ fn step_half(
     ensures row { IfOk result (λ r. r ≡ (if is_running log number conn
         then write_row (Queue.Link conn half.writes) (batch configs.now log number conn) else begin_row (line log (Queue.Ready number conn)))) }
     ensures builds { IfOk result (λ r. Builds board.new log r) }
-    ensures node { IfOk result (λ r. (e : Entry) → e.event.act ≡ Act.SendStep conn number → e.takes ≡ r.takes → NodeStands configs.now (log ++ e ∷ []) number node.new) }
+    ensures node { IfOk result (λ r. (event : Event) → event.act ≡ Act.SendStep conn number → NodeStands configs.now (log ++ entry_of event r ∷ []) number node.new) }
 {
     if node.running.contains(&conn) {
         let row = write_half(alloc, configs, board, node, entry, number, conn, half)?;
@@ -150,7 +150,8 @@ pub fn send_step(
     requires in_range { number < length nodes.old.items }
     ensures row { IfOk result (λ r. r ≡ send_step_row configs.now log conn number) }
     ensures builds { IfOk result (λ r. Builds board.new log r) }
-    ensures nodes { IfOk result (λ r. (event : Event) → event.act ≡ Act.SendStep conn number → NodesStand configs.now (log ++ entry_of event r ∷ []) nodes.new.items) }
+    ensures nodes { IfOk result (λ r. (event : Event) → event.act ≡ Act.SendStep conn number → r ≡ row_of configs.now log (Act.SendStep conn number)
+        → NodesStand configs.now (log ++ entry_of event r ∷ []) nodes.new.items) }
 {
     match half_of(configs, nodes.as_slice(), number, conn) {
         None => Ok(only(alloc, Reply::Gone)),

@@ -1,19 +1,22 @@
 //! Joining two nodes.
-ghost use Rattle.std.specs.Prelude.{◌≡◌, ◌==◌, ℕ, ◌<◌, ◌++◌, ◌∷◌, [], List, length, IfOk, OnOk, slice_get, false};
+ghost use Rattle.std.specs.Prelude.{◌≡◌, ◌==◌, ℕ, ◌<◌, ◌≤◌, ◌++◌, ◌∷◌, [], List, length, IfOk, OnOk, IsTrue, Some, None, slice_get, true, false};
 ghost use Rattle.p2p_log.specs.declared.entry.Entry.{Entry};
 ghost use Rattle.p2p_log.specs.declared.event.Event.{Event};
 ghost use Rattle.p2p_log.specs.Lines.{live};
 ghost use Rattle.p2p_log.specs.Facts.{key_at};
-ghost use Rattle.p2p_log.specs.Effect.{entry_of, join_row, may_join};
+ghost use Rattle.p2p_log.specs.Effect.{entry_of, join_row, may_join, only as only_reply, row as row_of};
 ghost use Rattle.p2p_board.specs.Stands.{Holds, Builds};
 ghost use Rattle.p2p_log.specs.declared.config.Config.{Config};
 ghost use Rattle.p2p_net.specs.Stands.{NodeStands, NodesStand};
-ghost use Rattle.p2p_net.specs.Tells.{TellsOf};
+ghost use Rattle.p2p_router.specs.Messenger.{is_bound};
+ghost use Rattle.p2p_log.specs.declared.row.Row.{Row};
+ghost use Rattle.p2p_net.specs.Tells.{TellsOf, IsWelcome, joined_row};
 
 use crate::node::Node;
+use crate::valid::mailbox_of;
 use p2p_base::Key;
 use p2p_board::Board;
-use p2p_board::draft::{only, put};
+use p2p_board::draft::only;
 use p2p_log::{Act, Config, Envelope, Half, Item, Queue, Reply, Row, Side};
 use std::alloc::{AllocError, Global};
 
@@ -38,71 +41,69 @@ fn key_of(configs: &[Config], number: u64) -> Key
     configs[number as usize].public_key
 }
 
-/// Tells the routers of two nodes that they are joined by this entry's connection.
-fn put_ready(
+/// The row of a join of two nodes by this entry's connection, of which the two routers are told.
+fn ready_row(
     alloc: Global,
-    board: &mut Board<Envelope>,
-    configs: &[Config],
     entry: u64,
     a: u64,
     b: u64,
+    first: Key,
+    second: Key,
 ) -> Result<Row, AllocError>
-    ghost log: { List Entry }
-    requires at { length log ≡ entry }
-    requires holds { Holds board.old (live log) }
-    requires first_in_range { a < length configs.now }
-    requires second_in_range { b < length configs.now }
-    ensures row { IfOk result (λ r. r ≡ record {
+    ensures { IfOk result (λ r. r ≡ record {
       reply = Reply.Ok;
       takes = [];
-      puts = (Queue.Router a, Item.Ready entry (key_at configs.now b)) ∷ (Queue.Router b, Item.Ready entry (key_at configs.now a)) ∷ [];
+      puts = (Queue.Router a, Item.Ready entry second) ∷ (Queue.Router b, Item.Ready entry first) ∷ [];
       ends = [];
     }) }
-    ensures builds { IfOk result (λ r. Builds board.new log r) }
 {
-    let first = key_of(configs, a);
-    let second = key_of(configs, b);
     let mut row = only(alloc, Reply::Ok);
-    put(
-        alloc,
-        board,
-        &mut row,
-        entry,
-        Queue::Router(a),
-        Item::Ready {
-            conn: entry,
-            key: second,
-        },
-    )?;
-    put(
-        alloc,
-        board,
-        &mut row,
-        entry,
-        Queue::Router(b),
-        Item::Ready {
-            conn: entry,
-            key: first,
-        },
-    )?;
+    let to_first = Item::Ready {
+        conn: entry,
+        key: second,
+    };
+    row.puts.push((Queue::Router(a), to_first))?;
+    let to_second = Item::Ready {
+        conn: entry,
+        key: first,
+    };
+    row.puts.push((Queue::Router(b), to_second))?;
     Ok(row)
 }
 
-/// A node is named by a join, which gives it a half of a connection where it comes about.
-fn tell(node: &mut Node, entry: u64, half: Option<Half>, partner: u64) -> Result<(), AllocError>
-    ensures { OnOk result ((configs : List Config) (log : List Entry) (e : Entry) (n a b : ℕ) → TellsOf configs log e n a b entry half partner
-        → NodeStands configs log n node.old → NodeStands configs (log ++ e ∷ []) n node.new) }
+/// A node is named by a join that comes about: it has a half of the connection, of which its router is told.
+fn tell(
+    alloc: Global,
+    node: &mut Node,
+    entry: u64,
+    place: u64,
+    half: Half,
+    partner: u64,
+    size: usize,
+) -> Result<(), AllocError>
+    requires size { 1 ≤ size }
+    requires bound { IsTrue (is_bound node.old.router.messenger.binding) }
+    ensures { OnOk result ((configs : List Config) (log : List Entry) (e : Entry) (n a b : ℕ) → TellsOf configs log e n a b entry (Some half) partner
+        → IsWelcome configs log e n place half partner size → NodeStands configs log n node.old → NodeStands configs (log ++ e ∷ []) n node.new) }
 {
-    match half {
-        Some(half) => node.join(entry, half, partner)?,
-        None => {}
-    }
+    node.router
+        .ready(alloc, entry, place, entry, half.peer, size)?;
+    node.join(entry, half, partner)?;
+    node.name(entry)?;
+    Ok(())
+}
+
+/// A node is named by a join that is gone.
+fn tell_nothing(node: &mut Node, entry: u64) -> Result<(), AllocError>
+    ensures { OnOk result ((configs : List Config) (log : List Entry) (e : Entry) (n a b partner : ℕ) → TellsOf configs log e n a b entry None partner
+        → e.takes ≡ [] → e.puts ≡ [] → e.ends ≡ [] → NodeStands configs log n node.old → NodeStands configs (log ++ e ∷ []) n node.new) }
+{
     node.name(entry)?;
     Ok(())
 }
 
 /// Names one node twice, or two nodes, by a join that is gone.
-fn tell_nothing(
+fn refuse(
     configs: &[Config],
     nodes: &mut Vec<Node>,
     entry: u64,
@@ -114,41 +115,50 @@ fn tell_nothing(
     requires nodes { NodesStand configs.now log nodes.old.items }
     requires first_in_range { a < length nodes.old.items }
     requires second_in_range { b < length nodes.old.items }
-    ensures { OnOk result ((e : Entry) → e.event.act ≡ Act.Join a b → e.reply ≡ Reply.Gone → NodesStand configs.now (log ++ e ∷ []) nodes.new.items) }
+    ensures { OnOk result ((event : Event) → event.act ≡ Act.Join a b → only_reply Reply.Gone ≡ row_of configs.now log (Act.Join a b)
+        → NodesStand configs.now (log ++ entry_of event (only_reply Reply.Gone) ∷ []) nodes.new.items) }
 {
-    tell(&mut nodes[a as usize], entry, None, b)?;
+    tell_nothing(&mut nodes[a as usize], entry)?;
     if a != b {
-        tell(&mut nodes[b as usize], entry, None, a)?;
+        tell_nothing(&mut nodes[b as usize], entry)?;
     }
     Ok(())
 }
 
-/// Gives two nodes their halves of a connection.
-fn tell_halves(
+/// Gives two nodes their halves of a connection, of which their routers are told.
+fn connect(
+    alloc: Global,
     configs: &[Config],
     nodes: &mut Vec<Node>,
     entry: u64,
     a: u64,
     b: u64,
+    first: Key,
+    second: Key,
 ) -> Result<(), AllocError>
     ghost log: { List Entry }
     requires at { length log ≡ entry }
     requires nodes { NodesStand configs.now log nodes.old.items }
     requires first_in_range { a < length nodes.old.items }
     requires second_in_range { b < length nodes.old.items }
-    requires two { (a == b) ≡ false }
-    ensures { OnOk result ((e : Entry) → e.event.act ≡ Act.Join a b → e.reply ≡ Reply.Ok → NodesStand configs.now (log ++ e ∷ []) nodes.new.items) }
+    requires may { may_join log a b ≡ true }
+    requires first_is { first ≡ key_at configs.now a }
+    requires second_is { second ≡ key_at configs.now b }
+    ensures { OnOk result ((event : Event) (r : Row) → event.act ≡ Act.Join a b → r ≡ joined_row configs.now log a b → r ≡ row_of configs.now log (Act.Join a b)
+        → NodesStand configs.now (log ++ entry_of event r ∷ []) nodes.new.items) }
 {
     let dialed = Half {
-        peer: key_of(configs, b),
+        peer: second,
         writes: Side::Out,
     };
     let listened = Half {
-        peer: key_of(configs, a),
+        peer: first,
         writes: Side::In,
     };
-    tell(&mut nodes[a as usize], entry, Some(dialed), b)?;
-    tell(&mut nodes[b as usize], entry, Some(listened), a)?;
+    let size = mailbox_of(configs, a);
+    tell(alloc, &mut nodes[a as usize], entry, 0, dialed, b, size)?;
+    let size = mailbox_of(configs, b);
+    tell(alloc, &mut nodes[b as usize], entry, 1, listened, a, size)?;
     Ok(())
 }
 
@@ -156,7 +166,7 @@ fn tell_halves(
 pub fn join(
     alloc: Global,
     configs: &[Config],
-    board: &mut Board<Envelope>,
+    board: &Board<Envelope>,
     nodes: &mut Vec<Node>,
     entry: u64,
     a: u64,
@@ -164,19 +174,22 @@ pub fn join(
 ) -> Result<Row, AllocError>
     ghost log: { List Entry }
     requires at { length log ≡ entry }
-    requires holds { Holds board.old (live log) }
+    requires holds { Holds board.now (live log) }
     requires nodes { NodesStand configs.now log nodes.old.items }
     requires first_in_range { a < length nodes.old.items }
     requires second_in_range { b < length nodes.old.items }
     ensures row { IfOk result (λ r. r ≡ join_row configs.now log a b) }
-    ensures builds { IfOk result (λ r. Builds board.new log r) }
-    ensures nodes { IfOk result (λ r. (event : Event) → event.act ≡ Act.Join a b → NodesStand configs.now (log ++ entry_of event r ∷ []) nodes.new.items) }
+    ensures builds { IfOk result (λ r. Builds board.now log r) }
+    ensures nodes { IfOk result (λ r. (event : Event) → event.act ≡ Act.Join a b → r ≡ row_of configs.now log (Act.Join a b)
+        → NodesStand configs.now (log ++ entry_of event r ∷ []) nodes.new.items) }
 {
     if !may_be_joined(configs, nodes.as_slice(), a, b) {
-        tell_nothing(configs, nodes, entry, a, b)?;
+        refuse(configs, nodes, entry, a, b)?;
         return Ok(only(alloc, Reply::Gone));
     }
-    let row = put_ready(alloc, board, configs, entry, a, b)?;
-    tell_halves(configs, nodes, entry, a, b)?;
+    let first = key_of(configs, a);
+    let second = key_of(configs, b);
+    let row = ready_row(alloc, entry, a, b, first, second)?;
+    connect(alloc, configs, nodes, entry, a, b, first, second)?;
     Ok(row)
 }

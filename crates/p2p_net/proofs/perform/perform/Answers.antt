@@ -20,15 +20,12 @@ pub returns-in_ok-perform_send_step-in-SendStep-clause-nodes : goal.returns-in_o
 returns-in_ok-perform_send_step-in-SendStep-clause-nodes g c = λ event is. c.in_ok-perform_send_step-in-SendStep.ensures.nodes event (is ∙ c.in-SendStep.is)
 
 pub returns-in_ok-perform_send-in-Send-clause-nodes : goal.returns-in_ok-perform_send-in-Send-clause-nodes
-returns-in_ok-perform_send-in-Send-clause-nodes g c =
-    λ event is.
-    subst (λ ns. NodesStand c.args.configs.now (g.log ++ entry_of event c.in_ok-perform_send-in-Send.field-0 ∷ []) ns) c.as_slice.ensures.value
-    (c.in_ok-perform_send-in-Send.ensures.nodes event (is ∙ c.in-Send.is))
+returns-in_ok-perform_send-in-Send-clause-nodes g c = λ event is. c.in_ok-perform_send-in-Send.ensures.nodes event (is ∙ c.in-Send.is)
 
 pub returns-in_ok-perform_recv_step-in-RecvStep-clause-nodes : goal.returns-in_ok-perform_recv_step-in-RecvStep-clause-nodes
 returns-in_ok-perform_recv_step-in-RecvStep-clause-nodes g c =
     λ event is.
-    subst (λ ns. NodesStand c.args.configs.now (g.log ++ entry_of event c.in_ok-perform_recv_step-in-RecvStep.field-0 ∷ []) ns) c.as_slice-in-RecvStep.ensures.value
+    subst (λ ns. NodesStand c.args.configs.now (g.log ++ entry_of event c.in_ok-perform_recv_step-in-RecvStep.field-0 ∷ []) ns) c.as_slice.ensures.value
     (c.in_ok-perform_recv_step-in-RecvStep.ensures.nodes event (is ∙ c.in-RecvStep.is))
 
 pub returns-in_ok-perform_recv-in-Recv-clause-nodes : goal.returns-in_ok-perform_recv-in-Recv-clause-nodes

@@ -1,4 +1,4 @@
-use Rattle.std.proofs.Common.{refl}
+use Rattle.std.proofs.Common.{refl, ap}
 use Rattle.p2p_log.specs.Effect.{row, entry_of}
 use Rattle.p2p_log.specs.declared.event.Act.TheVariants as act
 use Rattle.p2p_net.proofs.Nodes.{NodesStand-kept}
@@ -9,6 +9,7 @@ unfolding row
 returns-clause-row g c = c.in_ok-row.ensures.row
 
 pub returns-clause-nodes : goal.returns-clause-nodes
+unfolding row
 returns-clause-nodes g c =
     λ event is.
-    NodesStand-kept c.args.configs.now g.log (entry_of event c.in_ok-row.row) (act.RecvStep c.args.conn c.args.number) c.args.nodes.now is c.requires.1.1.0 (λ n. refl)
+    NodesStand-kept c.args.configs.now g.log (entry_of event c.in_ok-row.row) (act.RecvStep c.args.conn c.args.number) c.args.nodes.now is (ap (entry_of event) c.in_ok-row.ensures.row) c.requires.1.1.0 (λ n. refl)

@@ -1,7 +1,4 @@
-use Rattle.std.proofs.Common.{refl, arith, ap, sym, ◌∙◌, ◌<◌, ◌≤◌, length}
-use Rattle.p2p_log.specs.Effect.{row, entry_of}
-use Rattle.p2p_log.specs.declared.event.Act.TheVariants as act
-use Rattle.p2p_net.proofs.Nodes.{NodesStand-kept}
+use Rattle.p2p_log.specs.Effect.{row}
 use Rattle.p2p_net.proofs.perform.perform_send.Goals as goal
 
 pub returns-clause-row : goal.returns-clause-row
@@ -9,7 +6,5 @@ unfolding row
 returns-clause-row g c = c.in_ok-row.ensures.row
 
 pub returns-clause-nodes : goal.returns-clause-nodes
-returns-clause-nodes g c =
-    λ event is.
-    NodesStand-kept c.args.configs.now g.log (entry_of event c.in_ok-row.row)
-    (act.Send c.args.bytes.now c.args.channel c.args.number c.args.priority c.args.to.now) c.args.nodes.now is c.requires.1.1.0 (λ n. refl)
+unfolding row
+returns-clause-nodes g c = λ event is. c.in_ok-row.ensures.nodes event is c.in_ok-row.ensures.row

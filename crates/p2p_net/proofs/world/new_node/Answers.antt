@@ -1,7 +1,7 @@
 use Rattle.std.proofs.Common.{refl, arith, ◌∙◌}
 use Rattle.std.specs.Prelude.{slice_index_or}
 use Rattle.std.proofs.lemmas.Option.{slice_get-get_or}
-use Rattle.p2p_net.proofs.Starts.{absent, valid_fits, NodeStands-new}
+use Rattle.p2p_net.proofs.Starts.{absent, valid_fits, FactsStand-new, NodeStands-new}
 use Rattle.p2p_net.proofs.world.new_node.Goals as goal
 
 pub retained-requires : goal.retained-requires
@@ -9,7 +9,8 @@ retained-requires c = valid_fits c.args.configs.now c.args.number _ c.requires.v
 
 pub returns : goal.returns
 returns c =
-    NodeStands-new c.args.configs.now c.args.number c.new.result (slice_index_or c.args.configs.now c.args.number absent)
+    NodeStands-new c.args.configs.now c.args.number c.new.result
+    (FactsStand-new c.args.configs.now c.args.number c.new.result (slice_index_or c.args.configs.now c.args.number absent)
     (slice_get-get_or c.args.configs.now c.args.number absent c.requires.in_range)
     (c.new.ensures.retained ∙ c.retained.ensures) (let e = c.mailbox_of-mailbox.ensures in let m = c.mailbox_of-mailbox.type_inv in grind arith)
     (record {
@@ -17,10 +18,9 @@ returns c =
       channels = c.new.ensures.channels;
       capacities = c.new.ensures.capacities;
       total = c.new.ensures.total;
-      subscribers = c.new.ensures.subscribers;
-      routes = c.new.ensures.routes;
       halves = c.new.ensures.halves;
       running = c.new.ensures.running;
       partners = c.new.ensures.partners;
       joins = c.new.ensures.joins;
-    })
+    }))
+    c.new.ensures.number (c.new.ensures.router c.args.configs.now) c.new.ensures.peers

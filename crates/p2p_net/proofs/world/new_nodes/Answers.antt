@@ -1,6 +1,7 @@
-use Rattle.std.proofs.Common.{◌≡◌, ◌∙◌, ap, subst, sym, length, length-append, ◌+◌, ◌∷◌, []}
+use Rattle.std.proofs.Common.{arith, ◌≡◌, ◌∙◌, ap, subst, sym, length, length-append, ◌+◌, ◌∷◌, []}
 use Rattle.std.specs.Prelude.{slice_get, Some}
 use Rattle.p2p_net.specs.Stands.{NodeStands}
+use Rattle.p2p_net.proofs.Nodes.{NodesStand-each}
 use Rattle.p2p_net.proofs.Starts.{each-append}
 use Rattle.p2p_net.proofs.world.new_nodes.Goals as goal
 
@@ -15,3 +16,10 @@ loop-number-preserved c =
           (subst (λ k. NodeStands c.args.configs.now [] k new) (sym c.loop-number.invariant.long) c.new_node.ensures) n node
           (subst (λ l. slice_get l n ≡ Some node) c.in_ok-push.ensures.items s);
     }
+
+pub returns : goal.returns
+returns c =
+    let i = c.loop-number.invariant.long in
+    let past = c.loop-number-test.false in
+    let most = c.loop-number.auto.number-end in
+    NodesStand-each c.args.configs.now [] c.loop-number.nodes.items c.requires (omega (arith, i, past, most)) c.loop-number.invariant.each

@@ -2,7 +2,7 @@ use Rattle.std.proofs.Common.{◌≡◌, true, false, cond, ap, sym, refl, arith
 use Rattle.p2p_log.specs.declared.entry.Reply.TheVariants as reply
 use Rattle.p2p_log.specs.Effect.{only}
 use Rattle.p2p_board.proofs.Building.{Builds-only}
-use Rattle.p2p_net.proofs.Nodes.{found}
+use Rattle.p2p_net.proofs.Nodes.{NodeStands-at, found}
 use Rattle.p2p_net.proofs.Conns.{where_half, where_no_half}
 use Rattle.p2p_net.proofs.acts.connecting.recv_step.Goals as goal
 
@@ -12,7 +12,7 @@ receive_half-requires g c =
     let h = c.requires.1.1.0 in
     let long = h.long in
     let lt = c.requires.1.1.1 in
-    (c.requires.0, (c.requires.1.0, (h.each n _ (found c.args.nodes.now n _ lt c.index-nodes-number.is), omega (arith, long, lt))))
+    (c.requires.0, (c.requires.1.0, (NodeStands-at h n _ (found c.args.nodes.now n _ lt c.index-nodes-number.is), omega (arith, long, lt))))
 
 pub returns-in-None-clause-builds : goal.returns-in-None-clause-builds
 returns-in-None-clause-builds g c = Builds-only c.args.board.now g.log c.only.result reply.Gone c.only.ensures c.requires.1.0

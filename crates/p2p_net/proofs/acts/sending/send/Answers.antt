@@ -1,21 +1,18 @@
-use Rattle.std.proofs.Common.{sym, ap, ◌+◌, ◌∙◌, rules}
-use Rattle.std.specs.BTreeMap as tree
-use Rattle.std.specs.Ordering.{nat_cmp}
-use Rattle.p2p_log.specs.declared.entry.Reply.TheVariants as reply
-use Rattle.p2p_log.specs.Effect.{mailbox_size_at}
-use Rattle.p2p_board.proofs.Building.{Builds-only}
-use Rattle.p2p_net.proofs.Nodes.{found}
-use Rattle.p2p_net.proofs.Calls.{send_registered}
+use Rattle.std.proofs.Common.{ap}
+use Rattle.std.specs.Prelude.{not}
+use Rattle.p2p_log.specs.declared.event.Act.TheVariants as act
+use Rattle.p2p_log.specs.Effect.{entry_of}
+use Rattle.p2p_net.proofs.Nodes.{NodeStands-at, NodesStand-set, found}
 use Rattle.p2p_net.proofs.acts.sending.send.Goals as goal
 
-pub returns-then-not-contains_key-clause-builds : goal.returns-then-not-contains_key-clause-builds
-returns-then-not-contains_key-clause-builds g c = Builds-only c.args.board.now g.log c.only.result reply.Gone c.only.ensures c.requires.1.0
-
-pub returns-clause-row : goal.returns-clause-row
-returns-clause-row g c =
-    let node = c.index-nodes-number.result in
+pub send_from-requires : goal.send_from-requires
+send_from-requires g c =
     let n = c.args.number in
-    let h = c.requires.1.1.0.each n node (found c.args.nodes.now n node c.requires.1.1.1.0 c.index-nodes-number.is) in
-    send_registered c.args.configs.now g.log c.args.board.now c.args.bytes.now c.args.channel n c.args.entry _ c.args.priority node.started c.args.to.now c.in_ok-keys.keys
-    (tree.get nat_cmp node.capacities c.args.channel) c.in_ok-row.row c.requires.1.0 (h.capacities c.args.channel) (sym c.contains_key.ensures ∙ (let t = c.if-not-contains_key.false in search rules)) c.requires.0 h.started
-    (ap (λ k. k + node.total) c.mailbox_of.ensures ∙ ap (λ k. mailbox_size_at c.args.configs.now n + k) h.total) c.in_ok-keys.ensures c.in_ok-row.ensures.row
+    (c.requires.0, (NodeStands-at c.requires.1.1.0 n _ (found c.args.nodes.now.items n _ c.requires.1.1.1.0 c.index_mut-node.ensures.value), c.requires.1.1.1.1))
+
+pub returns-clause-nodes : goal.returns-clause-nodes
+returns-clause-nodes g c =
+    λ event is made.
+    let n = c.args.number in
+    NodesStand-set c.args.configs.now g.log (entry_of event c.in_ok-row.row) (act.Send c.args.bytes.now c.args.channel n c.args.priority c.args.to.now) c.args.nodes.now.items n
+    c.send_from.new.node is (ap (entry_of event) made) c.requires.1.1.0 c.requires.1.1.1.0 (λ m ne. ap not ne) (c.in_ok-row.ensures.node event is)

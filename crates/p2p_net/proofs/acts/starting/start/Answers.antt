@@ -1,20 +1,25 @@
-use Rattle.std.proofs.Common.{ap, true}
+use Rattle.std.proofs.Common.{ap, ◌≡◌, sym, ◌∙◌, arith}
 use Rattle.std.specs.Prelude.{not}
 use Rattle.p2p_log.specs.declared.event.Act.TheVariants as act
 use Rattle.p2p_log.specs.Effect.{entry_of}
-use Rattle.p2p_net.proofs.Nodes.{NodesStand-set, found}
-use Rattle.p2p_net.proofs.Changes.{NodeStands-start}
+use Rattle.p2p_net.proofs.Nodes.{NodeStands-at, NodesStand-set, found}
+use Rattle.p2p_net.proofs.Calls.{Builds-started}
 use Rattle.p2p_net.proofs.acts.starting.start.Goals as goal
+
+pub start_node-requires : goal.start_node-requires
+start_node-requires g c =
+    let n = c.args.number in
+    let h = c.requires.1.1.0 in
+    let long = h.long in
+    let lt = c.requires.1.1.1.0 in
+    (c.requires.0, (h.valid, (omega (arith, long, lt), (c.requires.1.1.1.1, NodeStands-at h n _ (found c.args.nodes.now.items n _ lt c.index_mut-node.ensures.value)))))
+
+pub returns-clause-builds : goal.returns-clause-builds
+returns-clause-builds g c = Builds-started c.args.configs.now c.args.board.now g.log c.args.number c.in_ok-row.row c.in_ok-row.ensures.row c.requires.1.0
 
 pub returns-clause-nodes : goal.returns-clause-nodes
 returns-clause-nodes g c =
-    λ event is.
-    let configs = c.args.configs.now in
-    let nodes = c.args.nodes.now.items in
-    let node = c.index_mut-node.result.now in
+    λ event is made.
     let n = c.args.number in
-    let e = entry_of event c.in_ok-row.row in
-    NodesStand-set configs g.log e (act.Start n) nodes n (record node { started = true }) is c.requires.1.1.0 c.requires.1.1.1
-    (λ m ne. ap not ne)
-    (NodeStands-start configs g.log e n node is
-    (c.requires.1.1.0.each n node (found nodes n node c.requires.1.1.1 c.index_mut-node.ensures.value)))
+    NodesStand-set c.args.configs.now g.log (entry_of event c.in_ok-row.row) (act.Start n) c.args.nodes.now.items n
+    c.start_node.new.node is (ap (entry_of event) made) c.requires.1.1.0 c.requires.1.1.1.0 (λ m ne. ap not ne) (c.in_ok-row.ensures.node event is)
