@@ -28,6 +28,8 @@ pub use tracked::TrackedPeers;
 pub use update::PeerSetUpdate;
 
 #[cfg(test)]
+mod blocker_tests;
+#[cfg(test)]
 mod peer_tests;
 #[cfg(test)]
 mod tests;

@@ -1,10 +1,9 @@
 //! `Manager` and `AddressableManager`, which say who is in the peer sets.
-ghost use Rattle.std.specs.Prelude.{◌≡◌, ◌<◌, ◌≤◌, ℕ, List, Err, IfOk, OnOk, OnErr};
+ghost use Rattle.std.specs.Prelude.{◌≡◌, ◌<◌, ◌≤◌, ℕ, List, IfOk, OnOk, OnErr};
 ghost use Rattle.std.specs.Map.{keys_of};
 ghost use Rattle.p2p_base.specs.declared.address.peer.Address.{Address as Where};
-ghost use Rattle.p2p_flow.specs.SetSize.{set_size};
+ghost use Rattle.p2p_flow.specs.SetSize.{set_size, IfTooLarge};
 ghost use Rattle.p2p_flow.specs.declared.addressable.AddressableTrackedPeers.{AddressableTrackedPeers as Addressed};
-ghost use Rattle.p2p_flow.specs.declared.track_error.TrackError.TheVariants as track_error;
 ghost use Rattle.p2p_flow.specs.declared.tracked.TrackedPeers.{TrackedPeers as Tracked};
 
 use crate::{AddressableTrackedPeers, Provider, TrackError, TrackedPeers};
@@ -38,8 +37,9 @@ pub trait Manager: Provider {
         requires { Self.serves self.old way.old }
         ensures told { IfOk result (λ f. f ≡ Self.told self.old way.old) }
         ensures fits { OnOk result (set_size Self.PublicKey.cmp (local self.old) peers.primary peers.secondary ≤ most self.old) }
-        ensures too_large { (count limit : ℕ) → result ≡ Err (track_error.PeerSetTooLarge count limit)
-            → (count ≡ set_size Self.PublicKey.cmp (local self.old) peers.primary peers.secondary) × (limit ≡ most self.old) × (limit < count) }
+        ensures too_large { IfTooLarge result (λ count limit. limit < count) }
+        ensures count { IfTooLarge result (λ count limit. count ≡ set_size Self.PublicKey.cmp (local self.old) peers.primary peers.secondary) }
+        ensures limit { IfTooLarge result (λ count limit. limit ≡ most self.old) }
         ensures after { OnOk result (way.new ≡ after_track self.old way.old id peers) }
         ensures provided { Self.provided self.new way.new ≡ Self.provided self.old way.old }
         ensures unchanged { OnErr result (way.new ≡ way.old) }
@@ -77,8 +77,9 @@ pub trait AddressableManager: Provider {
         requires { Self.serves self.old way.old }
         ensures told { IfOk result (λ f. f ≡ Self.told self.old way.old) }
         ensures fits { OnOk result (set_size Self.PublicKey.cmp (local self.old) (keys_of peers.primary) (keys_of peers.secondary) ≤ most self.old) }
-        ensures too_large { (count limit : ℕ) → result ≡ Err (track_error.PeerSetTooLarge count limit)
-            → (count ≡ set_size Self.PublicKey.cmp (local self.old) (keys_of peers.primary) (keys_of peers.secondary)) × (limit ≡ most self.old) × (limit < count) }
+        ensures too_large { IfTooLarge result (λ count limit. limit < count) }
+        ensures count { IfTooLarge result (λ count limit. count ≡ set_size Self.PublicKey.cmp (local self.old) (keys_of peers.primary) (keys_of peers.secondary)) }
+        ensures limit { IfTooLarge result (λ count limit. limit ≡ most self.old) }
         ensures after { OnOk result (way.new ≡ after_track self.old way.old id peers) }
         ensures provided { Self.provided self.new way.new ≡ Self.provided self.old way.old }
         ensures unchanged { OnErr result (way.new ≡ way.old) }
