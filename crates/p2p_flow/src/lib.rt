@@ -1,4 +1,4 @@
-//! What every part of the network that moves messages speaks of: recipients, relays, and the traits between senders and the router.
+//! What the parts of the network speak of with one another: recipients, relays, peer sets, and the traits between senders, router and tracker.
 #![tactic(auto)]
 
 pub mod addressable;
