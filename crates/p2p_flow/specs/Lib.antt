@@ -1,1 +1,5 @@
+pub mod Blocking
 pub mod Lanes
+pub mod Provided
+pub mod SetSize
+pub mod Subscribed
