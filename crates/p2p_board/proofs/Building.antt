@@ -1,5 +1,5 @@
 -- What one put, or one take, makes of a row in building.
-use Rattle.std.proofs.Common.{◌≡◌, ℕ, ◌+◌, Bool, true, false, cond, List, [], ◌∷◌, ◌++◌, length, drop, refl, ap, sym, subst, ◌∙◌, arith, append_assoc, append-nil, Option, Some, None}
+use Rattle.std.proofs.Common.{◌≡◌, ℕ, ◌+◌, true, false, cond, List, [], ◌∷◌, ◌++◌, length, drop, refl, ap, sym, subst, ◌∙◌, arith, append_assoc, append-nil, Option, Some, None}
 use Rattle.std.specs.Prelude.{filter, flat_map, slice_get}
 use Rattle.std.proofs.lemmas.List.Elements.{filter-append}
 use Rattle.p2p_log.specs.declared.queue.Queue.{Queue}
@@ -25,7 +25,7 @@ use Rattle.p2p_log.specs.Apart.{AreApart}
 use Rattle.p2p_log.proofs.Names.{AreApart-filter, AreApart-live_from, filter_stays-first}
 use Rattle.p2p_board.specs.declared.board.Board.{Board}
 use Rattle.p2p_board.specs.Board.{held}
-use Rattle.p2p_board.specs.Stands.{is_boards, Holds, Builds, row_goes, names_in}
+use Rattle.p2p_board.specs.Stands.{is_boards, Holds, Builds, row_goes}
 
 pub placed-append :
     (n p : ℕ) (xs : List (Queue × Item)) (x : Queue × Item)

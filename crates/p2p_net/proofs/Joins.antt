@@ -138,10 +138,10 @@ NodesStand-set_both configs log e a b nodes x y is made h la lb hx hy =
     let long : length (slice_set nodes a x) ≡ length nodes = length-slice_set nodes a x in
     let lb' : b < length (slice_set nodes a x) = omega (arith, long) in
     NodesStand-each configs (log ++ e ∷ []) (slice_set (slice_set nodes a x) b y) h.valid (length-slice_set (slice_set nodes a x) b y ∙ (long ∙ h.long))
-      (λ n node s.
-          set_both configs log e a b nodes x y is made h hx hy n node (b == n) (a == n) refl refl
-          (ap (λ o. cond (b == n) (Some y) o) (sym (slice_get-set nodes a n x la))
-          ∙ (sym (slice_get-set (slice_set nodes a x) b n y lb') ∙ s)))
+    (λ n node s.
+    set_both configs log e a b nodes x y is made h hx hy n node (b == n) (a == n) refl refl
+    (ap (λ o. cond (b == n) (Some y) o) (sym (slice_get-set nodes a n x la))
+    ∙ (sym (slice_get-set (slice_set nodes a x) b n y lb') ∙ s)))
 
 -- one node, that a join names twice
 pub NodesStand-set_one :

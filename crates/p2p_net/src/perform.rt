@@ -251,16 +251,7 @@ pub fn perform(
             priority,
             to,
         } => Ok(perform_send(
-            alloc,
-            configs,
-            board,
-            nodes,
-            entry,
-            bytes,
-            *channel,
-            *node,
-            *priority,
-            to,
+            alloc, configs, board, nodes, entry, bytes, *channel, *node, *priority, to,
         )?),
         Act::Router { node } => Ok(perform_router(alloc, configs, board, nodes, entry, *node)?),
         Act::SendStep { conn, node } => Ok(perform_send_step(

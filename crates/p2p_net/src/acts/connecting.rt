@@ -12,8 +12,8 @@ use crate::node::Node;
 use crate::valid::limit_of;
 use p2p_board::Board;
 use p2p_board::draft::only;
-use p2p_log::{Act, Config, Envelope, Half, Queue, Reply, Row, Side};
 use p2p_halves::{begin, receive, write_batch};
+use p2p_log::{Act, Config, Envelope, Half, Queue, Reply, Row, Side};
 use std::alloc::{AllocError, Global};
 
 /// How many messages a batch of a node has at most.

@@ -8,9 +8,8 @@ ghost use Rattle.p2p_board.specs.Stands.{Holds, Builds};
 ghost use Rattle.p2p_net.specs.Stands.{NodeStands, NodesStand};
 
 use crate::node::Node;
-use p2p_board::Board;
 use p2p_board::draft::only;
-use p2p_board::post;
+use p2p_board::{Board, post};
 use p2p_log::{Act, Config, Envelope, Reply, Row};
 use std::alloc::{AllocError, Global};
 

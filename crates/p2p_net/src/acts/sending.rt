@@ -9,9 +9,8 @@ ghost use Rattle.p2p_net.specs.Stands.{NodeStands, NodesStand};
 
 use crate::node::Node;
 use bytes::Bytes;
-use p2p_board::Board;
 use p2p_board::draft::only;
-use p2p_board::read_message;
+use p2p_board::{Board, read_message};
 use p2p_log::{Act, Config, Envelope, Recipients, Reply, Row};
 use std::alloc::{AllocError, Global};
 

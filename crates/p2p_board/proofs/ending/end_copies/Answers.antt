@@ -1,4 +1,4 @@
-use Rattle.std.proofs.Common.{◌≡◌, ℕ, ◌+◌, ap, sym, ◌∙◌, ◌++◌, ◌∷◌, [], append_assoc, drop, add-one}
+use Rattle.std.proofs.Common.{◌+◌, ap, sym, ◌∙◌, ◌++◌, ◌∷◌, [], append_assoc, drop, add-one}
 use Rattle.p2p_log.specs.declared.end.End.TheVariants as end
 use Rattle.p2p_log.specs.Effect.{copies_end}
 use Rattle.p2p_board.proofs.Steps.{copies_end-drop}

@@ -1,4 +1,4 @@
-use Rattle.std.proofs.Common.{refl, ap, sym, subst, ◌∙◌}
+use Rattle.std.proofs.Common.{refl, ap, ◌∙◌}
 use Rattle.p2p_log.specs.declared.row.Row.{Row}
 use Rattle.p2p_board.specs.Stands.{Builds}
 use Rattle.p2p_board.proofs.Building.{Builds-only, Builds-is, Builds-with_message}
