@@ -1,33 +1,25 @@
 -- What the acts make of the node at which they are.
-use Rattle.std.proofs.Common.{◌≡◌, ℕ, ◌+◌, ◌<◌, ◌≤◌, ◌^◌, Bool, true, false, cond, List, [], ◌∷◌, ◌++◌, length, refl, ap, sym, subst, ◌∙◌, arith, append-nil, Option, Some, None}
-use Rattle.std.specs.Prelude.{map, flat_map, slice_get, nat_lt, ◌==◌, ◌||◌, ◌&&◌}
+use Rattle.std.proofs.Common.{◌≡◌, ℕ, ◌+◌, ◌<◌, ◌^◌, Bool, true, false, cond, List, [], ◌∷◌, ◌++◌, length, refl, ap, sym, subst, ◌∙◌, arith, Option, Some, None}
+use Rattle.std.specs.Prelude.{map, slice_get, nat_lt, ◌==◌, ◌||◌, ◌&&◌}
 use Rattle.std.specs.List.{list_any}
 use Rattle.std.specs.Map.{lookup}
 use Rattle.std.specs.BTreeMap as tree
-use Rattle.std.specs.BTreeMap.{insert_entry}
 use Rattle.std.specs.BTreeSet as sorted
 use Rattle.std.specs.Ordering.{nat_cmp, is_eq}
 use Rattle.std.proofs.lemmas.Bool.Decides.{nat_tests}
-use Rattle.p2p_base.specs.declared.key.Key.{Key}
 use Rattle.p2p_log.specs.declared.config.Config.{Config}
 use Rattle.p2p_log.specs.declared.event.Event.{Event}
 use Rattle.p2p_log.specs.declared.event.Rate.{Rate}
 use Rattle.p2p_log.specs.declared.event.Act.{Act}
 use Rattle.p2p_log.specs.declared.event.Act.TheVariants as act
 use Rattle.p2p_log.specs.declared.entry.Entry.{Entry}
-use Rattle.p2p_log.specs.declared.entry.Reply.TheVariants as reply
-use Rattle.p2p_log.specs.declared.item.Item.{Item}
-use Rattle.p2p_log.specs.declared.item.Item.TheVariants as item
-use Rattle.p2p_log.specs.declared.row.Half.{Half}
-use Rattle.p2p_log.specs.declared.queue.Side.TheVariants as side
 use Rattle.p2p_log.specs.Effect.{mailbox_size_at}
-use Rattle.p2p_log.specs.Facts.{starts, registers_at, capacity_for, taken, steps_sender, is_answer, capacity_in, sum_capacities, half_of, key_at, answers_by, joins}
+use Rattle.p2p_log.specs.Facts.{starts, registers_at, capacity_for, taken, steps_sender, is_answer, capacity_in, sum_capacities, half_of, answers_by, joins}
 use Rattle.p2p_log.specs.Valid.{joins_node}
 use Rattle.p2p_net.specs.declared.node.Node.{Node}
 use Rattle.p2p_net.specs.Stands.{FactsStand}
-use Rattle.p2p_net.proofs.Keeps.{Leaves}
-use Rattle.p2p_net.proofs.Moves.{Moves, FactsStand-moved}
-use Rattle.p2p_net.proofs.Still.{still_flag, still_list, still_running, still_capacities, still_total, still_halves, still_names, entered_half, entered_name, added}
+use Rattle.p2p_net.proofs.Moves.{FactsStand-moved}
+use Rattle.p2p_net.proofs.Still.{still_flag, still_list, still_running, still_capacities, still_total, still_halves, still_names, entered_name}
 
 same_number : (n : ℕ) → (n == n) ≡ true
 same_number n = grind (arith, nat_tests)

@@ -1,5 +1,5 @@
 -- The steps of a connection's halves, by what a node and the board hold.
-use Rattle.std.proofs.Common.{◌≡◌, ℕ, Bool, true, false, cond, List, [], ◌∷◌, ◌++◌, length, take, refl, ap, sym, subst, ◌∙◌, arith, append-nil, Option, Some, None}
+use Rattle.std.proofs.Common.{◌≡◌, ℕ, Bool, true, false, cond, List, [], ◌∷◌, ◌++◌, refl, ap, sym, subst, ◌∙◌, arith, Option, Some, None}
 use Rattle.std.specs.Prelude.{map, ◌==◌, ◌||◌}
 use Rattle.std.specs.List.{list_any}
 use Rattle.std.specs.BTreeSet as sorted
@@ -22,7 +22,6 @@ use Rattle.p2p_log.specs.Effect.{entry_of, batch, batch_size_at, begin_row, writ
 use Rattle.p2p_log.specs.QueueCode.{same_queue}
 use Rattle.p2p_log.proofs.Names.{AreApart-live_from}
 use Rattle.p2p_log.proofs.Queues.{same_queue-sym}
-use Rattle.p2p_board.specs.Stands.{is_boards}
 use Rattle.p2p_board.proofs.Posted.{is_boards-apart}
 use Rattle.p2p_routers.specs.Batches.{batch_of, named, AreKept}
 use Rattle.p2p_routers.specs.Names.{is_routers}

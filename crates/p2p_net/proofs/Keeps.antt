@@ -1,8 +1,7 @@
 -- What an entry leaves alone of what stands of a node, each fact by its own premise.
-use Rattle.std.proofs.Common.{◌≡◌, ℕ, ◌+◌, ◌<◌, ◌≤◌, Bool, true, false, cond, List, [], ◌∷◌, ◌++◌, length, refl, ap, sym, subst, ◌∙◌, arith, append-nil, Option, Some, None}
-use Rattle.std.specs.Prelude.{map, flat_map, slice_get, nat_lt, ◌==◌, ◌&&◌, ◌||◌, not}
+use Rattle.std.proofs.Common.{◌≡◌, ℕ, ◌≤◌, Bool, true, false, cond, List, [], ◌∷◌, ◌++◌, length, refl, ap, sym, ◌∙◌, arith, append-nil, Option, Some, None}
+use Rattle.std.specs.Prelude.{slice_get, nat_lt, ◌==◌, ◌&&◌, ◌||◌, not}
 use Rattle.std.specs.List.{list_any}
-use Rattle.std.proofs.lemmas.Bool.{not-true, and_parts, cases_Bool}
 use Rattle.std.proofs.lemmas.Bool.Decides.{nat_tests}
 use Rattle.std.proofs.lemmas.Option.{slice_get_past}
 use Rattle.p2p_log.specs.declared.config.Config.{Config}
@@ -10,8 +9,7 @@ use Rattle.p2p_log.specs.declared.event.Event.{Event}
 use Rattle.p2p_log.specs.declared.event.Act.{Act}
 use Rattle.p2p_log.specs.declared.event.Act.TheVariants as act
 use Rattle.p2p_log.specs.declared.entry.Entry.{Entry}
-use Rattle.p2p_log.specs.declared.row.Half.{Half}
-use Rattle.p2p_log.specs.Facts.{events_of, starts, has_started, registers_at, registered, taken, steps_sender, is_answer, capacity_in, sum_capacities, half_of, half_in, half_at, answers_by, is_running, joins, is_joined}
+use Rattle.p2p_log.specs.Facts.{events_of, starts, has_started, registers_at, registered, capacity_in, sum_capacities, half_of, half_in, half_at, answers_by, is_running, joins, is_joined}
 use Rattle.p2p_log.specs.Valid.{joins_node, names_join}
 use Rattle.p2p_log.proofs.Facts.{events_of-append, has_started-append, registered-append, half_at-append, is_running-append, is_joined-append}
 use Rattle.p2p_log.proofs.Places.{slice_get-append}

@@ -1,16 +1,15 @@
 -- What an entry makes of each fact of a node, and that the node then stands for the longer log.
-use Rattle.std.proofs.Common.{◌≡◌, ℕ, ◌+◌, ◌<◌, ◌^◌, Bool, true, false, cond, List, [], ◌∷◌, ◌++◌, length, refl, ap, sym, subst, ◌∙◌, arith, append-nil, Option, Some, None}
-use Rattle.std.specs.Prelude.{map, flat_map, slice_get, nat_lt, ◌==◌, ◌&&◌, ◌||◌, ◌*◌}
+use Rattle.std.proofs.Common.{◌≡◌, ℕ, ◌+◌, ◌<◌, ◌^◌, false, cond, List, [], ◌∷◌, ◌++◌, length, ap, sym, ◌∙◌, Some, None}
+use Rattle.std.specs.Prelude.{nat_lt, ◌==◌, ◌||◌}
 use Rattle.std.specs.List.{list_any}
 use Rattle.std.specs.BTreeMap as tree
 use Rattle.std.specs.BTreeSet as sorted
 use Rattle.std.specs.Ordering.{nat_cmp}
 use Rattle.std.proofs.lemmas.List.{length-map}
 use Rattle.p2p_log.specs.declared.config.Config.{Config}
-use Rattle.p2p_log.specs.declared.event.Event.{Event}
 use Rattle.p2p_log.specs.declared.entry.Entry.{Entry}
 use Rattle.p2p_log.specs.Effect.{mailbox_size_at}
-use Rattle.p2p_log.specs.Facts.{events_of, starts, has_started, registers_at, registered, capacity_in, sum_capacities, half_of, half_at, answers_by, is_running, joins, is_joined}
+use Rattle.p2p_log.specs.Facts.{events_of, starts, registers_at, registered, capacity_in, sum_capacities, half_of, answers_by, joins}
 use Rattle.p2p_log.specs.Valid.{joins_node, names_join}
 use Rattle.p2p_log.proofs.Facts.{half_at-append, is_running-append, is_joined-append}
 use Rattle.p2p_net.specs.declared.node.Node.{Node}

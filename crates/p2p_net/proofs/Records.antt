@@ -1,13 +1,11 @@
 -- What stands for a log stands for it with one more entry.
-use Rattle.std.proofs.Common.{◌≡◌, ℕ, zero, suc, ◌+◌, List, [], ◌∷◌, ◌++◌, length, filter, flat_map, refl, ap, sym, subst, ◌∙◌}
+use Rattle.std.proofs.Common.{◌≡◌, List, [], ◌∷◌, ◌++◌, refl, ap, sym, subst, ◌∙◌}
 use Rattle.std.proofs.lemmas.Bool.{and_parts}
-use Rattle.std.specs.Prelude.{Bool, true, nat_le}
+use Rattle.std.specs.Prelude.{true, nat_le}
 use Rattle.p2p_log.specs.declared.config.Config.{Config}
 use Rattle.p2p_log.specs.declared.event.Event.{Event}
-use Rattle.p2p_log.specs.declared.event.Act.{Act}
 use Rattle.p2p_log.specs.declared.entry.Entry.{Entry}
 use Rattle.p2p_log.specs.declared.row.Row.{Row}
-use Rattle.p2p_log.specs.Lines.{live}
 use Rattle.p2p_log.specs.Facts.{events_of}
 use Rattle.p2p_log.specs.Effect.{row, entry_of, effect}
 use Rattle.p2p_log.specs.Valid.{last_moment, may_act, is_valid_event}

@@ -1,9 +1,8 @@
 -- An act that spares a node changes nothing that stands of it.
-use Rattle.std.proofs.Common.{◌≡◌, ℕ, ◌+◌, Bool, true, false, cond, List, [], ◌∷◌, ◌++◌, refl, ap, sym, subst, ◌∙◌, arith, Option, Some, None}
+use Rattle.std.proofs.Common.{◌≡◌, ℕ, true, false, cond, List, [], ◌∷◌, refl, ap, ◌∙◌, arith, Option, Some, None}
 use Rattle.std.specs.Prelude.{map, slice_get, ◌==◌, ◌&&◌, ◌||◌, not}
 use Rattle.std.proofs.lemmas.Bool.{not-true, and_parts}
 use Rattle.std.proofs.lemmas.Bool.Decides.{nat_tests}
-use Rattle.p2p_base.specs.declared.key.Key.{Key}
 use Rattle.p2p_log.specs.declared.config.Config.{Config}
 use Rattle.p2p_log.specs.declared.event.Event.{Event}
 use Rattle.p2p_log.specs.declared.event.Act.{Act}
@@ -13,7 +12,7 @@ use Rattle.p2p_log.specs.declared.entry.Reply.{Reply}
 use Rattle.p2p_log.specs.declared.entry.Reply.TheVariants as reply
 use Rattle.p2p_log.specs.declared.row.Half.{Half}
 use Rattle.p2p_log.specs.declared.queue.Side.TheVariants as side
-use Rattle.p2p_log.specs.Facts.{starts, registers_at, capacity_for, taken, steps_sender, is_answer, half_of, key_at, answers_by, joins}
+use Rattle.p2p_log.specs.Facts.{starts, registers_at, capacity_for, taken, steps_sender, is_answer, half_of, key_at, joins}
 use Rattle.p2p_log.specs.Valid.{joins_node}
 use Rattle.p2p_net.proofs.Keeps.{Leaves, spares}
 

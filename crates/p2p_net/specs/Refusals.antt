@@ -1,5 +1,5 @@
 -- What each error of a world tells, and what it leaves.
-use Rattle.std.specs.Prelude.{◌≡◌, Bool, true, false, List, length, Some, None}
+use Rattle.std.specs.Prelude.{◌≡◌, true, false, List, length, Some, None}
 use Rattle.p2p_log.specs.declared.config.Config.{Config}
 use Rattle.p2p_log.specs.declared.event.Event.{Event}
 use Rattle.p2p_log.specs.Facts.{events_of}

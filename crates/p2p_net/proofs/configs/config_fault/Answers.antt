@@ -1,4 +1,4 @@
-use Rattle.std.proofs.Common.{◌≡◌, true, false, ℕ, take, get_or, sym, ◌∙◌, rules}
+use Rattle.std.proofs.Common.{◌≡◌, true, false, take, get_or, sym, ◌∙◌, rules}
 use Rattle.std.specs.BTreeSet as sorted
 use Rattle.std.specs.Ordering.{nat_cmp}
 use Rattle.p2p_log.specs.declared.config.Config.{Config}

@@ -1,4 +1,4 @@
-use Rattle.std.proofs.Common.{◌≡◌, ℕ, [], length, Some, ◌≤◌}
+use Rattle.std.proofs.Common.{◌≡◌, ℕ, [], length, Some}
 use Rattle.std.specs.Prelude.{slice_get}
 use Rattle.p2p_net.specs.declared.node.Node.{Node}
 use Rattle.p2p_net.specs.Stands.{NodeStands}

@@ -1,4 +1,4 @@
-use Rattle.std.proofs.Common.{◌≡◌, ℕ, true, cond, [], ◌∷◌, ◌++◌, ap, sym, refl, subst, ◌∙◌}
+use Rattle.std.proofs.Common.{true, cond, [], ◌∷◌, ◌++◌, ap, sym, refl, subst, ◌∙◌}
 use Rattle.std.specs.BTreeSet as sorted
 use Rattle.std.specs.Ordering.{nat_cmp, is_eq}
 use Rattle.p2p_log.specs.declared.queue.Queue.TheVariants as queue

@@ -1,9 +1,7 @@
-use Rattle.std.proofs.Common.{◌≡◌, true, false, cond, ap, sym, refl, arith, ◌∙◌, Some, None}
+use Rattle.std.proofs.Common.{arith}
 use Rattle.p2p_log.specs.declared.entry.Reply.TheVariants as reply
-use Rattle.p2p_log.specs.Effect.{only}
 use Rattle.p2p_board.proofs.Building.{Builds-only}
 use Rattle.p2p_net.proofs.Nodes.{NodeStands-at, found}
-use Rattle.p2p_net.proofs.Conns.{where_half, where_no_half}
 use Rattle.p2p_net.proofs.acts.connecting.recv_step.Goals as goal
 
 pub receive_half-requires : goal.receive_half-requires

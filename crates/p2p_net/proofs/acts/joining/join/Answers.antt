@@ -1,14 +1,9 @@
-use Rattle.std.proofs.Common.{◌≡◌, ◌++◌, ◌∷◌, [], true, ap, sym, subst, ◌∙◌, rules}
-use Rattle.p2p_base.specs.declared.key.Key.{Key}
+use Rattle.std.proofs.Common.{◌++◌, ◌∷◌, [], sym, subst, ◌∙◌}
 use Rattle.p2p_log.specs.declared.entry.Reply.TheVariants as reply
-use Rattle.p2p_log.specs.declared.queue.Queue.TheVariants as queue
-use Rattle.p2p_log.specs.declared.item.Item.TheVariants as item
 use Rattle.p2p_log.specs.declared.row.Row.{Row}
-use Rattle.p2p_log.specs.Facts.{key_at}
-use Rattle.p2p_log.specs.Effect.{entry_of, may_join}
+use Rattle.p2p_log.specs.Effect.{entry_of}
 use Rattle.p2p_board.proofs.Building.{Builds-only}
 use Rattle.p2p_net.specs.Stands.{NodesStand}
-use Rattle.p2p_net.specs.Tells.{joined_row}
 use Rattle.p2p_net.proofs.Calls.{Builds-joined}
 use Rattle.p2p_net.proofs.Joins.{joined_row-keys}
 use Rattle.p2p_net.proofs.acts.joining.join.Goals as goal

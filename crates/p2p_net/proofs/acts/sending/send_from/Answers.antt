@@ -1,4 +1,4 @@
-use Rattle.std.proofs.Common.{refl, ap, sym, subst, ◌∙◌, rules}
+use Rattle.std.proofs.Common.{refl, ap, sym, ◌∙◌, rules}
 use Rattle.std.specs.BTreeMap as tree
 use Rattle.std.specs.Ordering.{nat_cmp}
 use Rattle.p2p_log.specs.declared.event.Act.TheVariants as act

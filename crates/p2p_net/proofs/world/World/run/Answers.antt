@@ -1,4 +1,4 @@
-use Rattle.std.proofs.Common.{rules, ◌≡◌, ◌∙◌, ap, subst, sym}
+use Rattle.std.proofs.Common.{rules}
 use Rattle.p2p_net.specs.Refusals.{RunRefused}
 use Rattle.p2p_net.proofs.Nodes.{found}
 use Rattle.p2p_net.proofs.Running.{RanFirst-step, lawful_run, only_run, no_fault, refused_run}
