@@ -1,6 +1,7 @@
 pub mod Allows
 pub mod Blocks
 pub mod Grants
+pub mod Kills
 pub mod Lives
 pub mod Rules
 pub mod Sets

@@ -1,5 +1,5 @@
 -- The peer sets that are kept. The calls stand newest first.
-use Rattle.std.specs.Prelude.{ℕ, Bool, true, cond, not, ◌||◌, suc, nat_lt, List, [], ◌∷◌, take}
+use Rattle.std.specs.Prelude.{ℕ, Bool, true, cond, not, ◌||◌, suc, nat_lt, List, [], ◌∷◌, take, Option, Some, None}
 use Rattle.std.specs.List.{list_any, filter}
 use Rattle.std.specs.Map.{keys_of}
 use Rattle.std.specs.BTreeMap.{is_at}
@@ -25,6 +25,11 @@ module _ {P : Type 0} where
   abbrev pub is_above : ℕ → List (PeerSet P) → Bool
   is_above index [] = true
   is_above index (s ∷ sets) = nat_lt s.index index
+
+  -- the index of the newest set
+  abbrev pub latest_index : List (PeerSet P) → Option ℕ
+  latest_index [] = None
+  latest_index (s ∷ sets) = Some s.index
 
 module _ {P : Type 0} (cmp : P → P → Ordering) where
   -- the key stands in the list

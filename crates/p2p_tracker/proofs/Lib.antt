@@ -1,7 +1,11 @@
+pub mod Accepting
 pub mod Asked
 pub mod Counts
 pub mod Ended
+pub mod Enrolling
 pub mod Keeping
+pub mod Killing
+pub mod Newcomers
 pub mod Reading
 pub mod Standing
 pub mod StandingTracks

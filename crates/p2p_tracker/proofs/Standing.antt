@@ -108,9 +108,11 @@ new_block false l m x y h k = refl
 
 module _ {P : Type 0} (cmp : P → P → Ordering) (kept : Kept P) where
   pub stands-init : ((q : P) → lookup (is_at (cmp q)) kept.records ≡ cond (is_local cmp kept.rules q) (Some (fresh address.Myself)) None)
-      → kept.blocks ≡ [] → StandsFor cmp kept []
+      → kept.blocks ≡ [] → kept.sets ≡ [] → kept.latest ≡ None → StandsFor cmp kept []
   unfolding record_of address_of is_tracked is_held primary_sets secondary_sets kept_sets accepted_sets block_of how_many IsStrictlySortedBy
-  stands-init r b = record {
+  stands-init r b t l = record {
+    sets = t ∙ sym (none_kept kept.rules.max_sets [] refl);
+    latest = l;
     records = λ q. r q ∙ ap (λ (sets : List (PeerSet P)). cond (is_local cmp kept.rules q) (Some (record {
       address = address.Myself;
       status = status.Inert;
@@ -180,8 +182,10 @@ module _ {P : Type 0} {cmp : P → P → Ordering} (o : IsTotalOrder cmp) {kept 
   at_key f q b = ap (λ r. cond b (option_map f r) r) (s.records q)
 
   pub stands-refused_dial : (p : P) (t j : ℕ) → StandsFor cmp kept (call.Dial p t j false ∷ calls)
-  unfolding block_of
+  unfolding block_of kept_sets accepted_sets
   stands-refused_dial p t j = record {
+    sets = s.sets;
+    latest = s.latest;
     records = λ q. s.records q ∙ sym (steps.record_of-refused_dial cmp kept.rules calls q (s.addressed q) p t j);
     blocks = λ q. s.blocks q;
     ordered = s.ordered;
@@ -189,8 +193,10 @@ module _ {P : Type 0} {cmp : P → P → Ordering} (o : IsTotalOrder cmp) {kept 
   }
 
   pub stands-refused_listen : (p : P) (t j : ℕ) → StandsFor cmp kept (call.Listen p t j false ∷ calls)
-  unfolding block_of
+  unfolding block_of kept_sets accepted_sets
   stands-refused_listen p t j = record {
+    sets = s.sets;
+    latest = s.latest;
     records = λ q. s.records q ∙ sym (steps.record_of-refused_listen cmp kept.rules calls q (s.addressed q) p t j);
     blocks = λ q. s.blocks q;
     ordered = s.ordered;
@@ -200,8 +206,10 @@ module _ {P : Type 0} {cmp : P → P → Ordering} (o : IsTotalOrder cmp) {kept 
   stands-granted_dial : (p : P) (t j : ℕ) (es : List (P × Recorded)) → IsOther (lookup (is_at (cmp p)) kept.records)
       → es ≡ written cmp (lookup (is_at (cmp p)) kept.records) kept.records p (λ r. reserved_by answer.Reserved r t kept.rules.cooldown j)
       → StandsFor cmp (record kept { records = es }) (call.Dial p t j true ∷ calls)
-  unfolding block_of
+  unfolding block_of kept_sets accepted_sets
   stands-granted_dial p t j es other e = record {
+    sets = s.sets;
+    latest = s.latest;
     records = λ q. ap (lookup (is_at (cmp q))) e
         ∙ lookup-written o p q kept.records (λ r. reserved_by answer.Reserved r t kept.rules.cooldown j)
         ∙ at_key (λ r. reserved_by answer.Reserved r t kept.rules.cooldown j) q (is_at (cmp p) q)
@@ -214,8 +222,10 @@ module _ {P : Type 0} {cmp : P → P → Ordering} (o : IsTotalOrder cmp) {kept 
   stands-granted_listen : (p : P) (t j : ℕ) (es : List (P × Recorded)) → IsOther (lookup (is_at (cmp p)) kept.records)
       → es ≡ written cmp (lookup (is_at (cmp p)) kept.records) kept.records p (λ r. reserved_by answer.Reserved r t kept.rules.cooldown j)
       → StandsFor cmp (record kept { records = es }) (call.Listen p t j true ∷ calls)
-  unfolding block_of
+  unfolding block_of kept_sets accepted_sets
   stands-granted_listen p t j es other e = record {
+    sets = s.sets;
+    latest = s.latest;
     records = λ q. ap (lookup (is_at (cmp q))) e
         ∙ lookup-written o p q kept.records (λ r. reserved_by answer.Reserved r t kept.rules.cooldown j)
         ∙ at_key (λ r. reserved_by answer.Reserved r t kept.rules.cooldown j) q (is_at (cmp p) q)
@@ -229,9 +239,11 @@ module _ {P : Type 0} {cmp : P → P → Ordering} (o : IsTotalOrder cmp) {kept 
       → granted ≡ may_dial_in (lookup (is_at (cmp p)) kept.records) t kept.rules.private kept.rules.dns
       → es ≡ written cmp (lookup (is_at (cmp p)) kept.records) kept.records p (λ r. cond granted (reserved_by answer.Reserved r t kept.rules.cooldown j) r)
       → StandsFor cmp (record kept { records = es }) (call.Dial p t j granted ∷ calls)
-  unfolding block_of
+  unfolding block_of kept_sets accepted_sets
   stands-dial p t j true es e w = stands-granted_dial p t j es (may_dial-other _ t kept.rules.private kept.rules.dns (sym e)) w
   stands-dial p t j false es e w = record {
+    sets = s.sets;
+    latest = s.latest;
     records = λ q. ap (lookup (is_at (cmp q))) w ∙ lookup-written o p q kept.records (λ r. r) ∙ unchanged (is_at (cmp p) q) (lookup (is_at (cmp q)) kept.records)
         ∙ (stands-refused_dial p t j).records q;
     blocks = λ q. s.blocks q;
@@ -243,9 +255,11 @@ module _ {P : Type 0} {cmp : P → P → Ordering} (o : IsTotalOrder cmp) {kept 
       → granted ≡ may_listen_in (lookup (is_at (cmp p)) kept.records) source t kept.rules.bypass
       → es ≡ written cmp (lookup (is_at (cmp p)) kept.records) kept.records p (λ r. cond granted (reserved_by answer.Reserved r t kept.rules.cooldown j) r)
       → StandsFor cmp (record kept { records = es }) (call.Listen p t j granted ∷ calls)
-  unfolding block_of
+  unfolding block_of kept_sets accepted_sets
   stands-listen p source t j true es e w = stands-granted_listen p t j es (may_listen-other _ source t kept.rules.bypass (sym e)) w
   stands-listen p source t j false es e w = record {
+    sets = s.sets;
+    latest = s.latest;
     records = λ q. ap (lookup (is_at (cmp q))) w ∙ lookup-written o p q kept.records (λ r. r) ∙ unchanged (is_at (cmp p) q) (lookup (is_at (cmp q)) kept.records)
         ∙ (stands-refused_listen p t j).records q;
     blocks = λ q. s.blocks q;
@@ -255,8 +269,10 @@ module _ {P : Type 0} {cmp : P → P → Ordering} (o : IsTotalOrder cmp) {kept 
 
   pub stands-connect : (p : P) (es : List (P × Recorded)) → is_reserved_in (lookup (is_at (cmp p)) kept.records) ≡ true
       → es ≡ written cmp (lookup (is_at (cmp p)) kept.records) kept.records p connected → StandsFor cmp (record kept { records = es }) (call.Connect p None ∷ calls)
-  unfolding block_of
+  unfolding block_of kept_sets accepted_sets
   stands-connect p es reserved e = record {
+    sets = s.sets;
+    latest = s.latest;
     records = λ q. ap (lookup (is_at (cmp q))) e ∙ lookup-written o p q kept.records connected ∙ at_key connected q (is_at (cmp p) q)
         ∙ sym (steps.record_of-connect cmp kept.rules calls q (s.addressed q) p
         (λ b. (is_reserved_by q (alike (λ r. is_reserved_in r ≡ true) p q reserved b)).0)
@@ -269,8 +285,10 @@ module _ {P : Type 0} {cmp : P → P → Ordering} (o : IsTotalOrder cmp) {kept 
 
   pub stands-overwrite : (p : P) (given : PeerAddress) (es : List (P × Recorded))
       → es ≡ written cmp (lookup (is_at (cmp p)) kept.records) kept.records p (λ r. updated r given) → StandsFor cmp (record kept { records = es }) (call.Overwrite p given ∷ calls)
-  unfolding block_of
+  unfolding block_of kept_sets accepted_sets
   stands-overwrite p given es e = record {
+    sets = s.sets;
+    latest = s.latest;
     records = λ q. ap (lookup (is_at (cmp q))) e ∙ lookup-written o p q kept.records (λ r. updated r given) ∙ at_key (λ r. updated r given) q (is_at (cmp p) q)
         ∙ sym (steps.record_of-overwrite cmp kept.rules calls q (s.addressed q) p given);
     blocks = λ q. s.blocks q;
@@ -281,8 +299,10 @@ module _ {P : Type 0} {cmp : P → P → Ordering} (o : IsTotalOrder cmp) {kept 
   pub stands-release : (p : P) (es : List (P × Recorded))
       → ((q : P) → lookup (is_at (cmp q)) es ≡ cond (is_at (cmp p) q) (without_need (lookup (is_at (cmp q)) kept.records)) (lookup (is_at (cmp q)) kept.records))
       → StandsFor cmp (record kept { records = es }) (call.Release p ∷ calls)
-  unfolding block_of
+  unfolding block_of kept_sets accepted_sets
   stands-release p es e = record {
+    sets = s.sets;
+    latest = s.latest;
     records = λ q. e q ∙ ap (λ r. cond (is_at (cmp p) q) (without_need r) r) (s.records q) ∙ sym (steps.record_of-release cmp kept.rules calls q (s.addressed q) p);
     blocks = λ q. s.blocks q;
     ordered = s.ordered;
@@ -297,8 +317,10 @@ module _ {P : Type 0} {cmp : P → P → Ordering} (o : IsTotalOrder cmp) {kept 
   same_block p q e = lookup_same o p q kept.blocks e ∙ s.blocks q
 
   pub stands-unblockable : (p : P) (t : ℕ) → (is_local cmp kept.rules p || lasts_at (lookup (is_at (cmp p)) kept.blocks) t) ≡ true → StandsFor cmp kept (call.Block p t ∷ calls)
-  unfolding block_of
+  unfolding block_of kept_sets accepted_sets
   stands-unblockable p t e = record {
+    sets = s.sets;
+    latest = s.latest;
     records = λ q. s.records q ∙ sym (steps.record_of-block cmp kept.rules calls q (s.addressed q) p t);
     blocks = λ q. s.blocks q ∙ no_block (is_at (cmp p) q) (is_local cmp kept.rules q) (lasts_at (block_of cmp kept.rules calls q) t) (Some (t + kept.rules.block_duration)) (block_of cmp kept.rules calls q)
         (λ b. sym (ap (λ l. l || lasts_at (lookup (is_at (cmp p)) kept.blocks) t) (same_local p q b) ∙ ap (λ m. is_local cmp kept.rules q || lasts_at m t) (same_block p q b)) ∙ e);
@@ -309,8 +331,10 @@ module _ {P : Type 0} {cmp : P → P → Ordering} (o : IsTotalOrder cmp) {kept 
   pub stands-block : (p : P) (t : ℕ) (bs : List (P × ℕ)) → is_local cmp kept.rules p ≡ false → lasts_at (lookup (is_at (cmp p)) kept.blocks) t ≡ false
       → ((q : P) → lookup (is_at (cmp q)) bs ≡ cond (is_at (cmp p) q) (Some (t + kept.rules.block_duration)) (lookup (is_at (cmp q)) kept.blocks))
       → IsStrictlySortedBy cmp (keys_of bs) → StandsFor cmp (record kept { blocks = bs }) (call.Block p t ∷ calls)
-  unfolding block_of
+  unfolding block_of kept_sets accepted_sets
   stands-block p t bs l m e ordered = record {
+    sets = s.sets;
+    latest = s.latest;
     records = λ q. s.records q ∙ sym (steps.record_of-block cmp kept.rules calls q (s.addressed q) p t);
     blocks = λ q. e q ∙ ap (cond (is_at (cmp p) q) (Some (t + kept.rules.block_duration))) (s.blocks q)
         ∙ new_block (is_at (cmp p) q) (is_local cmp kept.rules q) (lasts_at (block_of cmp kept.rules calls q) t) (Some (t + kept.rules.block_duration)) (block_of cmp kept.rules calls q)
@@ -321,8 +345,10 @@ module _ {P : Type 0} {cmp : P → P → Ordering} (o : IsTotalOrder cmp) {kept 
 
   pub stands-unblock : (t : ℕ) (bs : List (P × ℕ)) → ((q : P) → lookup (is_at (cmp q)) bs ≡ unless_ended (lookup (is_at (cmp q)) kept.blocks) t) → IsStrictlySortedBy cmp (keys_of bs)
       → StandsFor cmp (record kept { blocks = bs }) (call.UnblockExpired t ∷ calls)
-  unfolding block_of
+  unfolding block_of kept_sets accepted_sets
   stands-unblock t bs e ordered = record {
+    sets = s.sets;
+    latest = s.latest;
     records = λ q. s.records q ∙ sym (steps.record_of-unblock cmp kept.rules calls q (s.addressed q) t);
     blocks = λ q. e q ∙ ap (λ r. unless_ended r t) (s.blocks q);
     ordered = ordered;

@@ -59,7 +59,7 @@ peer_enrolled cooldown n m held joined stale g a None p s = refl
 peer_enrolled cooldown n m held joined stale g a (Some b) p s =
     ap (λ x. Some (peer cooldown held joined (n + one_if p) (m + one_if s) (x || stale) g b)) (sym (and_swap (is_change (Some b) (Some a)) held joined))
 
-needed_if : (x held joined : Bool) (r : Recorded) → cond (not x && is_inert (status_of held joined)) None (Some r) ≡ cond (x || held) (Some r) None
+pub needed_if : (x held joined : Bool) (r : Recorded) → cond (not x && is_inert (status_of held joined)) None (Some r) ≡ cond (x || held) (Some r) None
 needed_if true held joined r = refl
 needed_if false true true r = refl
 needed_if false true false r = refl

@@ -9,15 +9,16 @@ use Rattle.std.specs.Ordering.{eq_by_cmp}
 use Rattle.std.specs.Map.{lookup}
 use Rattle.std.specs.BTreeMap.{is_at}
 use Rattle.std.specs.declared.cmp.Ordering.{Ordering}
+use Rattle.p2p_tracker.specs.Tracked.{needed, is_unneeded_in}
 use Rattle.p2p_tracker.specs.Recorded.{Recorded, is_deletable, released, is_needed_in, without_need, written}
 
-unneeded : (a : Bool) → not a ≡ false → a ≡ true
-unneeded true e = refl
-unneeded false e = sym e
+not_false : (a : Bool) → not a ≡ false → a ≡ true
+not_false true e = refl
+not_false false e = sym e
 
-needed : (a : Bool) → not a ≡ true → a ≡ false
-needed true e = sym e
-needed false e = refl
+not_true : (a : Bool) → not a ≡ true → a ≡ false
+not_true true e = sym e
+not_true false e = refl
 
 module _ {P : Type 0} {cmp : P → P → Ordering} (o : IsTotalOrder cmp) where
   -- equal keys find the same
@@ -48,12 +49,12 @@ module _ {P : Type 0} {cmp : P → P → Ordering} (o : IsTotalOrder cmp) where
 
   gone : (b : Bool) (r : Option Recorded) → (b ≡ true → is_needed_in r ≡ false) → cond b None (cond b (option_map released r) r) ≡ cond b (without_need r) r
   gone true None u = refl
-  gone true (Some s) u = sym (ap (λ x. cond x None (Some (released s))) (unneeded (is_deletable (released s)) (u refl)))
+  gone true (Some s) u = sym (ap (λ x. cond x None (Some (released s))) (not_false (is_deletable (released s)) (u refl)))
   gone false r u = refl
 
   left : (b : Bool) (r : Option Recorded) → (b ≡ true → is_needed_in r ≡ true) → cond b (option_map released r) r ≡ cond b (without_need r) r
   left true None u = refl
-  left true (Some s) u = sym (ap (λ x. cond x None (Some (released s))) (needed (is_deletable (released s)) (u refl)))
+  left true (Some s) u = sym (ap (λ x. cond x None (Some (released s))) (not_true (is_deletable (released s)) (u refl)))
   left false r u = refl
 
   -- a release that leaves a record which is needed
@@ -71,3 +72,36 @@ module _ {P : Type 0} {cmp : P → P → Ordering} (o : IsTotalOrder cmp) where
       e ∙ ap (λ m. cond (is_at (cmp p) q) None (lookup (is_at (cmp q)) m)) w
       ∙ ap (cond (is_at (cmp p) q) None) (lookup-written p q es released)
       ∙ gone (is_at (cmp p) q) (lookup (is_at (cmp q)) es) (λ b. ap is_needed_in (sym (lookup_same p q es b)) ∙ u)
+
+  forgotten : (b : Bool) (r : Option Recorded) → (b ≡ true → is_unneeded_in r ≡ true) → cond b None r ≡ cond b (needed r) r
+  forgotten true None u = refl
+  forgotten true (Some s) u = sym (ap (λ x. cond x None (Some s)) (u refl))
+  forgotten false r u = refl
+
+  kept : (b : Bool) (r : Option Recorded) → (b ≡ true → is_unneeded_in r ≡ false) → r ≡ cond b (needed r) r
+  kept true None u = refl
+  kept true (Some s) u = sym (ap (λ x. cond x None (Some s)) (u refl))
+  kept false r u = refl
+
+  -- the removal of a record that nothing needs
+  pub lookup-forgotten : (p q : P) (es new : List (P × Recorded)) → is_unneeded_in (lookup (is_at (cmp p)) es) ≡ true
+      → lookup (is_at (cmp q)) new ≡ cond (is_at (cmp p) q) None (lookup (is_at (cmp q)) es)
+      → lookup (is_at (cmp q)) new ≡ cond (is_at (cmp p) q) (needed (lookup (is_at (cmp q)) es)) (lookup (is_at (cmp q)) es)
+  lookup-forgotten p q es new u e = e ∙ forgotten (is_at (cmp p) q) (lookup (is_at (cmp q)) es) (λ b. ap is_unneeded_in (sym (lookup_same p q es b)) ∙ u)
+
+  -- one that is needed, or none, stays
+  pub lookup-needed : (p q : P) (es : List (P × Recorded)) → is_unneeded_in (lookup (is_at (cmp p)) es) ≡ false
+      → lookup (is_at (cmp q)) es ≡ cond (is_at (cmp p) q) (needed (lookup (is_at (cmp q)) es)) (lookup (is_at (cmp q)) es)
+  lookup-needed p q es u = kept (is_at (cmp p) q) (lookup (is_at (cmp q)) es) (λ b. ap is_unneeded_in (sym (lookup_same p q es b)) ∙ u)
+
+  twice : (b : Bool) (m r : Option Recorded) → cond b (needed (cond b m r)) (cond b m r) ≡ cond b (needed m) r
+  twice true m r = refl
+  twice false m r = refl
+
+  -- a change, after which the record goes where nothing needs it
+  pub lookup-needed_written : (p q : P) (es mid new : List (P × Recorded)) (f : Recorded → Recorded) → mid ≡ written cmp (lookup (is_at (cmp p)) es) es p f
+      → lookup (is_at (cmp q)) new ≡ cond (is_at (cmp p) q) (needed (lookup (is_at (cmp q)) mid)) (lookup (is_at (cmp q)) mid)
+      → lookup (is_at (cmp q)) new ≡ cond (is_at (cmp p) q) (needed (option_map f (lookup (is_at (cmp q)) es))) (lookup (is_at (cmp q)) es)
+  lookup-needed_written p q es mid new f w e =
+      e ∙ ap (λ m. cond (is_at (cmp p) q) (needed m) m) (ap (lookup (is_at (cmp q))) w ∙ lookup-written p q es f)
+      ∙ twice (is_at (cmp p) q) (option_map f (lookup (is_at (cmp q)) es)) (lookup (is_at (cmp q)) es)

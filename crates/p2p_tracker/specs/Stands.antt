@@ -7,7 +7,7 @@ use Rattle.std.specs.BTreeMap.{is_at}
 use Rattle.std.specs.declared.cmp.Ordering.{Ordering}
 use Rattle.p2p_base.specs.declared.address.peer.Address.{Address as PeerAddress}
 use Rattle.p2p_facts.specs.Rules.{Rules}
-use Rattle.p2p_facts.specs.Sets.{primary_sets, secondary_sets}
+use Rattle.p2p_facts.specs.Sets.{PeerSet, accepted_sets, kept_sets, latest_index, primary_sets, secondary_sets}
 use Rattle.p2p_facts.specs.Grants.{is_held}
 use Rattle.p2p_facts.specs.Blocks.{is_local, block_of}
 use Rattle.p2p_facts.specs.Lives.{is_alive, address_of, is_stale, cool, next_dial, is_connected}
@@ -17,9 +17,12 @@ use Rattle.p2p_tracker.specs.declared.record.Address.TheVariants as address
 use Rattle.p2p_tracker.specs.declared.record.Status.{Status}
 use Rattle.p2p_tracker.specs.declared.record.Status.TheVariants as status
 
--- what a directory keeps: what it was told, a record for each key of which it knows, and the ends of the blocks
+-- what a directory keeps: what it was told, the sets, newest first, the index of the last one that it accepted, a record for each key of
+-- which it knows, and the ends of the blocks
 pub record Kept (P : Type 0) : Type 0 where
   pub rules : Rules P
+  pub sets : List (PeerSet P)
+  pub latest : Option ℕ
   pub records : List (P × Recorded)
   pub blocks : List (P × ℕ)
 
@@ -61,9 +64,11 @@ module _ {P : Type 0} (cmp : P → P → Ordering) (rules : Rules P) where
   unfoldable pub record_of : List (Call P) → P → Option Recorded
   record_of calls q = cond (is_local cmp rules q) (Some (own_record cmp rules calls q)) (option_map (peer_record cmp rules calls q) (address_of cmp rules calls q))
 
--- a directory stands for a list of calls, newest first: its records and blocks are those that follow from the calls, key by key, the
--- blocks stand in the order of their keys, and each other peer that is tracked or held has an address
+-- a directory stands for a list of calls, newest first: its sets are those that follow from the calls, its records and blocks too, key by
+-- key, the blocks stand in the order of their keys, and each other peer that is tracked or held has an address
 pub record StandsFor {P : Type 0} (cmp : P → P → Ordering) (kept : Kept P) (calls : List (Call P)) : Type 0 where
+  pub sets : kept.sets ≡ kept_sets cmp kept.rules calls
+  pub latest : kept.latest ≡ latest_index (accepted_sets cmp calls)
   pub records : (q : P) → lookup (is_at (cmp q)) kept.records ≡ record_of cmp kept.rules calls q
   pub blocks : (q : P) → lookup (is_at (cmp q)) kept.blocks ≡ block_of cmp kept.rules calls q
   pub ordered : IsStrictlySortedBy cmp (keys_of kept.blocks)

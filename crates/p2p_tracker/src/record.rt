@@ -2,6 +2,8 @@
 ghost use Rattle.std.specs.Prelude.{◌≡◌, ◌+◌, ◌<◌, ◌^◌, ◌&&◌, ◌||◌, nat_lt, not, true, false, IfOk};
 ghost use Rattle.p2p_facts.specs.Lives.{same_address};
 ghost use Rattle.p2p_tracker.specs.Recorded.{fresh, is_inert, is_reserved, is_myself, differs, is_in_sets, is_eligible, updated, reserve_answer, reserved_by, connected, released, ingress_in, egress_in, is_outbound_target, has_valid_ingress, dials_from, is_deletable, dial_status, is_acceptable};
+ghost use Rattle.p2p_tracker.specs.Tracked.{gets_other};
+ghost use Rattle.std.specs.Option.{option_copied};
 ghost use Rattle.p2p_tracker.specs.declared.record.Address.TheVariants as place;
 
 use p2p_base::{Ingress, IpAddr};
@@ -237,6 +239,23 @@ impl Record {
             Status::Inert => false,
             Status::Reserved => true,
             Status::Active => true,
+        }
+    }
+
+    // Whether the peer's address changed since it was granted.
+    pub(crate) fn is_stale(&self) -> bool
+        ensures { result ≡ self.now.is_stale }
+    {
+        self.is_stale
+    }
+
+    // Whether another address than the known one is given.
+    pub(crate) fn gets_other(&self, given: Option<&p2p_base::Address>) -> bool
+        ensures { result ≡ gets_other self.now.address (option_copied given.entry) }
+    {
+        match (&self.address, given) {
+            (Address::Known(known), Some(given)) => differs(known, given),
+            _ => false,
         }
     }
 

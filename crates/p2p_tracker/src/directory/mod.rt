@@ -5,6 +5,9 @@ ghost use Rattle.std.specs.BTreeMap.{is_at};
 ghost use Rattle.p2p_facts.specs.Allows.{is_acceptable, allows_dial, allows_listen};
 ghost use Rattle.p2p_facts.specs.Blocks.{is_local, is_blockable, lasts_at, is_over, block_of};
 ghost use Rattle.p2p_facts.specs.Lives.{address_of, is_eligible, is_stale, is_overwritten};
+ghost use Rattle.p2p_facts.specs.Kills.{is_killed};
+ghost use Rattle.p2p_facts.specs.Sets.{is_above, is_among, accepted_sets, latest_index};
+ghost use Rattle.p2p_tracker.specs.Tracked.{is_above_latest};
 ghost use Rattle.p2p_facts.specs.declared.call.Call.{Call};
 ghost use Rattle.p2p_facts.specs.declared.call.Call.TheVariants as call;
 ghost use Rattle.p2p_tracker.specs.Recorded.{is_eligible_in, is_acceptable_in, is_reserved_in, is_held_or_unknown, peer_of, found_ingress};
@@ -16,15 +19,24 @@ ghost use Rattle.std.specs.Option.{option_map};
 mod blocks;
 mod changes;
 mod config;
+mod enrolment;
+mod entries;
 mod grants;
+mod kills;
+mod newcomers;
+mod sets;
 
 use crate::{Metadata, Record, Reservation};
 use blocks::take_ended;
 use changes::{begin, end_hold, grant_dial, grant_listen, readdress};
 pub use config::Config;
-use p2p_base::{Address, Ingress, IpAddr, PrioritySet, PublicKey};
+use enrolment::{enrol, make_room, retire_set};
+use kills::killed;
+use newcomers::prepare;
+use p2p_base::{Address, Ingress, IpAddr, Map, PrioritySet, PublicKey, Set};
+use sets::{TrackedSet, falling, take_oldest};
 use std::alloc::{AllocError, Global};
-use std::collections::BTreeMap;
+use std::collections::{BTreeMap, VecDeque};
 use std::marker::Model;
 
 /// Which peers are known, tracked, held and blocked. It is answerable to the list of the calls so far.
@@ -34,6 +46,8 @@ use std::marker::Model;
 pub struct Directory<C: PublicKey> {
     local: C,
     cfg: Config,
+    sets: VecDeque<TrackedSet<C>>,
+    latest: Option<u64>,
     records: BTreeMap<C, Record>,
     blocks: PrioritySet<C>,
     alloc: Global,
@@ -55,6 +69,8 @@ impl<C: PublicKey> Model for Directory<C> {
         dns = d.cfg.allow_dns;
         bypass = d.cfg.bypass_ip_check;
       };
+      sets = d.sets.items;
+      latest = d.latest;
       records = d.records.entries;
       blocks = d.blocks;
     } };
@@ -79,10 +95,72 @@ impl<C: PublicKey> Directory<C> {
         Ok(Directory {
             local,
             cfg,
+            sets: VecDeque::new(alloc),
+            latest: None,
             records,
             blocks: PrioritySet::new(alloc),
             alloc,
         })
+    }
+
+    /// The index of the last peer set that was accepted. `None` exactly where none was.
+    pub fn latest_set_index(&self) -> Option<u64>
+        ensures { (calls : List (Call C)) → StandsFor C.cmp self.now calls → result ≡ latest_index (accepted_sets C.cmp calls) }
+    {
+        self.latest
+    }
+
+    // Whether a peer set of this index would be accepted.
+    fn is_next(&self, index: u64) -> bool
+        ensures { result ≡ is_above_latest index self.now.latest }
+    {
+        match self.latest {
+            Some(latest) => latest < index,
+            None => true,
+        }
+    }
+
+    /// Hands in the peer set of an index, with the addresses of its peers. It is kept, and of those that were kept the oldest one is no
+    /// longer where there were as many as are kept. A peer with both roles is primary. Gives the peers to kill: the held ones whose
+    /// address changes, and those in the oldest set that are stale or in no set then.
+    ///
+    /// `None` exactly where the index isn't above that of the last set that was accepted, and then nothing changes. `Err` only where
+    /// memory runs out, and then the set counts as never handed in.
+    pub fn track(
+        &mut self,
+        index: u64,
+        primary: Map<C, Address>,
+        secondary: Map<C, Address>,
+    ) -> Result<Option<Set<C>>, AllocError>
+        ensures accepted { IfOk result (λ o. (calls : List (Call C)) → StandsFor C.cmp self.old calls → is_some o ≡ is_above index (accepted_sets C.cmp calls)) }
+        ensures killed { IfOk result (λ o. IfSome o (λ k. (calls : List (Call C)) → StandsFor C.cmp self.old calls
+            → (q : C) → is_among C.cmp k q ≡ is_killed C.cmp self.old.rules index primary secondary calls q)) }
+        ensures rules { self.new.rules ≡ self.old.rules }
+        ensures stands { IfOk result (λ o. (calls : List (Call C)) → StandsFor C.cmp self.old calls → StandsFor C.cmp self.new (call.Track index primary secondary ∷ calls)) }
+        ensures memory { OnErr result ((calls : List (Call C)) → StandsFor C.cmp self.old calls → StandsFor C.cmp self.new calls) }
+    {
+        if !self.is_next(index) {
+            return Ok(None);
+        }
+        let newcomers = prepare(self.alloc, index, &primary, &secondary)?;
+        let fallen = falling(&self.sets, self.cfg.max_sets, &newcomers.set);
+        let kills = killed(
+            self.alloc,
+            &self.records,
+            &primary,
+            &secondary,
+            &newcomers.set,
+            fallen,
+        )?;
+        self.sets.reserve(1)?;
+        make_room(&mut self.records, &newcomers.set)?;
+        enrol(&mut self.records, newcomers.primary, true);
+        enrol(&mut self.records, newcomers.secondary, false);
+        self.sets.push_front_reserved(newcomers.set);
+        self.latest = Some(index);
+        let oldest = take_oldest(&mut self.sets, self.cfg.max_sets);
+        retire_set(&mut self.records, oldest);
+        Ok(Some(kills))
     }
 
     // Whether the peer's block ends after `now`.
