@@ -9,6 +9,8 @@ mod message;
 mod metadata;
 mod oracle;
 mod question;
+mod set_size;
+mod tracking;
 mod waiting;
 
 pub use mailbox::Mailbox;
@@ -18,3 +20,5 @@ pub use oracle::Oracle;
 
 #[cfg(test)]
 mod tests;
+#[cfg(test)]
+mod tracking_tests;
