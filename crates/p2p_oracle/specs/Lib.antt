@@ -1,0 +1,4 @@
+pub mod Desk
+pub mod OracleLaws
+pub mod Questions
+pub mod Reserved

@@ -1,0 +1,100 @@
+//! `Message`, what the tracker is told and asked.
+use crate::Metadata;
+use p2p_base::{Address, IpAddr, Keep, Map, Policy, PublicKey, UnreliablePolicy};
+use p2p_flow::AddressableTrackedPeers;
+
+/// What the tracker is told and asked. A full mailbox keeps it in its overflow.
+///
+/// Ports `Message` of commonware-p2p's lookup tracker, with numbers in place of the senders that it answers by.
+#[derive(Drop)]
+pub enum Message<P: PublicKey> {
+    /// The peers of one more set are to be tracked.
+    Register {
+        /// The index of the set.
+        index: u64,
+        /// Its peers.
+        peers: AddressableTrackedPeers<P>,
+    },
+    /// Peers get these addresses in each set that is tracked.
+    Overwrite {
+        /// The addresses.
+        peers: Map<P, Address>,
+    },
+    /// Who is in a set?
+    PeerSet {
+        /// The index of the set.
+        index: u64,
+        /// The question, which is answered.
+        ticket: u64,
+    },
+    /// A subscription wants the peer sets that are tracked from now on, and the latest one.
+    Subscribe {
+        /// The subscription.
+        ticket: u64,
+    },
+    /// A peer is to be disconnected and kept away.
+    Block {
+        /// The peer.
+        public_key: P,
+    },
+    /// A subscription wants the set of blocked keys, now and whenever it changes.
+    SubscribeBlocked {
+        /// The subscription.
+        ticket: u64,
+    },
+    /// A connection of a peer has begun.
+    Connect {
+        /// The peer.
+        public_key: P,
+        /// The connection, which is ended where it isn't allowed.
+        conn: u64,
+    },
+    /// Which peers may be dialed now?
+    Dialable,
+    /// May this peer be dialed? Where it may, it is reserved.
+    Dial {
+        /// The peer.
+        public_key: P,
+    },
+    /// May this peer connect from there?
+    Acceptable {
+        /// The peer.
+        public_key: P,
+        /// Where it connects from.
+        source_ip: IpAddr,
+        /// The handshake, which is answered.
+        handshake: u64,
+    },
+    /// May this peer connect from there? Where it may, it is reserved.
+    Listen {
+        /// The peer.
+        public_key: P,
+        /// Where it connects from.
+        source_ip: IpAddr,
+        /// The handshake, which is answered.
+        handshake: u64,
+    },
+    /// A reservation is given back.
+    Release {
+        /// Who was reserved.
+        metadata: Metadata<P>,
+    },
+}
+
+impl<P: PublicKey> UnreliablePolicy for Message<P> {
+    ghost use Rattle.p2p_base.specs.declared.policy.Keep.TheVariants as keep;
+
+    ghost keep_of = { λ _. keep.Append };
+
+    fn keep(&self) -> Keep {
+        Keep::Append
+    }
+}
+
+impl<P: PublicKey> Policy for Message<P> {
+    ghost use Rattle.std.specs.Prelude.{refl};
+    ghost use Rattle.p2p_base.specs.Policy.{not_refused};
+    ghost use Rattle.p2p_base.specs.declared.policy.Keep.TheVariants as keep;
+
+    ghost never_refuses = { λ _. not_refused keep.Append refl };
+}
