@@ -40,6 +40,11 @@ others true b = refl
 others false true = refl
 others false false = refl
 
+unlisted_other : (a b held : Bool) → ((a || b) || held) ≡ false → false ≡ ((a || b) && not a)
+unlisted_other true b held e = refl
+unlisted_other false true held e = absurd (false≢true (sym e))
+unlisted_other false false held e = refl
+
 secondary_step : (local held : Bool) (cooldown n m : ℕ) (joined stale : Bool) (g : Option Grant) (a : Option PeerAddress)
     → (local ≡ false → ((nat_lt 0 n || nat_lt 0 m) || held) ≡ is_some a)
     → passes (λ r. not (nat_lt 0 r.primary) && nat_lt 0 r.secondary) (cond local (Some (own n m)) (option_map (peer cooldown held joined n m stale g) a))
@@ -47,8 +52,7 @@ secondary_step : (local held : Bool) (cooldown n m : ℕ) (joined stale : Bool) 
 unfolding own peer
 secondary_step true held cooldown n m joined stale g a h = others (nat_lt 0 n) (nat_lt 0 m)
 secondary_step false held cooldown n m joined stale g (Some a) h = others (nat_lt 0 n) (nat_lt 0 m)
-secondary_step false held cooldown n m joined stale g None h =
-    ap (λ b. not (nat_lt 0 n) && b) (unlisted n m held (h refl)).1 ∙ (ap (λ b. not (nat_lt 0 n) && b) (sym (unlisted n m held (h refl)).1) ∙ others (nat_lt 0 n) (nat_lt 0 m))
+secondary_step false held cooldown n m joined stale g None h = unlisted_other (nat_lt 0 n) (nat_lt 0 m) held (h refl)
 
 passes-lasts : (t : ℕ) (b : Option ℕ) → passes (λ end. nat_lt t end) b ≡ lasts_at b t
 passes-lasts t None = refl

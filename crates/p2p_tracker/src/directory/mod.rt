@@ -145,7 +145,8 @@ impl<C: PublicKey> Directory<C> {
             → (q : C) → is_among C.cmp r q ≡ is_blocked C.cmp self.now.rules calls q now) }
     {
         let peers = blocked(self.alloc, &self.blocks, now)?;
-        Set::from_iter_dedup(peers)
+        let keys = Set::from_iter_dedup(peers)?;
+        Ok(keys)
     }
 
     // Whether a peer set of this index would be accepted.
