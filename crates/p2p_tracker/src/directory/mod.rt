@@ -352,6 +352,17 @@ impl<C: PublicKey> Directory<C> {
         end_hold(&mut self.records, metadata.public_key());
     }
 
+    // Whether `release` may be called for this peer.
+    #[cfg(test)]
+    pub(crate) fn may_release(&self, peer: &C) -> bool
+        ensures { result ≡ is_held_or_unknown (lookup (is_at (C.cmp peer.now)) self.now.records) }
+    {
+        match self.records.get(peer) {
+            Some(record) => record.is_reserved_or_connected(),
+            None => true,
+        }
+    }
+
     /// Blocks `peer` from the moment `now` on for the block's duration. True exactly where it is another's key and isn't blocked then.
     ///
     /// `Err` only where memory runs out, and then nothing has changed.
