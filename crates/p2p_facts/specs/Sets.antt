@@ -1,6 +1,6 @@
 -- The peer sets that are kept. The calls stand newest first.
-use Rattle.std.specs.Prelude.{ℕ, Bool, true, cond, not, ◌||◌, suc, nat_lt, List, [], ◌∷◌, take, Option, Some, None}
-use Rattle.std.specs.List.{list_any, filter}
+use Rattle.std.specs.Prelude.{ℕ, Bool, true, cond, not, ◌||◌, suc, nat_lt, nat_eq, List, [], ◌∷◌, take, Option, Some, None}
+use Rattle.std.specs.List.{list_any, filter, find}
 use Rattle.std.specs.Map.{keys_of}
 use Rattle.std.specs.BTreeMap.{is_at}
 use Rattle.std.specs.declared.cmp.Ordering.{Ordering}
@@ -30,6 +30,10 @@ module _ {P : Type 0} where
   abbrev pub latest_index : List (PeerSet P) → Option ℕ
   latest_index [] = None
   latest_index (s ∷ sets) = Some s.index
+
+  -- the set of an index
+  abbrev pub set_at : ℕ → List (PeerSet P) → Option (PeerSet P)
+  set_at index sets = find (λ s. nat_eq index s.index) sets
 
 module _ {P : Type 0} (cmp : P → P → Ordering) where
   -- the key stands in the list

@@ -3,8 +3,10 @@ pub mod Asked
 pub mod Counts
 pub mod Ended
 pub mod Enrolling
+pub mod Entries
 pub mod Keeping
 pub mod Killing
+pub mod Listing
 pub mod Newcomers
 pub mod Reading
 pub mod Standing

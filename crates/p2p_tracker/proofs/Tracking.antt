@@ -79,7 +79,7 @@ peer_retired cooldown n m held joined stale g a false false h =
     ∙ ap (λ x. cond ((nat_lt 0 x || nat_lt 0 m) || held) (Some (peer cooldown held joined x m stale g a)) None) (minus_none n)
     ∙ ap (λ x. cond ((nat_lt 0 (n - one_if false) || nat_lt 0 x) || held) (Some (peer cooldown held joined (n - one_if false) x stale g a)) None) (minus_none m)
 
-or_false : (a b : Bool) → (a || b) ≡ false → (a ≡ false) × (b ≡ false)
+pub or_false : (a b : Bool) → (a || b) ≡ false → (a ≡ false) × (b ≡ false)
 or_false true b e = absurd (false≢true (sym e))
 or_false false b e = (refl, e)
 

@@ -11,7 +11,7 @@ use Rattle.std.specs.Ordering.{is_eq, ordering_reverse}
 use Rattle.std.specs.declared.cmp.Ordering.{Ordering}
 use Rattle.std.specs.declared.cmp.Ordering.TheVariants.{Less, Equal, Greater}
 
-equal_by : (r : Ordering) → is_eq r ≡ true → r ≡ Equal
+pub equal_by : (r : Ordering) → is_eq r ≡ true → r ≡ Equal
 equal_by Less e = absurd (false≢true e)
 equal_by Equal e = refl
 equal_by Greater e = absurd (false≢true e)
@@ -28,7 +28,7 @@ module _ {P X R : Type 0} (cmp : P → P → Ordering) (f : X → R → R) where
 
 module _ {P : Type 0} {cmp : P → P → Ordering} (o : IsTotalOrder cmp) where
   -- keys above one that is equal to another are not equal to it
-  apart : (p q : P) (ks : List P) → cmp p q ≡ Equal → AllByRecursion (λ y. cmp p y ≡ Less) ks → AllByRecursion (λ y. is_at (cmp y) q ≡ false) ks
+  pub apart : (p q : P) (ks : List P) → cmp p q ≡ Equal → AllByRecursion (λ y. cmp p y ≡ Less) ks → AllByRecursion (λ y. is_at (cmp y) q ≡ false) ks
   apart p q [] h a = tt
   apart p q (y ∷ ks) h a = (ap is_eq (o.antisymm y q ∙ ap ordering_reverse (sym (o.congr p q y h) ∙ a.0)), apart p q ks h a.1)
 

@@ -1,12 +1,12 @@
 //! `Directory`, which peers are known, tracked, held and blocked.
-ghost use Rattle.std.specs.Prelude.{◌≡◌, ◌+◌, [], ◌∷◌, List, Some, None, true, false, not, is_some, IfOk, OnErr, IfSome};
+ghost use Rattle.std.specs.Prelude.{◌≡◌, ◌+◌, ◌&&◌, [], ◌∷◌, List, Some, None, true, false, not, is_some, IfOk, OnErr, IfSome};
 ghost use Rattle.std.specs.Map.{lookup};
 ghost use Rattle.std.specs.BTreeMap.{is_at};
 ghost use Rattle.p2p_facts.specs.Allows.{is_acceptable, allows_dial, allows_listen};
-ghost use Rattle.p2p_facts.specs.Blocks.{is_local, is_blockable, lasts_at, is_over, block_of};
+ghost use Rattle.p2p_facts.specs.Blocks.{is_local, is_blockable, is_blocked, lasts_at, is_over, block_of};
 ghost use Rattle.p2p_facts.specs.Lives.{address_of, is_eligible, is_stale, is_overwritten};
 ghost use Rattle.p2p_facts.specs.Kills.{is_killed};
-ghost use Rattle.p2p_facts.specs.Sets.{is_above, is_among, accepted_sets, latest_index};
+ghost use Rattle.p2p_facts.specs.Sets.{is_above, is_among, accepted_sets, kept_sets, latest_index, set_at, is_tracked, is_primary};
 ghost use Rattle.p2p_tracker.specs.Tracked.{is_above_latest};
 ghost use Rattle.p2p_facts.specs.declared.call.Call.{Call};
 ghost use Rattle.p2p_facts.specs.declared.call.Call.TheVariants as call;
@@ -23,6 +23,7 @@ mod enrolment;
 mod entries;
 mod grants;
 mod kills;
+mod lists;
 mod newcomers;
 mod sets;
 
@@ -32,9 +33,10 @@ use changes::{begin, end_hold, grant_dial, grant_listen, readdress};
 pub use config::Config;
 use enrolment::{enrol, make_room, retire_set};
 use kills::killed;
+use lists::{blocked, primary_peers, secondary_peers};
 use newcomers::prepare;
 use p2p_base::{Address, Ingress, IpAddr, Map, PrioritySet, PublicKey, Set};
-use sets::{TrackedSet, falling, take_oldest};
+use sets::{TrackedSet, falling, find_set, take_oldest};
 use std::alloc::{AllocError, Global};
 use std::collections::{BTreeMap, VecDeque};
 use std::marker::Model;
@@ -108,6 +110,43 @@ impl<C: PublicKey> Directory<C> {
         ensures { (calls : List (Call C)) → StandsFor C.cmp self.now calls → result ≡ latest_index (accepted_sets C.cmp calls) }
     {
         self.latest
+    }
+
+    /// The primary and the secondary peers of the set of an index. `None` exactly where no set of that index is kept.
+    pub fn get_peer_set(&self, index: u64) -> Result<Option<(Set<C>, Set<C>)>, AllocError>
+        ensures { IfOk result (λ r. (calls : List (Call C)) → StandsFor C.cmp self.now calls
+            → r ≡ option_map (λ s. (s.primary, s.secondary)) (set_at index (kept_sets C.cmp self.now.rules calls))) }
+    {
+        let Some(set) = find_set(&self.sets, index) else {
+            return Ok(None);
+        };
+        let primary = set.primary.try_clone()?;
+        let secondary = set.secondary.try_clone()?;
+        Ok(Some((primary, secondary)))
+    }
+
+    /// The primary and the secondary peers of all sets that are kept. Who is primary in one isn't secondary here.
+    pub fn all(&self) -> Result<(Set<C>, Set<C>), AllocError>
+        ensures primary { IfOk result (λ r. (calls : List (Call C)) → StandsFor C.cmp self.now calls
+            → (q : C) → is_among C.cmp r.0 q ≡ is_primary C.cmp self.now.rules calls q) }
+        ensures secondary { IfOk result (λ r. (calls : List (Call C)) → StandsFor C.cmp self.now calls
+            → (q : C) → is_among C.cmp r.1 q ≡ (is_tracked C.cmp self.now.rules calls q && not (is_primary C.cmp self.now.rules calls q))) }
+    {
+        let first = primary_peers(self.alloc, &self.records)?;
+        let second = secondary_peers(self.alloc, &self.records)?;
+        let primary = Set::from_iter_dedup(first)?;
+        let secondary = Set::from_iter_dedup(second)?;
+        Ok((primary, secondary))
+    }
+
+    /// The peers that are blocked at the moment `now`, also those of which the directory doesn't know.
+    pub fn blocked_peers(&self, now: u64) -> Result<Set<C>, AllocError>
+        ensures { IfOk result (λ r. (calls : List (Call C)) → StandsFor C.cmp self.now calls
+            → (q : C) → is_among C.cmp r q ≡ is_blocked C.cmp self.now.rules calls q now) }
+    {
+        let peers = blocked(self.alloc, &self.blocks, now)?;
+        let keys = Set::from_iter_dedup(peers)?;
+        Ok(keys)
     }
 
     // Whether a peer set of this index would be accepted.
@@ -311,6 +350,17 @@ impl<C: PublicKey> Directory<C> {
         ensures stands { (calls : List (Call C)) → StandsFor C.cmp self.old calls → StandsFor C.cmp self.new (call.Release (peer_of metadata.now) ∷ calls) }
     {
         end_hold(&mut self.records, metadata.public_key());
+    }
+
+    // Whether `release` may be called for this peer.
+    #[cfg(test)]
+    pub(crate) fn may_release(&self, peer: &C) -> bool
+        ensures { result ≡ is_held_or_unknown (lookup (is_at (C.cmp peer.now)) self.now.records) }
+    {
+        match self.records.get(peer) {
+            Some(record) => record.is_reserved_or_connected(),
+            None => true,
+        }
     }
 
     /// Blocks `peer` from the moment `now` on for the block's duration. True exactly where it is another's key and isn't blocked then.

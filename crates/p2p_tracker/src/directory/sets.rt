@@ -3,6 +3,7 @@ ghost use Rattle.std.specs.Prelude.{◌≡◌, ◌<◌, ◌≤◌, ◌∷◌, �
 ghost use Rattle.std.specs.Option.{option_to_list, option_copied};
 ghost use Rattle.std.specs.List.{list_any};
 ghost use Rattle.std.specs.BTreeMap.{is_at};
+ghost use Rattle.p2p_facts.specs.Sets.{set_at};
 ghost use Rattle.p2p_tracker.specs.Tracked.{oldest_of};
 
 use p2p_base::{PublicKey, Set};
@@ -30,6 +31,16 @@ pub(super) fn has<C: PublicKey>(keys: &Set<C>, key: &C) -> bool
     ensures { result ≡ list_any (is_at (C.cmp key.now)) keys.now }
 {
     keys.position(key).is_some()
+}
+
+// The set of an index.
+pub(super) fn find_set<C: PublicKey>(
+    sets: &VecDeque<TrackedSet<C>>,
+    index: u64,
+) -> Option<&TrackedSet<C>>
+    ensures { option_copied result ≡ set_at index sets.now.items }
+{
+    sets.iter().find(|set| set.index == index)
 }
 
 // The set that is kept no longer once `set` comes before the others, of which at most `max_sets` are kept.
