@@ -1,7 +1,6 @@
 -- The law of `Provider` and `Blocker` at `Oracle`.
 use Rattle.std.specs.Prelude.{◌≡◌, ◌↔◌, Bool, true, false, if◌then◌else◌, IsTrue, refl}
 use Rattle.p2p_base.specs.Queue.{has_room}
-use Rattle.p2p_base.specs.declared.outcome.Feedback.{Feedback}
 use Rattle.p2p_base.specs.declared.outcome.Feedback.TheVariants as feedback
 use Rattle.p2p_oracle.specs.Desk.{Desk, told_of}
 
