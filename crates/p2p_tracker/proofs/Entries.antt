@@ -15,7 +15,7 @@ use Rattle.p2p_tracker.proofs.Newcomers.{list_any-flip}
 use Rattle.p2p_tracker.proofs.Walks.{apart, equal_by}
 
 module _ {P X : Type 0} {cmp : P → P → Ordering} (o : IsTotalOrder cmp) where
-  lookup_past : (es : List (P × X)) (q : P) → AllByRecursion (λ y. is_at (cmp y) q ≡ false) (keys_of es) → lookup (λ p. is_at (cmp p) q) es ≡ None
+  pub lookup_past : (es : List (P × X)) (q : P) → AllByRecursion (λ y. is_at (cmp y) q ≡ false) (keys_of es) → lookup (λ p. is_at (cmp p) q) es ≡ None
   lookup_past [] q a = refl
   lookup_past (e ∷ es) q a = ap (λ b. cond b (Some e.1) (lookup (λ p. is_at (cmp p) q) es)) a.0 ∙ lookup_past es q a.1
 
@@ -41,7 +41,14 @@ module _ {P X : Type 0} {cmp : P → P → Ordering} (o : IsTotalOrder cmp) wher
       ∙ among_step (test q) (test e.0 e.1) (is_at (cmp e.0) q) e q (filter (λ x. test x.0 x.1) es) es (h e.0 e.1)
       (λ c. lookup_past es q (apart o e.0 q (keys_of es) (equal_by (cmp e.0 q) c) s.0)) (among-entries test q es s.1 h)
 
-  -- a key is in the set of those whose entry passes where its own passes
+  -- a key is among those whose entry passes where its own passes
+  pub among-listed : (test : P → X → Bool) (q : P) (es : List (P × X)) (k : List P) → IsStrictlySortedBy cmp (keys_of es)
+      → ((p : P) (x : X) → is_at (cmp p) q ≡ true → test p x ≡ test q x)
+      → k ≡ keys_of (filter (λ e. test e.0 e.1) es) → is_among cmp k q ≡ passes (test q) (lookup (is_at (cmp q)) es)
+  among-listed test q es k s h e =
+      ap (λ ks. is_among cmp ks q) e ∙ (among-entries test q es s h ∙ ap (passes (test q)) (sym (lookup-flip o q es)))
+
+  -- the same of the set of them
   pub among-kept : (test : P → X → Bool) (q : P) (es : List (P × X)) (k : List P) → IsStrictlySortedBy cmp (keys_of es)
       → ((p : P) (x : X) → is_at (cmp p) q ≡ true → test p x ≡ test q x)
       → k ≡ sorted_once cmp (keys_of (filter (λ e. test e.0 e.1) es)) → is_among cmp k q ≡ passes (test q) (lookup (is_at (cmp q)) es)

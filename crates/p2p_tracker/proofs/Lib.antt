@@ -1,9 +1,11 @@
 pub mod Accepting
 pub mod Asked
 pub mod Counts
+pub mod Dialing
 pub mod Ended
 pub mod Enrolling
 pub mod Entries
+pub mod Found
 pub mod Keeping
 pub mod Killing
 pub mod Listing

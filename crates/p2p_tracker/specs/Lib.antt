@@ -1,3 +1,4 @@
+pub mod Listed
 pub mod Recorded
 pub mod Stands
 pub mod Tracked

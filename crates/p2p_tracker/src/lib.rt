@@ -6,7 +6,7 @@ pub mod metadata;
 pub mod record;
 pub mod reservation;
 
-pub use directory::{Config, Directory};
+pub use directory::{Config, Dialable, Directory};
 pub use metadata::Metadata;
 pub use record::{Address, DialStatus, Record, ReserveResult, Status};
 pub use reservation::Reservation;

@@ -6,6 +6,10 @@ ghost use Rattle.p2p_facts.specs.Allows.{is_acceptable, allows_dial, allows_list
 ghost use Rattle.p2p_facts.specs.Blocks.{is_local, is_blockable, is_blocked, lasts_at, is_over, block_of};
 ghost use Rattle.p2p_facts.specs.Lives.{address_of, is_eligible, is_stale, is_overwritten};
 ghost use Rattle.p2p_facts.specs.Kills.{is_killed};
+ghost use Rattle.p2p_facts.specs.Lists.{is_dialable, next_query, is_listenable};
+ghost use Rattle.p2p_tracker.specs.Listed.{is_heard, comes_by};
+ghost use Rattle.p2p_base.specs.declared.address.ip.IpAddr.{IpAddr};
+ghost use Rattle.std.specs.List.Sorted.{IsStrictlySortedBy};
 ghost use Rattle.p2p_facts.specs.Sets.{is_above, is_among, accepted_sets, kept_sets, latest_index, set_at, is_tracked, is_primary};
 ghost use Rattle.p2p_tracker.specs.Tracked.{is_above_latest};
 ghost use Rattle.p2p_facts.specs.declared.call.Call.{Call};
@@ -19,10 +23,12 @@ ghost use Rattle.std.specs.Option.{option_map};
 mod blocks;
 mod changes;
 mod config;
+mod dials;
 mod enrolment;
 mod entries;
 mod grants;
 mod kills;
+mod listens;
 mod lists;
 mod newcomers;
 mod sets;
@@ -31,8 +37,11 @@ use crate::{Metadata, Record, Reservation};
 use blocks::take_ended;
 use changes::{begin, end_hold, grant_dial, grant_listen, readdress};
 pub use config::Config;
+pub use dials::Dialable;
+use dials::{dialable_peers, next_query};
 use enrolment::{enrol, make_room, retire_set};
 use kills::killed;
+use listens::addresses;
 use lists::{blocked, primary_peers, secondary_peers};
 use newcomers::prepare;
 use p2p_base::{Address, Ingress, IpAddr, Map, PrioritySet, PublicKey, Set};
@@ -147,6 +156,38 @@ impl<C: PublicKey> Directory<C> {
         let peers = blocked(self.alloc, &self.blocks, now)?;
         let keys = Set::from_iter_dedup(peers)?;
         Ok(keys)
+    }
+
+    /// The IP addresses that eligible peers dial from at the moment `now`, in the order of their keys: those that are global, or all
+    /// where private ones are allowed.
+    pub fn listenable(&self, now: u64) -> Result<Vec<IpAddr>, AllocError>
+        ensures each { IfOk result (λ v. (calls : List (Call C)) → StandsFor C.cmp self.now calls
+            → (q : C) (source : IpAddr) → is_listenable C.cmp self.now.rules calls q source now ≡ true → is_heard v.items source ≡ true) }
+        ensures only { IfOk result (λ v. (calls : List (Call C)) → StandsFor C.cmp self.now calls
+            → (source : IpAddr) → is_heard v.items source ≡ true → (q : C) × (is_listenable C.cmp self.now.rules calls q source now ≡ true)) }
+    {
+        let private = self.cfg.allow_private_ips;
+        let found = addresses(self.alloc, &self.records, &self.blocks, private, now)?;
+        Ok(found)
+    }
+
+    /// The peers to dial at the moment `now`, in key order, and when to ask again: the least moment at which a peer that is listed no
+    /// more than for its last grant will be, or at which the block of a peer of which the directory knows ends.
+    pub fn dialable(&self, now: u64) -> Result<Dialable<C>, AllocError>
+        ensures peers { IfOk result (λ d. (calls : List (Call C)) → StandsFor C.cmp self.now calls
+            → (q : C) → is_among C.cmp d.peers.items q ≡ is_dialable C.cmp self.now.rules calls q now) }
+        ensures ordered { IfOk result (λ d. IsStrictlySortedBy C.cmp d.peers.items) }
+        ensures next { IfOk result (λ d. (calls : List (Call C)) → StandsFor C.cmp self.now calls
+            → IfSome d.next_query_at (λ n. (q : C) × (next_query C.cmp self.now.rules calls q now ≡ Some n))) }
+        ensures least { IfOk result (λ d. (calls : List (Call C)) → StandsFor C.cmp self.now calls
+            → (q : C) → IfSome (next_query C.cmp self.now.rules calls q now) (λ t. comes_by d.next_query_at t ≡ true)) }
+    {
+        let peers = dialable_peers(self.alloc, &self.records, &self.blocks, &self.cfg, now)?;
+        let next_query_at = next_query(&self.records, &self.blocks, &self.cfg, now);
+        Ok(Dialable {
+            peers,
+            next_query_at,
+        })
     }
 
     // Whether a peer set of this index would be accepted.
