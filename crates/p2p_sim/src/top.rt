@@ -38,6 +38,7 @@ pub fn sim<S: Source, K: Sink>(
 
     // Reading.
     ensures read_fault { result ≡ status.ReadFault → Rose (S.faults_of source.old) (S.faults_of source.new) }
+    ensures no_read_fault { ¬ (result ≡ status.ReadFault) → S.faults_of source.new ≡ S.faults_of source.old }
     ensures taken { (taken : List ℕ) × Takes (S.bytes_left source.old) taken (S.bytes_left source.new)
         × (length taken ≤ LIMIT + 1) × ((result ≡ status.TooLong) ↔ (length taken ≡ LIMIT + 1)) }
     ensures source_end { ¬ IsSilent result → IfSome (S.bytes_left source.new) (λ rest. rest ≡ []) }
@@ -61,6 +62,7 @@ pub fn sim<S: Source, K: Sink>(
 
     // Writing, and what stays as it was.
     ensures write_fault { result ≡ status.WriteFault → Rose (K.faults_of sink.old) (K.faults_of sink.new) }
+    ensures no_write_fault { ¬ (result ≡ status.WriteFault) → K.faults_of sink.new ≡ K.faults_of sink.old }
     ensures front { result ≡ status.WriteFault → (input : List ℕ) → S.bytes_left source.old ≡ Some input
         → HasStopped refusal_of RunsTree input (K.bytes_held sink.old) (K.bytes_held sink.new) }
     ensures unwritten { IsSilent result → sink.new ≡ sink.old }
