@@ -171,8 +171,8 @@ impl<C: PublicKey> Directory<C> {
         Ok(found)
     }
 
-    /// The peers to dial at the moment `now`, in key order, and when to ask again: the least moment at which a peer that is listed no
-    /// more than for its last grant will be, or at which the block of a peer of which the directory knows ends.
+    /// The peers to dial at the moment `now`, in key order, and when to ask again: the least moment at which a peer that waits for its
+    /// next dial alone is listed, or at which the block of a peer of which the directory knows ends.
     pub fn dialable(&self, now: u64) -> Result<Dialable<C>, AllocError>
         ensures peers { IfOk result (λ d. (calls : List (Call C)) → StandsFor C.cmp self.now calls
             → (q : C) → is_among C.cmp d.peers.items q ≡ is_dialable C.cmp self.now.rules calls q now) }
