@@ -1,7 +1,7 @@
 //! Peer sets that are handed in.
 use crate::{Mailbox, Message, Oracle};
 use p2p_base::{Address, Feedback, IpAddr, Key, Map, SetError, SocketAddr};
-use p2p_flow::{AddressableTrackedPeers, TrackError};
+use p2p_flow::{AddressableManager, AddressableTrackedPeers, TrackError};
 use std::alloc::{AllocError, Global};
 use std::test::Fail;
 
@@ -23,7 +23,7 @@ fn at(alloc: Global, keys: &[Key]) -> Result<Map<Key, Address>, SetError> {
 #[test]
 fn a_set_with_too_many_keys_is_refused(rt: HostRuntime) -> Result<(), Fail> {
     let mut way = Mailbox::new(rt.alloc(), 4)?;
-    let oracle = Oracle::new(Key(1), 2);
+    let mut oracle = Oracle::new(Key(1), 2);
     let primary = at(rt.alloc(), &[Key(2)])?;
     let secondary = at(rt.alloc(), &[Key(3)])?;
     let peers = AddressableTrackedPeers::new(primary, secondary);
@@ -36,14 +36,14 @@ fn a_set_with_too_many_keys_is_refused(rt: HostRuntime) -> Result<(), Fail> {
 #[test]
 fn a_set_that_fits_waits_for_the_tracker(rt: HostRuntime) -> Result<(), Fail> {
     let mut way = Mailbox::new(rt.alloc(), 1)?;
-    let oracle = Oracle::new(Key(1), 2);
+    let mut oracle = Oracle::new(Key(1), 2);
     let primary = at(rt.alloc(), &[Key(1), Key(2)])?;
     let secondary = at(rt.alloc(), &[Key(2)])?;
     let peers = AddressableTrackedPeers::new(primary, secondary);
     let told = oracle.track(rt.alloc(), &mut way, 6, peers);
     assert!(rt; told == Ok(Feedback::Ok));
     let again = at(rt.alloc(), &[Key(2)])?;
-    let told = oracle.overwrite(&mut way, again)?;
+    let told = oracle.overwrite(rt.alloc(), &mut way, again)?;
     assert_eq!(rt; told, Feedback::Backoff);
     assert!(rt; matches!(way.take(), Some(Message::Register { index: 6, .. })));
     assert!(rt; matches!(way.take(), Some(Message::Overwrite { .. })));

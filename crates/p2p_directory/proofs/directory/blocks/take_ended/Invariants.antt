@@ -1,0 +1,16 @@
+use Rattle.std.proofs.Common.{◌≡◌, length}
+use Rattle.std.specs.List.Sorted.{IsStrictlySortedBy}
+use Rattle.std.specs.Map.{keys_of, lookup}
+use Rattle.std.specs.BTreeMap.{is_at}
+use Rattle.p2p_facts.specs.Blocks.{unless_ended}
+use Rattle.p2p_directory.proofs.directory.blocks.take_ended.Given as goal
+
+abbrev pub invariant-loop-blocks : goal.invariant-loop-blocks
+invariant-loop-blocks g l = record {
+  ordered : IsStrictlySortedBy g.C.Ord.cmp (keys_of l.initial.blocks) → IsStrictlySortedBy g.C.Ord.cmp (keys_of l.blocks);
+  each : IsStrictlySortedBy g.C.Ord.cmp (keys_of l.initial.blocks)
+      → (q : g.row.C.Denot) → unless_ended (lookup (is_at (g.C.Ord.cmp q)) l.blocks) l.now ≡ unless_ended (lookup (is_at (g.C.Ord.cmp q)) l.initial.blocks) l.now;
+}
+
+abbrev pub decreases-loop-blocks : goal.decreases-loop-blocks
+decreases-loop-blocks g l = length l.blocks

@@ -1,0 +1,47 @@
+//! What a grant does to the record of a peer that isn't blocked.
+ghost use Rattle.std.specs.Prelude.{◌≡◌, cond};
+ghost use Rattle.p2p_directory.specs.Recorded.{may_dial, may_listen, reserved_by};
+ghost use Rattle.p2p_directory.specs.declared.record.ReserveResult.TheVariants as reserve;
+
+use crate::directory::Config;
+use crate::{Record, ReserveResult};
+use p2p_base::IpAddr;
+
+// Reserves the peer where it may be dialed. True exactly where it did.
+pub(super) fn reserve_dial(record: &mut Record, cfg: &Config, now: u64, jitter: u64) -> bool
+    ensures answer { result ≡ may_dial record.old now cfg.now.allow_private_ips cfg.now.allow_dns }
+    ensures after { record.new ≡ cond result (reserved_by reserve.Reserved record.old now cfg.now.peer_connection_cooldown jitter) record.old }
+{
+    if !record.eligible()
+        || !record.is_outbound_target()
+        || !record.has_valid_ingress(cfg.allow_private_ips, cfg.allow_dns)
+    {
+        return false;
+    }
+    match record.reserve(now, cfg.peer_connection_cooldown, jitter) {
+        ReserveResult::Reserved => true,
+        ReserveResult::RateLimited => false,
+        ReserveResult::Unavailable => false,
+    }
+}
+
+// Reserves the peer where a connection that it began from `source` may be taken up. True exactly where it did.
+pub(super) fn reserve_listen(
+    record: &mut Record,
+    cfg: &Config,
+    source: IpAddr,
+    now: u64,
+    jitter: u64,
+) -> bool
+    ensures answer { result ≡ may_listen record.old source now cfg.now.bypass_ip_check }
+    ensures after { record.new ≡ cond result (reserved_by reserve.Reserved record.old now cfg.now.peer_connection_cooldown jitter) record.old }
+{
+    if !record.acceptable(source, cfg.bypass_ip_check) {
+        return false;
+    }
+    match record.reserve(now, cfg.peer_connection_cooldown, jitter) {
+        ReserveResult::Reserved => true,
+        ReserveResult::RateLimited => false,
+        ReserveResult::Unavailable => false,
+    }
+}

@@ -1,0 +1,37 @@
+//! `Reservation`, the right to connect with a peer.
+ghost use Rattle.std.specs.Prelude.{◌≡◌};
+
+use crate::Metadata;
+use std::marker::Model;
+
+/// The right to connect with a peer. A directory alone makes one, and has it until the peer is released.
+///
+/// Ports `Reservation` of commonware-p2p's lookup tracker.
+#[derive(Drop)]
+pub struct Reservation<P> {
+    metadata: Metadata<P>,
+}
+
+impl<P> Model for Reservation<P> {
+    ghost use Rattle.p2p_directory.specs.declared.metadata.Metadata.{Metadata as Reserved};
+
+    ghost Value = { Reserved P };
+
+    ghost view = { λ r. r.metadata };
+}
+
+impl<P> Reservation<P> {
+    // The reservation of a peer that was just granted.
+    pub(crate) fn new(metadata: Metadata<P>) -> Reservation<P>
+        ensures { result ≡ metadata }
+    {
+        Reservation { metadata }
+    }
+
+    /// The peer, and which side began.
+    pub fn metadata(&self) -> &Metadata<P>
+        ensures { result.now ≡ self.now }
+    {
+        &self.metadata
+    }
+}
