@@ -1,1 +1,2 @@
+mod Alternating
 mod Worked

@@ -1,8 +1,10 @@
 pub mod Allows
 pub mod Blocks
+pub mod Granted
 pub mod Grants
 pub mod Kills
 pub mod Lists
 pub mod Lives
 pub mod Rules
 pub mod Sets
+pub mod Turns
