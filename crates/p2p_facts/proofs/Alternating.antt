@@ -31,18 +31,18 @@ may_release : (turns : List Bool) → is_granted_last turns ≡ true → may_fol
 may_release [] h = absurd (false≢true h)
 may_release (turn ∷ turns) h = h
 
-both : (a b : Bool) → a ≡ true → b ≡ true → (a && b) ≡ true
+pub both : (a b : Bool) → a ≡ true → b ≡ true → (a && b) ≡ true
 both a b h i = ap (λ x. x && b) h ∙ i
 
-first_of : (a b : Bool) → (a && b) ≡ true → a ≡ true
+pub first_of : (a b : Bool) → (a && b) ≡ true → a ≡ true
 first_of true b h = refl
 first_of false b h = h
 
-last_of : (a b : Bool) → (a && b) ≡ true → b ≡ true
+pub last_of : (a b : Bool) → (a && b) ≡ true → b ≡ true
 last_of true b h = h
 last_of false b h = absurd (false≢true h)
 
-not_true : (a : Bool) → not a ≡ true → a ≡ false
+pub not_true : (a : Bool) → not a ≡ true → a ≡ false
 not_true true h = sym h
 not_true false h = refl
 

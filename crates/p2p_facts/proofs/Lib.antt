@@ -1,2 +1,4 @@
-mod Alternating
+pub mod Alternating
+pub mod Eligible
+pub mod KeptCalls
 mod Worked

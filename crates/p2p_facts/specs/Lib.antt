@@ -2,6 +2,8 @@ pub mod Allows
 pub mod Blocks
 pub mod Granted
 pub mod Grants
+pub mod Keeping
+pub mod KeptAfter
 pub mod Kills
 pub mod Lists
 pub mod Lives
