@@ -9,7 +9,7 @@ use Rattle.p2p_facts.specs.declared.call.Call.{Call}
 use Rattle.p2p_facts.specs.declared.call.Call.TheVariants as call
 use Rattle.p2p_facts.specs.Rules.{Rules}
 use Rattle.p2p_facts.specs.Sets.{is_tracked}
-use Rattle.p2p_facts.specs.Grants.{releases}
+use Rattle.p2p_facts.specs.Grants.{Grant, grant_by, releases, held_by, is_held}
 use Rattle.p2p_facts.specs.Blocks.{lasts_at, is_local, block_by, block_of, is_blocked}
 use Rattle.p2p_facts.specs.Lives.{is_stale, is_eligible, accepts, connects}
 use Rattle.p2p_facts.specs.Keeping.{blocks, ends_connection, is_kept, connects_by, all_connect_by}
@@ -43,6 +43,11 @@ lasts_less (Some end) t now h e = less_again t now end h e
 lasts_unblocked : (end : Option ℕ) (b : Bool) (now : ℕ) → lasts_at end now ≡ false → lasts_at (cond b end None) now ≡ false
 lasts_unblocked end true now h = h
 lasts_unblocked end false now h = refl
+
+held_by_true : (grant : Option Grant) (released held : Bool) → released ≡ false → held ≡ true → held_by grant released held ≡ true
+held_by_true (Some g) released held r h = refl
+held_by_true None true held r h = absurd (false≢true (sym r))
+held_by_true None false held r h = h
 
 come_later : (t now later : ℕ) → now ≤ later → not (nat_lt now t) ≡ true → not (nat_lt later t) ≡ true
 come_later t now later h e = grind (arith, nat_tests)
@@ -130,6 +135,17 @@ module _ {P : Type 0} (cmp : P → P → Ordering) (rules : Rules P) where
 
     still_fresh : is_stale cmp rules (c ∷ calls) q ≡ false
     still_fresh = neither_last (releases cmp c q || blocks cmp c q) (is_stale cmp rules (c ∷ calls) q) fresh
+
+    no_release : releases cmp c q ≡ false
+    no_release = neither_first (releases cmp c q) (blocks cmp c q) (neither_first (releases cmp c q || blocks cmp c q) (is_stale cmp rules (c ∷ calls) q) fresh)
+
+    -- a key that was held before is held after it too
+    pub still_held : is_held cmp calls q ≡ true → is_held cmp (c ∷ calls) q ≡ true
+    unfolding is_held
+    still_held held = held_by_true (grant_by cmp c q) (releases cmp c q) (is_held cmp calls q) no_release held
+
+    pub held_or : (is_kept cmp rules calls q ≡ true → is_held cmp calls q ≡ true) → (connects cmp rules c calls q ≡ true → is_held cmp calls q ≡ true) → is_held cmp (c ∷ calls) q ≡ true
+    held_or before connecting = still_held (either (connects cmp rules c calls q) (is_kept cmp rules calls q) kept_or connecting before)
 
     no_block : blocks cmp c q ≡ false
     no_block = neither_last (releases cmp c q) (blocks cmp c q) (neither_first (releases cmp c q || blocks cmp c q) (is_stale cmp rules (c ∷ calls) q) fresh)

@@ -19,9 +19,9 @@ use Rattle.p2p_facts.specs.Blocks.{is_local, is_blocked}
 use Rattle.p2p_facts.specs.Lives.{same_address, is_change, given_by, address_of, is_stale, is_eligible, accepts, connects, is_other_than}
 use Rattle.p2p_facts.specs.Kills.{is_evicted}
 use Rattle.p2p_facts.specs.Keeping.{blocks, is_kept}
-use Rattle.p2p_facts.specs.KeptAfter.{IsLeft, IsLeftByDial, IsLeftByListen, IsLeftByUnblock, IsKeptByConnect, IsEndedByRelease, IsEndedByBlock, IsKeptByTrack, IsKeptByOverwrite, IsLeftByRefusedTrack, IsEndedByKill, IsEndedByChange, IsKeptAfter}
+use Rattle.p2p_facts.specs.KeptAfter.{IsLeft, IsLeftByDial, IsLeftByListen, IsLeftByUnblock, IsKeptByConnect, IsEndedByRelease, IsEndedByBlock, IsKeptByTrack, IsKeptByOverwrite, IsLeftByRefusedTrack, IsEndedByKill, IsEndedByChange, IsHeldWhileKept, IsKeptAfter}
 use Rattle.p2p_facts.proofs.Alternating.{first_of, last_of, not_true}
-use Rattle.p2p_facts.proofs.Eligible.{either, tracked-is_kept, not_stale-is_kept}
+use Rattle.p2p_facts.proofs.Eligible.{either, held_or, tracked-is_kept, not_stale-is_kept}
 
 and_false : (b : Bool) → (b && false) ≡ false
 and_false true = refl
@@ -231,6 +231,9 @@ module _ {P : Type 0} (cmp : P → P → Ordering) (rules : Rules P) (calls : Li
       kept-overwrite p address
       ∙ change_step (is_local cmp rules q) (is_held cmp calls q) (is_kept cmp rules calls q) (is_stale cmp rules calls q) (is_at (cmp p) q) (address_of cmp rules calls q) address j r o (fresh j) s
 
+  held-kept : IsHeldWhileKept cmp rules calls q
+  held-kept c before connecting h = held_or cmp rules c calls q h before connecting
+
   pub kept-after : IsKeptAfter cmp rules calls q
   kept-after = record {
     left = kept-left;
@@ -245,4 +248,5 @@ module _ {P : Type 0} (cmp : P → P → Ordering) (rules : Rules P) (calls : Li
     refused = kept-refused;
     kill = kept-kill;
     change = kept-change;
+    held = held-kept;
   }

@@ -67,6 +67,12 @@ module _ {P : Type 0} (cmp : P → P → Ordering) (rules : Rules P) (calls : Li
       → is_kept cmp rules calls q ≡ true → is_held cmp calls q ≡ true → is_local cmp rules q ≡ false → is_some (address_of cmp rules calls q) ≡ true
       → is_kept cmp rules (call.Overwrite p address ∷ calls) q ≡ not (is_at (cmp p) q && is_overwritten cmp rules calls q address)
 
+module _ {P : Type 0} (cmp : P → P → Ordering) (rules : Rules P) (calls : List (Call P)) (q : P) where
+  -- where connects are of held keys, who is kept is held
+  abbrev pub IsHeldWhileKept : Type 0
+  IsHeldWhileKept = (c : Call P) → (is_kept cmp rules calls q ≡ true → is_held cmp calls q ≡ true) → (connects cmp rules c calls q ≡ true → is_held cmp calls q ≡ true)
+      → is_kept cmp rules (c ∷ calls) q ≡ true → is_held cmp (c ∷ calls) q ≡ true
+
 -- what each call makes of a kept key
 pub record IsKeptAfter {P : Type 0} (cmp : P → P → Ordering) (rules : Rules P) (calls : List (Call P)) (q : P) : Type 0 where
   pub left : IsLeft cmp rules calls q
@@ -81,3 +87,4 @@ pub record IsKeptAfter {P : Type 0} (cmp : P → P → Ordering) (rules : Rules 
   pub refused : IsLeftByRefusedTrack cmp rules calls q
   pub kill : IsEndedByKill cmp rules calls q
   pub change : IsEndedByChange cmp rules calls q
+  pub held : IsHeldWhileKept cmp rules calls q
