@@ -1,5 +1,5 @@
 //! What a router puts for others.
-ghost use Rattle.std.specs.Prelude.{◌≡◌, ◌++◌, ◌∷◌, [], true, filter, OnOk, if◌then◌else◌};
+ghost use Rattle.std.specs.Prelude.{◌≡◌, ◌++◌, ◌∷◌, [], true, false, filter, OnOk, if◌then◌else◌};
 ghost use Rattle.p2p_log.specs.QueueCode.{same_queue};
 ghost use Rattle.p2p_log.specs.Lines.{placed, stands_in};
 ghost use Rattle.p2p_board.specs.Board.{held};
@@ -29,8 +29,9 @@ fn post_item(
     place: u64,
     put: &(Queue, Item),
 ) -> Result<(), AllocError>
-    ensures { OnOk result ((q : _) → boards_test q ≡ true → held board.new q
+    ensures boards { OnOk result ((q : _) → boards_test q ≡ true → held board.new q
         ≡ held board.old q ++ (if same_queue put.now.0 q then record { entry = entry; place = place; queue = put.now.0; item = put.now.1 } ∷ [] else [])) }
+    ensures others { OnOk result ((q : _) → boards_test q ≡ false → held board.new q ≡ held board.old q) }
 {
     if !is_boards(put.0) {
         return Ok(());
@@ -50,14 +51,16 @@ fn post_item(
     Ok(())
 }
 
-/// Puts those of these items whose queues stand on the board, as the puts of this entry.
+/// Puts those of these items whose queues stand on the board, as the puts of this entry. A router's
+/// own queues are left as they were.
 pub fn post(
     alloc: Global,
     board: &mut Board<Envelope>,
     entry: u64,
     puts: &[(Queue, Item)],
 ) -> Result<(), AllocError>
-    ensures { OnOk result ((q : _) → boards_test q ≡ true → held board.new q ≡ held board.old q ++ filter (stands_in q) (placed entry 0 puts.now)) }
+    ensures boards { OnOk result ((q : _) → boards_test q ≡ true → held board.new q ≡ held board.old q ++ filter (stands_in q) (placed entry 0 puts.now)) }
+    ensures others { OnOk result ((q : _) → boards_test q ≡ false → held board.new q ≡ held board.old q) }
 {
     for (place, put) in puts.iter().enumerate() {
         post_item(alloc, board, entry, place as u64, put)?;
