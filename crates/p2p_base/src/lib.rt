@@ -37,12 +37,3 @@ pub use streams::{
     Sink, Source, StdSink, StdSource, write_all,
 };
 pub use text::Text;
-
-#[cfg(test)]
-mod address_tests;
-#[cfg(test)]
-mod draws_tests;
-#[cfg(test)]
-mod order_tests;
-#[cfg(test)]
-mod tests;

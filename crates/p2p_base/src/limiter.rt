@@ -55,19 +55,3 @@ impl Limiter {
         self.held -= 1;
     }
 }
-
-#[cfg(test)]
-mod tests {
-    use super::*;
-
-    #[test]
-    fn places_are_taken_and_given_back(rt: HostRuntime) {
-        let mut limiter = Limiter::new(2);
-        assert!(rt; limiter.try_acquire());
-        assert!(rt; limiter.try_acquire());
-        assert!(rt; !limiter.try_acquire());
-        limiter.release();
-        assert!(rt; limiter.try_acquire());
-        assert!(rt; !Limiter::new(0).try_acquire());
-    }
-}

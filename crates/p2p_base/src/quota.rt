@@ -87,6 +87,3 @@ impl Quota {
         self.period
     }
 }
-
-#[cfg(test)]
-mod tests;

@@ -16,11 +16,7 @@ pub mod facts;
 pub mod frames;
 pub mod lines;
 pub mod router;
-#[cfg(test)]
-mod rows;
 pub mod script;
-#[cfg(test)]
-mod tests;
 pub mod valid;
 
 pub use crate::acts::effect;

@@ -26,10 +26,3 @@ pub use subscription::{BlockedSubscription, PeerSetSubscription};
 pub use track_error::TrackError;
 pub use tracked::TrackedPeers;
 pub use update::PeerSetUpdate;
-
-#[cfg(test)]
-mod blocker_tests;
-#[cfg(test)]
-mod peer_tests;
-#[cfg(test)]
-mod tests;

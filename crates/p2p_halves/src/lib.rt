@@ -4,8 +4,6 @@
 pub mod arrival;
 pub mod receiving;
 pub mod sending;
-#[cfg(test)]
-mod tests;
 
 pub use receiving::receive;
 pub use sending::{begin, write_batch};

@@ -7,8 +7,6 @@ mod item;
 mod queue;
 mod reply;
 pub mod report;
-#[cfg(test)]
-mod tests;
 mod text;
 
 pub use report::write_report;

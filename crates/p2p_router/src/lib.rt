@@ -19,6 +19,3 @@ pub use mailbox::Mailbox;
 pub use message::Message;
 pub use messenger::Messenger;
 pub use stepped::{Routed, Stepped, Told};
-
-#[cfg(test)]
-mod tests;

@@ -15,6 +15,3 @@ mod step;
 
 pub use name::Name;
 pub use router::Router;
-
-#[cfg(test)]
-mod tests;

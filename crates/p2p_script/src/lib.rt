@@ -10,8 +10,6 @@ mod list;
 mod pairs;
 mod parts;
 mod script;
-#[cfg(test)]
-mod tests;
 mod tree;
 
 pub use error::ScriptError;

@@ -6,8 +6,6 @@ mod encoded;
 mod error;
 mod frame;
 mod subchannel;
-#[cfg(test)]
-mod tests;
 mod varint;
 
 pub use encoded::{EncodedData, MAX_PAYLOAD_OVERHEAD, max_message_size, max_size};

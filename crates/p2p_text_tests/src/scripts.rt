@@ -1,6 +1,7 @@
-use crate::{ScriptError, is_first_form, read_script};
+//! Which texts are scripts, and which of them are of the first form.
 use p2p_base::Key;
 use p2p_log::{Act, Recipients};
+use p2p_script::{ScriptError, is_first_form, read_script};
 use serde_json::Value;
 use std::alloc::Global;
 use std::test::Fail;

@@ -1,8 +1,8 @@
 //! Small runs of a router, with the rows that are wanted.
-use crate::Router;
 use bytes::Bytes;
 use p2p_base::{Key, List};
 use p2p_log::{Item, Row};
+use p2p_routers::Router;
 use std::alloc::Global;
 use std::test::Fail;
 

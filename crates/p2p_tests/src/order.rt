@@ -1,10 +1,10 @@
 //! Sets, maps and priority sets: each call once, and each generic type at concrete ones.
-use crate::{Key, Map, PrioritySet, PublicKey, Set, SetError};
+use p2p_base::{Key, Map, PrioritySet, PublicKey, Set, SetError};
 use std::alloc::{AllocError, Global};
 use std::test::Fail;
 
 // The set of these keys, through the bound alone.
-fn set_of<P: PublicKey>(alloc: Global, keys: &[P]) -> Result<Set<P>, SetError> {
+pub fn set_of<P: PublicKey>(alloc: Global, keys: &[P]) -> Result<Set<P>, SetError> {
     Set::try_from(Vec::from_slice(alloc, keys)?)
 }
 

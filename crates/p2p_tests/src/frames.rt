@@ -1,6 +1,9 @@
-use super::*;
+//! Frames, prefixes and sizes, and the answers to bytes that are none.
 use bytes::Bytes;
-use std::test::*;
+use p2p_wire::{
+    CodecError, Data, EncodedData, Message, max_message_size, max_size, parse, prefix, prefixed,
+};
+use std::test::Fail;
 
 fn decoded(
     rt: &HostRuntime,

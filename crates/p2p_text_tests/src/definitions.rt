@@ -1,9 +1,10 @@
 //! The definitions, run on worked scripts.
+use crate::reports::text_of;
 use crate::rows::{
     CAPACITY, HELLO, HELLO_REPORT, LATE, MOMENTS, RELAY, RELAY_REPORT, SUBSCRIPTION,
     SUBSCRIPTION_REPORT, UNBOUND, UNBOUND_REPORT,
 };
-use crate::{RunError, run};
+use p2p_effect::{RunError, run};
 use p2p_log::Report;
 use p2p_report::write_report;
 use p2p_script::read_script;
@@ -22,16 +23,6 @@ fn report_of(alloc: Global, script: &str) -> Result<String, Fail> {
         Err(RunError::Event(place)) => Ok(format!(in alloc; "event {place}")?),
         Err(RunError::Memory) => Ok(String::from_str(alloc, "no memory")?),
     }
-}
-
-// These lines, each with its end.
-fn text_of(alloc: Global, lines: &[&str]) -> Result<String, Fail> {
-    let mut text = String::new(alloc);
-    for line in lines {
-        text.push_str(line)?;
-        text.push_str("\n")?;
-    }
-    Ok(text)
 }
 
 #[test]

@@ -1,23 +1,19 @@
 //! Peer sets in their two roles, with and without addresses, and why they are refused.
-use crate::{
+use crate::order::set_of;
+use p2p_base::{Address, IpAddr, Key, Map, PublicKey, SetError, SocketAddr};
+use p2p_flow::{
     AddressableTrackedPeers, BlockedSubscription, Ended, PeerSetSubscription, PeerSetUpdate,
     TrackError, TrackedPeers,
 };
-use p2p_base::{Address, IpAddr, Key, Map, PublicKey, Set, SetError, SocketAddr};
 use std::alloc::{AllocError, Global};
 use std::test::Fail;
-
-// The set of these keys, through the bound alone.
-fn set_of<P: PublicKey>(alloc: Global, keys: &[P]) -> Result<Set<P>, AllocError> {
-    Set::from_iter_dedup(Vec::from_slice(alloc, keys)?)
-}
 
 // These primary and these secondary peers.
 fn peers_of(
     alloc: Global,
     primary: &[Key],
     secondary: &[Key],
-) -> Result<TrackedPeers<Key>, AllocError> {
+) -> Result<TrackedPeers<Key>, SetError> {
     let primary = set_of(alloc, primary)?;
     let secondary = set_of(alloc, secondary)?;
     Ok(TrackedPeers::new(primary, secondary))

@@ -1,10 +1,10 @@
 //! The text of a report with each kind of queue, item, reply, end and fate.
-use crate::write_report;
 use bytes::Bytes;
 use p2p_base::{Key, List};
 use p2p_log::{
     Act, Cause, End, Entry, Event, Item, Outcome, Queue, Rate, Recipients, Reply, Report, Side,
 };
+use p2p_report::write_report;
 use std::alloc::{AllocError, Global};
 use std::test::Fail;
 
@@ -251,6 +251,16 @@ const LINES: [&str; 18] = [
     r#"{"copies":7,"entries":10}"#,
 ];
 
+// These lines, each with its end.
+pub fn text_of(alloc: Global, lines: &[&str]) -> Result<String, Fail> {
+    let mut text = String::new(alloc);
+    for line in lines {
+        text.push_str(line)?;
+        text.push_str("\n")?;
+    }
+    Ok(text)
+}
+
 #[test]
 fn each_kind_has_its_text(rt: HostRuntime) -> Result<(), Fail> {
     let alloc = rt.alloc();
@@ -261,11 +271,7 @@ fn each_kind_has_its_text(rt: HostRuntime) -> Result<(), Fail> {
         log: List::new(log),
     };
     let text = write_report(alloc, &report)?;
-    let mut wanted = String::new(alloc);
-    for line in LINES {
-        wanted.push_str(line)?;
-        wanted.push_str("\n")?;
-    }
+    let wanted = text_of(alloc, &LINES)?;
     assert_eq!(rt; text.as_str(), wanted.as_str());
     let nothing = Report {
         log: List::new(Vec::new(alloc)),

@@ -1,6 +1,6 @@
 //! Each call of a relay once, with the answers that are wanted, and the comparisons of plain data.
-use crate::{Polled, Recipients, Relay};
 use p2p_base::{Key, List, Sent};
+use p2p_flow::{Polled, Recipients, Relay};
 use std::test::Fail;
 
 #[test]

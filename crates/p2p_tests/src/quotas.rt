@@ -1,4 +1,5 @@
-use super::*;
+//! Quotas, and the limiters by rate, by key and by places.
+use p2p_base::{KeyedRateLimiter, Limiter, Quota, RateLimiter};
 use std::test::Fail;
 
 #[test]
@@ -95,4 +96,15 @@ fn checks_of_keys(rt: HostRuntime) -> Result<(), Fail> {
         }
     }
     Ok(())
+}
+
+#[test]
+fn places_are_taken_and_given_back(rt: HostRuntime) {
+    let mut limiter = Limiter::new(2);
+    assert!(rt; limiter.try_acquire());
+    assert!(rt; limiter.try_acquire());
+    assert!(rt; !limiter.try_acquire());
+    limiter.release();
+    assert!(rt; limiter.try_acquire());
+    assert!(rt; !Limiter::new(0).try_acquire());
 }

@@ -1,8 +1,8 @@
 //! A frame's way over a link to its channel.
-use crate::{receive, write_batch};
 use bytes::Bytes;
 use p2p_base::{Key, List};
 use p2p_board::Board;
+use p2p_halves::{receive, write_batch};
 use p2p_log::{Envelope, Item, Queue, Side};
 use p2p_wire::EncodedData;
 use std::alloc::{AllocError, Global};

@@ -3,8 +3,8 @@ ghost use Rattle.std.specs.Prelude.{◌≡◌, ◌<◌, length, OnErr, OnOk, IfO
 ghost use Rattle.p2p_flow.specs.Blocking.{with_subscriber, blocked_at, without_set};
 ghost use Rattle.p2p_base.specs.declared.outcome.Feedback.TheVariants as feedback;
 
-use crate::{BlockedSubscription, Blocker, Ended, Polled};
 use p2p_base::{Feedback, Key, PublicKey, Set};
+use p2p_flow::{BlockedSubscription, Blocker, Ended, Polled};
 use std::alloc::{AllocError, Global};
 use std::marker::{Model, PhantomData};
 use std::test::Fail;

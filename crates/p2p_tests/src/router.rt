@@ -1,10 +1,10 @@
 //! Small runs of messenger and router, with the answers that are wanted.
 ghost use Rattle.std.specs.Prelude.{◌≡◌, ◌+◌, length, IfOk, OnOk};
 
-use crate::{Actor, Config, Mailbox, Message, Messenger, Routed, Stepped};
 use bytes::Bytes;
 use p2p_base::{Feedback, Key, List, Unreliable};
 use p2p_flow::{Carrier, Connected, Recipients, Relay};
+use p2p_router::{Actor, Config, Mailbox, Messenger, Routed, Stepped};
 use p2p_wire::EncodedData;
 use std::alloc::{AllocError, Global};
 use std::test::Fail;
@@ -21,6 +21,27 @@ fn numbers(alloc: Global, peers: &List<Key>) -> Result<Vec<u64>, AllocError> {
     peers.as_slice().iter().map(|peer| peer.0).collect(alloc)
 }
 
+// A messenger that is bound to this mailbox.
+fn bound_to(alloc: Global, mailbox: Mailbox<Key>) -> Result<Messenger<Key>, Fail> {
+    let mut messenger = Messenger::unbound(alloc);
+    messenger.bind(mailbox).map_err(|_| "room")?;
+    Ok(messenger)
+}
+
+// What the next step takes, with the connection, the peer or the subscription that it names.
+fn taken(
+    actor: &mut Actor<Key>,
+    messenger: &mut Messenger<Key>,
+) -> Result<(&'static str, Option<u64>), AllocError> {
+    match actor.step(messenger)? {
+        Stepped::Idle => Ok(("nothing", None)),
+        Stepped::Ready { conn, .. } => Ok(("ready", Some(conn))),
+        Stepped::Release { peer, .. } => Ok(("release", Some(peer.0))),
+        Stepped::Content { .. } => Ok(("content", None)),
+        Stepped::SubscribePeers { subscription, .. } => Ok(("subscribe", Some(subscription))),
+    }
+}
+
 #[test]
 fn a_full_mailbox_refuses_content_alone(rt: HostRuntime) -> Result<(), Fail> {
     let alloc = rt.alloc();
@@ -32,9 +53,11 @@ fn a_full_mailbox_refuses_content_alone(rt: HostRuntime) -> Result<(), Fail> {
         Unreliable::Rejected
     );
     assert_eq!(rt; mailbox.release(Key(2))?, Feedback::Backoff);
-    assert!(rt; matches!(mailbox.take(), Some(Message::Content { .. })));
-    assert!(rt; matches!(mailbox.take(), Some(Message::Release { peer: Key(2) })));
-    assert!(rt; mailbox.take().is_none());
+    let mut actor = Actor::without_peers(alloc);
+    let mut messenger = bound_to(alloc, mailbox)?;
+    for want in [("content", None), ("release", Some(2)), ("nothing", None)] {
+        assert_eq!(rt; taken(&mut actor, &mut messenger)?, want);
+    }
     Ok(())
 }
 
@@ -59,28 +82,21 @@ fn what_waits_is_put_at_bind(rt: HostRuntime) -> Result<(), Fail> {
     assert!(rt; messenger.bind(mailbox).is_ok());
     assert!(rt; messenger.bound());
     assert_eq!(rt; messenger.mailbox().map(|m| m.len()), Some(2));
-    assert!(rt;
-        matches!(
-            messenger.take(),
-            Some(Message::SubscribePeers { subscription: 0 })
-        )
-    );
-    assert!(rt;
-        matches!(
-            messenger.take(),
-            Some(Message::SubscribePeers { subscription: 1 })
-        )
-    );
-    assert!(rt; messenger.take().is_none());
+    let mut actor = Actor::without_peers(alloc);
+    for want in [
+        ("subscribe", Some(0)),
+        ("subscribe", Some(1)),
+        ("nothing", None),
+    ] {
+        assert_eq!(rt; taken(&mut actor, &mut messenger)?, want);
+    }
     Ok(())
 }
 
 // A bound messenger and its router, with nothing to do.
 fn started(alloc: Global) -> Result<(Actor<Key>, Messenger<Key>), Fail> {
     let (actor, mailbox) = Actor::new(alloc, Config { mailbox_size: 4 })?;
-    let mut messenger = Messenger::unbound(alloc);
-    messenger.bind(mailbox).map_err(|_| "room")?;
-    Ok((actor, messenger))
+    Ok((actor, bound_to(alloc, mailbox)?))
 }
 
 // Tells the router that a connection with a relay of one place is ready.
