@@ -1,5 +1,6 @@
 //! Reading from a channel.
-ghost use Rattle.std.specs.Prelude.{◌≡◌, ℕ, ◌++◌, ◌∷◌, [], length, IfOk, OnOk};
+ghost use Rattle.std.specs.Prelude.{◌≡◌, ℕ, ◌++◌, ◌∷◌, [], false, length, IfOk, OnOk};
+ghost use Rattle.p2p_log.specs.QueueCode.{same_queue};
 ghost use Rattle.p2p_log.specs.Lines.{live};
 ghost use Rattle.p2p_log.specs.Effect.{oldest_read};
 ghost use Rattle.p2p_board.specs.Board.{held};
@@ -36,7 +37,7 @@ fn read_into(row: &mut Row, item: Item) -> Result<(), AllocError>
     }
 }
 
-/// The oldest message of a channel.
+/// The oldest message of a channel. The other queues are left as they were.
 pub fn read_message(
     alloc: Global,
     board: &mut Board<Envelope>,
@@ -45,6 +46,7 @@ pub fn read_message(
 ) -> Result<Row, AllocError>
     ensures row { IfOk result (λ r. r ≡ oldest_read (held board.old (Queue.Channel number channel))) }
     ensures builds { IfOk result (λ r. (log : _) → Holds board.old (live log) → Builds board.new log r) }
+    ensures others { OnOk result ((q : _) → same_queue (Queue.Channel number channel) q ≡ false → held board.new q ≡ held board.old q) }
 {
     let queue = Queue::Channel {
         node: number,
