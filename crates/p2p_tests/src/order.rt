@@ -59,15 +59,19 @@ fn found(map: &Map<Key, char>, key: u64) -> (Option<usize>, Option<char>) {
     (map.position(&Key(key)), map.get(&Key(key)).copied())
 }
 
+// The same of 5, 9 and 1.
+fn found_each(map: &Map<Key, char>) -> [(Option<usize>, Option<char>); 3] {
+    [found(map, 5), found(map, 9), found(map, 1)]
+}
+
 #[test]
 fn a_map_has_a_value_under_each_key(rt: HostRuntime) -> Result<(), Fail> {
     let map = map_of(rt.alloc(), &PAIRS)?;
     assert_eq!(rt; map.keys(), [Key(2), Key(5), Key(9)].as_slice());
     assert_eq!(rt; map.values(), ['a', 'b', 'c'].as_slice());
     assert_eq!(rt; (map.len(), map.is_empty()), (3, false));
-    assert_eq!(rt; found(&map, 5), (Some(1), Some('b')));
-    assert_eq!(rt; found(&map, 9), (Some(2), Some('c')));
-    assert_eq!(rt; found(&map, 1), (None, None));
+    let wanted = [(Some(1), Some('b')), (Some(2), Some('c')), (None, None)];
+    assert_eq!(rt; found_each(&map), wanted);
     Ok(())
 }
 

@@ -27,13 +27,30 @@ fn a_union_has_the_keys_of_both_roles_once(rt: HostRuntime) -> Result<(), Fail> 
     Ok(())
 }
 
+// Whether the peers are these primary and these secondary ones.
+fn are(
+    alloc: Global,
+    peers: &TrackedPeers<Key>,
+    primary: &[Key],
+    secondary: &[Key],
+) -> Result<bool, SetError> {
+    Ok(*peers == peers_of(alloc, primary, secondary)?)
+}
+
+// Whether a copy of the peers is equal to them, and no peers are.
+fn compares(alloc: Global, peers: &TrackedPeers<Key>) -> Result<(bool, bool), AllocError> {
+    Ok((
+        peers.try_clone()? == *peers,
+        TrackedPeers::empty(alloc) == *peers,
+    ))
+}
+
 #[test]
 fn who_is_primary_alone_has_one_role(rt: HostRuntime) -> Result<(), Fail> {
     let peers = TrackedPeers::primary(rt.alloc(), set_of(rt.alloc(), &[Key(2)])?);
-    assert!(rt; peers == peers_of(rt.alloc(), &[Key(2)], &[])?);
-    assert!(rt; peers != peers_of(rt.alloc(), &[], &[Key(2)])?);
-    assert!(rt; peers != TrackedPeers::empty(rt.alloc()));
-    assert!(rt; peers.try_clone()? == peers);
+    assert!(rt; are(rt.alloc(), &peers, &[Key(2)], &[])?);
+    assert!(rt; !are(rt.alloc(), &peers, &[], &[Key(2)])?);
+    assert_eq!(rt; compares(rt.alloc(), &peers)?, (true, false));
     Ok(())
 }
 

@@ -4,7 +4,7 @@ ghost use Rattle.std.specs.Prelude.{◌≡◌, ◌+◌, length, IfOk, OnOk};
 use bytes::Bytes;
 use p2p_base::{Feedback, Key, List, Unreliable};
 use p2p_flow::{Carrier, Connected, Recipients, Relay};
-use p2p_router::{Actor, Config, Mailbox, Messenger, Routed, Stepped};
+use p2p_router::{Actor, Config, Mailbox, Messenger, Routed, Stepped, Told};
 use p2p_wire::EncodedData;
 use std::alloc::{AllocError, Global};
 use std::test::Fail;
@@ -24,40 +24,58 @@ fn numbers(alloc: Global, peers: &List<Key>) -> Result<Vec<u64>, AllocError> {
 // A messenger that is bound to this mailbox.
 fn bound_to(alloc: Global, mailbox: Mailbox<Key>) -> Result<Messenger<Key>, Fail> {
     let mut messenger = Messenger::unbound(alloc);
-    messenger.bind(mailbox).map_err(|_| "room")?;
+    if messenger.bind(mailbox).is_err() {
+        return Err(Fail::new("room"));
+    }
     Ok(messenger)
 }
 
-// What the next step takes, with the connection, the peer or the subscription that it names.
-fn taken(
-    actor: &mut Actor<Key>,
-    messenger: &mut Messenger<Key>,
-) -> Result<(&'static str, Option<u64>), AllocError> {
+// What a step takes, with the connection, the peer or the subscription that it names.
+#[derive(Clone, Copy, PartialEq, Eq, Debug)]
+enum Taken {
+    Nothing,
+    Ready(u64),
+    Release(Key),
+    Content,
+    Subscription(u64),
+}
+
+// What the next step takes.
+fn next_taken(actor: &mut Actor<Key>, messenger: &mut Messenger<Key>) -> Result<Taken, AllocError> {
     match actor.step(messenger)? {
-        Stepped::Idle => Ok(("nothing", None)),
-        Stepped::Ready { conn, .. } => Ok(("ready", Some(conn))),
-        Stepped::Release { peer, .. } => Ok(("release", Some(peer.0))),
-        Stepped::Content { .. } => Ok(("content", None)),
-        Stepped::SubscribePeers { subscription, .. } => Ok(("subscribe", Some(subscription))),
+        Stepped::Idle => Ok(Taken::Nothing),
+        Stepped::Ready { conn, .. } => Ok(Taken::Ready(conn)),
+        Stepped::Release { peer, .. } => Ok(Taken::Release(peer)),
+        Stepped::Content { .. } => Ok(Taken::Content),
+        Stepped::SubscribePeers { subscription, .. } => Ok(Taken::Subscription(subscription)),
     }
+}
+
+// What the first three steps of a router take.
+fn first_taken(alloc: Global, messenger: &mut Messenger<Key>) -> Result<[Taken; 3], AllocError> {
+    let mut actor = Actor::without_peers(alloc);
+    let first = next_taken(&mut actor, messenger)?;
+    let second = next_taken(&mut actor, messenger)?;
+    Ok([first, second, next_taken(&mut actor, messenger)?])
+}
+
+// What a mailbox answers to a frame for one peer.
+fn offered(alloc: Global, mailbox: &mut Mailbox<Key>) -> Result<Unreliable, AllocError> {
+    mailbox.content(Recipients::One(Key(2)), frame(alloc)?, false)
 }
 
 #[test]
 fn a_full_mailbox_refuses_content_alone(rt: HostRuntime) -> Result<(), Fail> {
     let alloc = rt.alloc();
     let mut mailbox = Mailbox::new(alloc, 1)?;
-    let to = || Recipients::One(Key(2));
-    assert_eq!(rt; mailbox.content(to(), frame(alloc)?, false)?, OK);
-    assert_eq!(rt;
-        mailbox.content(to(), frame(alloc)?, false)?,
-        Unreliable::Rejected
-    );
+    assert_eq!(rt; offered(alloc, &mut mailbox)?, OK);
+    assert_eq!(rt; offered(alloc, &mut mailbox)?, Unreliable::Rejected);
     assert_eq!(rt; mailbox.release(Key(2))?, Feedback::Backoff);
-    let mut actor = Actor::without_peers(alloc);
     let mut messenger = bound_to(alloc, mailbox)?;
-    for want in [("content", None), ("release", Some(2)), ("nothing", None)] {
-        assert_eq!(rt; taken(&mut actor, &mut messenger)?, want);
-    }
+    assert_eq!(rt;
+        first_taken(alloc, &mut messenger)?,
+        [Taken::Content, Taken::Release(Key(2)), Taken::Nothing]
+    );
     Ok(())
 }
 
@@ -82,14 +100,12 @@ fn what_waits_is_put_at_bind(rt: HostRuntime) -> Result<(), Fail> {
     assert!(rt; messenger.bind(mailbox).is_ok());
     assert!(rt; messenger.bound());
     assert_eq!(rt; messenger.mailbox().map(|m| m.len()), Some(2));
-    let mut actor = Actor::without_peers(alloc);
-    for want in [
-        ("subscribe", Some(0)),
-        ("subscribe", Some(1)),
-        ("nothing", None),
-    ] {
-        assert_eq!(rt; taken(&mut actor, &mut messenger)?, want);
-    }
+    let wanted = [
+        Taken::Subscription(0),
+        Taken::Subscription(1),
+        Taken::Nothing,
+    ];
+    assert_eq!(rt; first_taken(alloc, &mut messenger)?, wanted);
     Ok(())
 }
 
@@ -105,9 +121,21 @@ fn ready(alloc: Global, messenger: &mut Messenger<Key>, peer: Key, conn: u64) ->
 {
     let relay = Relay::new(alloc, 1)?;
     if let Some(mailbox) = messenger.mailbox() {
-        mailbox.ready(peer, relay, conn).map_err(|_| "room")?;
+        if mailbox.ready(peer, relay, conn).is_err() {
+            return Err(Fail::new("room"));
+        }
     }
     Ok(())
+}
+
+// The list that a step put, and to whom.
+fn list_of(stepped: Stepped<Key>) -> Option<Told<Key>> {
+    match stepped {
+        Stepped::Ready { told, .. } => Some(told),
+        Stepped::Release { told, .. } => Some(told),
+        Stepped::SubscribePeers { told, .. } => Some(told),
+        _ => None,
+    }
 }
 
 // The list that the next step puts, and to whom.
@@ -118,12 +146,7 @@ fn told(
 ) -> Result<(Vec<u64>, List<u64>), Fail>
     ensures { length messenger.new.lists ≡ length messenger.old.lists }
 {
-    let told = match actor.step(messenger)? {
-        Stepped::Ready { told, .. } => told,
-        Stepped::Release { told, .. } => told,
-        Stepped::SubscribePeers { told, .. } => told,
-        _ => return Err(Fail::new("a list was put")),
-    };
+    let told = list_of(actor.step(messenger)?).ok_or("a list was put")?;
     Ok((numbers(alloc, &told.peers)?, told.subscriptions))
 }
 
@@ -135,31 +158,56 @@ fn subscribed(alloc: Global, messenger: &mut Messenger<Key>) -> Result<u64, Fail
     Ok(messenger.subscribe(alloc)?)
 }
 
+// What became of the copies that a step routed.
+fn copies_of(stepped: Stepped<Key>) -> Option<List<Routed<Key>>> {
+    match stepped {
+        Stepped::Content { copies, .. } => Some(copies),
+        _ => None,
+    }
+}
+
+// Hands in content without priority.
+fn handed_in(
+    alloc: Global,
+    messenger: &mut Messenger<Key>,
+    recipients: Recipients<Key>,
+) -> Result<Unreliable, AllocError> {
+    messenger.content(alloc, recipients, 7, Bytes::from_static(b"hello"), false)
+}
+
 // Hands in content and routes it.
 fn sent(
     alloc: Global,
     actor: &mut Actor<Key>,
     messenger: &mut Messenger<Key>,
     recipients: Recipients<Key>,
-) -> Result<Vec<Routed<Key>>, Fail> {
-    messenger.content(alloc, recipients, 7, Bytes::from_static(b"hello"), false)?;
-    match actor.step(messenger)? {
-        Stepped::Content { copies, .. } => Ok(copies.into_inner()),
-        _ => Err(Fail::new("content was taken")),
+) -> Result<List<Routed<Key>>, Fail> {
+    handed_in(alloc, messenger, recipients)?;
+    Ok(copies_of(actor.step(messenger)?).ok_or("content was taken")?)
+}
+
+// A router that took in a connection 24 of the key 2.
+fn connected(alloc: Global) -> Result<(Actor<Key>, Messenger<Key>), Fail> {
+    let (mut actor, mut messenger) = started(alloc)?;
+    ready(alloc, &mut messenger, Key(2), 24)?;
+    if next_taken(&mut actor, &mut messenger)? != Taken::Ready(24) {
+        return Err(Fail::new("the connection was taken in"));
     }
+    Ok((actor, messenger))
+}
+
+// The oldest frame without priority that waits for the key 2, whose relay is closed then.
+fn closed_after(actor: &mut Actor<Key>) -> Option<EncodedData> {
+    let relay = actor.relay(&Key(2))?;
+    let frame = relay.take_low();
+    relay.close();
+    frame
 }
 
 #[test]
 fn each_recipient_gets_a_copy_or_a_cause(rt: HostRuntime) -> Result<(), Fail> {
     let alloc = rt.alloc();
-    let (mut actor, mut messenger) = started(alloc)?;
-    ready(alloc, &mut messenger, Key(2), 24)?;
-    assert!(rt;
-        matches!(
-            actor.step(&mut messenger),
-            Ok(Stepped::Ready { conn: 24, .. })
-        )
-    );
+    let (mut actor, mut messenger) = connected(alloc)?;
     let some = Recipients::Some(List::from_slice(alloc, &[Key(2), Key(3), Key(2)])?);
     let copies = sent(alloc, &mut actor, &mut messenger, some)?;
     let wanted = [
@@ -176,9 +224,7 @@ fn each_recipient_gets_a_copy_or_a_cause(rt: HostRuntime) -> Result<(), Fail> {
     ];
     assert!(rt; copies.as_slice() == wanted.as_slice());
     assert!(rt; actor.relay(&Key(3)).is_none());
-    let relay = actor.relay(&Key(2)).ok_or("the relay of 2")?;
-    assert!(rt; relay.take_low() == Some(frame(alloc)?));
-    relay.close();
+    assert!(rt; closed_after(&mut actor) == Some(frame(alloc)?));
     let copies = sent(alloc, &mut actor, &mut messenger, Recipients::All)?;
     let wanted = [Routed::Closed {
         peer: Key(2),
@@ -215,14 +261,10 @@ fn a_closed_messenger_tells_nobody(rt: HostRuntime) -> Result<(), Fail> {
     let (mut actor, mut messenger) = started(alloc)?;
     messenger.close();
     assert!(rt; messenger.closed());
-    let content = messenger.content(
-        alloc,
-        Recipients::All,
-        7,
-        Bytes::from_static(b"hello"),
-        false,
+    assert_eq!(rt;
+        handed_in(alloc, &mut messenger, Recipients::All)?,
+        Unreliable::Outcome(Feedback::Closed)
     );
-    assert_eq!(rt; content?, Unreliable::Outcome(Feedback::Closed));
     let late = subscribed(alloc, &mut messenger)?;
     assert!(rt; matches!(actor.step(&mut messenger), Ok(Stepped::Idle)));
     assert!(rt; messenger.try_peers(late).is_none());

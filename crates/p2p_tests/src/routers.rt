@@ -37,20 +37,18 @@ fn sent(
     Ok(counts(&router.send(alloc, entry, 7, true, &bytes, to)?))
 }
 
-// The name of the oldest frame of connection 2, and of its copy.
-fn taken(router: &mut Router, priority: bool) -> Option<((u64, u64), (u64, u64))> {
-    match router.take(2, priority) {
-        Some(
-            (
-                name,
-                Item::Frame {
-                    copy: Some(copy),
-                    ..
-                },
-            ),
-        ) => Some((name, copy)),
+// The name of the copy whose frame this is.
+fn copy_of(item: Item) -> Option<(u64, u64)> {
+    match item {
+        Item::Frame { copy, .. } => copy,
         _ => None,
     }
+}
+
+// The name of the oldest frame of connection 2, and of its copy.
+fn taken(router: &mut Router, priority: bool) -> Option<((u64, u64), (u64, u64))> {
+    let (name, item) = router.take(2, priority)?;
+    Some((name, copy_of(item)?))
 }
 
 #[test]
