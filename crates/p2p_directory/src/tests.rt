@@ -1,6 +1,7 @@
 //! Records and directories at concrete keys.
 use crate::{Config, DialStatus, Directory, Metadata, Record, ReserveResult};
 use p2p_base::{Address, IpAddr, Key, Map, PublicKey, SetError, SocketAddr};
+use p2p_flow::AddressableTrackedPeers;
 use std::alloc::{AllocError, Global};
 use std::test::Fail;
 
@@ -86,8 +87,8 @@ fn track_one<C: PublicKey>(
     last: u8,
 ) -> Result<Option<usize>, SetError> {
     let primary = Map::try_from(only(alloc, peer, last)?)?;
-    let secondary = Map::try_from(Vec::new(alloc))?;
-    match directory.track(index, primary, secondary)? {
+    let peers = AddressableTrackedPeers::primary(alloc, primary)?;
+    match directory.track(index, peers)? {
         Some(kills) => Ok(Some(kills.len())),
         None => Ok(None),
     }
