@@ -23,6 +23,8 @@ ghost use Rattle.std.specs.Option.{option_map};
 
 mod blocks;
 mod changes;
+#[cfg(test)]
+mod conditions;
 mod config;
 mod dials;
 mod enrolment;
@@ -124,6 +126,8 @@ impl<C: PublicKey> Directory<C> {
     }
 
     /// The peers of the set of an index. `None` exactly where no set of that index is kept.
+    ///
+    /// `Err` only where memory runs out.
     pub fn get_peer_set(&self, index: u64) -> Result<Option<TrackedPeers<C>>, AllocError>
         ensures { IfOk result (λ r. (calls : List (Call C)) → StandsFor C.cmp self.now calls
             → r ≡ option_map peers_of (set_at index (kept_sets C.cmp self.now.rules calls))) }
@@ -136,6 +140,8 @@ impl<C: PublicKey> Directory<C> {
     }
 
     /// The peers of all sets that are kept. Who is primary in one isn't secondary here.
+    ///
+    /// `Err` only where memory runs out.
     pub fn all(&self) -> Result<TrackedPeers<C>, AllocError>
         ensures primary { IfOk result (λ r. (calls : List (Call C)) → StandsFor C.cmp self.now calls
             → (q : C) → is_among C.cmp r.primary q ≡ is_primary C.cmp self.now.rules calls q) }
@@ -150,6 +156,8 @@ impl<C: PublicKey> Directory<C> {
     }
 
     /// The newest of the sets that are kept, its index, and the peers of all of them. `None` exactly where none is kept.
+    ///
+    /// `Err` only where memory runs out.
     pub fn latest_update(&self) -> Result<Option<PeerSetUpdate<C>>, AllocError>
         ensures index { IfOk result (λ o. (calls : List (Call C)) → StandsFor C.cmp self.now calls
             → option_map (λ u. u.index) o ≡ latest_index (kept_sets C.cmp self.now.rules calls)) }
@@ -173,6 +181,8 @@ impl<C: PublicKey> Directory<C> {
     }
 
     /// The peers that are blocked at the moment `now`, also those of which the directory doesn't know.
+    ///
+    /// `Err` only where memory runs out.
     pub fn blocked_peers(&self, now: u64) -> Result<Set<C>, AllocError>
         ensures { IfOk result (λ r. (calls : List (Call C)) → StandsFor C.cmp self.now calls
             → (q : C) → is_among C.cmp r q ≡ is_blocked C.cmp self.now.rules calls q now) }
@@ -184,6 +194,8 @@ impl<C: PublicKey> Directory<C> {
 
     /// The IP addresses that eligible peers dial from at the moment `now`, in the order of their keys: those that are global, or all
     /// where private ones are allowed.
+    ///
+    /// `Err` only where memory runs out.
     pub fn listenable(&self, now: u64) -> Result<Vec<IpAddr>, AllocError>
         ensures each { IfOk result (λ v. (calls : List (Call C)) → StandsFor C.cmp self.now calls
             → (q : C) (source : IpAddr) → is_listenable C.cmp self.now.rules calls q source now ≡ true → is_heard v.items source ≡ true) }
@@ -197,6 +209,8 @@ impl<C: PublicKey> Directory<C> {
 
     /// The peers to dial at the moment `now`, in key order, and when to ask again: the least moment at which a peer that waits for its
     /// next dial alone is listed, or at which the block of a peer of which the directory knows ends.
+    ///
+    /// `Err` only where memory runs out.
     pub fn dialable(&self, now: u64) -> Result<Dialable<C>, AllocError>
         ensures peers { IfOk result (λ d. (calls : List (Call C)) → StandsFor C.cmp self.now calls
             → (q : C) → is_among C.cmp d.peers.items q ≡ is_dialable C.cmp self.now.rules calls q now) }
@@ -414,17 +428,6 @@ impl<C: PublicKey> Directory<C> {
         ensures stands { (calls : List (Call C)) → StandsFor C.cmp self.old calls → StandsFor C.cmp self.new (call.Release (peer_of metadata.now) ∷ calls) }
     {
         end_hold(&mut self.records, metadata.public_key());
-    }
-
-    // Whether `release` may be called for this peer.
-    #[cfg(test)]
-    pub(crate) fn may_release(&self, peer: &C) -> bool
-        ensures { result ≡ is_held_or_unknown (lookup (is_at (C.cmp peer.now)) self.now.records) }
-    {
-        match self.records.get(peer) {
-            Some(record) => record.is_reserved_or_connected(),
-            None => true,
-        }
     }
 
     /// Blocks `peer` from the moment `now` on for the block's duration. True exactly where it is another's key and isn't blocked then.
