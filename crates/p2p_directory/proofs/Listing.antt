@@ -6,8 +6,7 @@ use Rattle.std.specs.List.{filter}
 use Rattle.std.specs.List.Sorted.{IsStrictlySortedBy}
 use Rattle.std.specs.Option.{option_map}
 use Rattle.std.specs.Cmp.{IsTotalOrder}
-use Rattle.std.specs.Map.{lookup, keys_of}
-use Rattle.std.specs.BTreeMap.{is_at}
+use Rattle.std.specs.Map.{keys_of}
 use Rattle.std.specs.declared.cmp.Ordering.{Ordering}
 use Rattle.p2p_base.specs.Sorted.{sorted_once}
 use Rattle.p2p_base.specs.declared.address.peer.Address.{Address as PeerAddress}
@@ -16,7 +15,6 @@ use Rattle.p2p_facts.specs.Sets.{is_among, is_tracked, is_primary, primary_sets,
 use Rattle.p2p_facts.specs.Grants.{Grant, is_held}
 use Rattle.p2p_facts.specs.Blocks.{is_local, lasts_at, is_blocked}
 use Rattle.p2p_facts.specs.Lives.{address_of, last_grant, is_stale, is_connected}
-use Rattle.p2p_directory.specs.Recorded.{Recorded}
 use Rattle.p2p_directory.specs.Stands.{Kept, StandsFor, record_of}
 use Rattle.p2p_directory.specs.Tracked.{passes}
 use Rattle.p2p_directory.proofs.Counts.{is_tracked-counts, is_primary-count}

@@ -1,12 +1,23 @@
--- What the records and the blocks tell of whom to dial, and of where peers come from.
-use Rattle.std.specs.Prelude.{ℕ, Bool, true, false, cond, not, ◌&&◌, ◌||◌, nat_lt, List, [], ◌∷◌, Option, Some, None}
+-- What the sets, the records and the blocks tell of who is tracked, of whom to dial, and of where peers come from.
+use Rattle.std.specs.Prelude.{ℕ, Bool, true, false, cond, not, ◌||◌, nat_lt, List, [], ◌∷◌, Option, Some, None}
 use Rattle.p2p_base.specs.Addresses.{is_global}
 use Rattle.p2p_base.specs.declared.address.ip.IpAddr.{IpAddr}
 use Rattle.p2p_facts.specs.Blocks.{lasts_at}
 use Rattle.p2p_facts.specs.Lives.{same_ip}
+use Rattle.p2p_facts.specs.Sets.{PeerSet}
+use Rattle.p2p_flow.specs.declared.tracked.TrackedPeers.{TrackedPeers}
 use Rattle.p2p_directory.specs.Recorded.{Recorded, is_eligible, is_myself, egress_in, dial_status}
 use Rattle.p2p_directory.specs.declared.record.DialStatus.{DialStatus}
 use Rattle.p2p_directory.specs.declared.record.DialStatus.TheVariants as dial
+
+-- the peers of a set that is kept
+abbrev pub peers_of : {P : Type 0} → PeerSet P → TrackedPeers P
+peers_of s = record { primary = s.primary; secondary = s.secondary }
+
+-- the first of some sets, which stand newest first
+abbrev pub newest_of : {X : Type 0} → List X → Option X
+newest_of [] = None
+newest_of (x ∷ xs) = Some x
 
 -- an IP address that is global, or any where private ones are allowed
 abbrev pub if_allowed : Bool → Option IpAddr → Option IpAddr

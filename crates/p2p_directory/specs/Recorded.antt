@@ -16,8 +16,6 @@ use Rattle.p2p_directory.specs.declared.record.ReserveResult.{ReserveResult}
 use Rattle.p2p_directory.specs.declared.record.ReserveResult.TheVariants as answer
 use Rattle.p2p_directory.specs.declared.record.DialStatus.{DialStatus}
 use Rattle.p2p_directory.specs.declared.record.DialStatus.TheVariants as dial
-use Rattle.p2p_directory.specs.declared.metadata.Metadata.{Metadata}
-use Rattle.p2p_directory.specs.declared.metadata.Metadata.TheVariants as side
 
 -- where the peer is, whether it is held, in how many sets it stands with each role, whether its address changed since it was granted,
 -- from which moment it may be granted again, and from which it is listed for a dial
@@ -117,11 +115,6 @@ is_deletable r = not (is_myself r.address) && not (is_in_sets r) && is_inert r.s
 abbrev pub without_need : Option Recorded → Option Recorded
 without_need None = None
 without_need (Some r) = cond (is_deletable (released r)) None (Some (released r))
-
--- the peer of a reservation
-abbrev pub peer_of : {P : Type 0} → Metadata P → P
-peer_of (side.Dialer p) = p
-peer_of (side.Listener p) = p
 
 -- another peer's record that is in a set
 abbrev pub is_eligible_in : Option Recorded → Bool

@@ -13,12 +13,24 @@ use std::marker::Model;
 /// Where a peer is.
 ///
 /// Ports `Address` of commonware-p2p's lookup tracker.
-#[derive(Drop)]
+#[derive(Drop, PartialEq, Eq, Debug)]
 pub enum Address {
     /// This node itself.
     Myself,
     /// Another peer, at this address.
     Known(p2p_base::Address),
+}
+
+impl Address {
+    /// An equal address. `Err` only where memory runs out.
+    pub fn try_clone(&self, alloc: Global) -> Result<Address, AllocError>
+        ensures { IfOk result (λ a. a ≡ self.now) }
+    {
+        match self {
+            Address::Myself => Ok(Address::Myself),
+            Address::Known(known) => Ok(Address::Known(known.try_clone(alloc)?)),
+        }
+    }
 }
 
 /// Whether a peer is held.
@@ -239,6 +251,18 @@ impl Record {
             Status::Inert => false,
             Status::Reserved => true,
             Status::Active => true,
+        }
+    }
+
+    // Whether the peer is held by a reservation.
+    #[cfg(test)]
+    pub(crate) fn is_reserved(&self) -> bool
+        ensures { result ≡ is_reserved self.now.status }
+    {
+        match self.status {
+            Status::Inert => false,
+            Status::Reserved => true,
+            Status::Active => false,
         }
     }
 

@@ -3,7 +3,7 @@
 /// What a directory is told when it is made. Durations are in nanoseconds.
 ///
 /// Ports `Config` of commonware-p2p's lookup directory.
-#[derive(Clone, Copy, Drop)]
+#[derive(Clone, Copy, PartialEq, Eq, Debug)]
 pub struct Config {
     /// Whether addresses that aren't global may be dialed.
     pub allow_private_ips: bool,

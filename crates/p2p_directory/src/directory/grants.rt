@@ -8,17 +8,17 @@ use crate::{Record, ReserveResult};
 use p2p_base::IpAddr;
 
 // Reserves the peer where it may be dialed. True exactly where it did.
-pub(super) fn reserve_dial(record: &mut Record, cfg: &Config, now: u64, jitter: u64) -> bool
-    ensures answer { result ≡ may_dial record.old now cfg.now.allow_private_ips cfg.now.allow_dns }
-    ensures after { record.new ≡ cond result (reserved_by reserve.Reserved record.old now cfg.now.peer_connection_cooldown jitter) record.old }
+pub(super) fn reserve_dial(known: &mut Record, cfg: &Config, now: u64, jitter: u64) -> bool
+    ensures answer { result ≡ may_dial known.old now cfg.now.allow_private_ips cfg.now.allow_dns }
+    ensures after { known.new ≡ cond result (reserved_by reserve.Reserved known.old now cfg.now.peer_connection_cooldown jitter) known.old }
 {
-    if !record.eligible()
-        || !record.is_outbound_target()
-        || !record.has_valid_ingress(cfg.allow_private_ips, cfg.allow_dns)
+    if !known.eligible()
+        || !known.is_outbound_target()
+        || !known.has_valid_ingress(cfg.allow_private_ips, cfg.allow_dns)
     {
         return false;
     }
-    match record.reserve(now, cfg.peer_connection_cooldown, jitter) {
+    match known.reserve(now, cfg.peer_connection_cooldown, jitter) {
         ReserveResult::Reserved => true,
         ReserveResult::RateLimited => false,
         ReserveResult::Unavailable => false,
@@ -27,19 +27,19 @@ pub(super) fn reserve_dial(record: &mut Record, cfg: &Config, now: u64, jitter: 
 
 // Reserves the peer where a connection that it began from `source` may be taken up. True exactly where it did.
 pub(super) fn reserve_listen(
-    record: &mut Record,
+    known: &mut Record,
     cfg: &Config,
     source: IpAddr,
     now: u64,
     jitter: u64,
 ) -> bool
-    ensures answer { result ≡ may_listen record.old source now cfg.now.bypass_ip_check }
-    ensures after { record.new ≡ cond result (reserved_by reserve.Reserved record.old now cfg.now.peer_connection_cooldown jitter) record.old }
+    ensures answer { result ≡ may_listen known.old source now cfg.now.bypass_ip_check }
+    ensures after { known.new ≡ cond result (reserved_by reserve.Reserved known.old now cfg.now.peer_connection_cooldown jitter) known.old }
 {
-    if !record.acceptable(source, cfg.bypass_ip_check) {
+    if !known.acceptable(source, cfg.bypass_ip_check) {
         return false;
     }
-    match record.reserve(now, cfg.peer_connection_cooldown, jitter) {
+    match known.reserve(now, cfg.peer_connection_cooldown, jitter) {
         ReserveResult::Reserved => true,
         ReserveResult::RateLimited => false,
         ReserveResult::Unavailable => false,

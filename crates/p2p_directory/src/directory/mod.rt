@@ -7,21 +7,24 @@ ghost use Rattle.p2p_facts.specs.Blocks.{is_local, is_blockable, is_blocked, las
 ghost use Rattle.p2p_facts.specs.Lives.{address_of, is_eligible, is_stale, is_overwritten};
 ghost use Rattle.p2p_facts.specs.Kills.{is_killed};
 ghost use Rattle.p2p_facts.specs.Lists.{is_dialable, next_query, is_listenable};
-ghost use Rattle.p2p_directory.specs.Listed.{is_heard, comes_by};
+ghost use Rattle.p2p_directory.specs.Listed.{is_heard, comes_by, peers_of, newest_of};
 ghost use Rattle.p2p_base.specs.declared.address.ip.IpAddr.{IpAddr};
 ghost use Rattle.std.specs.List.Sorted.{IsStrictlySortedBy};
 ghost use Rattle.p2p_facts.specs.Sets.{is_above, is_among, accepted_sets, kept_sets, latest_index, set_at, is_tracked, is_primary};
 ghost use Rattle.p2p_directory.specs.Tracked.{is_above_latest};
 ghost use Rattle.p2p_facts.specs.declared.call.Call.{Call};
 ghost use Rattle.p2p_facts.specs.declared.call.Call.TheVariants as call;
-ghost use Rattle.p2p_directory.specs.Recorded.{is_eligible_in, is_acceptable_in, is_reserved_in, is_held_or_unknown, peer_of, found_ingress};
+ghost use Rattle.p2p_directory.specs.Recorded.{is_eligible_in, is_acceptable_in, is_reserved_in, is_held_or_unknown, found_ingress};
 ghost use Rattle.p2p_directory.specs.Stands.{StandsFor};
-ghost use Rattle.p2p_directory.specs.declared.metadata.Metadata.TheVariants as side;
+ghost use Rattle.p2p_oracle.specs.Reserved.{peer_of};
+ghost use Rattle.p2p_oracle.specs.declared.metadata.Metadata.TheVariants as side;
 ghost use Rattle.p2p_base.specs.Addresses.{ingress_of};
 ghost use Rattle.std.specs.Option.{option_map};
 
 mod blocks;
 mod changes;
+#[cfg(test)]
+mod conditions;
 mod config;
 mod dials;
 mod enrolment;
@@ -44,8 +47,9 @@ use kills::killed;
 use listens::addresses;
 use lists::{blocked, primary_peers, secondary_peers};
 use newcomers::prepare;
-use p2p_base::{Address, Ingress, IpAddr, Map, PrioritySet, PublicKey, Set};
-use sets::{TrackedSet, falling, find_set, take_oldest};
+use p2p_base::{Address, Ingress, IpAddr, PrioritySet, PublicKey, Set};
+use p2p_flow::{AddressableTrackedPeers, PeerSetUpdate, TrackedPeers};
+use sets::{TrackedSet, falling, find_set, newest, peers_of, take_oldest};
 use std::alloc::{AllocError, Global};
 use std::collections::{BTreeMap, VecDeque};
 use std::marker::Model;
@@ -121,34 +125,64 @@ impl<C: PublicKey> Directory<C> {
         self.latest
     }
 
-    /// The primary and the secondary peers of the set of an index. `None` exactly where no set of that index is kept.
-    pub fn get_peer_set(&self, index: u64) -> Result<Option<(Set<C>, Set<C>)>, AllocError>
+    /// The peers of the set of an index. `None` exactly where no set of that index is kept.
+    ///
+    /// `Err` only where memory runs out.
+    pub fn get_peer_set(&self, index: u64) -> Result<Option<TrackedPeers<C>>, AllocError>
         ensures { IfOk result (λ r. (calls : List (Call C)) → StandsFor C.cmp self.now calls
-            → r ≡ option_map (λ s. (s.primary, s.secondary)) (set_at index (kept_sets C.cmp self.now.rules calls))) }
+            → r ≡ option_map peers_of (set_at index (kept_sets C.cmp self.now.rules calls))) }
     {
         let Some(set) = find_set(&self.sets, index) else {
             return Ok(None);
         };
-        let primary = set.primary.try_clone()?;
-        let secondary = set.secondary.try_clone()?;
-        Ok(Some((primary, secondary)))
+        let peers = peers_of(set)?;
+        Ok(Some(peers))
     }
 
-    /// The primary and the secondary peers of all sets that are kept. Who is primary in one isn't secondary here.
-    pub fn all(&self) -> Result<(Set<C>, Set<C>), AllocError>
+    /// The peers of all sets that are kept. Who is primary in one isn't secondary here.
+    ///
+    /// `Err` only where memory runs out.
+    pub fn all(&self) -> Result<TrackedPeers<C>, AllocError>
         ensures primary { IfOk result (λ r. (calls : List (Call C)) → StandsFor C.cmp self.now calls
-            → (q : C) → is_among C.cmp r.0 q ≡ is_primary C.cmp self.now.rules calls q) }
+            → (q : C) → is_among C.cmp r.primary q ≡ is_primary C.cmp self.now.rules calls q) }
         ensures secondary { IfOk result (λ r. (calls : List (Call C)) → StandsFor C.cmp self.now calls
-            → (q : C) → is_among C.cmp r.1 q ≡ (is_tracked C.cmp self.now.rules calls q && not (is_primary C.cmp self.now.rules calls q))) }
+            → (q : C) → is_among C.cmp r.secondary q ≡ (is_tracked C.cmp self.now.rules calls q && not (is_primary C.cmp self.now.rules calls q))) }
     {
         let first = primary_peers(self.alloc, &self.records)?;
         let second = secondary_peers(self.alloc, &self.records)?;
         let primary = Set::from_iter_dedup(first)?;
         let secondary = Set::from_iter_dedup(second)?;
-        Ok((primary, secondary))
+        Ok(TrackedPeers { primary, secondary })
+    }
+
+    /// The newest of the sets that are kept, its index, and the peers of all of them. `None` exactly where none is kept.
+    ///
+    /// `Err` only where memory runs out.
+    pub fn latest_update(&self) -> Result<Option<PeerSetUpdate<C>>, AllocError>
+        ensures index { IfOk result (λ o. (calls : List (Call C)) → StandsFor C.cmp self.now calls
+            → option_map (λ u. u.index) o ≡ latest_index (kept_sets C.cmp self.now.rules calls)) }
+        ensures latest { IfOk result (λ o. (calls : List (Call C)) → StandsFor C.cmp self.now calls
+            → option_map (λ u. u.latest) o ≡ option_map peers_of (newest_of (kept_sets C.cmp self.now.rules calls))) }
+        ensures primary { IfOk result (λ o. IfSome o (λ u. (calls : List (Call C)) → StandsFor C.cmp self.now calls
+            → (q : C) → is_among C.cmp u.all.primary q ≡ is_primary C.cmp self.now.rules calls q)) }
+        ensures secondary { IfOk result (λ o. IfSome o (λ u. (calls : List (Call C)) → StandsFor C.cmp self.now calls
+            → (q : C) → is_among C.cmp u.all.secondary q ≡ (is_tracked C.cmp self.now.rules calls q && not (is_primary C.cmp self.now.rules calls q)))) }
+    {
+        let Some(set) = newest(&self.sets) else {
+            return Ok(None);
+        };
+        let latest = peers_of(set)?;
+        let all = self.all()?;
+        Ok(Some(PeerSetUpdate {
+            index: set.index,
+            latest,
+            all,
+        }))
     }
 
     /// The peers that are blocked at the moment `now`, also those of which the directory doesn't know.
+    ///
+    /// `Err` only where memory runs out.
     pub fn blocked_peers(&self, now: u64) -> Result<Set<C>, AllocError>
         ensures { IfOk result (λ r. (calls : List (Call C)) → StandsFor C.cmp self.now calls
             → (q : C) → is_among C.cmp r q ≡ is_blocked C.cmp self.now.rules calls q now) }
@@ -160,6 +194,8 @@ impl<C: PublicKey> Directory<C> {
 
     /// The IP addresses that eligible peers dial from at the moment `now`, in the order of their keys: those that are global, or all
     /// where private ones are allowed.
+    ///
+    /// `Err` only where memory runs out.
     pub fn listenable(&self, now: u64) -> Result<Vec<IpAddr>, AllocError>
         ensures each { IfOk result (λ v. (calls : List (Call C)) → StandsFor C.cmp self.now calls
             → (q : C) (source : IpAddr) → is_listenable C.cmp self.now.rules calls q source now ≡ true → is_heard v.items source ≡ true) }
@@ -173,6 +209,8 @@ impl<C: PublicKey> Directory<C> {
 
     /// The peers to dial at the moment `now`, in key order, and when to ask again: the least moment at which a peer that waits for its
     /// next dial alone is listed, or at which the block of a peer of which the directory knows ends.
+    ///
+    /// `Err` only where memory runs out.
     pub fn dialable(&self, now: u64) -> Result<Dialable<C>, AllocError>
         ensures peers { IfOk result (λ d. (calls : List (Call C)) → StandsFor C.cmp self.now calls
             → (q : C) → is_among C.cmp d.peers.items q ≡ is_dialable C.cmp self.now.rules calls q now) }
@@ -209,26 +247,25 @@ impl<C: PublicKey> Directory<C> {
     pub fn track(
         &mut self,
         index: u64,
-        primary: Map<C, Address>,
-        secondary: Map<C, Address>,
+        peers: AddressableTrackedPeers<C>,
     ) -> Result<Option<Set<C>>, AllocError>
         ensures accepted { IfOk result (λ o. (calls : List (Call C)) → StandsFor C.cmp self.old calls → is_some o ≡ is_above index (accepted_sets C.cmp calls)) }
         ensures killed { IfOk result (λ o. IfSome o (λ k. (calls : List (Call C)) → StandsFor C.cmp self.old calls
-            → (q : C) → is_among C.cmp k q ≡ is_killed C.cmp self.old.rules index primary secondary calls q)) }
+            → (q : C) → is_among C.cmp k q ≡ is_killed C.cmp self.old.rules index peers.primary peers.secondary calls q)) }
         ensures rules { self.new.rules ≡ self.old.rules }
-        ensures stands { IfOk result (λ o. (calls : List (Call C)) → StandsFor C.cmp self.old calls → StandsFor C.cmp self.new (call.Track index primary secondary ∷ calls)) }
+        ensures stands { IfOk result (λ o. (calls : List (Call C)) → StandsFor C.cmp self.old calls → StandsFor C.cmp self.new (call.Track index peers.primary peers.secondary ∷ calls)) }
         ensures memory { OnErr result ((calls : List (Call C)) → StandsFor C.cmp self.old calls → StandsFor C.cmp self.new calls) }
     {
         if !self.is_next(index) {
             return Ok(None);
         }
-        let newcomers = prepare(self.alloc, index, &primary, &secondary)?;
+        let newcomers = prepare(self.alloc, index, &peers.primary, &peers.secondary)?;
         let fallen = falling(&self.sets, self.cfg.max_sets, &newcomers.set);
         let kills = killed(
             self.alloc,
             &self.records,
-            &primary,
-            &secondary,
+            &peers.primary,
+            &peers.secondary,
             &newcomers.set,
             fallen,
         )?;
@@ -391,17 +428,6 @@ impl<C: PublicKey> Directory<C> {
         ensures stands { (calls : List (Call C)) → StandsFor C.cmp self.old calls → StandsFor C.cmp self.new (call.Release (peer_of metadata.now) ∷ calls) }
     {
         end_hold(&mut self.records, metadata.public_key());
-    }
-
-    // Whether `release` may be called for this peer.
-    #[cfg(test)]
-    pub(crate) fn may_release(&self, peer: &C) -> bool
-        ensures { result ≡ is_held_or_unknown (lookup (is_at (C.cmp peer.now)) self.now.records) }
-    {
-        match self.records.get(peer) {
-            Some(record) => record.is_reserved_or_connected(),
-            None => true,
-        }
     }
 
     /// Blocks `peer` from the moment `now` on for the block's duration. True exactly where it is another's key and isn't blocked then.

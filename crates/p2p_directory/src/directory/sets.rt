@@ -1,12 +1,15 @@
 //! `TrackedSet`, a peer set that is kept.
-ghost use Rattle.std.specs.Prelude.{◌≡◌, ◌<◌, ◌≤◌, ◌∷◌, ◌++◌, length, None, true, is_some, cond, nat_lt};
+ghost use Rattle.std.specs.Prelude.{◌≡◌, ◌<◌, ◌≤◌, ◌∷◌, ◌++◌, length, None, true, is_some, cond, nat_lt, IfOk};
 ghost use Rattle.std.specs.Option.{option_to_list, option_copied};
 ghost use Rattle.std.specs.List.{list_any};
 ghost use Rattle.std.specs.BTreeMap.{is_at};
 ghost use Rattle.p2p_facts.specs.Sets.{set_at};
+ghost use Rattle.p2p_directory.specs.Listed.{peers_of, newest_of};
 ghost use Rattle.p2p_directory.specs.Tracked.{oldest_of};
 
 use p2p_base::{PublicKey, Set};
+use p2p_flow::TrackedPeers;
+use std::alloc::AllocError;
 use std::collections::VecDeque;
 use std::marker::Model;
 
@@ -41,6 +44,22 @@ pub(super) fn find_set<C: PublicKey>(
     ensures { option_copied result ≡ set_at index sets.now.items }
 {
     sets.iter().find(|set| set.index == index)
+}
+
+// The set that was accepted last.
+pub(super) fn newest<C: PublicKey>(sets: &VecDeque<TrackedSet<C>>) -> Option<&TrackedSet<C>>
+    ensures { option_copied result ≡ newest_of sets.now.items }
+{
+    sets.front()
+}
+
+// Its peers.
+pub(super) fn peers_of<C: PublicKey>(set: &TrackedSet<C>) -> Result<TrackedPeers<C>, AllocError>
+    ensures { IfOk result (λ peers. peers ≡ peers_of set.now) }
+{
+    let primary = set.primary.try_clone()?;
+    let secondary = set.secondary.try_clone()?;
+    Ok(TrackedPeers { primary, secondary })
 }
 
 // The set that is kept no longer once `set` comes before the others, of which at most `max_sets` are kept.

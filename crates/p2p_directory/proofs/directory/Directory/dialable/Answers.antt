@@ -1,8 +1,7 @@
 use Rattle.std.proofs.Common.{◌≡◌, true, Some, sym, subst}
-use Rattle.std.specs.List.{filter}
 use Rattle.std.specs.List.Sorted.{IsStrictlySortedBy}
 use Rattle.std.specs.Option.{IfSome}
-use Rattle.std.specs.Map.{keys_of, lookup}
+use Rattle.std.specs.Map.{lookup}
 use Rattle.std.specs.BTreeMap.{is_at}
 use Rattle.p2p_facts.specs.Sets.{is_among}
 use Rattle.p2p_facts.specs.Lists.{is_dialable, next_query}

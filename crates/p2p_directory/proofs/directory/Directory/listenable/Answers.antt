@@ -1,10 +1,6 @@
-use Rattle.std.proofs.Common.{◌≡◌, true, sym, subst, filter_map}
-use Rattle.std.specs.Map.{lookup}
-use Rattle.std.specs.BTreeMap.{is_at}
-use Rattle.p2p_facts.specs.Blocks.{lasts_at}
+use Rattle.std.proofs.Common.{◌≡◌, true, sym, subst}
 use Rattle.p2p_facts.specs.Lists.{is_listenable}
 use Rattle.p2p_directory.specs.Stands.{StandsFor}
-use Rattle.p2p_directory.specs.Listed.{heard}
 use Rattle.p2p_directory.proofs.Dialing.{heard-kept, heard_by-kept}
 use Rattle.p2p_directory.proofs.directory.Directory.listenable.Goals as goal
 

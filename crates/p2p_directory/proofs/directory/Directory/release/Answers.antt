@@ -1,7 +1,8 @@
 use Rattle.std.proofs.Common.{◌≡◌, cond, sym, subst}
 use Rattle.std.specs.Map.{lookup}
 use Rattle.std.specs.BTreeMap.{is_at}
-use Rattle.p2p_directory.specs.Recorded.{peer_of, without_need}
+use Rattle.p2p_oracle.specs.Reserved.{peer_of}
+use Rattle.p2p_directory.specs.Recorded.{without_need}
 use Rattle.p2p_directory.specs.Stands.{StandsFor}
 use Rattle.p2p_directory.proofs.Standing.{stands-release}
 use Rattle.p2p_directory.proofs.directory.Directory.release.Goals as goal
