@@ -260,7 +260,7 @@ fn two_sets(alloc: Global) -> Result<Directory<Key>, SetError> {
     Ok(directory)
 }
 
-// Dials the key 8 at its last moment and gives the reservation back. What the tracker's mailbox tells, where the dial was granted.
+// Dials the key 8, so late that no cooldown lasts, and gives the reservation back. What the mailbox tells, where the dial was granted.
 fn dial_and_give_back(
     directory: &mut Directory<Key>,
     way: &mut Mailbox<Key>,
