@@ -9,6 +9,3 @@ pub use directory::{Config, Dialable, Directory};
 pub use p2p_oracle::Metadata;
 pub use record::{Address, DialStatus, Record, ReserveResult, Status};
 pub use reservation::Reservation;
-
-#[cfg(test)]
-mod tests;

@@ -255,7 +255,6 @@ impl Record {
     }
 
     // Whether the peer is held by a reservation.
-    #[cfg(test)]
     pub(crate) fn is_reserved(&self) -> bool
         ensures { result ≡ is_reserved self.now.status }
     {

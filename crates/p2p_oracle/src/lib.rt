@@ -17,8 +17,3 @@ pub use mailbox::Mailbox;
 pub use message::Message;
 pub use metadata::Metadata;
 pub use oracle::Oracle;
-
-#[cfg(test)]
-mod tests;
-#[cfg(test)]
-mod tracking_tests;

@@ -2,8 +2,8 @@
 //! those crates once.
 //!
 //! Of `p2p_base` are `addresses`, `data`, `draws`, `order`, `queues`, `quotas` and `streams`; of `p2p_wire` is `frames`;
-//! of `p2p_flow` are `blocking`, `peers` and `relays`; and `router`, `routers` and `halves` are of `p2p_router`,
-//! `p2p_routers` and `p2p_halves`.
+//! of `p2p_flow` are `blocking`, `peers` and `relays`; of `p2p_oracle` are `oracle` and `tracking`; and `directory`,
+//! `router`, `routers` and `halves` are of `p2p_directory`, `p2p_router`, `p2p_routers` and `p2p_halves`.
 #![tactic(auto)]
 
 #[cfg(test)]
@@ -13,11 +13,15 @@ mod blocking;
 #[cfg(test)]
 mod data;
 #[cfg(test)]
+mod directory;
+#[cfg(test)]
 mod draws;
 #[cfg(test)]
 mod frames;
 #[cfg(test)]
 mod halves;
+#[cfg(test)]
+mod oracle;
 #[cfg(test)]
 mod order;
 #[cfg(test)]
@@ -34,3 +38,5 @@ mod router;
 mod routers;
 #[cfg(test)]
 mod streams;
+#[cfg(test)]
+mod tracking;

@@ -8,8 +8,8 @@ use crate::Directory;
 use p2p_base::PublicKey;
 
 impl<C: PublicKey> Directory<C> {
-    // Whether `connect` may be called for this peer.
-    pub(crate) fn may_connect(&self, peer: &C) -> bool
+    /// Whether `connect` may be called for this peer: it is reserved, and its connection hasn't begun.
+    pub fn may_connect(&self, peer: &C) -> bool
         ensures { result ≡ is_reserved_in (lookup (is_at (C.cmp peer.now)) self.now.records) }
     {
         match self.records.get(peer) {
@@ -18,8 +18,8 @@ impl<C: PublicKey> Directory<C> {
         }
     }
 
-    // Whether `release` may be called for this peer.
-    pub(crate) fn may_release(&self, peer: &C) -> bool
+    /// Whether `release` may be called for this peer: it is held, or the directory doesn't know of it.
+    pub fn may_release(&self, peer: &C) -> bool
         ensures { result ≡ is_held_or_unknown (lookup (is_at (C.cmp peer.now)) self.now.records) }
     {
         match self.records.get(peer) {

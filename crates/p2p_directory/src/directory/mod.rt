@@ -23,7 +23,6 @@ ghost use Rattle.std.specs.Option.{option_map};
 
 mod blocks;
 mod changes;
-#[cfg(test)]
 mod conditions;
 mod config;
 mod dials;

