@@ -1,0 +1,3 @@
+pub mod Readdressing
+pub mod Standing
+pub mod Taking

@@ -1,0 +1,34 @@
+use Rattle.std.proofs.Common.{◌≡◌, true, List, sym, ap, ◌∙◌, subst}
+use Rattle.p2p_facts.specs.Blocks.{is_over, block_of}
+use Rattle.p2p_facts.specs.declared.call.Call.{Call}
+use Rattle.p2p_facts.specs.Rules.{Rules}
+use Rattle.p2p_oracle.specs.Desk.{next_message}
+use Rattle.p2p_directory.specs.Stands.{Kept, StandsFor}
+use Rattle.p2p_tracker.specs.Serving.{IsQuiet}
+use Rattle.p2p_tracker.specs.Tracking.{Tracking, jitter_of}
+use Rattle.p2p_tracker.proofs.Taking.{calls-taken}
+use Rattle.p2p_tracker.proofs.actor.Actor.work.Goals as goal
+
+pub returns-then-take_ended-clause-due : goal.returns-then-take_ended-clause-due
+returns-then-take_ended-clause-due g c = λ _ calls s.
+    let same = ap (λ (t : Tracking g.row.C.Denot). t.directory) c.self.view_is in
+    subst (λ (k : Kept g.row.C.Denot). (q : g.row.C.Denot) × (is_over (block_of g.C.Ord.cmp k.rules calls q) c.args.now ≡ true)) same
+    (c.take_ended.ensures.due c.if-take_ended.true calls (subst (λ (k : Kept g.row.C.Denot). StandsFor g.C.Ord.cmp k calls) (sym same) s))
+
+pub returns-in_ok-put-in-Some-clause-quiet : goal.returns-in_ok-put-in-Some-clause-quiet
+returns-in_ok-put-in-Some-clause-quiet g c = λ _ calls s.
+    let same = ap (λ (t : Tracking g.row.C.Denot). t.directory) c.self.view_is in
+    subst (λ (k : Kept g.row.C.Denot). IsQuiet g.C.Ord.cmp k.rules calls c.args.now) same
+    (c.take_ended.ensures.quiet c.if-take_ended.false calls (subst (λ (k : Kept g.row.C.Denot). StandsFor g.C.Ord.cmp k calls) (sym same) s))
+
+pub returns-in_ok-put-in-Some-clause-stands : goal.returns-in_ok-put-in-Some-clause-stands
+returns-in_ok-put-in-Some-clause-stands g c = λ calls s.
+    let same = ap (λ (t : Tracking g.row.C.Denot). t.directory) c.self.view_is in
+    let rules = c.take_ended.ensures.rules ∙ ap (λ (k : Kept g.row.C.Denot). k.rules) same in
+    let jitter = ap (λ (t : Tracking g.row.C.Denot). jitter_of t.cooldown c.args.seed) c.self.view_is in
+    let oldest : next_message c.args.way.now ≡ c.take.result = sym c.take.ensures.value in
+    let stands = c.take_ended.ensures.stands c.if-take_ended.false calls (subst (λ (k : Kept g.row.C.Denot). StandsFor g.C.Ord.cmp k calls) (sym same) s) in
+    subst (λ (x : List (Call g.row.C.Denot)). StandsFor g.C.Ord.cmp c.serve.new.self.directory x)
+    (calls-taken g.C.Ord.cmp c.take_ended.new.directory.rules c.args.self.now.directory.rules (jitter_of c.self.inside.cooldown c.args.seed) (jitter_of c.args.self.now.cooldown c.args.seed)
+    (next_message c.args.way.now) c.in-Some.message c.args.now calls rules jitter (oldest ∙ c.in-Some.is))
+    (c.in_ok-put-in-Some.ensures.stands calls stands)
