@@ -1,1 +1,4 @@
+pub mod Alternating
+pub mod Eligible
+pub mod KeptCalls
 mod Worked

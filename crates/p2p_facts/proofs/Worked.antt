@@ -1,5 +1,5 @@
 -- The facts on short lists of calls, newest first. The own key is 0.
-use Rattle.std.proofs.Common.{◌≡◌, ℕ, true, false, List, [], ◌∷◌, refl}
+use Rattle.std.proofs.Common.{◌≡◌, ℕ, true, false, List, [], ◌∷◌, Some, refl}
 use Rattle.std.specs.Ordering.{nat_cmp}
 use Rattle.p2p_base.specs.declared.address.ip.IpAddr.{IpAddr}
 use Rattle.p2p_base.specs.declared.address.ip.IpAddr.TheVariants.{V4}
@@ -12,6 +12,8 @@ use Rattle.p2p_facts.specs.Sets.{accepted_sets, kept_sets, is_tracked, is_primar
 use Rattle.p2p_facts.specs.Grants.{is_held}
 use Rattle.p2p_facts.specs.Blocks.{block_of, is_blocked}
 use Rattle.p2p_facts.specs.Lives.{address_of, last_grant, is_stale, next_dial}
+use Rattle.p2p_facts.specs.Turns.{turns_of}
+use Rattle.p2p_facts.specs.Keeping.{is_kept}
 use Rattle.p2p_facts.specs.Allows.{allows_dial, allows_listen, is_acceptable}
 
 keeping : ℕ → Rules ℕ
@@ -88,3 +90,30 @@ from_here = refl
 from_there : is_acceptable nat_cmp (keeping 2) lesser 7 there 0 ≡ false
 unfolding keeping here there address lesser accepted_sets kept_sets is_tracked is_primary is_held block_of address_of last_grant is_stale
 from_there = refl
+
+-- a release that ends no hold is no turn
+by_turns : turns_of nat_cmp (call.Release 7 ∷ call.Release 7 ∷ call.Dial 7 0 3 true ∷ []) 7 ≡ false ∷ true ∷ []
+unfolding turns_of is_held
+by_turns = refl
+
+-- a connection is kept from its connect on, until a block of its key, also where that has no effect
+joined : List (Call ℕ)
+joined = call.Connect 7 (Some 4) ∷ call.Dial 7 0 3 true ∷ set 0 7 ∷ []
+
+kept : is_kept nat_cmp (keeping 2) joined 7 ≡ true
+unfolding keeping here address set joined accepted_sets kept_sets is_tracked is_held block_of address_of is_stale is_kept
+kept = refl
+
+ended : is_kept nat_cmp (keeping 2) (call.Block 7 10 ∷ joined) 7 ≡ false
+unfolding keeping here address set joined accepted_sets kept_sets is_tracked is_held block_of address_of is_stale is_kept
+ended = refl
+
+-- a connect of a blocked key is refused, whose block lasts
+refused : is_kept nat_cmp (keeping 2) (call.Connect 7 (Some 14) ∷ call.Block 7 10 ∷ joined) 7 ≡ false
+unfolding keeping here address set joined accepted_sets kept_sets is_tracked is_held block_of address_of is_stale is_kept
+refused = refl
+
+-- a key that is in no kept set any more is kept no longer
+evicted : is_kept nat_cmp (keeping 1) (set 1 8 ∷ joined) 7 ≡ false
+unfolding keeping here address set joined accepted_sets kept_sets is_tracked is_held block_of address_of is_stale is_kept
+evicted = refl

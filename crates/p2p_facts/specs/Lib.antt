@@ -1,8 +1,12 @@
 pub mod Allows
 pub mod Blocks
+pub mod Granted
 pub mod Grants
+pub mod Keeping
+pub mod KeptAfter
 pub mod Kills
 pub mod Lists
 pub mod Lives
 pub mod Rules
 pub mod Sets
+pub mod Turns

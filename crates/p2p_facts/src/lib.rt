@@ -1,6 +1,11 @@
-//! What a directory of peers was asked and answered, and, in `specs/`, the facts that follow from it.
+//! What a directory of peers was asked and answered, and, in `specs/`, the facts that follow from it. It has no code but
+//! the functions that state the laws of these facts.
 #![tactic(auto)]
 
 pub mod call;
+pub mod keeping;
+pub mod turns;
 
 pub use call::Call;
+pub use keeping::{kept_after_each_call, kept_keys_are_eligible};
+pub use turns::{allowed_grants_are_of_none_held, grants_and_releases_alternate};
