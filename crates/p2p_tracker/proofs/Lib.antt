@@ -1,3 +1,5 @@
+pub mod Connecting
+pub mod Following
 pub mod Readdressing
 pub mod Standing
 pub mod Taking

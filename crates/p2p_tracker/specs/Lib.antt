@@ -1,3 +1,4 @@
+pub mod Following
 pub mod Serving
 pub mod Telling
 pub mod Tracking

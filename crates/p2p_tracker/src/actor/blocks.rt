@@ -1,4 +1,5 @@
 //! Blocks: one more, those that have ended, and who is told of them.
+ghost use Rattle.p2p_tracker.specs.Following.{Follows};
 ghost use Rattle.p2p_tracker.specs.Telling.{ChangesSets};
 ghost use Rattle.std.specs.Prelude.{◌≡◌, List, [], ◌∷◌, true, false, IfOk, OnOk};
 ghost use Rattle.p2p_facts.specs.declared.call.Call.{Call};
@@ -40,45 +41,32 @@ impl<C: PublicKey> Actor<C> {
         public_key: C,
     ) -> Result<List<Put<C>>, AllocError>
         ensures stands { IfOk result (λ p. (calls : List (Call C)) → StandsFor C.cmp self.old.directory calls → StandsFor C.cmp self.new.directory (call.Block public_key now ∷ calls)) }
+        ensures follows { IfOk result (λ p. (calls : List (Call C)) → Follows C.cmp self.old.directory self.old.controls calls
+            → Follows C.cmp self.new.directory self.new.controls (call.Block public_key now ∷ calls)) }
         ensures rules { OnOk result (self.new.directory.rules ≡ self.old.directory.rules) }
         ensures rest { self.new ≡ record self.old { directory = self.new.directory; controls = self.new.controls } }
         ensures desk { ChangesSets way.old way.new }
     {
         let mut put = Vec::new(self.alloc);
-        self.bar(way, now, &public_key, &mut put)?;
+        let is_new = self.directory.block(&public_key, now)?;
+        self.tell_of_block(way, now, is_new, &mut put)?;
         kill(&mut self.controls, &public_key, &mut put)?;
         Ok(List::new(put))
     }
 
-    // Blocks a peer, and tells of it where it wasn't blocked.
-    fn bar(
-        &mut self,
-        way: &mut Mailbox<C>,
-        now: u64,
-        public_key: &C,
-        put: &mut Vec<Put<C>>,
-    ) -> Result<(), AllocError>
-        ensures stands { OnOk result ((calls : List (Call C)) → StandsFor C.cmp self.old.directory calls → StandsFor C.cmp self.new.directory (call.Block public_key.now now ∷ calls)) }
-        ensures rules { OnOk result (self.new.directory.rules ≡ self.old.directory.rules) }
-        ensures rest { self.new ≡ record self.old { directory = self.new.directory } }
-        ensures desk { ChangesSets way.old way.new }
-    {
-        if !self.directory.block(public_key, now)? {
-            return Ok(());
-        }
-        self.tell_of_block(way, now, put)?;
-        Ok(())
-    }
-
-    // Tells of one more block: each subscription to the blocked keys first, and then the listener.
+    // Tells of one more block, if there is one: each subscription to the blocked keys first, and then the listener.
     fn tell_of_block(
         &self,
         way: &mut Mailbox<C>,
         now: u64,
+        is_new: bool,
         put: &mut Vec<Put<C>>,
     ) -> Result<(), AllocError>
         ensures desk { ChangesSets way.old way.new }
     {
+        if !is_new {
+            return Ok(());
+        }
         let blocked = self.directory.blocked_peers(now)?;
         tell_blocked_all(way, self.sets.as_slice(), &blocked, put)?;
         let heard = self.directory.listenable(now)?;

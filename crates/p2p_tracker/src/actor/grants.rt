@@ -1,4 +1,5 @@
 //! Reservations: their grant, the connection that they are for, and their return.
+ghost use Rattle.p2p_tracker.specs.Following.{Follows};
 ghost use Rattle.std.specs.Prelude.{◌≡◌, List, Some, None, [], ◌∷◌, true, false, IfOk, OnOk};
 ghost use Rattle.p2p_facts.specs.declared.call.Call.{Call};
 ghost use Rattle.p2p_facts.specs.declared.call.Call.TheVariants as call;
@@ -13,6 +14,7 @@ ghost use Rattle.p2p_tracker.specs.Tracking.{jitter_of};
 ghost use Rattle.p2p_tracker.specs.Serving.{IsEligible};
 
 use super::Actor;
+use super::kills::{forget, keep};
 use crate::{Metadata, Put};
 use p2p_base::{Draws, IpAddr, List, PublicKey};
 use p2p_directory::Directory;
@@ -27,6 +29,8 @@ impl<C: PublicKey> Actor<C> {
         public_key: C,
     ) -> Result<List<Put<C>>, AllocError>
         ensures stands { IfOk result (λ p. (calls : List (Call C)) → StandsFor C.cmp self.old.directory calls → StandsFor C.cmp self.new.directory (call.Dial public_key now (jitter_of self.old.cooldown seed) (allows_dial C.cmp self.old.directory.rules calls public_key now) ∷ calls)) }
+        ensures follows { IfOk result (λ p. (calls : List (Call C)) → Follows C.cmp self.old.directory self.old.controls calls
+            → Follows C.cmp self.new.directory self.new.controls (call.Dial public_key now (jitter_of self.old.cooldown seed) (allows_dial C.cmp self.old.directory.rules calls public_key now) ∷ calls)) }
         ensures rules { OnOk result (self.new.directory.rules ≡ self.old.directory.rules) }
         ensures rest { self.new ≡ record self.old { directory = self.new.directory } }
     {
@@ -45,6 +49,8 @@ impl<C: PublicKey> Actor<C> {
         handshake: u64,
     ) -> Result<List<Put<C>>, AllocError>
         ensures stands { IfOk result (λ p. (calls : List (Call C)) → StandsFor C.cmp self.old.directory calls → StandsFor C.cmp self.new.directory (call.Listen public_key now (jitter_of self.old.cooldown seed) (allows_listen C.cmp self.old.directory.rules calls public_key source_ip now) ∷ calls)) }
+        ensures follows { IfOk result (λ p. (calls : List (Call C)) → Follows C.cmp self.old.directory self.old.controls calls
+            → Follows C.cmp self.new.directory self.new.controls (call.Listen public_key now (jitter_of self.old.cooldown seed) (allows_listen C.cmp self.old.directory.rules calls public_key source_ip now) ∷ calls)) }
         ensures rules { OnOk result (self.new.directory.rules ≡ self.old.directory.rules) }
         ensures rest { self.new ≡ record self.old { directory = self.new.directory } }
     {
@@ -72,11 +78,13 @@ impl<C: PublicKey> Actor<C> {
     ) -> Result<List<Put<C>>, AllocError>
         requires { IsEligible C.cmp self.old.directory public_key now → is_reserved_in (lookup (is_at (C.cmp public_key)) self.old.directory.records) ≡ true }
         ensures stands { IfOk result (λ p. (calls : List (Call C)) → StandsFor C.cmp self.old.directory calls → StandsFor C.cmp self.new.directory (call.Connect public_key (Some now) ∷ calls)) }
+        ensures follows { IfOk result (λ p. (calls : List (Call C)) → Follows C.cmp self.old.directory self.old.controls calls
+            → Follows C.cmp self.new.directory self.new.controls (call.Connect public_key (Some now) ∷ calls)) }
         ensures rules { OnOk result (self.new.directory.rules ≡ self.old.directory.rules) }
         ensures rest { self.new ≡ record self.old { directory = self.new.directory; controls = self.new.controls } }
     {
         if accept(&mut self.directory, now, &public_key) {
-            self.controls.insert(public_key, conn)?;
+            keep(&mut self.controls, public_key, conn)?;
             return Ok(List::empty(self.alloc));
         }
         Ok(self.only(Put::Kill {
@@ -89,10 +97,12 @@ impl<C: PublicKey> Actor<C> {
     pub(super) fn release(&mut self, metadata: Metadata<C>) -> List<Put<C>>
         requires { is_held_or_unknown (lookup (is_at (C.cmp (peer_of metadata))) self.old.directory.records) ≡ true }
         ensures stands { (calls : List (Call C)) → StandsFor C.cmp self.old.directory calls → StandsFor C.cmp self.new.directory (call.Release (peer_of metadata) ∷ calls) }
+        ensures follows { (calls : List (Call C)) → Follows C.cmp self.old.directory self.old.controls calls
+            → Follows C.cmp self.new.directory self.new.controls (call.Release (peer_of metadata) ∷ calls) }
         ensures rules { self.new.directory.rules ≡ self.old.directory.rules }
         ensures rest { self.new ≡ record self.old { directory = self.new.directory; controls = self.new.controls } }
     {
-        self.controls.remove(metadata.public_key());
+        forget(&mut self.controls, metadata.public_key());
         self.directory.release(&metadata);
         List::empty(self.alloc)
     }

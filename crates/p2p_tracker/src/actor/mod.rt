@@ -1,6 +1,11 @@
 //! `Actor`, the tracker itself: the blocks that have ended, or one message, a step.
+ghost use Rattle.p2p_tracker.specs.Following.{Follows};
 ghost use Rattle.std.specs.Prelude.{◌≡◌, ◌≤◌, List, [], true, false, is_some, IfOk, OnOk, OnErr, IsErr};
+ghost use Rattle.std.specs.Map.{lookup};
+ghost use Rattle.std.specs.BTreeMap.{is_at};
 ghost use Rattle.p2p_facts.specs.Blocks.{is_over, block_of};
+ghost use Rattle.p2p_facts.specs.Keeping.{all_connect_by};
+ghost use Rattle.p2p_facts.specs.Lives.{is_eligible, is_stale};
 ghost use Rattle.p2p_facts.specs.declared.call.Call.{Call};
 ghost use Rattle.p2p_directory.specs.Stands.{StandsFor};
 ghost use Rattle.p2p_oracle.specs.Desk.{new_desk, next_message};
@@ -136,6 +141,14 @@ impl<C: PublicKey> Actor<C> {
             → IsQuiet C.cmp self.old.directory.rules calls now) }
         ensures served { IfOk result (λ s. ends s ≡ false → serves s ≡ is_some (next_message way.old)) }
         ensures taken { IfOk result (λ s. way.new.messages ≡ left_by s way.old.messages) }
+        ensures follows { IfOk result (λ s. (calls : List (Call C)) → Follows C.cmp self.old.directory self.old.controls calls
+            → Follows C.cmp self.new.directory self.new.controls (calls_by C.cmp self.old.directory.rules s (next_message way.old) now (jitter_of self.old.cooldown seed) calls)) }
+        ensures eligible { IfOk result (λ s. (calls : List (Call C)) → all_connect_by now calls ≡ true → Follows C.cmp self.old.directory self.old.controls calls
+            → (q : C) → is_some (lookup (is_at (C.cmp q)) self.new.controls) ≡ true
+            → is_eligible C.cmp self.new.directory.rules (calls_by C.cmp self.old.directory.rules s (next_message way.old) now (jitter_of self.old.cooldown seed) calls) q now ≡ true) }
+        ensures fresh { IfOk result (λ s. (calls : List (Call C)) → Follows C.cmp self.old.directory self.old.controls calls
+            → (q : C) → is_some (lookup (is_at (C.cmp q)) self.new.controls) ≡ true
+            → is_stale C.cmp self.new.directory.rules (calls_by C.cmp self.old.directory.rules s (next_message way.old) now (jitter_of self.old.cooldown seed) calls) q ≡ false) }
         ensures rules { OnOk result (self.new.directory.rules ≡ self.old.directory.rules) }
         ensures cooldown { self.new.cooldown ≡ self.old.cooldown }
         ensures memory { OnErr result (self.new.has_failed ≡ true) }
@@ -164,6 +177,8 @@ impl<C: PublicKey> Actor<C> {
             → IsQuiet C.cmp self.old.directory.rules calls now) }
         ensures served { IfOk result (λ s. ends s ≡ false → serves s ≡ is_some (next_message way.old)) }
         ensures taken { IfOk result (λ s. way.new.messages ≡ left_by s way.old.messages) }
+        ensures follows { IfOk result (λ s. (calls : List (Call C)) → Follows C.cmp self.old.directory self.old.controls calls
+            → Follows C.cmp self.new.directory self.new.controls (calls_by C.cmp self.old.directory.rules s (next_message way.old) now (jitter_of self.old.cooldown seed) calls)) }
         ensures rules { OnOk result (self.new.directory.rules ≡ self.old.directory.rules) }
         ensures cooldown { self.new.cooldown ≡ self.old.cooldown }
         ensures has_failed { self.new.has_failed ≡ self.old.has_failed }
@@ -192,6 +207,8 @@ impl<C: PublicKey> Actor<C> {
         requires { may_serve C.cmp self.old.directory message now }
         ensures stands { IfOk result (λ p. (calls : List (Call C)) → StandsFor C.cmp self.old.directory calls
             → StandsFor C.cmp self.new.directory (calls_after C.cmp self.old.directory.rules message now (jitter_of self.old.cooldown seed) calls)) }
+        ensures follows { IfOk result (λ p. (calls : List (Call C)) → Follows C.cmp self.old.directory self.old.controls calls
+            → Follows C.cmp self.new.directory self.new.controls (calls_after C.cmp self.old.directory.rules message now (jitter_of self.old.cooldown seed) calls)) }
         ensures rules { OnOk result (self.new.directory.rules ≡ self.old.directory.rules) }
         ensures messages { OnOk result (way.new.messages ≡ way.old.messages) }
         ensures cooldown { self.new.cooldown ≡ self.old.cooldown }

@@ -1,4 +1,5 @@
 //! Peer sets and addresses that are handed in.
+ghost use Rattle.p2p_tracker.specs.Following.{Follows};
 ghost use Rattle.p2p_tracker.specs.Telling.{ChangesUpdates};
 ghost use Rattle.std.specs.Prelude.{◌≡◌, List, [], ◌∷◌, true, false, IfOk, OnOk};
 ghost use Rattle.p2p_facts.specs.declared.call.Call.{Call};
@@ -26,6 +27,8 @@ impl<C: PublicKey> Actor<C> {
         peers: AddressableTrackedPeers<C>,
     ) -> Result<List<Put<C>>, AllocError>
         ensures stands { IfOk result (λ p. (calls : List (Call C)) → StandsFor C.cmp self.old.directory calls → StandsFor C.cmp self.new.directory (call.Track index peers.primary peers.secondary ∷ calls)) }
+        ensures follows { IfOk result (λ p. (calls : List (Call C)) → Follows C.cmp self.old.directory self.old.controls calls
+            → Follows C.cmp self.new.directory self.new.controls (call.Track index peers.primary peers.secondary ∷ calls)) }
         ensures rules { OnOk result (self.new.directory.rules ≡ self.old.directory.rules) }
         ensures rest { self.new ≡ record self.old { directory = self.new.directory; controls = self.new.controls } }
         ensures desk { ChangesUpdates way.old way.new }
@@ -73,6 +76,8 @@ impl<C: PublicKey> Actor<C> {
         peers: Map<C, Address>,
     ) -> Result<List<Put<C>>, AllocError>
         ensures stands { IfOk result (λ p. (calls : List (Call C)) → StandsFor C.cmp self.old.directory calls → StandsFor C.cmp self.new.directory (overwritten peers calls)) }
+        ensures follows { IfOk result (λ p. (calls : List (Call C)) → Follows C.cmp self.old.directory self.old.controls calls
+            → Follows C.cmp self.new.directory self.new.controls (overwritten peers calls)) }
         ensures rules { OnOk result (self.new.directory.rules ≡ self.old.directory.rules) }
         ensures rest { self.new ≡ record self.old { directory = self.new.directory; controls = self.new.controls } }
     {
@@ -91,6 +96,8 @@ fn readdress_all<C: PublicKey>(
     put: &mut Vec<Put<C>>,
 ) -> Result<bool, AllocError>
     ensures stands { OnOk result ((calls : List (Call C)) → StandsFor C.cmp directory.old calls → StandsFor C.cmp directory.new (overwritten peers.now calls)) }
+    ensures follows { OnOk result ((calls : List (Call C)) → Follows C.cmp directory.old controls.old.entries calls
+        → Follows C.cmp directory.new controls.new.entries (overwritten peers.now calls)) }
     ensures rules { OnOk result (directory.new.rules ≡ directory.old.rules) }
 {
     let mut has_changed = false;
@@ -112,9 +119,12 @@ fn readdress<C: PublicKey>(
     put: &mut Vec<Put<C>>,
 ) -> Result<bool, AllocError>
     ensures stands { OnOk result ((calls : List (Call C)) → StandsFor C.cmp directory.old calls → StandsFor C.cmp directory.new (call.Overwrite peer.now address ∷ calls)) }
+    ensures follows { OnOk result ((calls : List (Call C)) → Follows C.cmp directory.old controls.old.entries calls
+        → Follows C.cmp directory.new controls.new.entries (call.Overwrite peer.now address ∷ calls)) }
     ensures rules { OnOk result (directory.new.rules ≡ directory.old.rules) }
 {
-    if !directory.overwrite(peer, address)? {
+    let has_changed = directory.overwrite(peer, address)?;
+    if !has_changed {
         return Ok(false);
     }
     kill(controls, peer, put)?;

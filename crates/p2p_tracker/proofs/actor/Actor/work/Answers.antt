@@ -4,8 +4,10 @@ use Rattle.p2p_facts.specs.declared.call.Call.{Call}
 use Rattle.p2p_facts.specs.Rules.{Rules}
 use Rattle.p2p_oracle.specs.Desk.{next_message}
 use Rattle.p2p_directory.specs.Stands.{Kept, StandsFor}
+use Rattle.p2p_tracker.specs.Following.{Follows}
 use Rattle.p2p_tracker.specs.Serving.{IsQuiet}
 use Rattle.p2p_tracker.specs.Tracking.{Tracking, jitter_of}
+use Rattle.p2p_tracker.proofs.Following.{follows-quiet, follows-unblock}
 use Rattle.p2p_tracker.proofs.Taking.{calls-taken}
 use Rattle.p2p_tracker.proofs.actor.Actor.work.Goals as goal
 
@@ -32,3 +34,23 @@ returns-in_ok-put-in-Some-clause-stands g c = λ calls s.
     (calls-taken g.C.Ord.cmp c.take_ended.new.directory.rules c.args.self.now.directory.rules (jitter_of c.self.inside.cooldown c.args.seed) (jitter_of c.args.self.now.cooldown c.args.seed)
     (next_message c.args.way.now) c.in-Some.message c.args.now calls rules jitter (oldest ∙ c.in-Some.is))
     (c.in_ok-put-in-Some.ensures.stands calls stands)
+
+pub returns-then-take_ended-clause-follows : goal.returns-then-take_ended-clause-follows
+returns-then-take_ended-clause-follows g c = λ calls f.
+    let kept = subst (λ (t : Tracking g.row.C.Denot). Follows g.C.Ord.cmp t.directory t.controls calls) (sym c.self.view_is) f in
+    follows-unblock c.self.inside.directory c.take_ended.new.directory c.self.inside.controls.entries calls c.take_ended.ensures.rules kept c.args.now
+    (c.take_ended.ensures.ended c.if-take_ended.true calls kept.stands)
+
+pub returns-in_ok-put-in-Some-clause-follows : goal.returns-in_ok-put-in-Some-clause-follows
+returns-in_ok-put-in-Some-clause-follows g c = λ calls f.
+    let kept = subst (λ (t : Tracking g.row.C.Denot). Follows g.C.Ord.cmp t.directory t.controls calls) (sym c.self.view_is) f in
+    let same = ap (λ (t : Tracking g.row.C.Denot). t.directory) c.self.view_is in
+    let rules = c.take_ended.ensures.rules ∙ ap (λ (k : Kept g.row.C.Denot). k.rules) same in
+    let jitter = ap (λ (t : Tracking g.row.C.Denot). jitter_of t.cooldown c.args.seed) c.self.view_is in
+    let oldest : next_message c.args.way.now ≡ c.take.result = sym c.take.ensures.value in
+    let quiet = follows-quiet c.self.inside.directory c.take_ended.new.directory c.self.inside.controls.entries calls c.take_ended.ensures.rules kept
+    (c.take_ended.ensures.stands c.if-take_ended.false calls kept.stands) in
+    subst (λ (x : List (Call g.row.C.Denot)). Follows g.C.Ord.cmp c.serve.new.self.directory c.serve.new.self.controls x)
+    (calls-taken g.C.Ord.cmp c.take_ended.new.directory.rules c.args.self.now.directory.rules (jitter_of c.self.inside.cooldown c.args.seed) (jitter_of c.args.self.now.cooldown c.args.seed)
+    (next_message c.args.way.now) c.in-Some.message c.args.now calls rules jitter (oldest ∙ c.in-Some.is))
+    (c.in_ok-put-in-Some.ensures.follows calls quiet)
