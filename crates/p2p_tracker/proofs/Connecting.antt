@@ -10,7 +10,7 @@ use Rattle.p2p_facts.specs.Rules.{Rules}
 use Rattle.p2p_facts.specs.Keeping.{all_connect_by}
 use Rattle.p2p_oracle.specs.declared.message.Message.{Message}
 use Rattle.p2p_oracle.specs.declared.message.Message.TheVariants as message
-use Rattle.p2p_tracker.specs.Serving.{overwritten, calls_after, calls_on, calls_by}
+use Rattle.p2p_tracker.specs.Serving.{overwritten, calls_after, calls_by}
 use Rattle.p2p_tracker.specs.declared.stepped.Stepped.{Stepped}
 use Rattle.p2p_tracker.specs.declared.stepped.Stepped.TheVariants as stepped
 

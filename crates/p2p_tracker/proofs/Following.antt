@@ -17,7 +17,6 @@ use Rattle.p2p_facts.specs.Blocks.{is_local, is_blocked}
 use Rattle.p2p_facts.specs.Kills.{is_killed}
 use Rattle.p2p_facts.specs.Lives.{address_of, last_grant, is_stale, is_connected, is_eligible, accepts, connects, is_overwritten}
 use Rattle.p2p_facts.specs.Keeping.{is_kept, ends_connection}
-use Rattle.p2p_facts.specs.KeptAfter.{IsKeptAfter}
 use Rattle.p2p_facts.proofs.KeptCalls.{kept-after}
 use Rattle.p2p_directory.specs.Recorded.{is_reserved_in, is_stale_in, differs_in}
 use Rattle.p2p_directory.specs.Stands.{Kept, StandsFor, record_of}

@@ -1,5 +1,5 @@
 -- The calls of addresses that are given in order.
-use Rattle.std.proofs.Common.{◌≡◌, ℕ, zero, suc, ◌+◌, ◌<◌, List, [], ◌∷◌, length, get_or, take, refl, sym, ap, ◌∙◌, arith, add-one}
+use Rattle.std.proofs.Common.{◌≡◌, ℕ, zero, suc, ◌+◌, ◌<◌, List, [], ◌∷◌, length, get_or, take, sym, ap, ◌∙◌, arith, add-one}
 use Rattle.std.specs.Map.{keys_of, values_of}
 use Rattle.p2p_base.specs.declared.address.peer.Address.{Address}
 use Rattle.p2p_facts.specs.declared.call.Call.{Call}

@@ -1,10 +1,9 @@
 -- Which other calls a directory stands for.
-use Rattle.std.proofs.Common.{◌≡◌, ℕ, Bool, true, false, cond, ◌&&◌, ◌||◌, not, List, [], ◌∷◌, Option, Some, None, refl, sym, ap, ◌∙◌, subst}
+use Rattle.std.proofs.Common.{◌≡◌, ℕ, Bool, true, false, cond, ◌&&◌, ◌||◌, not, List, ◌∷◌, Option, Some, None, refl, sym, ap, ◌∙◌, subst}
 use Rattle.std.proofs.lemmas.Bool.{false≢true}
 use Rattle.std.specs.Prelude.{is_some, nat_lt}
 use Rattle.std.specs.Option.{option_map}
 use Rattle.std.specs.Cmp.{IsTotalOrder}
-use Rattle.std.specs.Map.{lookup}
 use Rattle.std.specs.BTreeMap.{is_at}
 use Rattle.std.specs.declared.cmp.Ordering.{Ordering}
 use Rattle.p2p_facts.specs.declared.call.Call.{Call}
@@ -15,10 +14,10 @@ use Rattle.p2p_facts.specs.Allows.{allows_dial, allows_listen}
 use Rattle.p2p_facts.specs.Sets.{accepted_sets, kept_sets, is_tracked, primary_sets, secondary_sets}
 use Rattle.p2p_facts.specs.Grants.{is_held}
 use Rattle.p2p_facts.specs.Blocks.{is_local, is_over, unless_ended, lasts_at, block_of}
-use Rattle.p2p_facts.specs.Lives.{is_alive, address_of, last_grant, is_stale, is_connected, is_eligible, accepts, connects}
-use Rattle.p2p_directory.specs.Recorded.{Recorded, is_eligible_in}
+use Rattle.p2p_facts.specs.Lives.{is_alive, address_of, last_grant, is_stale, is_connected, is_eligible, accepts}
+use Rattle.p2p_directory.specs.Recorded.{is_eligible_in}
 use Rattle.p2p_directory.specs.Stands.{Kept, StandsFor, record_of}
-use Rattle.p2p_directory.proofs.Steps.{peer, own, IsAddressed, record_of-block, record_of-unblock, addressed-unblock, addressed-connect}
+use Rattle.p2p_directory.proofs.Steps.{peer, own, IsAddressed, record_of-unblock, addressed-connect}
 use Rattle.p2p_directory.proofs.Reading.{eligible-record}
 use Rattle.p2p_directory.proofs.Written.{lookup_same}
 use Rattle.p2p_tracker.specs.Serving.{IsQuiet}

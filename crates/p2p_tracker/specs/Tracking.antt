@@ -1,5 +1,5 @@
 -- A tracker as contracts see it.
-use Rattle.std.specs.Prelude.{◌≡◌, ℕ, ◌/◌, Bool, false, List, []}
+use Rattle.std.specs.Prelude.{ℕ, ◌/◌, Bool, false, List, []}
 use Rattle.std.specs.declared.cmp.Ordering.{Ordering}
 use Rattle.p2p_base.specs.Draws.{seeded, drawn}
 use Rattle.p2p_facts.specs.declared.call.Call.{Call}

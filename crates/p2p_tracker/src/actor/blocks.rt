@@ -1,4 +1,6 @@
 //! Blocks: one more, those that have ended, and who is told of them.
+ghost use Rattle.p2p_oracle.specs.declared.message.Message.TheVariants as message;
+ghost use Rattle.p2p_tracker.specs.Putting.{IsPut};
 ghost use Rattle.p2p_tracker.specs.Following.{Follows};
 ghost use Rattle.p2p_tracker.specs.Telling.{ChangesSets};
 ghost use Rattle.std.specs.Prelude.{◌≡◌, List, [], ◌∷◌, true, false, IfOk, OnOk};
@@ -46,6 +48,7 @@ impl<C: PublicKey> Actor<C> {
         ensures rules { OnOk result (self.new.directory.rules ≡ self.old.directory.rules) }
         ensures rest { self.new ≡ record self.old { directory = self.new.directory; controls = self.new.controls } }
         ensures desk { ChangesSets way.old way.new }
+        ensures put { IfOk result (λ p. (calls : List (Call C)) → StandsFor C.cmp self.old.directory calls → IsPut C.cmp self.old.directory.rules self.old.controls calls now (message.Block public_key) p) }
     {
         let mut put = Vec::new(self.alloc);
         let is_new = self.directory.block(&public_key, now)?;

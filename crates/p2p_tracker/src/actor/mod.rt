@@ -1,4 +1,5 @@
 //! `Actor`, the tracker itself: the blocks that have ended, or one message, a step.
+ghost use Rattle.p2p_tracker.specs.Putting.{IsPut, IsPutBy};
 ghost use Rattle.p2p_tracker.specs.Following.{Follows};
 ghost use Rattle.std.specs.Prelude.{◌≡◌, ◌≤◌, List, [], true, false, is_some, IfOk, OnOk, OnErr, IsErr};
 ghost use Rattle.std.specs.Map.{lookup};
@@ -149,11 +150,14 @@ impl<C: PublicKey> Actor<C> {
         ensures fresh { IfOk result (λ s. (calls : List (Call C)) → Follows C.cmp self.old.directory self.old.controls calls
             → (q : C) → is_some (lookup (is_at (C.cmp q)) self.new.controls) ≡ true
             → is_stale C.cmp self.new.directory.rules (calls_by C.cmp self.old.directory.rules s (next_message way.old) now (jitter_of self.old.cooldown seed) calls) q ≡ false) }
+        ensures answerable { OnOk result (IsAnswerable C.cmp self.new.directory) }
         ensures rules { OnOk result (self.new.directory.rules ≡ self.old.directory.rules) }
         ensures cooldown { self.new.cooldown ≡ self.old.cooldown }
         ensures memory { OnErr result (self.new.has_failed ≡ true) }
         ensures works { OnOk result (self.new.has_failed ≡ false) }
         ensures failed { self.old.has_failed ≡ true → IsErr result }
+        ensures put { IfOk result (λ s. (calls : List (Call C)) → StandsFor C.cmp self.old.directory calls
+            → IsPutBy C.cmp self.old.directory.rules self.old.controls calls now s (next_message way.old)) }
     {
         if self.has_failed {
             return Err(AllocError);
@@ -182,6 +186,8 @@ impl<C: PublicKey> Actor<C> {
         ensures rules { OnOk result (self.new.directory.rules ≡ self.old.directory.rules) }
         ensures cooldown { self.new.cooldown ≡ self.old.cooldown }
         ensures has_failed { self.new.has_failed ≡ self.old.has_failed }
+        ensures put { IfOk result (λ s. (calls : List (Call C)) → StandsFor C.cmp self.old.directory calls
+            → IsPutBy C.cmp self.old.directory.rules self.old.controls calls now s (next_message way.old)) }
     {
         if take_ended(&mut self.directory, now) {
             let put = self.ended_blocks(way, now)?;
@@ -213,6 +219,8 @@ impl<C: PublicKey> Actor<C> {
         ensures messages { OnOk result (way.new.messages ≡ way.old.messages) }
         ensures cooldown { self.new.cooldown ≡ self.old.cooldown }
         ensures has_failed { self.new.has_failed ≡ self.old.has_failed }
+        ensures put { IfOk result (λ p. (calls : List (Call C)) → StandsFor C.cmp self.old.directory calls
+            → IsPut C.cmp self.old.directory.rules self.old.controls calls now message p) }
     {
         match message {
             Message::Register { index, peers } => self.register(way, now, index, peers),

@@ -1,7 +1,12 @@
 //! Questions that change nothing, and subscriptions to peer sets.
+ghost use Rattle.p2p_oracle.specs.declared.message.Message.TheVariants as message;
+ghost use Rattle.p2p_tracker.specs.Putting.{IsPut};
+ghost use Rattle.p2p_facts.specs.declared.call.Call.{Call};
+ghost use Rattle.p2p_directory.specs.Stands.{StandsFor};
+ghost use Rattle.p2p_tracker.specs.declared.stepped.Put.TheVariants as puts;
 ghost use Rattle.p2p_oracle.specs.Desk.{answered_at};
 ghost use Rattle.p2p_tracker.specs.Telling.{ChangesUpdates};
-ghost use Rattle.std.specs.Prelude.{◌≡◌, [], ◌∷◌, IfOk};
+ghost use Rattle.std.specs.Prelude.{◌≡◌, List, [], ◌∷◌, IfOk};
 
 use super::Actor;
 use super::telling::tell;
@@ -18,6 +23,7 @@ impl<C: PublicKey> Actor<C> {
         ticket: u64,
     ) -> Result<List<Put<C>>, AllocError>
         ensures messages { way.new.messages ≡ way.old.messages }
+        ensures put { IfOk result (λ p. p ≡ puts.PeerSet ticket ∷ []) }
     {
         let peers = self.directory.get_peer_set(index)?;
         way.answer_peer_set(ticket, peers);
@@ -56,7 +62,9 @@ impl<C: PublicKey> Actor<C> {
     }
 
     // Answers whom to dial.
-    pub(super) fn dialable(&self, now: u64) -> Result<List<Put<C>>, AllocError> {
+    pub(super) fn dialable(&self, now: u64) -> Result<List<Put<C>>, AllocError>
+        ensures { IfOk result (λ p. (calls : List (Call C)) → StandsFor C.cmp self.now.directory calls → IsPut C.cmp self.now.directory.rules self.now.controls calls now message.Dialable p) }
+    {
         let dialable = self.directory.dialable(now)?;
         Ok(self.only(Put::Dialable(dialable))?)
     }
@@ -68,7 +76,9 @@ impl<C: PublicKey> Actor<C> {
         public_key: C,
         source_ip: IpAddr,
         handshake: u64,
-    ) -> Result<List<Put<C>>, AllocError> {
+    ) -> Result<List<Put<C>>, AllocError>
+        ensures { IfOk result (λ p. (calls : List (Call C)) → StandsFor C.cmp self.now.directory calls → IsPut C.cmp self.now.directory.rules self.now.controls calls now (message.Acceptable public_key source_ip handshake) p) }
+    {
         let acceptable = self.directory.acceptable(&public_key, source_ip, now);
         Ok(self.only(Put::Acceptable {
             handshake,

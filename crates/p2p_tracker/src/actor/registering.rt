@@ -1,7 +1,12 @@
 //! Peer sets and addresses that are handed in.
+ghost use Rattle.p2p_oracle.specs.declared.message.Message.TheVariants as message;
+ghost use Rattle.p2p_tracker.specs.Putting.{IsPut};
+ghost use Rattle.p2p_base.specs.declared.address.ip.IpAddr.{IpAddr};
+ghost use Rattle.p2p_tracker.specs.Telling.{updates_put};
+ghost use Rattle.p2p_tracker.specs.declared.stepped.Put.TheVariants as puts;
 ghost use Rattle.p2p_tracker.specs.Following.{Follows};
 ghost use Rattle.p2p_tracker.specs.Telling.{ChangesUpdates};
-ghost use Rattle.std.specs.Prelude.{◌≡◌, List, [], ◌∷◌, true, false, IfOk, OnOk};
+ghost use Rattle.std.specs.Prelude.{◌≡◌, ℕ, List, [], ◌∷◌, ◌++◌, cond, true, false, IfOk, OnOk};
 ghost use Rattle.p2p_facts.specs.declared.call.Call.{Call};
 ghost use Rattle.p2p_facts.specs.declared.call.Call.TheVariants as call;
 ghost use Rattle.p2p_directory.specs.Stands.{StandsFor};
@@ -32,6 +37,7 @@ impl<C: PublicKey> Actor<C> {
         ensures rules { OnOk result (self.new.directory.rules ≡ self.old.directory.rules) }
         ensures rest { self.new ≡ record self.old { directory = self.new.directory; controls = self.new.controls } }
         ensures desk { ChangesUpdates way.old way.new }
+        ensures put { IfOk result (λ p. (calls : List (Call C)) → StandsFor C.cmp self.old.directory calls → IsPut C.cmp self.old.directory.rules self.old.controls calls now (message.Register index peers) p) }
     {
         let mut put = Vec::new(self.alloc);
         let Some(killed) = self.directory.track(index, peers)? else {
@@ -46,6 +52,7 @@ impl<C: PublicKey> Actor<C> {
     // Puts the latest update for each subscription to peer sets, if there is one.
     fn tell_latest(&self, way: &mut Mailbox<C>, put: &mut Vec<Put<C>>) -> Result<(), AllocError>
         ensures desk { ChangesUpdates way.old way.new }
+        ensures put { OnOk result ((told : List ℕ) × (put.new.items ≡ put.old.items ++ updates_put told)) }
     {
         let Some(update) = self.directory.latest_update()? else {
             return Ok(());
@@ -60,7 +67,9 @@ impl<C: PublicKey> Actor<C> {
         now: u64,
         has_changed: bool,
         put: &mut Vec<Put<C>>,
-    ) -> Result<(), AllocError> {
+    ) -> Result<(), AllocError>
+        ensures put { OnOk result ((heard : List IpAddr) × (put.new.items ≡ cond has_changed (put.old.items ++ puts.Listenable heard ∷ []) put.old.items)) }
+    {
         if !has_changed {
             return Ok(());
         }

@@ -5,6 +5,7 @@ use Rattle.p2p_oracle.specs.declared.message.Message.{Message}
 use Rattle.p2p_directory.specs.Stands.{StandsFor}
 use Rattle.p2p_tracker.specs.Following.{Follows}
 use Rattle.p2p_tracker.specs.Tracking.{jitter_of}
+use Rattle.p2p_tracker.specs.Putting.{IsPut}
 use Rattle.p2p_tracker.specs.Serving.{calls_after}
 use Rattle.p2p_tracker.proofs.actor.Actor.serve.Goals as goal
 
@@ -107,3 +108,38 @@ returns-in-Listen-clause-messages g c = on_ok c.listen.result _ refl
 
 pub returns-in-Overwrite-clause-messages : goal.returns-in-Overwrite-clause-messages
 returns-in-Overwrite-clause-messages g c = on_ok c.overwrite.result _ refl
+
+pub returns-in-Register-clause-put : goal.returns-in-Register-clause-put
+returns-in-Register-clause-put g c =
+    let Told : Message g.row.C.Denot → Type 0 = λ m. IfOk c.register.result (λ p. (calls : List (Call g.row.C.Denot)) → StandsFor g.C.Ord.cmp c.args.self.now.directory calls → IsPut g.C.Ord.cmp c.args.self.now.directory.rules c.args.self.now.controls calls c.args.now m p) in
+    subst Told (sym c.in-Register.is) c.register.ensures.put
+
+pub returns-in-Block-clause-put : goal.returns-in-Block-clause-put
+returns-in-Block-clause-put g c =
+    let Told : Message g.row.C.Denot → Type 0 = λ m. IfOk c.block.result (λ p. (calls : List (Call g.row.C.Denot)) → StandsFor g.C.Ord.cmp c.args.self.now.directory calls → IsPut g.C.Ord.cmp c.args.self.now.directory.rules c.args.self.now.controls calls c.args.now m p) in
+    subst Told (sym c.in-Block.is) c.block.ensures.put
+
+pub returns-in-Connect-clause-put : goal.returns-in-Connect-clause-put
+returns-in-Connect-clause-put g c =
+    let Told : Message g.row.C.Denot → Type 0 = λ m. IfOk c.connect.result (λ p. (calls : List (Call g.row.C.Denot)) → StandsFor g.C.Ord.cmp c.args.self.now.directory calls → IsPut g.C.Ord.cmp c.args.self.now.directory.rules c.args.self.now.controls calls c.args.now m p) in
+    subst Told (sym c.in-Connect.is) c.connect.ensures.put
+
+pub returns-in-Dial-clause-put : goal.returns-in-Dial-clause-put
+returns-in-Dial-clause-put g c =
+    let Told : Message g.row.C.Denot → Type 0 = λ m. IfOk c.dial.result (λ p. (calls : List (Call g.row.C.Denot)) → StandsFor g.C.Ord.cmp c.args.self.now.directory calls → IsPut g.C.Ord.cmp c.args.self.now.directory.rules c.args.self.now.controls calls c.args.now m p) in
+    subst Told (sym c.in-Dial.is) c.dial.ensures.put
+
+pub returns-in-Listen-clause-put : goal.returns-in-Listen-clause-put
+returns-in-Listen-clause-put g c =
+    let Told : Message g.row.C.Denot → Type 0 = λ m. IfOk c.listen.result (λ p. (calls : List (Call g.row.C.Denot)) → StandsFor g.C.Ord.cmp c.args.self.now.directory calls → IsPut g.C.Ord.cmp c.args.self.now.directory.rules c.args.self.now.controls calls c.args.now m p) in
+    subst Told (sym c.in-Listen.is) c.listen.ensures.put
+
+pub returns-in-Dialable-clause-put : goal.returns-in-Dialable-clause-put
+returns-in-Dialable-clause-put g c =
+    let Told : Message g.row.C.Denot → Type 0 = λ m. IfOk c.dialable.result (λ p. (calls : List (Call g.row.C.Denot)) → StandsFor g.C.Ord.cmp c.args.self.now.directory calls → IsPut g.C.Ord.cmp c.args.self.now.directory.rules c.args.self.now.controls calls c.args.now m p) in
+    subst Told (sym c.in-Dialable.is) c.dialable.ensures
+
+pub returns-in-Acceptable-clause-put : goal.returns-in-Acceptable-clause-put
+returns-in-Acceptable-clause-put g c =
+    let Told : Message g.row.C.Denot → Type 0 = λ m. IfOk c.acceptable.result (λ p. (calls : List (Call g.row.C.Denot)) → StandsFor g.C.Ord.cmp c.args.self.now.directory calls → IsPut g.C.Ord.cmp c.args.self.now.directory.rules c.args.self.now.controls calls c.args.now m p) in
+    subst Told (sym c.in-Acceptable.is) c.acceptable.ensures

@@ -1,11 +1,14 @@
-use Rattle.std.proofs.Common.{◌≡◌, true, List, sym, ap, ◌∙◌, subst}
+use Rattle.std.proofs.Common.{◌≡◌, true, List, Option, sym, ap, ◌∙◌, subst}
 use Rattle.p2p_facts.specs.Blocks.{is_over, block_of}
 use Rattle.p2p_facts.specs.declared.call.Call.{Call}
 use Rattle.p2p_facts.specs.Rules.{Rules}
 use Rattle.p2p_oracle.specs.Desk.{next_message}
 use Rattle.p2p_directory.specs.Stands.{Kept, StandsFor}
 use Rattle.p2p_tracker.specs.Following.{Follows}
+use Rattle.p2p_oracle.specs.declared.message.Message.{Message}
+use Rattle.p2p_tracker.specs.Putting.{IsPut, IsPutBy}
 use Rattle.p2p_tracker.specs.Serving.{IsQuiet}
+use Rattle.p2p_tracker.specs.declared.stepped.Stepped.TheVariants as stepped
 use Rattle.p2p_tracker.specs.Tracking.{Tracking, jitter_of}
 use Rattle.p2p_tracker.proofs.Following.{follows-quiet, follows-unblock}
 use Rattle.p2p_tracker.proofs.Taking.{calls-taken}
@@ -54,3 +57,14 @@ returns-in_ok-put-in-Some-clause-follows g c = λ calls f.
     (calls-taken g.C.Ord.cmp c.take_ended.new.directory.rules c.args.self.now.directory.rules (jitter_of c.self.inside.cooldown c.args.seed) (jitter_of c.args.self.now.cooldown c.args.seed)
     (next_message c.args.way.now) c.in-Some.message c.args.now calls rules jitter (oldest ∙ c.in-Some.is))
     (c.in_ok-put-in-Some.ensures.follows calls quiet)
+
+pub returns-in_ok-put-in-Some-clause-put : goal.returns-in_ok-put-in-Some-clause-put
+returns-in_ok-put-in-Some-clause-put g c = λ calls s.
+    let same = ap (λ (t : Tracking g.row.C.Denot). t.directory) c.self.view_is in
+    let rules = c.take_ended.ensures.rules ∙ ap (λ (k : Kept g.row.C.Denot). k.rules) same in
+    let oldest : next_message c.args.way.now ≡ c.take.result = sym c.take.ensures.value in
+    let stands = c.take_ended.ensures.stands c.if-take_ended.false calls (subst (λ (k : Kept g.row.C.Denot). StandsFor g.C.Ord.cmp k calls) (sym same) s) in
+    subst (λ (o : Option (Message g.row.C.Denot)). IsPutBy g.C.Ord.cmp c.args.self.now.directory.rules c.args.self.now.controls calls c.args.now (stepped.Message c.in_ok-put-in-Some.put) o) (sym (oldest ∙ c.in-Some.is))
+    (subst (λ (x : Rules g.row.C.Denot). IsPut g.C.Ord.cmp x c.args.self.now.controls calls c.args.now c.in-Some.message c.in_ok-put-in-Some.put) rules
+    (subst (λ (t : Tracking g.row.C.Denot). IsPut g.C.Ord.cmp c.take_ended.new.directory.rules t.controls calls c.args.now c.in-Some.message c.in_ok-put-in-Some.put) c.self.view_is
+    (c.in_ok-put-in-Some.ensures.put calls stands)))

@@ -1,9 +1,8 @@
-use Rattle.std.proofs.Common.{◌≡◌, ◌<◌, ◌≤◌, length, cond, take, None, sym, ap, ◌∙◌, arith}
+use Rattle.std.proofs.Common.{◌≤◌, length, cond, None, ap, ◌∙◌, arith}
 use Rattle.std.proofs.lemmas.List.{take_all}
 use Rattle.std.specs.Map.{lookup}
 use Rattle.std.specs.BTreeMap.{is_at}
 use Rattle.p2p_facts.specs.Sets.{is_among}
-use Rattle.p2p_tracker.proofs.Following.{taken-more}
 use Rattle.p2p_tracker.proofs.actor.kills.kill_all.Goals as goal
 
 pub returns-clause-each : goal.returns-clause-each
