@@ -7,11 +7,11 @@ use Rattle.p2p_directory.specs.Stands.{Kept, StandsFor}
 use Rattle.p2p_tracker.specs.Following.{Follows}
 use Rattle.p2p_oracle.specs.declared.message.Message.{Message}
 use Rattle.p2p_tracker.specs.Putting.{IsPut, IsPutBy}
-use Rattle.p2p_tracker.specs.Serving.{IsQuiet}
+use Rattle.p2p_tracker.specs.Serving.{IsQuiet, may_take}
 use Rattle.p2p_tracker.specs.declared.stepped.Stepped.TheVariants as stepped
-use Rattle.p2p_tracker.specs.Tracking.{Tracking, jitter_of}
+use Rattle.p2p_tracker.specs.Tracking.{Tracking, IsAnswerable, jitter_of}
 use Rattle.p2p_tracker.proofs.Following.{follows-quiet, follows-unblock}
-use Rattle.p2p_tracker.proofs.Taking.{calls-taken}
+use Rattle.p2p_tracker.proofs.Taking.{calls-taken, served-taken}
 use Rattle.p2p_tracker.proofs.actor.Actor.work.Goals as goal
 
 pub returns-then-take_ended-clause-due : goal.returns-then-take_ended-clause-due
@@ -68,3 +68,11 @@ returns-in_ok-put-in-Some-clause-put g c = λ calls s.
     (subst (λ (x : Rules g.row.C.Denot). IsPut g.C.Ord.cmp x c.args.self.now.controls calls c.args.now c.in-Some.message c.in_ok-put-in-Some.put) rules
     (subst (λ (t : Tracking g.row.C.Denot). IsPut g.C.Ord.cmp c.take_ended.new.directory.rules t.controls calls c.args.now c.in-Some.message c.in_ok-put-in-Some.put) c.self.view_is
     (c.in_ok-put-in-Some.ensures.put calls stands)))
+
+pub serve-requires : goal.serve-requires
+serve-requires g c =
+    let answerable = subst (λ (t : Tracking g.row.C.Denot). IsAnswerable g.C.Ord.cmp t.directory) (sym c.self.view_is) c.requires.answerable in
+    let allowed = subst (λ (t : Tracking g.row.C.Denot). (calls : List (Call g.row.C.Denot)) → StandsFor g.C.Ord.cmp t.directory calls → IsQuiet g.C.Ord.cmp t.directory.rules calls c.args.now
+    → may_take g.C.Ord.cmp t.directory.rules (next_message c.args.way.now) c.args.now calls ≡ true) (sym c.self.view_is) c.requires.may_take in
+    served-taken c.self.inside.directory c.take_ended.new.directory (next_message c.args.way.now) c.in-Some.message c.args.now answerable (sym c.take.ensures.value ∙ c.in-Some.is)
+    c.take_ended.ensures.rules (c.take_ended.ensures.stands c.if-take_ended.false) (c.take_ended.ensures.quiet c.if-take_ended.false) allowed
