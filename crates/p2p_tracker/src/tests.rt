@@ -4,8 +4,8 @@ ghost use Rattle.p2p_directory.specs.Stands.{StandsFor};
 ghost use Rattle.p2p_oracle.specs.Desk.{new_desk};
 
 use crate::{Actor, Config, Mailbox, Oracle, Put, Stepped};
-use p2p_base::{Key, PublicKey};
-use p2p_flow::Blocker;
+use p2p_base::{Address, IpAddr, Key, Map, PublicKey, SetError, SocketAddr};
+use p2p_flow::{AddressableManager, AddressableTrackedPeers, Blocker, Provider};
 use std::alloc::{AllocError, Global};
 use std::test::Fail;
 
@@ -31,6 +31,18 @@ fn tracker<C: PublicKey>(
             block_duration: 10,
         },
     )
+}
+
+// This key alone, at an address.
+fn only<C: PublicKey>(alloc: Global, key: C) -> Result<AddressableTrackedPeers<C>, SetError> {
+    let ip = IpAddr::V4([10, 0, 0, 7]);
+    let mut pairs = Vec::new(alloc);
+    pairs
+        .push((key, Address::Symmetric(SocketAddr { ip, port: 80 })))
+        .map_err(AllocError::from)?;
+    let primary = Map::try_from(pairs)?;
+    let secondary = Map::try_from(Vec::new(alloc))?;
+    Ok(AddressableTrackedPeers::new(primary, secondary))
 }
 
 #[test]
@@ -63,5 +75,25 @@ fn a_block_is_told(rt: HostRuntime) -> Result<(), Fail> {
     }
     assert!(rt; matches!(actor.step(&mut way, 9, 0)?, Stepped::Idle));
     assert!(rt; matches!(actor.step(&mut way, 10, 0)?, Stepped::EndedBlocks { .. }));
+    Ok(())
+}
+
+#[test]
+fn a_peer_set_is_told(rt: HostRuntime) -> Result<(), Fail> {
+    let (mut actor, mut way, mut oracle) = tracker(rt.alloc(), Key(1))?;
+    oracle.subscribe(rt.alloc(), &mut way)?;
+    assert!(rt; matches!(actor.step(&mut way, 0, 0)?, Stepped::Message { .. }));
+    oracle.track(rt.alloc(), &mut way, 3, only(rt.alloc(), Key(2))?)?;
+    match actor.step(&mut way, 0, 0)? {
+        Stepped::Message { put } => {
+            assert!(rt;
+                matches!(
+                    put.as_slice(),
+                    [Put::Listenable(_), Put::Update { ticket: 0 }]
+                )
+            );
+        }
+        Stepped::EndedBlocks { .. } | Stepped::Idle => assert!(rt; false),
+    }
     Ok(())
 }
