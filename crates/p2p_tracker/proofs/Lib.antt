@@ -1,0 +1,6 @@
+pub mod Connecting
+pub mod Following
+pub mod Putting
+pub mod Readdressing
+pub mod Standing
+pub mod Taking

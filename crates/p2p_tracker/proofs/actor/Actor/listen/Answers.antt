@@ -1,0 +1,34 @@
+use Rattle.p2p_tracker.specs.Putting.{IsListenAnswer}
+use Rattle.p2p_directory.specs.Stands.{StandsFor}
+use Rattle.std.proofs.Common.{◌≡◌, sym, ap, subst}
+use Rattle.std.specs.Prelude.{is_some}
+use Rattle.p2p_tracker.specs.Tracking.{Tracking, jitter_of}
+use Rattle.p2p_facts.specs.Allows.{allows_listen}
+use Rattle.p2p_tracker.specs.Following.{Follows}
+use Rattle.p2p_tracker.proofs.Following.{follows-listen}
+use Rattle.p2p_tracker.proofs.Standing.{listen-served}
+use Rattle.p2p_tracker.proofs.actor.Actor.listen.Goals as goal
+
+pub returns-clause-stands : goal.returns-clause-stands
+returns-clause-stands g c = λ calls s.
+    let jitter : c.jitter-jitter.result ≡ jitter_of c.args.self.now.cooldown c.args.seed = cc in
+    listen-served c.self.inside.directory c.args.self.now.directory (ap (λ (t : Tracking g.row.C.Denot). t.directory) c.self.view_is) c.listen.new.self calls
+    c.args.public_key c.args.source_ip c.args.now c.jitter-jitter.result (jitter_of c.args.self.now.cooldown c.args.seed) (is_some c.in_ok-reservation.reservation) jitter
+    c.in_ok-reservation.ensures.stands c.in_ok-reservation.ensures.granted s
+
+pub returns-clause-follows : goal.returns-clause-follows
+returns-clause-follows g c = λ calls f.
+    let kept = subst (λ (t : Tracking g.row.C.Denot). Follows g.C.Ord.cmp t.directory t.controls calls) (sym c.self.view_is) f in
+    follows-listen c.self.inside.directory c.listen.new.self c.self.inside.controls.entries calls c.in_ok-reservation.ensures.rules kept
+    c.args.public_key c.args.now (jitter_of c.args.self.now.cooldown c.args.seed) (allows_listen g.C.Ord.cmp c.args.self.now.directory.rules calls c.args.public_key c.args.source_ip c.args.now)
+    (returns-clause-stands g c calls f.stands)
+
+pub returns-clause-put : goal.returns-clause-put
+returns-clause-put g c = λ calls s.
+    let before = subst (λ (t : Tracking g.row.C.Denot). StandsFor g.C.Ord.cmp t.directory calls) (sym c.self.view_is) s in
+    subst (λ (t : Tracking g.row.C.Denot). IsListenAnswer g.C.Ord.cmp t.directory.rules calls c.args.now c.args.public_key c.args.source_ip c.args.handshake c.in_ok-only.field-0) c.self.view_is (record {
+      grant = c.in_ok-reservation.reservation;
+      whole = c.in_ok-only.ensures;
+      granted = c.in_ok-reservation.ensures.granted calls before;
+      metadata = c.in_ok-reservation.ensures.metadata;
+    })

@@ -1,0 +1,18 @@
+-- A tracker that keeps exactly the connections that its calls keep.
+use Rattle.std.specs.Prelude.{◌≡◌, ℕ, true, false, is_some, List}
+use Rattle.std.specs.Map.{lookup}
+use Rattle.std.specs.BTreeMap.{is_at}
+use Rattle.std.specs.declared.cmp.Ordering.{Ordering}
+use Rattle.p2p_facts.specs.declared.call.Call.{Call}
+use Rattle.p2p_facts.specs.Grants.{is_held}
+use Rattle.p2p_facts.specs.Blocks.{is_local}
+use Rattle.p2p_facts.specs.Keeping.{is_kept}
+use Rattle.p2p_directory.specs.Stands.{Kept, StandsFor}
+
+-- the directory stands for the calls, a connection is kept for exactly the keys of which the calls keep one, and each of these keys is
+-- held and another's
+pub record Follows {P : Type 0} (cmp : P → P → Ordering) (kept : Kept P) (controls : List (P × ℕ)) (calls : List (Call P)) : Type 0 where
+  pub stands : StandsFor cmp kept calls
+  pub exactly : (q : P) → is_some (lookup (is_at (cmp q)) controls) ≡ is_kept cmp kept.rules calls q
+  pub held : (q : P) → is_kept cmp kept.rules calls q ≡ true → is_held cmp calls q ≡ true
+  pub others : (q : P) → is_kept cmp kept.rules calls q ≡ true → is_local cmp kept.rules q ≡ false

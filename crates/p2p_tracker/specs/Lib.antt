@@ -1,0 +1,5 @@
+pub mod Following
+pub mod Putting
+pub mod Serving
+pub mod Telling
+pub mod Tracking

@@ -1,0 +1,115 @@
+-- Which calls a step of the tracker makes, and what it asks of the message that it takes.
+use Rattle.std.specs.Prelude.{◌≡◌, ℕ, Bool, true, false, not, ◌||◌, List, [], ◌∷◌, Option, Some, None}
+use Rattle.std.specs.Map.{lookup}
+use Rattle.std.specs.BTreeMap.{is_at}
+use Rattle.std.specs.declared.cmp.Ordering.{Ordering}
+use Rattle.p2p_base.specs.Queue.{Queue, without_oldest}
+use Rattle.p2p_base.specs.declared.address.peer.Address.{Address}
+use Rattle.p2p_facts.specs.declared.call.Call.{Call}
+use Rattle.p2p_facts.specs.declared.call.Call.TheVariants as call
+use Rattle.p2p_facts.specs.Rules.{Rules}
+use Rattle.p2p_facts.specs.Allows.{allows_dial, allows_listen}
+use Rattle.p2p_facts.specs.Blocks.{is_over, block_of}
+use Rattle.p2p_facts.specs.Lives.{is_eligible}
+use Rattle.p2p_oracle.specs.Reserved.{peer_of}
+use Rattle.p2p_oracle.specs.declared.message.Message.{Message}
+use Rattle.p2p_oracle.specs.declared.message.Message.TheVariants as message
+use Rattle.p2p_directory.specs.Recorded.{is_reserved_in, is_held_or_unknown}
+use Rattle.p2p_directory.specs.Stands.{Kept, StandsFor, record_of}
+use Rattle.p2p_tracker.specs.declared.stepped.Stepped.{Stepped}
+use Rattle.p2p_tracker.specs.declared.stepped.Stepped.TheVariants as stepped
+
+-- the calls once each key got its address, by a call of its own, in their order
+unfoldable pub overwritten : {P : Type 0} → List (P × Address) → List (Call P) → List (Call P)
+overwritten [] calls = calls
+overwritten (e ∷ es) calls = overwritten es (call.Overwrite e.0 e.1 ∷ calls)
+
+module _ {P : Type 0} where
+  -- a step took blocks away that had ended
+  abbrev pub ends : Stepped P → Bool
+  ends stepped.Idle = false
+  ends (stepped.EndedBlocks put) = true
+  ends (stepped.Message put) = false
+
+  -- a step took a message
+  abbrev pub serves : Stepped P → Bool
+  serves stepped.Idle = false
+  serves (stepped.EndedBlocks put) = false
+  serves (stepped.Message put) = true
+
+  -- the messages that are left
+  abbrev pub left_by : Stepped P → Queue (Message P) → Queue (Message P)
+  left_by stepped.Idle q = q
+  left_by (stepped.EndedBlocks put) q = q
+  left_by (stepped.Message put) q = without_oldest q
+
+module _ {P : Type 0} (cmp : P → P → Ordering) (rules : Rules P) where
+  -- no block is due at the moment
+  abbrev pub IsQuiet : List (Call P) → ℕ → Type 0
+  IsQuiet calls now = (q : P) → is_over (block_of cmp rules calls q) now ≡ false
+
+  -- the calls, newest first, once a message was served at a moment, where a grant has this jitter
+  abbrev pub calls_after : Message P → ℕ → ℕ → List (Call P) → List (Call P)
+  calls_after (message.Register index peers) now jitter calls = call.Track index peers.primary peers.secondary ∷ calls
+  calls_after (message.Overwrite peers) now jitter calls = overwritten peers calls
+  calls_after (message.PeerSet index ticket) now jitter calls = calls
+  calls_after (message.Subscribe ticket) now jitter calls = calls
+  calls_after (message.Block k) now jitter calls = call.Block k now ∷ calls
+  calls_after (message.SubscribeBlocked ticket) now jitter calls = calls
+  calls_after (message.Connect k conn) now jitter calls = call.Connect k (Some now) ∷ calls
+  calls_after message.Dialable now jitter calls = calls
+  calls_after (message.Dial k) now jitter calls = call.Dial k now jitter (allows_dial cmp rules calls k now) ∷ calls
+  calls_after (message.Acceptable k source handshake) now jitter calls = calls
+  calls_after (message.Listen k source handshake) now jitter calls = call.Listen k now jitter (allows_listen cmp rules calls k source now) ∷ calls
+  calls_after (message.Release m) now jitter calls = call.Release (peer_of m) ∷ calls
+
+  -- the oldest message may be taken at the moment: a connection of an eligible key wants that key reserved, and what is released is held or
+  -- unknown
+  abbrev pub may_take : Option (Message P) → ℕ → List (Call P) → Bool
+  may_take (Some (message.Connect k conn)) now calls = not (is_eligible cmp rules calls k now) || is_reserved_in (record_of cmp rules calls k)
+  may_take (Some (message.Release m)) now calls = is_held_or_unknown (record_of cmp rules calls (peer_of m))
+  may_take (Some (message.Register index peers)) now calls = true
+  may_take (Some (message.Overwrite peers)) now calls = true
+  may_take (Some (message.PeerSet index ticket)) now calls = true
+  may_take (Some (message.Subscribe ticket)) now calls = true
+  may_take (Some (message.Block k)) now calls = true
+  may_take (Some (message.SubscribeBlocked ticket)) now calls = true
+  may_take (Some message.Dialable) now calls = true
+  may_take (Some (message.Dial k)) now calls = true
+  may_take (Some (message.Acceptable k source handshake)) now calls = true
+  may_take (Some (message.Listen k source handshake)) now calls = true
+  may_take None now calls = true
+
+module _ {P : Type 0} (cmp : P → P → Ordering) (rules : Rules P) where
+  -- the calls once the oldest message was taken, if there is one
+  abbrev pub calls_on : Option (Message P) → ℕ → ℕ → List (Call P) → List (Call P)
+  calls_on None now jitter calls = calls
+  calls_on (Some m) now jitter calls = calls_after cmp rules m now jitter calls
+
+module _ {P : Type 0} (cmp : P → P → Ordering) (rules : Rules P) where
+  -- the calls once a step was done, with what it answered and the message that waited
+  abbrev pub calls_by : Stepped P → Option (Message P) → ℕ → ℕ → List (Call P) → List (Call P)
+  calls_by stepped.Idle m now jitter calls = calls
+  calls_by (stepped.EndedBlocks put) m now jitter calls = call.UnblockExpired now ∷ calls
+  calls_by (stepped.Message put) m now jitter calls = calls_on cmp rules m now jitter calls
+
+module _ {P : Type 0} (cmp : P → P → Ordering) (kept : Kept P) where
+  -- whatever calls the directory stands for, the key is eligible at the moment
+  abbrev pub IsEligible : P → ℕ → Type 0
+  IsEligible k now = (calls : List (Call P)) → StandsFor cmp kept calls → is_eligible cmp kept.rules calls k now ≡ true
+
+module _ {P : Type 0} (cmp : P → P → Ordering) (kept : Kept P) where
+  -- the same of a message by the records of the directory
+  abbrev pub may_serve : Message P → ℕ → Type 0
+  may_serve (message.Connect k conn) now = IsEligible cmp kept k now → is_reserved_in (lookup (is_at (cmp k)) kept.records) ≡ true
+  may_serve (message.Release m) now = is_held_or_unknown (lookup (is_at (cmp (peer_of m))) kept.records) ≡ true
+  may_serve (message.Register index peers) now = Unit {0}
+  may_serve (message.Overwrite peers) now = Unit {0}
+  may_serve (message.PeerSet index ticket) now = Unit {0}
+  may_serve (message.Subscribe ticket) now = Unit {0}
+  may_serve (message.Block k) now = Unit {0}
+  may_serve (message.SubscribeBlocked ticket) now = Unit {0}
+  may_serve message.Dialable now = Unit {0}
+  may_serve (message.Dial k) now = Unit {0}
+  may_serve (message.Acceptable k source handshake) now = Unit {0}
+  may_serve (message.Listen k source handshake) now = Unit {0}

@@ -1,0 +1,128 @@
+//! Reservations: their grant, the connection that they are for, and their return.
+ghost use Rattle.p2p_oracle.specs.declared.message.Message.TheVariants as message;
+ghost use Rattle.p2p_tracker.specs.Putting.{IsPut};
+ghost use Rattle.p2p_tracker.specs.Following.{Follows};
+ghost use Rattle.std.specs.Prelude.{◌≡◌, List, Some, None, [], ◌∷◌, true, false, IfOk, OnOk};
+ghost use Rattle.p2p_facts.specs.declared.call.Call.{Call};
+ghost use Rattle.p2p_facts.specs.declared.call.Call.TheVariants as call;
+ghost use Rattle.p2p_directory.specs.Stands.{StandsFor};
+ghost use Rattle.std.specs.Map.{lookup};
+ghost use Rattle.std.specs.BTreeMap.{is_at};
+ghost use Rattle.p2p_facts.specs.Lives.{accepts};
+ghost use Rattle.p2p_facts.specs.Allows.{allows_dial, allows_listen};
+ghost use Rattle.p2p_directory.specs.Recorded.{is_reserved_in, is_held_or_unknown};
+ghost use Rattle.p2p_oracle.specs.Reserved.{peer_of};
+ghost use Rattle.p2p_tracker.specs.Tracking.{jitter_of};
+ghost use Rattle.p2p_tracker.specs.Serving.{IsEligible};
+
+use super::Actor;
+use super::kills::{forget, keep};
+use crate::{Metadata, Put};
+use p2p_base::{Draws, IpAddr, List, PublicKey};
+use p2p_directory::Directory;
+use std::alloc::AllocError;
+
+impl<C: PublicKey> Actor<C> {
+    // Answers a dial by a reservation, where it is granted.
+    pub(super) fn dial(
+        &mut self,
+        now: u64,
+        seed: u64,
+        public_key: C,
+    ) -> Result<List<Put<C>>, AllocError>
+        ensures stands { IfOk result (λ p. (calls : List (Call C)) → StandsFor C.cmp self.old.directory calls → StandsFor C.cmp self.new.directory (call.Dial public_key now (jitter_of self.old.cooldown seed) (allows_dial C.cmp self.old.directory.rules calls public_key now) ∷ calls)) }
+        ensures follows { IfOk result (λ p. (calls : List (Call C)) → Follows C.cmp self.old.directory self.old.controls calls
+            → Follows C.cmp self.new.directory self.new.controls (call.Dial public_key now (jitter_of self.old.cooldown seed) (allows_dial C.cmp self.old.directory.rules calls public_key now) ∷ calls)) }
+        ensures rules { OnOk result (self.new.directory.rules ≡ self.old.directory.rules) }
+        ensures rest { self.new ≡ record self.old { directory = self.new.directory } }
+        ensures put { IfOk result (λ p. (calls : List (Call C)) → StandsFor C.cmp self.old.directory calls → IsPut C.cmp self.old.directory.rules self.old.controls calls now (message.Dial public_key) p) }
+    {
+        let jitter = self.jitter(seed);
+        let granted = self.directory.dial(&public_key, now, jitter)?;
+        Ok(self.only(Put::Dial(granted))?)
+    }
+
+    // Answers a handshake by a reservation, where it is granted.
+    pub(super) fn listen(
+        &mut self,
+        now: u64,
+        seed: u64,
+        public_key: C,
+        source_ip: IpAddr,
+        handshake: u64,
+    ) -> Result<List<Put<C>>, AllocError>
+        ensures stands { IfOk result (λ p. (calls : List (Call C)) → StandsFor C.cmp self.old.directory calls → StandsFor C.cmp self.new.directory (call.Listen public_key now (jitter_of self.old.cooldown seed) (allows_listen C.cmp self.old.directory.rules calls public_key source_ip now) ∷ calls)) }
+        ensures follows { IfOk result (λ p. (calls : List (Call C)) → Follows C.cmp self.old.directory self.old.controls calls
+            → Follows C.cmp self.new.directory self.new.controls (call.Listen public_key now (jitter_of self.old.cooldown seed) (allows_listen C.cmp self.old.directory.rules calls public_key source_ip now) ∷ calls)) }
+        ensures rules { OnOk result (self.new.directory.rules ≡ self.old.directory.rules) }
+        ensures rest { self.new ≡ record self.old { directory = self.new.directory } }
+        ensures put { IfOk result (λ p. (calls : List (Call C)) → StandsFor C.cmp self.old.directory calls → IsPut C.cmp self.old.directory.rules self.old.controls calls now (message.Listen public_key source_ip handshake) p) }
+    {
+        let jitter = self.jitter(seed);
+        let reservation = self.directory.listen(&public_key, source_ip, now, jitter)?;
+        Ok(self.only(Put::Listen {
+            handshake,
+            reservation,
+        })?)
+    }
+
+    // How long after the cooldown a peer that is granted now is listed for a dial.
+    fn jitter(&self, seed: u64) -> u64
+        ensures { result ≡ jitter_of self.now.cooldown seed }
+    {
+        Draws::new(seed).random_range(self.cooldown / 2)
+    }
+
+    // Keeps the connection of a peer that is eligible and whose address hasn't changed since it was reserved. Kills any other.
+    pub(super) fn connect(
+        &mut self,
+        now: u64,
+        public_key: C,
+        conn: u64,
+    ) -> Result<List<Put<C>>, AllocError>
+        requires { IsEligible C.cmp self.old.directory public_key now → is_reserved_in (lookup (is_at (C.cmp public_key)) self.old.directory.records) ≡ true }
+        ensures stands { IfOk result (λ p. (calls : List (Call C)) → StandsFor C.cmp self.old.directory calls → StandsFor C.cmp self.new.directory (call.Connect public_key (Some now) ∷ calls)) }
+        ensures follows { IfOk result (λ p. (calls : List (Call C)) → Follows C.cmp self.old.directory self.old.controls calls
+            → Follows C.cmp self.new.directory self.new.controls (call.Connect public_key (Some now) ∷ calls)) }
+        ensures rules { OnOk result (self.new.directory.rules ≡ self.old.directory.rules) }
+        ensures rest { self.new ≡ record self.old { directory = self.new.directory; controls = self.new.controls } }
+        ensures put { IfOk result (λ p. (calls : List (Call C)) → StandsFor C.cmp self.old.directory calls → IsPut C.cmp self.old.directory.rules self.old.controls calls now (message.Connect public_key conn) p) }
+    {
+        if accept(&mut self.directory, now, &public_key) {
+            keep(&mut self.controls, public_key, conn)?;
+            return Ok(List::empty(self.alloc));
+        }
+        Ok(self.only(Put::Kill {
+            peer: public_key,
+            conn,
+        })?)
+    }
+
+    // Takes a reservation back, and forgets the peer's connection.
+    pub(super) fn release(&mut self, metadata: Metadata<C>) -> List<Put<C>>
+        requires { is_held_or_unknown (lookup (is_at (C.cmp (peer_of metadata))) self.old.directory.records) ≡ true }
+        ensures stands { (calls : List (Call C)) → StandsFor C.cmp self.old.directory calls → StandsFor C.cmp self.new.directory (call.Release (peer_of metadata) ∷ calls) }
+        ensures follows { (calls : List (Call C)) → Follows C.cmp self.old.directory self.old.controls calls
+            → Follows C.cmp self.new.directory self.new.controls (call.Release (peer_of metadata) ∷ calls) }
+        ensures rules { self.new.directory.rules ≡ self.old.directory.rules }
+        ensures rest { self.new ≡ record self.old { directory = self.new.directory; controls = self.new.controls } }
+        ensures put { result ≡ [] }
+    {
+        forget(&mut self.controls, metadata.public_key());
+        self.directory.release(&metadata);
+        List::empty(self.alloc)
+    }
+}
+
+// Begins the connection of a peer, where it may. True exactly where it did.
+fn accept<C: PublicKey>(directory: &mut Directory<C>, now: u64, public_key: &C) -> bool
+    requires { IsEligible C.cmp directory.old public_key.now now → is_reserved_in (lookup (is_at (C.cmp public_key.now)) directory.old.records) ≡ true }
+    ensures answer { (calls : List (Call C)) → StandsFor C.cmp directory.old calls → result ≡ accepts C.cmp directory.old.rules calls public_key.now (Some now) }
+    ensures rules { directory.new.rules ≡ directory.old.rules }
+    ensures stands { (calls : List (Call C)) → StandsFor C.cmp directory.old calls → StandsFor C.cmp directory.new (call.Connect public_key.now (Some now) ∷ calls) }
+{
+    if !directory.eligible(public_key, now) {
+        return false;
+    }
+    directory.connect(public_key)
+}

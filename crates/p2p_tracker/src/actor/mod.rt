@@ -1,0 +1,248 @@
+//! `Actor`, the tracker itself: the blocks that have ended, or one message, a step.
+ghost use Rattle.p2p_tracker.specs.Putting.{IsPut, IsPutBy};
+ghost use Rattle.p2p_tracker.specs.Following.{Follows};
+ghost use Rattle.std.specs.Prelude.{◌≡◌, ◌≤◌, List, [], true, false, is_some, IfOk, OnOk, OnErr, IsErr};
+ghost use Rattle.std.specs.Map.{lookup};
+ghost use Rattle.std.specs.BTreeMap.{is_at};
+ghost use Rattle.p2p_facts.specs.Blocks.{is_over, block_of};
+ghost use Rattle.p2p_facts.specs.Keeping.{all_connect_by};
+ghost use Rattle.p2p_facts.specs.Lives.{is_eligible, is_stale};
+ghost use Rattle.p2p_facts.specs.declared.call.Call.{Call};
+ghost use Rattle.p2p_directory.specs.Stands.{StandsFor};
+ghost use Rattle.p2p_oracle.specs.Desk.{new_desk, next_message};
+ghost use Rattle.p2p_tracker.specs.Tracking.{new_tracking, IsAnswerable, jitter_of};
+ghost use Rattle.p2p_tracker.specs.Serving.{IsQuiet, ends, serves, left_by, may_take, may_serve, calls_after, calls_by};
+
+mod blocks;
+mod grants;
+mod kills;
+mod questions;
+mod registering;
+mod telling;
+
+use crate::{Config, Mailbox, Message, Oracle, Put, Stepped};
+use blocks::take_ended;
+use p2p_base::{List, PublicKey};
+use p2p_directory::{Config as DirectoryConfig, Directory};
+use std::alloc::{AllocError, Global};
+use std::collections::BTreeMap;
+use std::marker::Model;
+
+/// The tracker: the directory of peers, who is told of its changes, and the connections that it may have to end.
+///
+/// Ports `Actor` of commonware-p2p's lookup tracker.
+#[derive(Drop)]
+pub struct Actor<C: PublicKey> {
+    alloc: Global,
+    directory: Directory<C>,
+    cooldown: u64,
+    updates: Vec<u64>,
+    sets: Vec<u64>,
+    controls: BTreeMap<C, u64>,
+    has_failed: bool,
+}
+
+impl<C: PublicKey> Model for Actor<C> {
+    ghost use Rattle.p2p_tracker.specs.Tracking.{Tracking};
+
+    ghost Value = { Tracking C };
+
+    ghost view = { λ a. record {
+      directory = a.directory;
+      cooldown = a.cooldown;
+      updates = a.updates.items;
+      sets = a.sets.items;
+      controls = a.controls.entries;
+      has_failed = a.has_failed;
+    } };
+}
+
+impl<C: PublicKey> Actor<C> {
+    /// A tracker that knows of no peer but its own node, the mailbox for its messages, and the oracle that asks it.
+    ///
+    /// `Err` only where memory runs out.
+    ///
+    /// Ports `Actor::new` of commonware-p2p's lookup tracker.
+    pub fn new(
+        alloc: Global,
+        cfg: Config<C>,
+    ) -> Result<(Actor<C>, Mailbox<C>, Oracle<C>), AllocError>
+        requires mailbox_size { 1 ≤ cfg.mailbox_size }
+        requires max_peers_per_set { 1 ≤ cfg.max_peers_per_set }
+        requires tracked_peer_sets { 1 ≤ cfg.tracked_peer_sets }
+        ensures stands { IfOk result (λ r. StandsFor C.cmp r.0.directory []) }
+        ensures actor { IfOk result (λ r. r.0 ≡ new_tracking r.0.directory cfg.peer_connection_cooldown) }
+        ensures local { IfOk result (λ r. r.0.directory.rules.local ≡ cfg.public_key) }
+        ensures max_sets { IfOk result (λ r. r.0.directory.rules.max_sets ≡ cfg.tracked_peer_sets) }
+        ensures cooldown { IfOk result (λ r. r.0.directory.rules.cooldown ≡ cfg.peer_connection_cooldown) }
+        ensures block_duration { IfOk result (λ r. r.0.directory.rules.block_duration ≡ cfg.block_duration) }
+        ensures private { IfOk result (λ r. r.0.directory.rules.private ≡ cfg.allow_private_ips) }
+        ensures dns { IfOk result (λ r. r.0.directory.rules.dns ≡ cfg.allow_dns) }
+        ensures bypass { IfOk result (λ r. r.0.directory.rules.bypass ≡ cfg.bypass_ip_check) }
+        ensures mailbox { IfOk result (λ r. r.1 ≡ new_desk cfg.mailbox_size) }
+        ensures oracle { IfOk result (λ r. r.2.local ≡ cfg.public_key) }
+        ensures most { IfOk result (λ r. r.2.max_peers_per_set ≡ cfg.max_peers_per_set) }
+    {
+        let directory = Directory::init(
+            alloc,
+            cfg.public_key,
+            DirectoryConfig {
+                allow_private_ips: cfg.allow_private_ips,
+                allow_dns: cfg.allow_dns,
+                bypass_ip_check: cfg.bypass_ip_check,
+                max_sets: cfg.tracked_peer_sets,
+                peer_connection_cooldown: cfg.peer_connection_cooldown,
+                block_duration: cfg.block_duration,
+            },
+        )?;
+        let mailbox = Mailbox::new(alloc, cfg.mailbox_size)?;
+        let oracle = Oracle::new(cfg.public_key, cfg.max_peers_per_set);
+        Ok((
+            Actor::of_directory(alloc, directory, cfg.peer_connection_cooldown),
+            mailbox,
+            oracle,
+        ))
+    }
+
+    // A tracker with this directory, which tells nobody and keeps no connection.
+    fn of_directory(alloc: Global, directory: Directory<C>, cooldown: u64) -> Actor<C>
+        ensures { result ≡ new_tracking directory cooldown }
+    {
+        Actor {
+            alloc,
+            directory,
+            cooldown,
+            updates: Vec::new(alloc),
+            sets: Vec::new(alloc),
+            controls: BTreeMap::new(alloc),
+            has_failed: false,
+        }
+    }
+
+    /// Takes away the blocks that have ended at the moment `now`. Where there is none, takes the oldest message of the mailbox and does
+    /// what it says. `seed` draws the jitter of a grant.
+    ///
+    /// `Err` only where memory runs out. Each later step then answers so.
+    ///
+    /// Ports the turn of the loop of commonware-p2p's lookup tracker.
+    pub fn step(
+        &mut self,
+        way: &mut Mailbox<C>,
+        now: u64,
+        seed: u64,
+    ) -> Result<Stepped<C>, AllocError>
+        requires answerable { self.old.has_failed ≡ false → IsAnswerable C.cmp self.old.directory }
+        requires may_take { self.old.has_failed ≡ false → (calls : List (Call C)) → StandsFor C.cmp self.old.directory calls
+            → IsQuiet C.cmp self.old.directory.rules calls now → may_take C.cmp self.old.directory.rules (next_message way.old) now calls ≡ true }
+        ensures stands { IfOk result (λ s. (calls : List (Call C)) → StandsFor C.cmp self.old.directory calls
+            → StandsFor C.cmp self.new.directory (calls_by C.cmp self.old.directory.rules s (next_message way.old) now (jitter_of self.old.cooldown seed) calls)) }
+        ensures due { IfOk result (λ s. ends s ≡ true → (calls : List (Call C)) → StandsFor C.cmp self.old.directory calls
+            → (q : C) × (is_over (block_of C.cmp self.old.directory.rules calls q) now ≡ true)) }
+        ensures quiet { IfOk result (λ s. ends s ≡ false → (calls : List (Call C)) → StandsFor C.cmp self.old.directory calls
+            → IsQuiet C.cmp self.old.directory.rules calls now) }
+        ensures served { IfOk result (λ s. ends s ≡ false → serves s ≡ is_some (next_message way.old)) }
+        ensures taken { IfOk result (λ s. way.new.messages ≡ left_by s way.old.messages) }
+        ensures follows { IfOk result (λ s. (calls : List (Call C)) → Follows C.cmp self.old.directory self.old.controls calls
+            → Follows C.cmp self.new.directory self.new.controls (calls_by C.cmp self.old.directory.rules s (next_message way.old) now (jitter_of self.old.cooldown seed) calls)) }
+        ensures eligible { IfOk result (λ s. (calls : List (Call C)) → all_connect_by now calls ≡ true → Follows C.cmp self.old.directory self.old.controls calls
+            → (q : C) → is_some (lookup (is_at (C.cmp q)) self.new.controls) ≡ true
+            → is_eligible C.cmp self.new.directory.rules (calls_by C.cmp self.old.directory.rules s (next_message way.old) now (jitter_of self.old.cooldown seed) calls) q now ≡ true) }
+        ensures fresh { IfOk result (λ s. (calls : List (Call C)) → Follows C.cmp self.old.directory self.old.controls calls
+            → (q : C) → is_some (lookup (is_at (C.cmp q)) self.new.controls) ≡ true
+            → is_stale C.cmp self.new.directory.rules (calls_by C.cmp self.old.directory.rules s (next_message way.old) now (jitter_of self.old.cooldown seed) calls) q ≡ false) }
+        ensures answerable { OnOk result (IsAnswerable C.cmp self.new.directory) }
+        ensures rules { OnOk result (self.new.directory.rules ≡ self.old.directory.rules) }
+        ensures cooldown { self.new.cooldown ≡ self.old.cooldown }
+        ensures memory { OnErr result (self.new.has_failed ≡ true) }
+        ensures works { OnOk result (self.new.has_failed ≡ false) }
+        ensures failed { self.old.has_failed ≡ true → IsErr result }
+        ensures put { IfOk result (λ s. (calls : List (Call C)) → StandsFor C.cmp self.old.directory calls
+            → IsPutBy C.cmp self.old.directory.rules self.old.controls calls now s (next_message way.old)) }
+    {
+        if self.has_failed {
+            return Err(AllocError);
+        }
+        self.has_failed = true;
+        let stepped = self.work(way, now, seed)?;
+        self.has_failed = false;
+        Ok(stepped)
+    }
+
+    // What a step does.
+    fn work(&mut self, way: &mut Mailbox<C>, now: u64, seed: u64) -> Result<Stepped<C>, AllocError>
+        requires answerable { IsAnswerable C.cmp self.old.directory }
+        requires may_take { (calls : List (Call C)) → StandsFor C.cmp self.old.directory calls
+            → IsQuiet C.cmp self.old.directory.rules calls now → may_take C.cmp self.old.directory.rules (next_message way.old) now calls ≡ true }
+        ensures stands { IfOk result (λ s. (calls : List (Call C)) → StandsFor C.cmp self.old.directory calls
+            → StandsFor C.cmp self.new.directory (calls_by C.cmp self.old.directory.rules s (next_message way.old) now (jitter_of self.old.cooldown seed) calls)) }
+        ensures due { IfOk result (λ s. ends s ≡ true → (calls : List (Call C)) → StandsFor C.cmp self.old.directory calls
+            → (q : C) × (is_over (block_of C.cmp self.old.directory.rules calls q) now ≡ true)) }
+        ensures quiet { IfOk result (λ s. ends s ≡ false → (calls : List (Call C)) → StandsFor C.cmp self.old.directory calls
+            → IsQuiet C.cmp self.old.directory.rules calls now) }
+        ensures served { IfOk result (λ s. ends s ≡ false → serves s ≡ is_some (next_message way.old)) }
+        ensures taken { IfOk result (λ s. way.new.messages ≡ left_by s way.old.messages) }
+        ensures follows { IfOk result (λ s. (calls : List (Call C)) → Follows C.cmp self.old.directory self.old.controls calls
+            → Follows C.cmp self.new.directory self.new.controls (calls_by C.cmp self.old.directory.rules s (next_message way.old) now (jitter_of self.old.cooldown seed) calls)) }
+        ensures rules { OnOk result (self.new.directory.rules ≡ self.old.directory.rules) }
+        ensures cooldown { self.new.cooldown ≡ self.old.cooldown }
+        ensures has_failed { self.new.has_failed ≡ self.old.has_failed }
+        ensures put { IfOk result (λ s. (calls : List (Call C)) → StandsFor C.cmp self.old.directory calls
+            → IsPutBy C.cmp self.old.directory.rules self.old.controls calls now s (next_message way.old)) }
+    {
+        if take_ended(&mut self.directory, now) {
+            let put = self.ended_blocks(way, now)?;
+            return Ok(Stepped::EndedBlocks { put });
+        }
+        match way.take() {
+            Some(message) => {
+                let put = self.serve(way, message, now, seed)?;
+                Ok(Stepped::Message { put })
+            }
+            None => Ok(Stepped::Idle),
+        }
+    }
+
+    // Does what a message says.
+    fn serve(
+        &mut self,
+        way: &mut Mailbox<C>,
+        message: Message<C>,
+        now: u64,
+        seed: u64,
+    ) -> Result<List<Put<C>>, AllocError>
+        requires { may_serve C.cmp self.old.directory message now }
+        ensures stands { IfOk result (λ p. (calls : List (Call C)) → StandsFor C.cmp self.old.directory calls
+            → StandsFor C.cmp self.new.directory (calls_after C.cmp self.old.directory.rules message now (jitter_of self.old.cooldown seed) calls)) }
+        ensures follows { IfOk result (λ p. (calls : List (Call C)) → Follows C.cmp self.old.directory self.old.controls calls
+            → Follows C.cmp self.new.directory self.new.controls (calls_after C.cmp self.old.directory.rules message now (jitter_of self.old.cooldown seed) calls)) }
+        ensures rules { OnOk result (self.new.directory.rules ≡ self.old.directory.rules) }
+        ensures messages { OnOk result (way.new.messages ≡ way.old.messages) }
+        ensures cooldown { self.new.cooldown ≡ self.old.cooldown }
+        ensures has_failed { self.new.has_failed ≡ self.old.has_failed }
+        ensures put { IfOk result (λ p. (calls : List (Call C)) → StandsFor C.cmp self.old.directory calls
+            → IsPut C.cmp self.old.directory.rules self.old.controls calls now message p) }
+    {
+        match message {
+            Message::Register { index, peers } => self.register(way, now, index, peers),
+            Message::Overwrite { peers } => self.overwrite(now, peers),
+            Message::PeerSet { index, ticket } => self.peer_set(way, index, ticket),
+            Message::Subscribe { ticket } => self.subscribe(way, ticket),
+            Message::Block { public_key } => self.block(way, now, public_key),
+            Message::SubscribeBlocked { ticket } => self.subscribe_blocked(way, now, ticket),
+            Message::Connect { public_key, conn } => self.connect(now, public_key, conn),
+            Message::Dialable => self.dialable(now),
+            Message::Dial { public_key } => self.dial(now, seed, public_key),
+            Message::Acceptable {
+                public_key,
+                source_ip,
+                handshake,
+            } => self.acceptable(now, public_key, source_ip, handshake),
+            Message::Listen {
+                public_key,
+                source_ip,
+                handshake,
+            } => self.listen(now, seed, public_key, source_ip, handshake),
+            Message::Release { metadata } => Ok(self.release(metadata)),
+        }
+    }
+}

@@ -1,0 +1,97 @@
+//! Questions that change nothing, and subscriptions to peer sets.
+ghost use Rattle.p2p_oracle.specs.declared.message.Message.TheVariants as message;
+ghost use Rattle.p2p_tracker.specs.Putting.{IsPut};
+ghost use Rattle.p2p_facts.specs.declared.call.Call.{Call};
+ghost use Rattle.p2p_directory.specs.Stands.{StandsFor};
+ghost use Rattle.p2p_tracker.specs.declared.stepped.Put.TheVariants as puts;
+ghost use Rattle.p2p_oracle.specs.Desk.{answered_at};
+ghost use Rattle.p2p_tracker.specs.Telling.{ChangesUpdates};
+ghost use Rattle.std.specs.Prelude.{◌≡◌, List, [], ◌∷◌, IfOk};
+
+use super::Actor;
+use super::telling::tell;
+use crate::{Mailbox, Put};
+use p2p_base::{IpAddr, List, PublicKey};
+use std::alloc::AllocError;
+
+impl<C: PublicKey> Actor<C> {
+    // Answers who is in a set.
+    pub(super) fn peer_set(
+        &self,
+        way: &mut Mailbox<C>,
+        index: u64,
+        ticket: u64,
+    ) -> Result<List<Put<C>>, AllocError>
+        ensures messages { way.new.messages ≡ way.old.messages }
+        ensures put { IfOk result (λ p. p ≡ puts.PeerSet ticket ∷ []) }
+    {
+        let peers = self.directory.get_peer_set(index)?;
+        way.answer_peer_set(ticket, peers);
+        Ok(self.only(Put::PeerSet { ticket })?)
+    }
+
+    // Tells a new subscription the latest set, if there is one, and keeps it.
+    pub(super) fn subscribe(
+        &mut self,
+        way: &mut Mailbox<C>,
+        ticket: u64,
+    ) -> Result<List<Put<C>>, AllocError>
+        ensures rest { self.new ≡ record self.old { updates = self.new.updates } }
+        ensures desk { ChangesUpdates way.old way.new }
+    {
+        let mut put = Vec::new(self.alloc);
+        self.tell_newest(way, ticket, &mut put)?;
+        self.updates.push(ticket)?;
+        Ok(List::new(put))
+    }
+
+    // Puts the latest update for a subscription, if there is one.
+    fn tell_newest(
+        &self,
+        way: &mut Mailbox<C>,
+        ticket: u64,
+        put: &mut Vec<Put<C>>,
+    ) -> Result<(), AllocError>
+        ensures desk { ChangesUpdates way.old way.new }
+    {
+        let Some(update) = self.directory.latest_update()? else {
+            return Ok(());
+        };
+        tell(way, ticket, &update, put)?;
+        Ok(())
+    }
+
+    // Answers whom to dial.
+    pub(super) fn dialable(&self, now: u64) -> Result<List<Put<C>>, AllocError>
+        ensures { IfOk result (λ p. (calls : List (Call C)) → StandsFor C.cmp self.now.directory calls → IsPut C.cmp self.now.directory.rules self.now.controls calls now message.Dialable p) }
+    {
+        let dialable = self.directory.dialable(now)?;
+        Ok(self.only(Put::Dialable(dialable))?)
+    }
+
+    // Answers whether a peer may connect from there.
+    pub(super) fn acceptable(
+        &self,
+        now: u64,
+        public_key: C,
+        source_ip: IpAddr,
+        handshake: u64,
+    ) -> Result<List<Put<C>>, AllocError>
+        ensures { IfOk result (λ p. (calls : List (Call C)) → StandsFor C.cmp self.now.directory calls → IsPut C.cmp self.now.directory.rules self.now.controls calls now (message.Acceptable public_key source_ip handshake) p) }
+    {
+        let acceptable = self.directory.acceptable(&public_key, source_ip, now);
+        Ok(self.only(Put::Acceptable {
+            handshake,
+            acceptable,
+        })?)
+    }
+
+    // The list of this alone.
+    pub(super) fn only(&self, put: Put<C>) -> Result<List<Put<C>>, AllocError>
+        ensures { IfOk result (λ l. l ≡ put ∷ []) }
+    {
+        let mut list = Vec::new(self.alloc);
+        list.push(put)?;
+        Ok(List::new(list))
+    }
+}

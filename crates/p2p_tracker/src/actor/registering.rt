@@ -1,0 +1,141 @@
+//! Peer sets and addresses that are handed in.
+ghost use Rattle.p2p_oracle.specs.declared.message.Message.TheVariants as message;
+ghost use Rattle.p2p_tracker.specs.Putting.{IsPut};
+ghost use Rattle.p2p_base.specs.declared.address.ip.IpAddr.{IpAddr};
+ghost use Rattle.p2p_tracker.specs.Telling.{updates_put};
+ghost use Rattle.p2p_tracker.specs.declared.stepped.Put.TheVariants as puts;
+ghost use Rattle.p2p_tracker.specs.Following.{Follows};
+ghost use Rattle.p2p_tracker.specs.Telling.{ChangesUpdates};
+ghost use Rattle.std.specs.Prelude.{◌≡◌, ℕ, List, [], ◌∷◌, ◌++◌, cond, true, false, IfOk, OnOk};
+ghost use Rattle.p2p_facts.specs.declared.call.Call.{Call};
+ghost use Rattle.p2p_facts.specs.declared.call.Call.TheVariants as call;
+ghost use Rattle.p2p_directory.specs.Stands.{StandsFor};
+ghost use Rattle.p2p_tracker.specs.Serving.{overwritten};
+
+use super::Actor;
+use super::kills::{kill, kill_all};
+use super::telling::tell_all;
+use crate::{Mailbox, Put};
+use p2p_base::{Address, List, Map, PublicKey};
+use p2p_directory::Directory;
+use p2p_flow::AddressableTrackedPeers;
+use std::alloc::AllocError;
+use std::collections::BTreeMap;
+
+impl<C: PublicKey> Actor<C> {
+    // Tracks the peers of one more set, and tells of it. A set that is refused is told to nobody.
+    pub(super) fn register(
+        &mut self,
+        way: &mut Mailbox<C>,
+        now: u64,
+        index: u64,
+        peers: AddressableTrackedPeers<C>,
+    ) -> Result<List<Put<C>>, AllocError>
+        ensures stands { IfOk result (λ p. (calls : List (Call C)) → StandsFor C.cmp self.old.directory calls → StandsFor C.cmp self.new.directory (call.Track index peers.primary peers.secondary ∷ calls)) }
+        ensures follows { IfOk result (λ p. (calls : List (Call C)) → Follows C.cmp self.old.directory self.old.controls calls
+            → Follows C.cmp self.new.directory self.new.controls (call.Track index peers.primary peers.secondary ∷ calls)) }
+        ensures rules { OnOk result (self.new.directory.rules ≡ self.old.directory.rules) }
+        ensures rest { self.new ≡ record self.old { directory = self.new.directory; controls = self.new.controls } }
+        ensures desk { ChangesUpdates way.old way.new }
+        ensures put { IfOk result (λ p. (calls : List (Call C)) → StandsFor C.cmp self.old.directory calls → IsPut C.cmp self.old.directory.rules self.old.controls calls now (message.Register index peers) p) }
+    {
+        let mut put = Vec::new(self.alloc);
+        let Some(killed) = self.directory.track(index, peers)? else {
+            return Ok(List::new(put));
+        };
+        kill_all(&mut self.controls, killed.as_slice(), &mut put)?;
+        self.tell_listener(now, true, &mut put)?;
+        self.tell_latest(way, &mut put)?;
+        Ok(List::new(put))
+    }
+
+    // Puts the latest update for each subscription to peer sets, if there is one.
+    fn tell_latest(&self, way: &mut Mailbox<C>, put: &mut Vec<Put<C>>) -> Result<(), AllocError>
+        ensures desk { ChangesUpdates way.old way.new }
+        ensures put { OnOk result ((told : List ℕ) × (put.new.items ≡ put.old.items ++ updates_put told)) }
+    {
+        let Some(update) = self.directory.latest_update()? else {
+            return Ok(());
+        };
+        tell_all(way, self.updates.as_slice(), &update, put)?;
+        Ok(())
+    }
+
+    // Puts the addresses that peers may come from now, where something has changed.
+    fn tell_listener(
+        &self,
+        now: u64,
+        has_changed: bool,
+        put: &mut Vec<Put<C>>,
+    ) -> Result<(), AllocError>
+        ensures put { OnOk result ((heard : List IpAddr) × (put.new.items ≡ cond has_changed (put.old.items ++ puts.Listenable heard ∷ []) put.old.items)) }
+    {
+        if !has_changed {
+            return Ok(());
+        }
+        let heard = self.directory.listenable(now)?;
+        put.push(Put::Listenable(List::new(heard)))?;
+        Ok(())
+    }
+
+    // Gives peers other addresses, and tells of it where that changes one.
+    pub(super) fn overwrite(
+        &mut self,
+        now: u64,
+        peers: Map<C, Address>,
+    ) -> Result<List<Put<C>>, AllocError>
+        ensures stands { IfOk result (λ p. (calls : List (Call C)) → StandsFor C.cmp self.old.directory calls → StandsFor C.cmp self.new.directory (overwritten peers calls)) }
+        ensures follows { IfOk result (λ p. (calls : List (Call C)) → Follows C.cmp self.old.directory self.old.controls calls
+            → Follows C.cmp self.new.directory self.new.controls (overwritten peers calls)) }
+        ensures rules { OnOk result (self.new.directory.rules ≡ self.old.directory.rules) }
+        ensures rest { self.new ≡ record self.old { directory = self.new.directory; controls = self.new.controls } }
+    {
+        let mut put = Vec::new(self.alloc);
+        let has_changed = readdress_all(&mut self.directory, &mut self.controls, &peers, &mut put)?;
+        self.tell_listener(now, has_changed, &mut put)?;
+        Ok(List::new(put))
+    }
+}
+
+// Gives each peer its address, in the order of their keys, and kills those whose address changes. True exactly where one did.
+fn readdress_all<C: PublicKey>(
+    directory: &mut Directory<C>,
+    controls: &mut BTreeMap<C, u64>,
+    peers: &Map<C, Address>,
+    put: &mut Vec<Put<C>>,
+) -> Result<bool, AllocError>
+    ensures stands { OnOk result ((calls : List (Call C)) → StandsFor C.cmp directory.old calls → StandsFor C.cmp directory.new (overwritten peers.now calls)) }
+    ensures follows { OnOk result ((calls : List (Call C)) → Follows C.cmp directory.old controls.old.entries calls
+        → Follows C.cmp directory.new controls.new.entries (overwritten peers.now calls)) }
+    ensures rules { OnOk result (directory.new.rules ≡ directory.old.rules) }
+{
+    let mut has_changed = false;
+    for place in 0..peers.len() {
+        let peer = peers.keys()[place];
+        let address = peers.values()[place].clone()?;
+        let changes = readdress(directory, controls, &peer, address, put)?;
+        has_changed = has_changed || changes;
+    }
+    Ok(has_changed)
+}
+
+// Gives a peer another address, and kills it where that changed it. True exactly there.
+fn readdress<C: PublicKey>(
+    directory: &mut Directory<C>,
+    controls: &mut BTreeMap<C, u64>,
+    peer: &C,
+    address: Address,
+    put: &mut Vec<Put<C>>,
+) -> Result<bool, AllocError>
+    ensures stands { OnOk result ((calls : List (Call C)) → StandsFor C.cmp directory.old calls → StandsFor C.cmp directory.new (call.Overwrite peer.now address ∷ calls)) }
+    ensures follows { OnOk result ((calls : List (Call C)) → Follows C.cmp directory.old controls.old.entries calls
+        → Follows C.cmp directory.new controls.new.entries (call.Overwrite peer.now address ∷ calls)) }
+    ensures rules { OnOk result (directory.new.rules ≡ directory.old.rules) }
+{
+    let has_changed = directory.overwrite(peer, address)?;
+    if !has_changed {
+        return Ok(false);
+    }
+    kill(controls, peer, put)?;
+    Ok(true)
+}

@@ -1,0 +1,19 @@
+//! The tracker: which peers may connect, who holds the right to, and whose connection has to end.
+//!
+//! Whoever asks the tracker puts a message into its `Mailbox`. `Actor` takes one message a step.
+#![tactic(auto)]
+
+mod actor;
+mod config;
+mod stepped;
+
+pub use actor::Actor;
+pub use config::Config;
+pub use p2p_directory::{
+    Address, DialStatus, Dialable, Directory, Record, Reservation, ReserveResult, Status,
+};
+pub use p2p_oracle::{Mailbox, Message, Metadata, Oracle};
+pub use stepped::{Put, Stepped};
+
+#[cfg(test)]
+mod tests;

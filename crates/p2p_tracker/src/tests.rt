@@ -1,0 +1,99 @@
+//! Steps of a new tracker, with what they put worked out by hand.
+ghost use Rattle.std.specs.Prelude.{◌≡◌, [], IfOk};
+ghost use Rattle.p2p_directory.specs.Stands.{StandsFor};
+ghost use Rattle.p2p_oracle.specs.Desk.{new_desk};
+
+use crate::{Actor, Config, Mailbox, Oracle, Put, Stepped};
+use p2p_base::{Address, IpAddr, Key, Map, PublicKey, SetError, SocketAddr};
+use p2p_flow::{AddressableManager, AddressableTrackedPeers, Blocker, Provider};
+use std::alloc::{AllocError, Global};
+use std::test::Fail;
+
+// A tracker of this key.
+fn tracker<C: PublicKey>(
+    alloc: Global,
+    public_key: C,
+) -> Result<(Actor<C>, Mailbox<C>, Oracle<C>), AllocError>
+    ensures stands { IfOk result (λ r. StandsFor C.cmp r.0.directory []) }
+    ensures mailbox { IfOk result (λ r. r.1 ≡ new_desk 4) }
+{
+    Actor::new(
+        alloc,
+        Config {
+            public_key,
+            mailbox_size: 4,
+            max_peers_per_set: 3,
+            tracked_peer_sets: 2,
+            peer_connection_cooldown: 1_000_000_000,
+            allow_private_ips: true,
+            allow_dns: false,
+            bypass_ip_check: false,
+            block_duration: 10,
+        },
+    )
+}
+
+// This key alone, at an address.
+fn only<C: PublicKey>(alloc: Global, key: C) -> Result<AddressableTrackedPeers<C>, SetError> {
+    let ip = IpAddr::V4([10, 0, 0, 7]);
+    let mut pairs = Vec::new(alloc);
+    pairs
+        .push((key, Address::Symmetric(SocketAddr { ip, port: 80 })))
+        .map_err(AllocError::from)?;
+    let primary = Map::try_from(pairs)?;
+    let secondary = Map::try_from(Vec::new(alloc))?;
+    Ok(AddressableTrackedPeers::new(primary, secondary))
+}
+
+#[test]
+fn without_a_message_it_is_idle(rt: HostRuntime) -> Result<(), Fail> {
+    let (mut actor, mut way, _) = tracker(rt.alloc(), Key(1))?;
+    assert!(rt; matches!(actor.step(&mut way, 0, 0)?, Stepped::Idle));
+    Ok(())
+}
+
+#[test]
+fn an_unknown_key_is_not_dialed(rt: HostRuntime) -> Result<(), Fail> {
+    let (mut actor, mut way, _) = tracker(rt.alloc(), Key(1))?;
+    way.dial(Key(2))?;
+    match actor.step(&mut way, 0, 0)? {
+        Stepped::Message { put } => assert!(rt; matches!(put.as_slice(), [Put::Dial(None)])),
+        Stepped::EndedBlocks { .. } | Stepped::Idle => assert!(rt; false),
+    }
+    Ok(())
+}
+
+#[test]
+fn a_block_is_told(rt: HostRuntime) -> Result<(), Fail> {
+    let (mut actor, mut way, mut oracle) = tracker(rt.alloc(), Key(1))?;
+    oracle.block(rt.alloc(), &mut way, Key(2))?;
+    match actor.step(&mut way, 0, 0)? {
+        Stepped::Message { put } => {
+            assert!(rt; matches!(put.as_slice(), [Put::Listenable(_)]));
+        }
+        Stepped::EndedBlocks { .. } | Stepped::Idle => assert!(rt; false),
+    }
+    assert!(rt; matches!(actor.step(&mut way, 9, 0)?, Stepped::Idle));
+    assert!(rt; matches!(actor.step(&mut way, 10, 0)?, Stepped::EndedBlocks { .. }));
+    Ok(())
+}
+
+#[test]
+fn a_peer_set_is_told(rt: HostRuntime) -> Result<(), Fail> {
+    let (mut actor, mut way, mut oracle) = tracker(rt.alloc(), Key(1))?;
+    oracle.subscribe(rt.alloc(), &mut way)?;
+    assert!(rt; matches!(actor.step(&mut way, 0, 0)?, Stepped::Message { .. }));
+    oracle.track(rt.alloc(), &mut way, 3, only(rt.alloc(), Key(2))?)?;
+    match actor.step(&mut way, 0, 0)? {
+        Stepped::Message { put } => {
+            assert!(rt;
+                matches!(
+                    put.as_slice(),
+                    [Put::Listenable(_), Put::Update { ticket: 0 }]
+                )
+            );
+        }
+        Stepped::EndedBlocks { .. } | Stepped::Idle => assert!(rt; false),
+    }
+    Ok(())
+}
