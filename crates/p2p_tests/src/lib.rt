@@ -3,7 +3,7 @@
 //!
 //! Of `p2p_base` are `addresses`, `data`, `draws`, `order`, `queues`, `quotas` and `streams`; of `p2p_wire` is `frames`;
 //! of `p2p_flow` are `blocking`, `peers` and `relays`; of `p2p_oracle` are `oracle` and `tracking`; and `directory`,
-//! `router`, `routers` and `halves` are of `p2p_directory`, `p2p_router`, `p2p_routers` and `p2p_halves`.
+//! `tracker`, `router`, `routers` and `halves` are each of the crate of that name.
 #![tactic(auto)]
 
 #[cfg(test)]
@@ -38,5 +38,7 @@ mod router;
 mod routers;
 #[cfg(test)]
 mod streams;
+#[cfg(test)]
+mod tracker;
 #[cfg(test)]
 mod tracking;

@@ -14,6 +14,3 @@ pub use p2p_directory::{
 };
 pub use p2p_oracle::{Mailbox, Message, Metadata, Oracle};
 pub use stepped::{Put, Stepped};
-
-#[cfg(test)]
-mod tests;

@@ -12,7 +12,7 @@ pub enum Put<C: PublicKey> {
         /// The connection.
         conn: u64,
     },
-    /// Into the listener's ring: the addresses that peers may come from, each once.
+    /// Into the listener's ring: the addresses that peers may come from.
     Listenable(List<IpAddr>),
     /// Into the updates of a subscription: it stands there already.
     Update {

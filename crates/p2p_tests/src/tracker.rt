@@ -3,9 +3,9 @@ ghost use Rattle.std.specs.Prelude.{◌≡◌, [], IfOk};
 ghost use Rattle.p2p_directory.specs.Stands.{StandsFor};
 ghost use Rattle.p2p_oracle.specs.Desk.{new_desk};
 
-use crate::{Actor, Config, Mailbox, Oracle, Put, Stepped};
 use p2p_base::{Address, IpAddr, Key, Map, PublicKey, SetError, SocketAddr};
 use p2p_flow::{AddressableManager, AddressableTrackedPeers, Blocker, Provider};
+use p2p_tracker::{Actor, Config, Mailbox, Oracle, Put, Stepped};
 use std::alloc::{AllocError, Global};
 use std::test::Fail;
 
