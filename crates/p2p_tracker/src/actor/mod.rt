@@ -7,6 +7,7 @@ ghost use Rattle.std.specs.BTreeMap.{is_at};
 ghost use Rattle.p2p_facts.specs.Blocks.{is_over, block_of};
 ghost use Rattle.p2p_facts.specs.Keeping.{all_connect_by};
 ghost use Rattle.p2p_facts.specs.Lives.{is_eligible, is_stale};
+ghost use Rattle.p2p_facts.specs.Turns.{grants_none_held};
 ghost use Rattle.p2p_facts.specs.declared.call.Call.{Call};
 ghost use Rattle.p2p_directory.specs.Stands.{StandsFor};
 ghost use Rattle.p2p_oracle.specs.Desk.{new_desk, next_message};
@@ -150,6 +151,8 @@ impl<C: PublicKey> Actor<C> {
         ensures fresh { IfOk result (λ s. (calls : List (Call C)) → Follows C.cmp self.old.directory self.old.controls calls
             → (q : C) → is_some (lookup (is_at (C.cmp q)) self.new.controls) ≡ true
             → is_stale C.cmp self.new.directory.rules (calls_by C.cmp self.old.directory.rules s (next_message way.old) now (jitter_of self.old.cooldown seed) calls) q ≡ false) }
+        ensures turns { IfOk result (λ s. (calls : List (Call C)) → grants_none_held C.cmp calls ≡ true
+            → grants_none_held C.cmp (calls_by C.cmp self.old.directory.rules s (next_message way.old) now (jitter_of self.old.cooldown seed) calls) ≡ true) }
         ensures answerable { OnOk result (IsAnswerable C.cmp self.new.directory) }
         ensures rules { OnOk result (self.new.directory.rules ≡ self.old.directory.rules) }
         ensures cooldown { self.new.cooldown ≡ self.old.cooldown }

@@ -7,6 +7,7 @@ use Rattle.p2p_tracker.specs.Putting.{IsPutBy}
 use Rattle.p2p_tracker.specs.Serving.{calls_by}
 use Rattle.p2p_tracker.specs.Tracking.{Tracking, IsAnswerable, jitter_of}
 use Rattle.p2p_tracker.proofs.Connecting.{come-by}
+use Rattle.p2p_tracker.proofs.Turns.{grants_none_held-by}
 use Rattle.p2p_tracker.proofs.actor.Actor.step.Goals as goal
 
 pub returns-clause-follows : goal.returns-clause-follows
@@ -48,3 +49,6 @@ returns-clause-answerable g c =
     let works : c.args.self.now.has_failed ≡ false = cc in
     let known : IsAnswerable g.C.Ord.cmp c.args.self.now.directory = c.requires.answerable works in
     record { calls = _; stands = returns-clause-stands g c known.calls known.stands }
+
+pub returns-clause-turns : goal.returns-clause-turns
+returns-clause-turns g c = grants_none_held-by g.C.Ord.cmp c.args.self.now.directory.rules c.in_ok-stepped.stepped (next_message c.args.way.now) c.args.now (jitter_of c.args.self.now.cooldown c.args.seed)
