@@ -135,15 +135,6 @@ module _ {P : Type 0} {cmp : P → P → Ordering} where
   }
 
   module _ (d e : Kept P) (cs : List (P × ℕ)) (calls : List (Call P)) (r : e.rules ≡ d.rules) (f : Follows cmp d cs calls) where
-    -- the same calls
-    pub follows-quiet : StandsFor cmp e calls → Follows cmp e cs calls
-    follows-quiet s = record {
-      stands = s;
-      exactly = subst (λ (x : Rules P). (q : P) → is_some (lookup (is_at (cmp q)) cs) ≡ is_kept cmp x calls q) (sym r) f.exactly;
-      held = subst (λ (x : Rules P). (q : P) → is_kept cmp x calls q ≡ true → is_held cmp calls q ≡ true) (sym r) f.held;
-      others = subst (λ (x : Rules P). (q : P) → is_kept cmp x calls q ≡ true → is_local cmp x q ≡ false) (sym r) f.others;
-    }
-
     pub follows-unblock : (t : ℕ) → StandsFor cmp e (call.UnblockExpired t ∷ calls) → Follows cmp e cs (call.UnblockExpired t ∷ calls)
     follows-unblock t s = follows-on d e cs cs calls (call.UnblockExpired t) r f s (λ q. refl) (λ q. f.exactly q ∙ sym ((kept-after cmp d.rules calls q).unblock t))
 

@@ -4,3 +4,4 @@ pub mod Putting
 pub mod Readdressing
 pub mod Standing
 pub mod Taking
+pub mod Turns

@@ -1,7 +1,6 @@
 -- Which other calls a directory stands for.
-use Rattle.std.proofs.Common.{◌≡◌, ℕ, Bool, true, false, cond, ◌&&◌, ◌||◌, not, List, ◌∷◌, Option, Some, None, refl, sym, ap, ◌∙◌, subst}
+use Rattle.std.proofs.Common.{◌≡◌, ℕ, Bool, true, false, cond, ◌&&◌, ◌||◌, not, List, ◌∷◌, Some, None, refl, sym, ap, ◌∙◌, subst}
 use Rattle.std.proofs.lemmas.Bool.{false≢true}
-use Rattle.std.specs.Prelude.{is_some, nat_lt}
 use Rattle.std.specs.Option.{option_map}
 use Rattle.std.specs.Cmp.{IsTotalOrder}
 use Rattle.std.specs.BTreeMap.{is_at}
@@ -13,41 +12,13 @@ use Rattle.p2p_facts.specs.Rules.{Rules}
 use Rattle.p2p_facts.specs.Allows.{allows_dial, allows_listen}
 use Rattle.p2p_facts.specs.Sets.{accepted_sets, kept_sets, is_tracked, primary_sets, secondary_sets}
 use Rattle.p2p_facts.specs.Grants.{is_held}
-use Rattle.p2p_facts.specs.Blocks.{is_local, is_over, unless_ended, lasts_at, block_of}
+use Rattle.p2p_facts.specs.Blocks.{is_local, lasts_at, block_of}
 use Rattle.p2p_facts.specs.Lives.{is_alive, address_of, last_grant, is_stale, is_connected, is_eligible, accepts}
 use Rattle.p2p_directory.specs.Recorded.{is_eligible_in}
 use Rattle.p2p_directory.specs.Stands.{Kept, StandsFor, record_of}
-use Rattle.p2p_directory.proofs.Steps.{peer, own, IsAddressed, record_of-unblock, addressed-connect}
+use Rattle.p2p_directory.proofs.Steps.{peer, own, record_of-unblock, addressed-connect}
 use Rattle.p2p_directory.proofs.Reading.{eligible-record}
 use Rattle.p2p_directory.proofs.Written.{lookup_same}
-use Rattle.p2p_tracker.specs.Serving.{IsQuiet}
-
--- a block that hasn't ended stays
-lasting : (end : Option ℕ) (t : ℕ) → is_over end t ≡ false → unless_ended end t ≡ end
-lasting None t h = refl
-lasting (Some e) t h = at (nat_lt t e) h
-  where
-    at : (b : Bool) → not b ≡ false → cond b (Some e) None ≡ Some e
-    at true h = refl
-    at false h = absurd (false≢true (sym h))
-
-module _ {P : Type 0} {cmp : P → P → Ordering} where
-  -- a directory that was asked for blocks that have ended, where none has, stands for the same calls
-  pub stands-quiet : (before after : Kept P) (calls : List (Call P)) (t : ℕ) → after.rules ≡ before.rules → StandsFor cmp before calls → IsQuiet cmp before.rules calls t
-      → StandsFor cmp after (call.UnblockExpired t ∷ calls) → StandsFor cmp after calls
-  unfolding kept_sets accepted_sets block_of
-  stands-quiet before after calls t e b h s =
-      let known : (q : P) → IsAddressed cmp after.rules calls q =
-      subst (λ (r : Rules P). (q : P) → is_local cmp r q ≡ false → is_alive cmp r calls q ≡ is_some (address_of cmp r calls q)) (sym e) b.addressed in
-      let quiet : IsQuiet cmp after.rules calls t = subst (λ (r : Rules P). IsQuiet cmp r calls t) (sym e) h in
-      record {
-        sets = s.sets;
-        latest = s.latest;
-        records = λ q. s.records q ∙ record_of-unblock cmp after.rules calls q (known q) t;
-        blocks = λ q. s.blocks q ∙ lasting (block_of cmp after.rules calls q) t (quiet q);
-        ordered = s.ordered;
-        addressed = known;
-      }
 
 held_by_eligible : (a b stale : Bool) → (a ≡ true → b ≡ true) → (a && (b && not stale)) ≡ (a && not stale)
 held_by_eligible true true stale h = refl

@@ -1,47 +1,28 @@
--- What a message that may be taken asks of the directory's records.
-use Rattle.std.proofs.Common.{◌≡◌, ℕ, Bool, true, false, ◌||◌, not, List, Option, Some, sym, ap, ◌∙◌}
-use Rattle.std.proofs.lemmas.Bool.{false≢true}
+-- The message that a step takes.
+use Rattle.std.proofs.Common.{◌≡◌, ℕ, true, List, Option, Some, sym, ap, ◌∙◌}
 use Rattle.std.specs.declared.cmp.Ordering.{Ordering}
 use Rattle.p2p_facts.specs.declared.call.Call.{Call}
 use Rattle.p2p_facts.specs.Rules.{Rules}
+use Rattle.p2p_facts.specs.Blocks.{is_over}
 use Rattle.p2p_facts.specs.Lives.{is_eligible}
 use Rattle.p2p_oracle.specs.Reserved.{peer_of}
 use Rattle.p2p_oracle.specs.declared.message.Message.{Message}
 use Rattle.p2p_oracle.specs.declared.message.Message.TheVariants as message
+use Rattle.p2p_oracle.specs.declared.metadata.Metadata.{Metadata}
 use Rattle.p2p_directory.specs.Recorded.{is_reserved_in, is_held_or_unknown}
 use Rattle.p2p_directory.specs.Stands.{Kept, StandsFor, record_of}
-use Rattle.p2p_tracker.specs.Serving.{IsQuiet, may_take, may_serve, calls_after, calls_on}
-use Rattle.p2p_tracker.specs.Tracking.{IsAnswerable}
+use Rattle.p2p_tracker.specs.Serving.{IsQuiet, IsQuietIn, MayTake, calls_after, calls_on}
 
-implied : (a b : Bool) → (not a || b) ≡ true → a ≡ true → b ≡ true
-implied true b h e = h
-implied false b h e = absurd (false≢true e)
+-- what a caller who knows the calls of the directory owes, by these calls
+module _ {P : Type 0} {cmp : P → P → Ordering} {kept : Kept P} {calls : List (Call P)} (s : StandsFor cmp kept calls) (now : ℕ) where
+  pub is_quiet-kept : IsQuietIn cmp kept now → IsQuiet cmp kept.rules calls now
+  is_quiet-kept h q = ap (λ end. is_over end now) (sym (s.blocks q)) ∙ h q
 
-module _ {P : Type 0} {cmp : P → P → Ordering} where
-  by_records : (kept : Kept P) (calls : List (Call P)) (m : Message P) (now : ℕ) → StandsFor cmp kept calls → may_take cmp kept.rules (Some m) now calls ≡ true → may_serve cmp kept m now
-  by_records kept calls (message.Connect k conn) now s t = λ h. ap is_reserved_in (s.records k)
-      ∙ implied (is_eligible cmp kept.rules calls k now) (is_reserved_in (record_of cmp kept.rules calls k)) t (h calls s)
-  by_records kept calls (message.Release m) now s t = ap is_held_or_unknown (s.records (peer_of m)) ∙ t
-  by_records kept calls (message.Register index peers) now s t = tt
-  by_records kept calls (message.Overwrite peers) now s t = tt
-  by_records kept calls (message.PeerSet index ticket) now s t = tt
-  by_records kept calls (message.Subscribe ticket) now s t = tt
-  by_records kept calls (message.Block k) now s t = tt
-  by_records kept calls (message.SubscribeBlocked ticket) now s t = tt
-  by_records kept calls message.Dialable now s t = tt
-  by_records kept calls (message.Dial k) now s t = tt
-  by_records kept calls (message.Acceptable k source handshake) now s t = tt
-  by_records kept calls (message.Listen k source handshake) now s t = tt
+  pub may_take-connect : (k : P) (conn : ℕ) → (is_eligible cmp kept.rules calls k now ≡ true → is_reserved_in (record_of cmp kept.rules calls k) ≡ true) → MayTake cmp kept (message.Connect k conn) now
+  may_take-connect k conn h = λ e. ap is_reserved_in (s.records k) ∙ h (e calls s)
 
-  -- where no block was due, the directory's records allow the message that the calls allow
-  pub served-taken : (before after : Kept P) (o : Option (Message P)) (m : Message P) (now : ℕ) → IsAnswerable cmp before → o ≡ Some m → after.rules ≡ before.rules
-      → ((calls : List (Call P)) → StandsFor cmp before calls → StandsFor cmp after calls)
-      → ((calls : List (Call P)) → StandsFor cmp before calls → IsQuiet cmp before.rules calls now)
-      → ((calls : List (Call P)) → StandsFor cmp before calls → IsQuiet cmp before.rules calls now → may_take cmp before.rules o now calls ≡ true)
-      → may_serve cmp after m now
-  served-taken before after o m now a e r s q t =
-      by_records after a.calls m now (s a.calls a.stands)
-      (ap (λ (x : Rules P). may_take cmp x (Some m) now a.calls) r ∙ (ap (λ (x : Option (Message P)). may_take cmp before.rules x now a.calls) (sym e) ∙ t a.calls a.stands (q a.calls a.stands)))
+  pub may_take-release : (m : Metadata P) → is_held_or_unknown (record_of cmp kept.rules calls (peer_of m)) ≡ true → MayTake cmp kept (message.Release m) now
+  may_take-release m h = ap is_held_or_unknown (s.records (peer_of m)) ∙ h
 
 module _ {P : Type 0} (cmp : P → P → Ordering) where
   -- the calls of the message that was taken

@@ -1,5 +1,5 @@
 -- Which calls a step of the tracker makes, and what it asks of the message that it takes.
-use Rattle.std.specs.Prelude.{◌≡◌, ℕ, Bool, true, false, not, ◌||◌, List, [], ◌∷◌, Option, Some, None}
+use Rattle.std.specs.Prelude.{◌≡◌, ℕ, Bool, true, false, List, [], ◌∷◌, Option, Some, None}
 use Rattle.std.specs.Map.{lookup}
 use Rattle.std.specs.BTreeMap.{is_at}
 use Rattle.std.specs.declared.cmp.Ordering.{Ordering}
@@ -15,7 +15,7 @@ use Rattle.p2p_oracle.specs.Reserved.{peer_of}
 use Rattle.p2p_oracle.specs.declared.message.Message.{Message}
 use Rattle.p2p_oracle.specs.declared.message.Message.TheVariants as message
 use Rattle.p2p_directory.specs.Recorded.{is_reserved_in, is_held_or_unknown}
-use Rattle.p2p_directory.specs.Stands.{Kept, StandsFor, record_of}
+use Rattle.p2p_directory.specs.Stands.{Kept, StandsFor}
 use Rattle.p2p_tracker.specs.declared.stepped.Stepped.{Stepped}
 use Rattle.p2p_tracker.specs.declared.stepped.Stepped.TheVariants as stepped
 
@@ -63,23 +63,6 @@ module _ {P : Type 0} (cmp : P → P → Ordering) (rules : Rules P) where
   calls_after (message.Listen k source handshake) now jitter calls = call.Listen k now jitter (allows_listen cmp rules calls k source now) ∷ calls
   calls_after (message.Release m) now jitter calls = call.Release (peer_of m) ∷ calls
 
-  -- the oldest message may be taken at the moment: a connection of an eligible key wants that key reserved, and what is released is held or
-  -- unknown
-  abbrev pub may_take : Option (Message P) → ℕ → List (Call P) → Bool
-  may_take (Some (message.Connect k conn)) now calls = not (is_eligible cmp rules calls k now) || is_reserved_in (record_of cmp rules calls k)
-  may_take (Some (message.Release m)) now calls = is_held_or_unknown (record_of cmp rules calls (peer_of m))
-  may_take (Some (message.Register index peers)) now calls = true
-  may_take (Some (message.Overwrite peers)) now calls = true
-  may_take (Some (message.PeerSet index ticket)) now calls = true
-  may_take (Some (message.Subscribe ticket)) now calls = true
-  may_take (Some (message.Block k)) now calls = true
-  may_take (Some (message.SubscribeBlocked ticket)) now calls = true
-  may_take (Some message.Dialable) now calls = true
-  may_take (Some (message.Dial k)) now calls = true
-  may_take (Some (message.Acceptable k source handshake)) now calls = true
-  may_take (Some (message.Listen k source handshake)) now calls = true
-  may_take None now calls = true
-
 module _ {P : Type 0} (cmp : P → P → Ordering) (rules : Rules P) where
   -- the calls once the oldest message was taken, if there is one
   abbrev pub calls_on : Option (Message P) → ℕ → ℕ → List (Call P) → List (Call P)
@@ -94,22 +77,27 @@ module _ {P : Type 0} (cmp : P → P → Ordering) (rules : Rules P) where
   calls_by (stepped.Message put) m now jitter calls = calls_on cmp rules m now jitter calls
 
 module _ {P : Type 0} (cmp : P → P → Ordering) (kept : Kept P) where
+  -- by the directory's own blocks, none is due at the moment
+  abbrev pub IsQuietIn : ℕ → Type 0
+  IsQuietIn now = (q : P) → is_over (lookup (is_at (cmp q)) kept.blocks) now ≡ false
+
   -- whatever calls the directory stands for, the key is eligible at the moment
   abbrev pub IsEligible : P → ℕ → Type 0
   IsEligible k now = (calls : List (Call P)) → StandsFor cmp kept calls → is_eligible cmp kept.rules calls k now ≡ true
 
 module _ {P : Type 0} (cmp : P → P → Ordering) (kept : Kept P) where
-  -- the same of a message by the records of the directory
-  abbrev pub may_serve : Message P → ℕ → Type 0
-  may_serve (message.Connect k conn) now = IsEligible cmp kept k now → is_reserved_in (lookup (is_at (cmp k)) kept.records) ≡ true
-  may_serve (message.Release m) now = is_held_or_unknown (lookup (is_at (cmp (peer_of m))) kept.records) ≡ true
-  may_serve (message.Register index peers) now = Unit {0}
-  may_serve (message.Overwrite peers) now = Unit {0}
-  may_serve (message.PeerSet index ticket) now = Unit {0}
-  may_serve (message.Subscribe ticket) now = Unit {0}
-  may_serve (message.Block k) now = Unit {0}
-  may_serve (message.SubscribeBlocked ticket) now = Unit {0}
-  may_serve message.Dialable now = Unit {0}
-  may_serve (message.Dial k) now = Unit {0}
-  may_serve (message.Acceptable k source handshake) now = Unit {0}
-  may_serve (message.Listen k source handshake) now = Unit {0}
+  -- the message may be taken at the moment: a connection of an eligible key wants that key reserved, and what is released is held or has no
+  -- record
+  abbrev pub MayTake : Message P → ℕ → Type 0
+  MayTake (message.Connect k conn) now = IsEligible cmp kept k now → is_reserved_in (lookup (is_at (cmp k)) kept.records) ≡ true
+  MayTake (message.Release m) now = is_held_or_unknown (lookup (is_at (cmp (peer_of m))) kept.records) ≡ true
+  MayTake (message.Register index peers) now = Unit {0}
+  MayTake (message.Overwrite peers) now = Unit {0}
+  MayTake (message.PeerSet index ticket) now = Unit {0}
+  MayTake (message.Subscribe ticket) now = Unit {0}
+  MayTake (message.Block k) now = Unit {0}
+  MayTake (message.SubscribeBlocked ticket) now = Unit {0}
+  MayTake message.Dialable now = Unit {0}
+  MayTake (message.Dial k) now = Unit {0}
+  MayTake (message.Acceptable k source handshake) now = Unit {0}
+  MayTake (message.Listen k source handshake) now = Unit {0}

@@ -1,9 +1,7 @@
 -- A tracker as contracts see it.
 use Rattle.std.specs.Prelude.{ℕ, ◌/◌, Bool, false, List, []}
-use Rattle.std.specs.declared.cmp.Ordering.{Ordering}
 use Rattle.p2p_base.specs.Draws.{seeded, drawn}
-use Rattle.p2p_facts.specs.declared.call.Call.{Call}
-use Rattle.p2p_directory.specs.Stands.{Kept, StandsFor}
+use Rattle.p2p_directory.specs.Stands.{Kept}
 
 -- its directory, the nanoseconds between two grants of a peer, the subscriptions to peer sets and those to the blocked keys, in order,
 -- the connection that is kept for each key, and whether it has failed
@@ -18,11 +16,6 @@ pub record Tracking (P : Type 0) : Type 0 where
 -- a new tracker with this directory
 abbrev pub new_tracking : {P : Type 0} → Kept P → ℕ → Tracking P
 new_tracking d cooldown = record { directory = d; cooldown = cooldown; updates = []; sets = []; controls = []; has_failed = false }
-
--- the directory stands for some list of calls
-pub record IsAnswerable {P : Type 0} (cmp : P → P → Ordering) (kept : Kept P) : Type 0 where
-  pub calls : List (Call P)
-  pub stands : StandsFor cmp kept calls
 
 -- the jitter of a grant in a step with this seed
 abbrev pub jitter_of : ℕ → ℕ → ℕ

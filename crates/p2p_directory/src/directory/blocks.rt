@@ -1,5 +1,5 @@
 //! Blocks that have ended.
-ghost use Rattle.std.specs.Prelude.{◌≡◌};
+ghost use Rattle.std.specs.Prelude.{◌≡◌, false};
 ghost use Rattle.std.specs.List.Sorted.{IsStrictlySortedBy};
 ghost use Rattle.std.specs.Map.{lookup, keys_of};
 ghost use Rattle.std.specs.BTreeMap.{is_at};
@@ -28,6 +28,7 @@ pub(super) fn take_ended<C: PublicKey>(blocks: &mut PrioritySet<C>, now: u64) ->
     ensures ordered { IsStrictlySortedBy C.cmp (keys_of blocks.old) → IsStrictlySortedBy C.cmp (keys_of blocks.new) }
     ensures each { IsStrictlySortedBy C.cmp (keys_of blocks.old)
         → (q : C) → lookup (is_at (C.cmp q)) blocks.new ≡ unless_ended (lookup (is_at (C.cmp q)) blocks.old) now }
+    ensures kept { result ≡ false → blocks.new ≡ blocks.old }
 {
     let found = has_ended(blocks, now);
     while has_ended(blocks, now) {

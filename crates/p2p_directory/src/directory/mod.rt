@@ -453,6 +453,8 @@ impl<C: PublicKey> Directory<C> {
     pub fn unblock_expired(&mut self, now: u64) -> bool
         ensures due { result ≡ true → (calls : List (Call C)) → StandsFor C.cmp self.old calls → (q : C) × (is_over (block_of C.cmp self.old.rules calls q) now ≡ true) }
         ensures none_due { result ≡ false → (calls : List (Call C)) → StandsFor C.cmp self.old calls → (q : C) → is_over (block_of C.cmp self.old.rules calls q) now ≡ false }
+        ensures quiet { result ≡ false → (q : C) → is_over (lookup (is_at (C.cmp q)) self.old.blocks) now ≡ false }
+        ensures kept { result ≡ false → self.new ≡ self.old }
         ensures rules { self.new.rules ≡ self.old.rules }
         ensures stands { (calls : List (Call C)) → StandsFor C.cmp self.old calls → StandsFor C.cmp self.new (call.UnblockExpired now ∷ calls) }
     {

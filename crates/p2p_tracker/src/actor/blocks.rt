@@ -7,15 +7,12 @@ ghost use Rattle.std.specs.Prelude.{◌≡◌, List, [], ◌∷◌, true, false,
 ghost use Rattle.p2p_facts.specs.declared.call.Call.{Call};
 ghost use Rattle.p2p_facts.specs.declared.call.Call.TheVariants as call;
 ghost use Rattle.p2p_directory.specs.Stands.{StandsFor};
-ghost use Rattle.p2p_facts.specs.Blocks.{is_over, block_of};
-ghost use Rattle.p2p_tracker.specs.Serving.{IsQuiet};
 
 use super::Actor;
 use super::kills::kill;
 use super::telling::{tell_blocked, tell_blocked_all};
 use crate::{Mailbox, Put};
 use p2p_base::{List, PublicKey};
-use p2p_directory::Directory;
 use std::alloc::AllocError;
 
 impl<C: PublicKey> Actor<C> {
@@ -93,17 +90,4 @@ impl<C: PublicKey> Actor<C> {
         self.sets.push(ticket)?;
         Ok(List::new(put))
     }
-}
-
-// Takes away the blocks that have ended at the moment `now`. True exactly where there was one. Else the directory still stands for the
-// same calls.
-pub(super) fn take_ended<C: PublicKey>(directory: &mut Directory<C>, now: u64) -> bool
-    ensures due { result ≡ true → (calls : List (Call C)) → StandsFor C.cmp directory.old calls
-        → (q : C) × (is_over (block_of C.cmp directory.old.rules calls q) now ≡ true) }
-    ensures quiet { result ≡ false → (calls : List (Call C)) → StandsFor C.cmp directory.old calls → IsQuiet C.cmp directory.old.rules calls now }
-    ensures rules { directory.new.rules ≡ directory.old.rules }
-    ensures ended { result ≡ true → (calls : List (Call C)) → StandsFor C.cmp directory.old calls → StandsFor C.cmp directory.new (call.UnblockExpired now ∷ calls) }
-    ensures stands { result ≡ false → (calls : List (Call C)) → StandsFor C.cmp directory.old calls → StandsFor C.cmp directory.new calls }
-{
-    directory.unblock_expired(now)
 }

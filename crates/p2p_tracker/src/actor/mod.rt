@@ -1,17 +1,18 @@
 //! `Actor`, the tracker itself: the blocks that have ended, or one message, a step.
 ghost use Rattle.p2p_tracker.specs.Putting.{IsPut, IsPutBy};
 ghost use Rattle.p2p_tracker.specs.Following.{Follows};
-ghost use Rattle.std.specs.Prelude.{◌≡◌, ◌≤◌, List, [], true, false, is_some, IfOk, OnOk, OnErr, IsErr};
+ghost use Rattle.std.specs.Prelude.{◌≡◌, ◌≤◌, List, [], true, false, is_some, IfOk, OnOk, OnErr, IsErr, IfSome};
 ghost use Rattle.std.specs.Map.{lookup};
 ghost use Rattle.std.specs.BTreeMap.{is_at};
 ghost use Rattle.p2p_facts.specs.Blocks.{is_over, block_of};
 ghost use Rattle.p2p_facts.specs.Keeping.{all_connect_by};
 ghost use Rattle.p2p_facts.specs.Lives.{is_eligible, is_stale};
+ghost use Rattle.p2p_facts.specs.Turns.{grants_none_held};
 ghost use Rattle.p2p_facts.specs.declared.call.Call.{Call};
 ghost use Rattle.p2p_directory.specs.Stands.{StandsFor};
 ghost use Rattle.p2p_oracle.specs.Desk.{new_desk, next_message};
-ghost use Rattle.p2p_tracker.specs.Tracking.{new_tracking, IsAnswerable, jitter_of};
-ghost use Rattle.p2p_tracker.specs.Serving.{IsQuiet, ends, serves, left_by, may_take, may_serve, calls_after, calls_by};
+ghost use Rattle.p2p_tracker.specs.Tracking.{new_tracking, jitter_of};
+ghost use Rattle.p2p_tracker.specs.Serving.{IsQuiet, IsQuietIn, ends, serves, left_by, MayTake, calls_after, calls_by};
 
 mod blocks;
 mod grants;
@@ -21,7 +22,6 @@ mod registering;
 mod telling;
 
 use crate::{Config, Mailbox, Message, Oracle, Put, Stepped};
-use blocks::take_ended;
 use p2p_base::{List, PublicKey};
 use p2p_directory::{Config as DirectoryConfig, Directory};
 use std::alloc::{AllocError, Global};
@@ -131,9 +131,7 @@ impl<C: PublicKey> Actor<C> {
         now: u64,
         seed: u64,
     ) -> Result<Stepped<C>, AllocError>
-        requires answerable { self.old.has_failed ≡ false → IsAnswerable C.cmp self.old.directory }
-        requires may_take { self.old.has_failed ≡ false → (calls : List (Call C)) → StandsFor C.cmp self.old.directory calls
-            → IsQuiet C.cmp self.old.directory.rules calls now → may_take C.cmp self.old.directory.rules (next_message way.old) now calls ≡ true }
+        requires may_take { self.old.has_failed ≡ false → IsQuietIn C.cmp self.old.directory now → IfSome (next_message way.old) (λ m. MayTake C.cmp self.old.directory m now) }
         ensures stands { IfOk result (λ s. (calls : List (Call C)) → StandsFor C.cmp self.old.directory calls
             → StandsFor C.cmp self.new.directory (calls_by C.cmp self.old.directory.rules s (next_message way.old) now (jitter_of self.old.cooldown seed) calls)) }
         ensures due { IfOk result (λ s. ends s ≡ true → (calls : List (Call C)) → StandsFor C.cmp self.old.directory calls
@@ -150,7 +148,8 @@ impl<C: PublicKey> Actor<C> {
         ensures fresh { IfOk result (λ s. (calls : List (Call C)) → Follows C.cmp self.old.directory self.old.controls calls
             → (q : C) → is_some (lookup (is_at (C.cmp q)) self.new.controls) ≡ true
             → is_stale C.cmp self.new.directory.rules (calls_by C.cmp self.old.directory.rules s (next_message way.old) now (jitter_of self.old.cooldown seed) calls) q ≡ false) }
-        ensures answerable { OnOk result (IsAnswerable C.cmp self.new.directory) }
+        ensures turns { IfOk result (λ s. (calls : List (Call C)) → grants_none_held C.cmp calls ≡ true
+            → grants_none_held C.cmp (calls_by C.cmp self.old.directory.rules s (next_message way.old) now (jitter_of self.old.cooldown seed) calls) ≡ true) }
         ensures rules { OnOk result (self.new.directory.rules ≡ self.old.directory.rules) }
         ensures cooldown { self.new.cooldown ≡ self.old.cooldown }
         ensures memory { OnErr result (self.new.has_failed ≡ true) }
@@ -170,9 +169,7 @@ impl<C: PublicKey> Actor<C> {
 
     // What a step does.
     fn work(&mut self, way: &mut Mailbox<C>, now: u64, seed: u64) -> Result<Stepped<C>, AllocError>
-        requires answerable { IsAnswerable C.cmp self.old.directory }
-        requires may_take { (calls : List (Call C)) → StandsFor C.cmp self.old.directory calls
-            → IsQuiet C.cmp self.old.directory.rules calls now → may_take C.cmp self.old.directory.rules (next_message way.old) now calls ≡ true }
+        requires { IsQuietIn C.cmp self.old.directory now → IfSome (next_message way.old) (λ m. MayTake C.cmp self.old.directory m now) }
         ensures stands { IfOk result (λ s. (calls : List (Call C)) → StandsFor C.cmp self.old.directory calls
             → StandsFor C.cmp self.new.directory (calls_by C.cmp self.old.directory.rules s (next_message way.old) now (jitter_of self.old.cooldown seed) calls)) }
         ensures due { IfOk result (λ s. ends s ≡ true → (calls : List (Call C)) → StandsFor C.cmp self.old.directory calls
@@ -189,7 +186,7 @@ impl<C: PublicKey> Actor<C> {
         ensures put { IfOk result (λ s. (calls : List (Call C)) → StandsFor C.cmp self.old.directory calls
             → IsPutBy C.cmp self.old.directory.rules self.old.controls calls now s (next_message way.old)) }
     {
-        if take_ended(&mut self.directory, now) {
+        if self.directory.unblock_expired(now) {
             let put = self.ended_blocks(way, now)?;
             return Ok(Stepped::EndedBlocks { put });
         }
@@ -210,7 +207,7 @@ impl<C: PublicKey> Actor<C> {
         now: u64,
         seed: u64,
     ) -> Result<List<Put<C>>, AllocError>
-        requires { may_serve C.cmp self.old.directory message now }
+        requires { MayTake C.cmp self.old.directory message now }
         ensures stands { IfOk result (λ p. (calls : List (Call C)) → StandsFor C.cmp self.old.directory calls
             → StandsFor C.cmp self.new.directory (calls_after C.cmp self.old.directory.rules message now (jitter_of self.old.cooldown seed) calls)) }
         ensures follows { IfOk result (λ p. (calls : List (Call C)) → Follows C.cmp self.old.directory self.old.controls calls

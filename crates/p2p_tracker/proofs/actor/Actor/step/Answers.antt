@@ -1,12 +1,13 @@
-use Rattle.std.proofs.Common.{◌≡◌, false, sym, ◌∙◌, subst}
+use Rattle.std.proofs.Common.{sym, ◌∙◌, subst}
 use Rattle.p2p_facts.proofs.Eligible.{is_eligible-is_kept, not_stale-is_kept}
 use Rattle.p2p_oracle.specs.Desk.{next_message}
 use Rattle.p2p_directory.specs.Stands.{StandsFor}
 use Rattle.p2p_tracker.specs.Following.{Follows}
 use Rattle.p2p_tracker.specs.Putting.{IsPutBy}
 use Rattle.p2p_tracker.specs.Serving.{calls_by}
-use Rattle.p2p_tracker.specs.Tracking.{Tracking, IsAnswerable, jitter_of}
+use Rattle.p2p_tracker.specs.Tracking.{Tracking, jitter_of}
 use Rattle.p2p_tracker.proofs.Connecting.{come-by}
+use Rattle.p2p_tracker.proofs.Turns.{grants_none_held-by}
 use Rattle.p2p_tracker.proofs.actor.Actor.step.Goals as goal
 
 pub returns-clause-follows : goal.returns-clause-follows
@@ -43,8 +44,5 @@ returns-clause-stands g c = λ calls s.
     subst (λ (t : Tracking g.row.C.Denot). StandsFor g.C.Ord.cmp t.directory (calls_by g.C.Ord.cmp c.args.self.now.directory.rules c.in_ok-stepped.stepped (next_message c.args.way.now) c.args.now (jitter_of c.args.self.now.cooldown c.args.seed) calls)) (sym c.self-2.view_is)
     (subst (λ (t : Tracking g.row.C.Denot). StandsFor g.C.Ord.cmp c.work.new.self.directory (calls_by g.C.Ord.cmp t.directory.rules c.in_ok-stepped.stepped (next_message c.args.way.now) c.args.now (jitter_of t.cooldown c.args.seed) calls)) c.self.view_is after)
 
-pub returns-clause-answerable : goal.returns-clause-answerable
-returns-clause-answerable g c =
-    let works : c.args.self.now.has_failed ≡ false = cc in
-    let known : IsAnswerable g.C.Ord.cmp c.args.self.now.directory = c.requires.answerable works in
-    record { calls = _; stands = returns-clause-stands g c known.calls known.stands }
+pub returns-clause-turns : goal.returns-clause-turns
+returns-clause-turns g c = grants_none_held-by g.C.Ord.cmp c.args.self.now.directory.rules c.in_ok-stepped.stepped (next_message c.args.way.now) c.args.now (jitter_of c.args.self.now.cooldown c.args.seed)
