@@ -10,10 +10,11 @@ use Rattle.p2p_base.specs.declared.address.ip.IpAddr.{IpAddr}
 use Rattle.p2p_base.specs.declared.address.peer.Address.{Address}
 use Rattle.p2p_base.specs.declared.address.peer.Ingress.{Ingress}
 use Rattle.p2p_facts.specs.declared.call.Call.{Call}
+use Rattle.p2p_facts.specs.declared.call.Call.TheVariants as call
 use Rattle.p2p_facts.specs.Rules.{Rules}
 use Rattle.p2p_facts.specs.Sets.{is_above, is_among, accepted_sets}
 use Rattle.p2p_facts.specs.Kills.{is_killed}
-use Rattle.p2p_facts.specs.Lives.{address_of, accepts}
+use Rattle.p2p_facts.specs.Lives.{address_of, accepts, is_overwritten}
 use Rattle.p2p_facts.specs.Allows.{is_acceptable, allows_dial, allows_listen}
 use Rattle.p2p_facts.specs.Lists.{is_dialable}
 use Rattle.p2p_directory.specs.declared.directory.dials.Dialable.{Dialable}
@@ -21,7 +22,7 @@ use Rattle.p2p_oracle.specs.declared.message.Message.{Message}
 use Rattle.p2p_oracle.specs.declared.message.Message.TheVariants as message
 use Rattle.p2p_oracle.specs.declared.metadata.Metadata.{Metadata}
 use Rattle.p2p_oracle.specs.declared.metadata.Metadata.TheVariants as side
-use Rattle.p2p_tracker.specs.Telling.{kill_put, kills_put, updates_put}
+use Rattle.p2p_tracker.specs.Telling.{kill_put, kills_put, updates_put, has_any}
 use Rattle.p2p_tracker.specs.declared.stepped.Put.{Put}
 use Rattle.p2p_tracker.specs.declared.stepped.Put.TheVariants as puts
 use Rattle.p2p_tracker.specs.declared.stepped.Stepped.{Stepped}
@@ -37,6 +38,19 @@ module _ {P : Type 0} (cmp : P → P → Ordering) (rules : Rules P) (controls :
     pub ordered : IsStrictlySortedBy cmp killed
     pub exactly : (q : P) → is_among cmp killed q ≡ is_killed cmp rules index primary secondary calls q
     pub whole : p ≡ (kills_put cmp controls killed ++ puts.Listenable heard ∷ []) ++ updates_put told
+
+module _ {P : Type 0} (cmp : P → P → Ordering) (rules : Rules P) where
+  -- the keys whose address changes where each key gets its own, in their order; each is judged by the calls before it
+  abbrev pub overwritten_keys : List (P × Address) → List (Call P) → List P
+  overwritten_keys [] calls = []
+  overwritten_keys (e ∷ es) calls = cond (is_overwritten cmp rules calls e.0 e.1) (e.0 ∷ overwritten_keys es (call.Overwrite e.0 e.1 ∷ calls)) (overwritten_keys es (call.Overwrite e.0 e.1 ∷ calls))
+
+module _ {P : Type 0} (cmp : P → P → Ordering) (rules : Rules P) (controls : List (P × ℕ)) (calls : List (Call P)) where
+  -- other addresses put the kills of the keys whose address changes, as far as a connection of them is kept; and then, where there is such
+  -- a key, the addresses that peers may come from
+  pub record IsReaddressed (peers : List (P × Address)) (p : List (Put P)) : Type 0 where
+    pub heard : List IpAddr
+    pub whole : p ≡ kills_put cmp controls (overwritten_keys cmp rules peers calls) ++ cond (has_any (overwritten_keys cmp rules peers calls)) (puts.Listenable heard ∷ []) []
 
 module _ {P : Type 0} (cmp : P → P → Ordering) (rules : Rules P) (calls : List (Call P)) (now : ℕ) where
   -- a dial is answered by a reservation and by where to dial, exactly where it is allowed
@@ -62,11 +76,11 @@ module _ {P : Type 0} (cmp : P → P → Ordering) (rules : Rules P) (calls : Li
     pub exactly : (q : P) → is_among cmp list.peers.items q ≡ is_dialable cmp rules calls q now
 
 module _ {P : Type 0} (cmp : P → P → Ordering) (rules : Rules P) (controls : List (P × ℕ)) (calls : List (Call P)) (now : ℕ) where
-  -- what is put for a message. Of an overwrite, of a block and of subscriptions it says nothing
+  -- what is put for a message. Of subscriptions it says nothing, and nothing of what a block tells
   abbrev pub IsPut : Message P → List (Put P) → Type 0
   IsPut (message.Register index peers) p =
       (is_above index (accepted_sets cmp calls) ≡ true → IsRegistered cmp rules controls calls index peers.primary peers.secondary p) × (is_above index (accepted_sets cmp calls) ≡ false → p ≡ [])
-  IsPut (message.Overwrite peers) p = Unit {0}
+  IsPut (message.Overwrite peers) p = IsReaddressed cmp rules controls calls peers p
   IsPut (message.PeerSet index ticket) p = p ≡ puts.PeerSet ticket ∷ []
   IsPut (message.Subscribe ticket) p = Unit {0}
   IsPut (message.Block k) p = (told : List (Put P)) × (p ≡ told ++ kill_put k (lookup (is_at (cmp k)) controls))

@@ -143,3 +143,8 @@ pub returns-in-Acceptable-clause-put : goal.returns-in-Acceptable-clause-put
 returns-in-Acceptable-clause-put g c =
     let Told : Message g.row.C.Denot → Type 0 = λ m. IfOk c.acceptable.result (λ p. (calls : List (Call g.row.C.Denot)) → StandsFor g.C.Ord.cmp c.args.self.now.directory calls → IsPut g.C.Ord.cmp c.args.self.now.directory.rules c.args.self.now.controls calls c.args.now m p) in
     subst Told (sym c.in-Acceptable.is) c.acceptable.ensures
+
+pub returns-in-Overwrite-clause-put : goal.returns-in-Overwrite-clause-put
+returns-in-Overwrite-clause-put g c =
+    let Told : Message g.row.C.Denot → Type 0 = λ m. IfOk c.overwrite.result (λ p. (calls : List (Call g.row.C.Denot)) → StandsFor g.C.Ord.cmp c.args.self.now.directory calls → IsPut g.C.Ord.cmp c.args.self.now.directory.rules c.args.self.now.controls calls c.args.now m p) in
+    subst Told (sym c.in-Overwrite.is) c.overwrite.ensures.put
