@@ -3,7 +3,7 @@ ghost use Rattle.p2p_oracle.specs.declared.message.Message.TheVariants as messag
 ghost use Rattle.std.specs.Map.{lookup, remove_entry};
 ghost use Rattle.std.specs.BTreeMap.{is_at};
 ghost use Rattle.p2p_facts.specs.Lives.{is_overwritten};
-ghost use Rattle.p2p_tracker.specs.Putting.{IsPut, overwritten_keys};
+ghost use Rattle.p2p_tracker.specs.Putting.{IsPut, IsReaddressed, overwritten_keys};
 ghost use Rattle.p2p_base.specs.declared.address.ip.IpAddr.{IpAddr};
 ghost use Rattle.p2p_tracker.specs.Telling.{has_any, kill_put, kills_put, updates_put};
 ghost use Rattle.p2p_tracker.specs.declared.stepped.Put.TheVariants as puts;
@@ -40,7 +40,7 @@ impl<C: PublicKey> Actor<C> {
         ensures rules { OnOk result (self.new.directory.rules ≡ self.old.directory.rules) }
         ensures rest { self.new ≡ record self.old { directory = self.new.directory; controls = self.new.controls } }
         ensures desk { ChangesUpdates way.old way.new }
-        ensures put { IfOk result (λ p. (calls : List (Call C)) → StandsFor C.cmp self.old.directory calls → IsPut C.cmp self.old.directory.rules self.old.controls calls now (message.Register index peers) p) }
+        ensures put { IfOk result (λ p. (calls : List (Call C)) → StandsFor C.cmp self.old.directory calls → IsPut C.cmp self.old.directory.rules self.old.controls way.old.sets calls now (message.Register index peers) p) }
     {
         let mut put = Vec::new(self.alloc);
         let Some(killed) = self.directory.track(index, peers)? else {
@@ -65,7 +65,7 @@ impl<C: PublicKey> Actor<C> {
     }
 
     // Puts the addresses that peers may come from now, where something has changed.
-    fn tell_listener(
+    pub(super) fn tell_listener(
         &self,
         now: u64,
         has_changed: bool,
@@ -92,7 +92,7 @@ impl<C: PublicKey> Actor<C> {
             → Follows C.cmp self.new.directory self.new.controls (overwritten peers calls)) }
         ensures rules { OnOk result (self.new.directory.rules ≡ self.old.directory.rules) }
         ensures rest { self.new ≡ record self.old { directory = self.new.directory; controls = self.new.controls } }
-        ensures put { IfOk result (λ p. (calls : List (Call C)) → StandsFor C.cmp self.old.directory calls → IsPut C.cmp self.old.directory.rules self.old.controls calls now (message.Overwrite peers) p) }
+        ensures put { IfOk result (λ p. (calls : List (Call C)) → StandsFor C.cmp self.old.directory calls → IsReaddressed C.cmp self.old.directory.rules self.old.controls calls peers p) }
     {
         let mut put = Vec::new(self.alloc);
         let has_changed = readdress_all(&mut self.directory, &mut self.controls, &peers, &mut put)?;
