@@ -1,5 +1,5 @@
 -- What a step of the tracker puts: kills, updates and sets of blocked keys.
-use Rattle.std.specs.Prelude.{◌≡◌, ℕ, List, [], ◌∷◌, ◌++◌, Option, Some, None}
+use Rattle.std.specs.Prelude.{◌≡◌, ℕ, Bool, true, false, List, [], ◌∷◌, ◌++◌, Option, Some, None}
 use Rattle.std.specs.Map.{lookup, remove_entry}
 use Rattle.std.specs.BTreeMap.{is_at}
 use Rattle.std.specs.declared.cmp.Ordering.{Ordering}
@@ -7,6 +7,10 @@ use Rattle.p2p_flow.specs.declared.update.PeerSetUpdate.{PeerSetUpdate}
 use Rattle.p2p_oracle.specs.Desk.{Desk, with_update, with_set, set_of}
 use Rattle.p2p_tracker.specs.declared.stepped.Put.{Put}
 use Rattle.p2p_tracker.specs.declared.stepped.Put.TheVariants as put
+
+abbrev pub has_any : {X : Type 0} → List X → Bool
+has_any [] = false
+has_any (x ∷ xs) = true
 
 module _ {P : Type 0} where
   -- the kill of a key, if a connection of it is kept

@@ -1,6 +1,8 @@
 //! Blocks: one more, those that have ended, and who is told of them.
 ghost use Rattle.p2p_oracle.specs.declared.message.Message.TheVariants as message;
-ghost use Rattle.p2p_tracker.specs.Putting.{IsPut};
+ghost use Rattle.p2p_oracle.specs.Desk.{set_of};
+ghost use Rattle.p2p_tracker.specs.Putting.{IsPut, IsEnded};
+ghost use Rattle.p2p_tracker.specs.declared.stepped.Put.TheVariants as puts;
 ghost use Rattle.p2p_tracker.specs.Following.{Follows};
 ghost use Rattle.p2p_tracker.specs.Telling.{ChangesSets};
 ghost use Rattle.std.specs.Prelude.{◌≡◌, List, [], ◌∷◌, true, false, IfOk, OnOk};
@@ -23,10 +25,10 @@ impl<C: PublicKey> Actor<C> {
         now: u64,
     ) -> Result<List<Put<C>>, AllocError>
         ensures desk { ChangesSets way.old way.new }
+        ensures put { IfOk result (λ p. (calls : List (Call C)) → StandsFor C.cmp self.now.directory calls → IsEnded C.cmp self.now.directory.rules calls now self.now.sets way.old p) }
     {
         let mut put = Vec::new(self.alloc);
-        let heard = self.directory.listenable(now)?;
-        put.push(Put::Listenable(List::new(heard)))?;
+        self.tell_listener(now, true, &mut put)?;
         let blocked = self.directory.blocked_peers(now)?;
         tell_blocked_all(way, self.sets.as_slice(), &blocked, &mut put)?;
         Ok(List::new(put))
@@ -45,7 +47,7 @@ impl<C: PublicKey> Actor<C> {
         ensures rules { OnOk result (self.new.directory.rules ≡ self.old.directory.rules) }
         ensures rest { self.new ≡ record self.old { directory = self.new.directory; controls = self.new.controls } }
         ensures desk { ChangesSets way.old way.new }
-        ensures put { IfOk result (λ p. (calls : List (Call C)) → StandsFor C.cmp self.old.directory calls → IsPut C.cmp self.old.directory.rules self.old.controls calls now (message.Block public_key) p) }
+        ensures put { IfOk result (λ p. (calls : List (Call C)) → StandsFor C.cmp self.old.directory calls → IsPut C.cmp self.old.directory.rules self.old.controls way.old.sets calls now (message.Block public_key) p) }
     {
         let mut put = Vec::new(self.alloc);
         let is_new = self.directory.block(&public_key, now)?;
@@ -69,8 +71,7 @@ impl<C: PublicKey> Actor<C> {
         }
         let blocked = self.directory.blocked_peers(now)?;
         tell_blocked_all(way, self.sets.as_slice(), &blocked, put)?;
-        let heard = self.directory.listenable(now)?;
-        put.push(Put::Listenable(List::new(heard)))?;
+        self.tell_listener(now, true, put)?;
         Ok(())
     }
 
@@ -83,6 +84,7 @@ impl<C: PublicKey> Actor<C> {
     ) -> Result<List<Put<C>>, AllocError>
         ensures rest { self.new ≡ record self.old { sets = self.new.sets } }
         ensures desk { ChangesSets way.old way.new }
+        ensures put { IfOk result (λ p. p ≡ puts.Blocked ticket (set_of way.old ticket) ∷ []) }
     {
         let mut put = Vec::new(self.alloc);
         let blocked = self.directory.blocked_peers(now)?;

@@ -1,8 +1,8 @@
 //! Reservations: their grant, the connection that they are for, and their return.
-ghost use Rattle.p2p_oracle.specs.declared.message.Message.TheVariants as message;
-ghost use Rattle.p2p_tracker.specs.Putting.{IsPut};
+ghost use Rattle.p2p_tracker.specs.declared.stepped.Put.TheVariants as puts;
+ghost use Rattle.p2p_tracker.specs.Putting.{IsDialAnswer, IsListenAnswer};
 ghost use Rattle.p2p_tracker.specs.Following.{Follows};
-ghost use Rattle.std.specs.Prelude.{◌≡◌, List, Some, None, [], ◌∷◌, true, false, IfOk, OnOk};
+ghost use Rattle.std.specs.Prelude.{◌≡◌, cond, List, Some, None, [], ◌∷◌, true, false, IfOk, OnOk};
 ghost use Rattle.p2p_facts.specs.declared.call.Call.{Call};
 ghost use Rattle.p2p_facts.specs.declared.call.Call.TheVariants as call;
 ghost use Rattle.p2p_directory.specs.Stands.{StandsFor};
@@ -35,7 +35,7 @@ impl<C: PublicKey> Actor<C> {
             → Follows C.cmp self.new.directory self.new.controls (call.Dial public_key now (jitter_of self.old.cooldown seed) (allows_dial C.cmp self.old.directory.rules calls public_key now) ∷ calls)) }
         ensures rules { OnOk result (self.new.directory.rules ≡ self.old.directory.rules) }
         ensures rest { self.new ≡ record self.old { directory = self.new.directory } }
-        ensures put { IfOk result (λ p. (calls : List (Call C)) → StandsFor C.cmp self.old.directory calls → IsPut C.cmp self.old.directory.rules self.old.controls calls now (message.Dial public_key) p) }
+        ensures put { IfOk result (λ p. (calls : List (Call C)) → StandsFor C.cmp self.old.directory calls → IsDialAnswer C.cmp self.old.directory.rules calls now public_key p) }
     {
         let jitter = self.jitter(seed);
         let granted = self.directory.dial(&public_key, now, jitter)?;
@@ -56,7 +56,7 @@ impl<C: PublicKey> Actor<C> {
             → Follows C.cmp self.new.directory self.new.controls (call.Listen public_key now (jitter_of self.old.cooldown seed) (allows_listen C.cmp self.old.directory.rules calls public_key source_ip now) ∷ calls)) }
         ensures rules { OnOk result (self.new.directory.rules ≡ self.old.directory.rules) }
         ensures rest { self.new ≡ record self.old { directory = self.new.directory } }
-        ensures put { IfOk result (λ p. (calls : List (Call C)) → StandsFor C.cmp self.old.directory calls → IsPut C.cmp self.old.directory.rules self.old.controls calls now (message.Listen public_key source_ip handshake) p) }
+        ensures put { IfOk result (λ p. (calls : List (Call C)) → StandsFor C.cmp self.old.directory calls → IsListenAnswer C.cmp self.old.directory.rules calls now public_key source_ip handshake p) }
     {
         let jitter = self.jitter(seed);
         let reservation = self.directory.listen(&public_key, source_ip, now, jitter)?;
@@ -86,7 +86,7 @@ impl<C: PublicKey> Actor<C> {
             → Follows C.cmp self.new.directory self.new.controls (call.Connect public_key (Some now) ∷ calls)) }
         ensures rules { OnOk result (self.new.directory.rules ≡ self.old.directory.rules) }
         ensures rest { self.new ≡ record self.old { directory = self.new.directory; controls = self.new.controls } }
-        ensures put { IfOk result (λ p. (calls : List (Call C)) → StandsFor C.cmp self.old.directory calls → IsPut C.cmp self.old.directory.rules self.old.controls calls now (message.Connect public_key conn) p) }
+        ensures put { IfOk result (λ p. (calls : List (Call C)) → StandsFor C.cmp self.old.directory calls → p ≡ cond (accepts C.cmp self.old.directory.rules calls public_key (Some now)) [] (puts.Kill public_key conn ∷ [])) }
     {
         if accept(&mut self.directory, now, &public_key) {
             keep(&mut self.controls, public_key, conn)?;

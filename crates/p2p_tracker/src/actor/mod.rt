@@ -156,7 +156,7 @@ impl<C: PublicKey> Actor<C> {
         ensures works { OnOk result (self.new.has_failed ≡ false) }
         ensures failed { self.old.has_failed ≡ true → IsErr result }
         ensures put { IfOk result (λ s. (calls : List (Call C)) → StandsFor C.cmp self.old.directory calls
-            → IsPutBy C.cmp self.old.directory.rules self.old.controls calls now s (next_message way.old)) }
+            → IsPutBy C.cmp self.old.directory.rules self.old.controls self.old.sets way.old calls now s (next_message way.old)) }
     {
         if self.has_failed {
             return Err(AllocError);
@@ -184,7 +184,7 @@ impl<C: PublicKey> Actor<C> {
         ensures cooldown { self.new.cooldown ≡ self.old.cooldown }
         ensures has_failed { self.new.has_failed ≡ self.old.has_failed }
         ensures put { IfOk result (λ s. (calls : List (Call C)) → StandsFor C.cmp self.old.directory calls
-            → IsPutBy C.cmp self.old.directory.rules self.old.controls calls now s (next_message way.old)) }
+            → IsPutBy C.cmp self.old.directory.rules self.old.controls self.old.sets way.old calls now s (next_message way.old)) }
     {
         if self.directory.unblock_expired(now) {
             let put = self.ended_blocks(way, now)?;
@@ -217,7 +217,7 @@ impl<C: PublicKey> Actor<C> {
         ensures cooldown { self.new.cooldown ≡ self.old.cooldown }
         ensures has_failed { self.new.has_failed ≡ self.old.has_failed }
         ensures put { IfOk result (λ p. (calls : List (Call C)) → StandsFor C.cmp self.old.directory calls
-            → IsPut C.cmp self.old.directory.rules self.old.controls calls now message p) }
+            → IsPut C.cmp self.old.directory.rules self.old.controls way.old.sets calls now message p) }
     {
         match message {
             Message::Register { index, peers } => self.register(way, now, index, peers),

@@ -1,12 +1,13 @@
 //! Questions that change nothing, and subscriptions to peer sets.
-ghost use Rattle.p2p_oracle.specs.declared.message.Message.TheVariants as message;
-ghost use Rattle.p2p_tracker.specs.Putting.{IsPut};
+ghost use Rattle.p2p_tracker.specs.Putting.{IsDialableAnswer};
+ghost use Rattle.p2p_facts.specs.Allows.{is_acceptable};
+ghost use Rattle.p2p_facts.specs.Sets.{kept_sets, latest_index};
 ghost use Rattle.p2p_facts.specs.declared.call.Call.{Call};
 ghost use Rattle.p2p_directory.specs.Stands.{StandsFor};
 ghost use Rattle.p2p_tracker.specs.declared.stepped.Put.TheVariants as puts;
 ghost use Rattle.p2p_oracle.specs.Desk.{answered_at};
 ghost use Rattle.p2p_tracker.specs.Telling.{ChangesUpdates};
-ghost use Rattle.std.specs.Prelude.{◌≡◌, List, [], ◌∷◌, IfOk};
+ghost use Rattle.std.specs.Prelude.{◌≡◌, ◌++◌, cond, is_some, List, [], ◌∷◌, IfOk, OnOk};
 
 use super::Actor;
 use super::telling::tell;
@@ -38,6 +39,8 @@ impl<C: PublicKey> Actor<C> {
     ) -> Result<List<Put<C>>, AllocError>
         ensures rest { self.new ≡ record self.old { updates = self.new.updates } }
         ensures desk { ChangesUpdates way.old way.new }
+        ensures put { IfOk result (λ p. (calls : List (Call C)) → StandsFor C.cmp self.old.directory calls
+            → p ≡ cond (is_some (latest_index (kept_sets C.cmp self.old.directory.rules calls))) (puts.Update ticket ∷ []) []) }
     {
         let mut put = Vec::new(self.alloc);
         self.tell_newest(way, ticket, &mut put)?;
@@ -53,6 +56,8 @@ impl<C: PublicKey> Actor<C> {
         put: &mut Vec<Put<C>>,
     ) -> Result<(), AllocError>
         ensures desk { ChangesUpdates way.old way.new }
+        ensures put { OnOk result ((calls : List (Call C)) → StandsFor C.cmp self.now.directory calls
+            → put.new.items ≡ put.old.items ++ cond (is_some (latest_index (kept_sets C.cmp self.now.directory.rules calls))) (puts.Update ticket ∷ []) []) }
     {
         let Some(update) = self.directory.latest_update()? else {
             return Ok(());
@@ -63,7 +68,7 @@ impl<C: PublicKey> Actor<C> {
 
     // Answers whom to dial.
     pub(super) fn dialable(&self, now: u64) -> Result<List<Put<C>>, AllocError>
-        ensures { IfOk result (λ p. (calls : List (Call C)) → StandsFor C.cmp self.now.directory calls → IsPut C.cmp self.now.directory.rules self.now.controls calls now message.Dialable p) }
+        ensures { IfOk result (λ p. (calls : List (Call C)) → StandsFor C.cmp self.now.directory calls → IsDialableAnswer C.cmp self.now.directory.rules calls now p) }
     {
         let dialable = self.directory.dialable(now)?;
         Ok(self.only(Put::Dialable(dialable))?)
@@ -77,7 +82,7 @@ impl<C: PublicKey> Actor<C> {
         source_ip: IpAddr,
         handshake: u64,
     ) -> Result<List<Put<C>>, AllocError>
-        ensures { IfOk result (λ p. (calls : List (Call C)) → StandsFor C.cmp self.now.directory calls → IsPut C.cmp self.now.directory.rules self.now.controls calls now (message.Acceptable public_key source_ip handshake) p) }
+        ensures { IfOk result (λ p. (calls : List (Call C)) → StandsFor C.cmp self.now.directory calls → p ≡ puts.Acceptable handshake (is_acceptable C.cmp self.now.directory.rules calls public_key source_ip now) ∷ []) }
     {
         let acceptable = self.directory.acceptable(&public_key, source_ip, now);
         Ok(self.only(Put::Acceptable {

@@ -1,8 +1,11 @@
 //! Peer sets and addresses that are handed in.
 ghost use Rattle.p2p_oracle.specs.declared.message.Message.TheVariants as message;
-ghost use Rattle.p2p_tracker.specs.Putting.{IsPut};
+ghost use Rattle.std.specs.Map.{lookup, remove_entry};
+ghost use Rattle.std.specs.BTreeMap.{is_at};
+ghost use Rattle.p2p_facts.specs.Lives.{is_overwritten};
+ghost use Rattle.p2p_tracker.specs.Putting.{IsPut, IsReaddressed, overwritten_keys};
 ghost use Rattle.p2p_base.specs.declared.address.ip.IpAddr.{IpAddr};
-ghost use Rattle.p2p_tracker.specs.Telling.{updates_put};
+ghost use Rattle.p2p_tracker.specs.Telling.{has_any, kill_put, kills_put, updates_put};
 ghost use Rattle.p2p_tracker.specs.declared.stepped.Put.TheVariants as puts;
 ghost use Rattle.p2p_tracker.specs.Following.{Follows};
 ghost use Rattle.p2p_tracker.specs.Telling.{ChangesUpdates};
@@ -37,7 +40,7 @@ impl<C: PublicKey> Actor<C> {
         ensures rules { OnOk result (self.new.directory.rules ≡ self.old.directory.rules) }
         ensures rest { self.new ≡ record self.old { directory = self.new.directory; controls = self.new.controls } }
         ensures desk { ChangesUpdates way.old way.new }
-        ensures put { IfOk result (λ p. (calls : List (Call C)) → StandsFor C.cmp self.old.directory calls → IsPut C.cmp self.old.directory.rules self.old.controls calls now (message.Register index peers) p) }
+        ensures put { IfOk result (λ p. (calls : List (Call C)) → StandsFor C.cmp self.old.directory calls → IsPut C.cmp self.old.directory.rules self.old.controls way.old.sets calls now (message.Register index peers) p) }
     {
         let mut put = Vec::new(self.alloc);
         let Some(killed) = self.directory.track(index, peers)? else {
@@ -62,7 +65,7 @@ impl<C: PublicKey> Actor<C> {
     }
 
     // Puts the addresses that peers may come from now, where something has changed.
-    fn tell_listener(
+    pub(super) fn tell_listener(
         &self,
         now: u64,
         has_changed: bool,
@@ -89,6 +92,7 @@ impl<C: PublicKey> Actor<C> {
             → Follows C.cmp self.new.directory self.new.controls (overwritten peers calls)) }
         ensures rules { OnOk result (self.new.directory.rules ≡ self.old.directory.rules) }
         ensures rest { self.new ≡ record self.old { directory = self.new.directory; controls = self.new.controls } }
+        ensures put { IfOk result (λ p. (calls : List (Call C)) → StandsFor C.cmp self.old.directory calls → IsReaddressed C.cmp self.old.directory.rules self.old.controls calls peers p) }
     {
         let mut put = Vec::new(self.alloc);
         let has_changed = readdress_all(&mut self.directory, &mut self.controls, &peers, &mut put)?;
@@ -108,13 +112,16 @@ fn readdress_all<C: PublicKey>(
     ensures follows { OnOk result ((calls : List (Call C)) → Follows C.cmp directory.old controls.old.entries calls
         → Follows C.cmp directory.new controls.new.entries (overwritten peers.now calls)) }
     ensures rules { OnOk result (directory.new.rules ≡ directory.old.rules) }
+    ensures answer { IfOk result (λ b. (calls : List (Call C)) → StandsFor C.cmp directory.old calls → b ≡ has_any (overwritten_keys C.cmp directory.old.rules peers.now calls)) }
+    ensures put { OnOk result ((calls : List (Call C)) → StandsFor C.cmp directory.old calls
+        → put.new.items ≡ put.old.items ++ kills_put C.cmp controls.old.entries (overwritten_keys C.cmp directory.old.rules peers.now calls)) }
 {
     let mut has_changed = false;
     for place in 0..peers.len() {
         let peer = peers.keys()[place];
         let address = peers.values()[place].clone()?;
         let changes = readdress(directory, controls, &peer, address, put)?;
-        has_changed = has_changed || changes;
+        has_changed |= changes;
     }
     Ok(has_changed)
 }
@@ -131,6 +138,9 @@ fn readdress<C: PublicKey>(
     ensures follows { OnOk result ((calls : List (Call C)) → Follows C.cmp directory.old controls.old.entries calls
         → Follows C.cmp directory.new controls.new.entries (call.Overwrite peer.now address ∷ calls)) }
     ensures rules { OnOk result (directory.new.rules ≡ directory.old.rules) }
+    ensures answer { IfOk result (λ b. (calls : List (Call C)) → StandsFor C.cmp directory.old calls → b ≡ is_overwritten C.cmp directory.old.rules calls peer.now address) }
+    ensures put { IfOk result (λ b. put.new.items ≡ cond b (put.old.items ++ kill_put peer.now (lookup (is_at (C.cmp peer.now)) controls.old.entries)) put.old.items) }
+    ensures controls { IfOk result (λ b. controls.new.entries ≡ cond b (remove_entry (is_at (C.cmp peer.now)) controls.old.entries) controls.old.entries) }
 {
     let has_changed = directory.overwrite(peer, address)?;
     if !has_changed {

@@ -111,35 +111,45 @@ returns-in-Overwrite-clause-messages g c = on_ok c.overwrite.result _ refl
 
 pub returns-in-Register-clause-put : goal.returns-in-Register-clause-put
 returns-in-Register-clause-put g c =
-    let Told : Message g.row.C.Denot → Type 0 = λ m. IfOk c.register.result (λ p. (calls : List (Call g.row.C.Denot)) → StandsFor g.C.Ord.cmp c.args.self.now.directory calls → IsPut g.C.Ord.cmp c.args.self.now.directory.rules c.args.self.now.controls calls c.args.now m p) in
+    let Told : Message g.row.C.Denot → Type 0 = λ m. IfOk c.register.result (λ p. (calls : List (Call g.row.C.Denot)) → StandsFor g.C.Ord.cmp c.args.self.now.directory calls → IsPut g.C.Ord.cmp c.args.self.now.directory.rules c.args.self.now.controls c.args.way.now.sets calls c.args.now m p) in
     subst Told (sym c.in-Register.is) c.register.ensures.put
 
 pub returns-in-Block-clause-put : goal.returns-in-Block-clause-put
 returns-in-Block-clause-put g c =
-    let Told : Message g.row.C.Denot → Type 0 = λ m. IfOk c.block.result (λ p. (calls : List (Call g.row.C.Denot)) → StandsFor g.C.Ord.cmp c.args.self.now.directory calls → IsPut g.C.Ord.cmp c.args.self.now.directory.rules c.args.self.now.controls calls c.args.now m p) in
+    let Told : Message g.row.C.Denot → Type 0 = λ m. IfOk c.block.result (λ p. (calls : List (Call g.row.C.Denot)) → StandsFor g.C.Ord.cmp c.args.self.now.directory calls → IsPut g.C.Ord.cmp c.args.self.now.directory.rules c.args.self.now.controls c.args.way.now.sets calls c.args.now m p) in
     subst Told (sym c.in-Block.is) c.block.ensures.put
 
 pub returns-in-Connect-clause-put : goal.returns-in-Connect-clause-put
 returns-in-Connect-clause-put g c =
-    let Told : Message g.row.C.Denot → Type 0 = λ m. IfOk c.connect.result (λ p. (calls : List (Call g.row.C.Denot)) → StandsFor g.C.Ord.cmp c.args.self.now.directory calls → IsPut g.C.Ord.cmp c.args.self.now.directory.rules c.args.self.now.controls calls c.args.now m p) in
+    let Told : Message g.row.C.Denot → Type 0 = λ m. IfOk c.connect.result (λ p. (calls : List (Call g.row.C.Denot)) → StandsFor g.C.Ord.cmp c.args.self.now.directory calls → IsPut g.C.Ord.cmp c.args.self.now.directory.rules c.args.self.now.controls c.args.way.now.sets calls c.args.now m p) in
     subst Told (sym c.in-Connect.is) c.connect.ensures.put
 
 pub returns-in-Dial-clause-put : goal.returns-in-Dial-clause-put
 returns-in-Dial-clause-put g c =
-    let Told : Message g.row.C.Denot → Type 0 = λ m. IfOk c.dial.result (λ p. (calls : List (Call g.row.C.Denot)) → StandsFor g.C.Ord.cmp c.args.self.now.directory calls → IsPut g.C.Ord.cmp c.args.self.now.directory.rules c.args.self.now.controls calls c.args.now m p) in
+    let Told : Message g.row.C.Denot → Type 0 = λ m. IfOk c.dial.result (λ p. (calls : List (Call g.row.C.Denot)) → StandsFor g.C.Ord.cmp c.args.self.now.directory calls → IsPut g.C.Ord.cmp c.args.self.now.directory.rules c.args.self.now.controls c.args.way.now.sets calls c.args.now m p) in
     subst Told (sym c.in-Dial.is) c.dial.ensures.put
 
 pub returns-in-Listen-clause-put : goal.returns-in-Listen-clause-put
 returns-in-Listen-clause-put g c =
-    let Told : Message g.row.C.Denot → Type 0 = λ m. IfOk c.listen.result (λ p. (calls : List (Call g.row.C.Denot)) → StandsFor g.C.Ord.cmp c.args.self.now.directory calls → IsPut g.C.Ord.cmp c.args.self.now.directory.rules c.args.self.now.controls calls c.args.now m p) in
+    let Told : Message g.row.C.Denot → Type 0 = λ m. IfOk c.listen.result (λ p. (calls : List (Call g.row.C.Denot)) → StandsFor g.C.Ord.cmp c.args.self.now.directory calls → IsPut g.C.Ord.cmp c.args.self.now.directory.rules c.args.self.now.controls c.args.way.now.sets calls c.args.now m p) in
     subst Told (sym c.in-Listen.is) c.listen.ensures.put
 
 pub returns-in-Dialable-clause-put : goal.returns-in-Dialable-clause-put
 returns-in-Dialable-clause-put g c =
-    let Told : Message g.row.C.Denot → Type 0 = λ m. IfOk c.dialable.result (λ p. (calls : List (Call g.row.C.Denot)) → StandsFor g.C.Ord.cmp c.args.self.now.directory calls → IsPut g.C.Ord.cmp c.args.self.now.directory.rules c.args.self.now.controls calls c.args.now m p) in
+    let Told : Message g.row.C.Denot → Type 0 = λ m. IfOk c.dialable.result (λ p. (calls : List (Call g.row.C.Denot)) → StandsFor g.C.Ord.cmp c.args.self.now.directory calls → IsPut g.C.Ord.cmp c.args.self.now.directory.rules c.args.self.now.controls c.args.way.now.sets calls c.args.now m p) in
     subst Told (sym c.in-Dialable.is) c.dialable.ensures
 
 pub returns-in-Acceptable-clause-put : goal.returns-in-Acceptable-clause-put
 returns-in-Acceptable-clause-put g c =
-    let Told : Message g.row.C.Denot → Type 0 = λ m. IfOk c.acceptable.result (λ p. (calls : List (Call g.row.C.Denot)) → StandsFor g.C.Ord.cmp c.args.self.now.directory calls → IsPut g.C.Ord.cmp c.args.self.now.directory.rules c.args.self.now.controls calls c.args.now m p) in
+    let Told : Message g.row.C.Denot → Type 0 = λ m. IfOk c.acceptable.result (λ p. (calls : List (Call g.row.C.Denot)) → StandsFor g.C.Ord.cmp c.args.self.now.directory calls → IsPut g.C.Ord.cmp c.args.self.now.directory.rules c.args.self.now.controls c.args.way.now.sets calls c.args.now m p) in
     subst Told (sym c.in-Acceptable.is) c.acceptable.ensures
+
+pub returns-in-Overwrite-clause-put : goal.returns-in-Overwrite-clause-put
+returns-in-Overwrite-clause-put g c =
+    let Told : Message g.row.C.Denot → Type 0 = λ m. IfOk c.overwrite.result (λ p. (calls : List (Call g.row.C.Denot)) → StandsFor g.C.Ord.cmp c.args.self.now.directory calls → IsPut g.C.Ord.cmp c.args.self.now.directory.rules c.args.self.now.controls c.args.way.now.sets calls c.args.now m p) in
+    subst Told (sym c.in-Overwrite.is) c.overwrite.ensures.put
+
+pub returns-in-Subscribe-clause-put : goal.returns-in-Subscribe-clause-put
+returns-in-Subscribe-clause-put g c =
+    let Told : Message g.row.C.Denot → Type 0 = λ m. IfOk c.subscribe.result (λ p. (calls : List (Call g.row.C.Denot)) → StandsFor g.C.Ord.cmp c.args.self.now.directory calls → IsPut g.C.Ord.cmp c.args.self.now.directory.rules c.args.self.now.controls c.args.way.now.sets calls c.args.now m p) in
+    subst Told (sym c.in-Subscribe.is) c.subscribe.ensures.put

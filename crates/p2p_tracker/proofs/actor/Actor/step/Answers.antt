@@ -34,7 +34,7 @@ returns-clause-fresh g c = λ calls f q h.
 pub returns-clause-put : goal.returns-clause-put
 returns-clause-put g c = λ calls s.
     let before = subst (λ (t : Tracking g.row.C.Denot). StandsFor g.C.Ord.cmp t.directory calls) (sym c.self.view_is) s in
-    subst (λ (t : Tracking g.row.C.Denot). IsPutBy g.C.Ord.cmp t.directory.rules t.controls calls c.args.now c.in_ok-stepped.stepped (next_message c.args.way.now)) c.self.view_is
+    subst (λ (t : Tracking g.row.C.Denot). IsPutBy g.C.Ord.cmp t.directory.rules t.controls t.sets c.args.way.now calls c.args.now c.in_ok-stepped.stepped (next_message c.args.way.now)) c.self.view_is
     (c.in_ok-stepped.ensures.put calls before)
 
 pub returns-clause-stands : goal.returns-clause-stands

@@ -1,13 +1,14 @@
-use Rattle.std.proofs.Common.{◌≡◌, true, List, Option, Some, sym, ap, ◌∙◌, subst}
+use Rattle.std.proofs.Common.{◌≡◌, true, List, ◌∷◌, Option, Some, sym, ap, ◌∙◌, subst}
 use Rattle.std.specs.Prelude.{IfSome}
 use Rattle.p2p_facts.specs.Blocks.{is_over, block_of}
 use Rattle.p2p_facts.specs.declared.call.Call.{Call}
+use Rattle.p2p_facts.specs.declared.call.Call.TheVariants as call
 use Rattle.p2p_facts.specs.Rules.{Rules}
-use Rattle.p2p_oracle.specs.Desk.{next_message}
+use Rattle.p2p_oracle.specs.Desk.{Desk, next_message}
 use Rattle.p2p_directory.specs.Stands.{Kept, StandsFor}
 use Rattle.p2p_tracker.specs.Following.{Follows}
 use Rattle.p2p_oracle.specs.declared.message.Message.{Message}
-use Rattle.p2p_tracker.specs.Putting.{IsPut, IsPutBy}
+use Rattle.p2p_tracker.specs.Putting.{IsEnded, IsPut, IsPutBy}
 use Rattle.p2p_tracker.specs.Serving.{IsQuiet, IsQuietIn, MayTake}
 use Rattle.p2p_tracker.specs.declared.stepped.Stepped.TheVariants as stepped
 use Rattle.p2p_tracker.specs.Tracking.{Tracking, jitter_of}
@@ -71,10 +72,11 @@ returns-in_ok-put-in-Some-clause-put g c = λ calls s.
     let same = c.unblock_expired.ensures.kept c.if-unblock_expired.false ∙ ap (λ (t : Tracking g.row.C.Denot). t.directory) c.self.view_is in
     let rules = ap (λ (k : Kept g.row.C.Denot). k.rules) same in
     let oldest : next_message c.args.way.now ≡ c.take.result = sym c.take.ensures.value in
-    subst (λ (o : Option (Message g.row.C.Denot)). IsPutBy g.C.Ord.cmp c.args.self.now.directory.rules c.args.self.now.controls calls c.args.now (stepped.Message c.in_ok-put-in-Some.put) o) (sym (oldest ∙ c.in-Some.is))
-    (subst (λ (x : Rules g.row.C.Denot). IsPut g.C.Ord.cmp x c.args.self.now.controls calls c.args.now c.in-Some.message c.in_ok-put-in-Some.put) rules
-    (subst (λ (t : Tracking g.row.C.Denot). IsPut g.C.Ord.cmp c.unblock_expired.new.self.rules t.controls calls c.args.now c.in-Some.message c.in_ok-put-in-Some.put) c.self.view_is
-    (c.in_ok-put-in-Some.ensures.put calls (subst (λ (k : Kept g.row.C.Denot). StandsFor g.C.Ord.cmp k calls) (sym same) s))))
+    subst (λ (o : Option (Message g.row.C.Denot)). IsPutBy g.C.Ord.cmp c.args.self.now.directory.rules c.args.self.now.controls c.args.self.now.sets c.args.way.now calls c.args.now (stepped.Message c.in_ok-put-in-Some.put) o) (sym (oldest ∙ c.in-Some.is))
+    (subst (λ (x : Rules g.row.C.Denot). IsPut g.C.Ord.cmp x c.args.self.now.controls c.args.way.now.sets calls c.args.now c.in-Some.message c.in_ok-put-in-Some.put) rules
+    (subst (λ (t : Tracking g.row.C.Denot). IsPut g.C.Ord.cmp c.unblock_expired.new.self.rules t.controls c.args.way.now.sets calls c.args.now c.in-Some.message c.in_ok-put-in-Some.put) c.self.view_is
+    (subst (λ (d : Desk g.row.C.Denot). IsPut g.C.Ord.cmp c.unblock_expired.new.self.rules c.self.inside.controls.entries d.sets calls c.args.now c.in-Some.message c.in_ok-put-in-Some.put) c.take.ensures.after
+    (c.in_ok-put-in-Some.ensures.put calls (subst (λ (k : Kept g.row.C.Denot). StandsFor g.C.Ord.cmp k calls) (sym same) s)))))
 
 pub serve-requires : goal.serve-requires
 serve-requires g c =
@@ -86,3 +88,10 @@ serve-requires g c =
     let allowed : MayTake g.C.Ord.cmp c.args.self.now.directory c.in-Some.message c.args.now =
     subst (λ (o : Option (Message g.row.C.Denot)). IfSome o (λ m. MayTake g.C.Ord.cmp c.args.self.now.directory m c.args.now)) oldest (c.requires quiet) in
     subst (λ (k : Kept g.row.C.Denot). MayTake g.C.Ord.cmp k c.in-Some.message c.args.now) (sym same) allowed
+
+pub returns-then-unblock_expired-clause-put : goal.returns-then-unblock_expired-clause-put
+returns-then-unblock_expired-clause-put g c = λ calls s.
+    let before = subst (λ (t : Tracking g.row.C.Denot). StandsFor g.C.Ord.cmp t.directory calls) (sym c.self.view_is) s in
+    let told = c.in_ok-put.ensures.put (call.UnblockExpired c.args.now ∷ calls) (c.unblock_expired.ensures.stands calls before) in
+    subst (λ (t : Tracking g.row.C.Denot). IsEnded g.C.Ord.cmp t.directory.rules (call.UnblockExpired c.args.now ∷ calls) c.args.now t.sets c.args.way.now c.in_ok-put.put) c.self.view_is
+    (subst (λ (r : Rules g.row.C.Denot). IsEnded g.C.Ord.cmp r (call.UnblockExpired c.args.now ∷ calls) c.args.now c.self.inside.sets.items c.args.way.now c.in_ok-put.put) c.unblock_expired.ensures.rules told)
