@@ -1,6 +1,5 @@
 //! Steps of a new tracker, with what they put worked out by hand.
-ghost use Rattle.std.specs.Prelude.{◌≡◌, [], IfOk};
-ghost use Rattle.p2p_directory.specs.Stands.{StandsFor};
+ghost use Rattle.std.specs.Prelude.{◌≡◌, IfOk};
 ghost use Rattle.p2p_oracle.specs.Desk.{new_desk};
 
 use p2p_base::{Address, IpAddr, Key, Map, PublicKey, SetError, SocketAddr};
@@ -14,8 +13,7 @@ fn tracker<C: PublicKey>(
     alloc: Global,
     public_key: C,
 ) -> Result<(Actor<C>, Mailbox<C>, Oracle<C>), AllocError>
-    ensures stands { IfOk result (λ r. StandsFor C.cmp r.0.directory []) }
-    ensures mailbox { IfOk result (λ r. r.1 ≡ new_desk 4) }
+    ensures { IfOk result (λ r. r.1 ≡ new_desk 4) }
 {
     Actor::new(
         alloc,
@@ -33,14 +31,19 @@ fn tracker<C: PublicKey>(
     )
 }
 
-// This key alone, at an address.
-fn only<C: PublicKey>(alloc: Global, key: C) -> Result<AddressableTrackedPeers<C>, SetError> {
-    let ip = IpAddr::V4([10, 0, 0, 7]);
+// This key alone, at the address of a host.
+fn at<C: PublicKey>(alloc: Global, key: C, host: u8) -> Result<Map<C, Address>, SetError> {
+    let ip = IpAddr::V4([10, 0, 0, host]);
     let mut pairs = Vec::new(alloc);
     pairs
         .push((key, Address::Symmetric(SocketAddr { ip, port: 80 })))
         .map_err(AllocError::from)?;
-    let primary = Map::try_from(pairs)?;
+    Map::try_from(pairs)
+}
+
+// This key alone, as a primary peer.
+fn only<C: PublicKey>(alloc: Global, key: C) -> Result<AddressableTrackedPeers<C>, SetError> {
+    let primary = at(alloc, key, 7)?;
     let secondary = Map::try_from(Vec::new(alloc))?;
     Ok(AddressableTrackedPeers::new(primary, secondary))
 }
@@ -92,6 +95,26 @@ fn a_peer_set_is_told(rt: HostRuntime) -> Result<(), Fail> {
                     [Put::Listenable(_), Put::Update { ticket: 0 }]
                 )
             );
+        }
+        Stepped::EndedBlocks { .. } | Stepped::Idle => assert!(rt; false),
+    }
+    Ok(())
+}
+
+#[test]
+fn a_changed_address_is_told(rt: HostRuntime) -> Result<(), Fail> {
+    let (mut actor, mut way, mut oracle) = tracker(rt.alloc(), Key(1))?;
+    oracle.track(rt.alloc(), &mut way, 3, only(rt.alloc(), Key(2))?)?;
+    assert!(rt; matches!(actor.step(&mut way, 0, 0)?, Stepped::Message { .. }));
+    oracle.overwrite(rt.alloc(), &mut way, at(rt.alloc(), Key(2), 7)?)?;
+    match actor.step(&mut way, 0, 0)? {
+        Stepped::Message { put } => assert!(rt; put.as_slice().is_empty()),
+        Stepped::EndedBlocks { .. } | Stepped::Idle => assert!(rt; false),
+    }
+    oracle.overwrite(rt.alloc(), &mut way, at(rt.alloc(), Key(2), 8)?)?;
+    match actor.step(&mut way, 0, 0)? {
+        Stepped::Message { put } => {
+            assert!(rt; matches!(put.as_slice(), [Put::Listenable(_)]));
         }
         Stepped::EndedBlocks { .. } | Stepped::Idle => assert!(rt; false),
     }
