@@ -1,14 +1,6 @@
-//! The tests of the crates that track peers, through their public names alone. They stand apart so that the gate proves
-//! each of those crates once.
-//!
-//! Of `p2p_oracle` are `oracle` and `tracking`, of `p2p_directory` is `directory`, and of `p2p_tracker` is `tracker`.
+//! The tests of the tracker's actor, through its public names alone. They stand apart so that the gate proves `p2p_tracker`
+//! once.
 #![tactic(auto)]
 
 #[cfg(test)]
-mod directory;
-#[cfg(test)]
-mod oracle;
-#[cfg(test)]
 mod tracker;
-#[cfg(test)]
-mod tracking;
