@@ -1,7 +1,7 @@
 //! The benchmark of the limiters: a million checks over 10,000 keys, of which it prints how many were admitted.
 #![tactic(auto)]
 
-use p2p_base::{KeyedRateLimiter, Quota};
+use p2p_runtime::{KeyedRateLimiter, Quota};
 use std::alloc::{AllocError, Global};
 use std::process::ExitCode;
 

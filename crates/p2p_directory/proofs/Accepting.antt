@@ -13,7 +13,7 @@ use Rattle.std.specs.BTreeMap.{is_at}
 use Rattle.std.specs.declared.cmp.Ordering.{Ordering}
 use Rattle.p2p_base.specs.Sorted.{sorted_once}
 use Rattle.p2p_base.proofs.SortedRepeats.{any-sorted_once}
-use Rattle.p2p_base.specs.declared.address.peer.Address.{Address as PeerAddress}
+use Rattle.p2p_address.specs.declared.peer.Address.{Address as PeerAddress}
 use Rattle.p2p_facts.specs.declared.call.Call.{Call}
 use Rattle.p2p_facts.specs.declared.call.Call.TheVariants as call
 use Rattle.p2p_facts.specs.Sets.{PeerSet, is_above, latest_index, set_of, only_secondary, is_among, is_primary_in, is_secondary_in, accepted_sets, kept_sets, is_tracked, primary_sets, secondary_sets}

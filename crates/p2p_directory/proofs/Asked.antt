@@ -7,10 +7,10 @@ use Rattle.std.specs.Cmp.{IsTotalOrder}
 use Rattle.std.specs.Map.{lookup}
 use Rattle.std.specs.BTreeMap.{is_at}
 use Rattle.std.specs.declared.cmp.Ordering.{Ordering}
-use Rattle.p2p_base.specs.Addresses.{ingress_of}
-use Rattle.p2p_base.specs.declared.address.ip.IpAddr.{IpAddr}
-use Rattle.p2p_base.specs.declared.address.peer.Address.{Address as PeerAddress}
-use Rattle.p2p_base.specs.declared.address.peer.Ingress.{Ingress}
+use Rattle.p2p_address.specs.Addresses.{ingress_of}
+use Rattle.p2p_address.specs.declared.ip.IpAddr.{IpAddr}
+use Rattle.p2p_address.specs.declared.peer.Address.{Address as PeerAddress}
+use Rattle.p2p_address.specs.declared.peer.Ingress.{Ingress}
 use Rattle.p2p_facts.specs.declared.call.Call.{Call}
 use Rattle.p2p_facts.specs.declared.call.Call.TheVariants as call
 use Rattle.p2p_facts.specs.Sets.{primary_sets, secondary_sets}

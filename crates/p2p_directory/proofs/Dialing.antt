@@ -9,10 +9,10 @@ use Rattle.std.specs.Cmp.{IsTotalOrder}
 use Rattle.std.specs.Map.{lookup, keys_of}
 use Rattle.std.specs.BTreeMap.{is_at}
 use Rattle.std.specs.declared.cmp.Ordering.{Ordering}
-use Rattle.p2p_base.specs.Addresses.{egress_of, is_global}
+use Rattle.p2p_address.specs.Addresses.{egress_of, is_global}
 use Rattle.p2p_base.specs.Moments.{is_moment}
-use Rattle.p2p_base.specs.declared.address.ip.IpAddr.{IpAddr}
-use Rattle.p2p_base.specs.declared.address.peer.Address.{Address as PeerAddress}
+use Rattle.p2p_address.specs.declared.ip.IpAddr.{IpAddr}
+use Rattle.p2p_address.specs.declared.peer.Address.{Address as PeerAddress}
 use Rattle.p2p_facts.specs.declared.call.Call.{Call}
 use Rattle.p2p_facts.specs.Sets.{is_among, is_tracked, is_primary, primary_sets, secondary_sets}
 use Rattle.p2p_facts.specs.Grants.{Grant, is_held}

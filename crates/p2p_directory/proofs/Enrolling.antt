@@ -3,7 +3,7 @@ use Rattle.std.proofs.Common.{◌≡◌, ℕ, ◌+◌, ◌-◌, ◌^◌, ◌<◌
 use Rattle.std.proofs.lemmas.Bool.{false≢true, lt-ltb, ltb-true, ltb-false}
 use Rattle.std.specs.Prelude.{is_some, nat_lt}
 use Rattle.std.specs.Option.{option_map, option_or}
-use Rattle.p2p_base.specs.declared.address.peer.Address.{Address as PeerAddress}
+use Rattle.p2p_address.specs.declared.peer.Address.{Address as PeerAddress}
 use Rattle.p2p_directory.specs.Recorded.{Recorded, is_myself, is_inert, is_deletable, updated}
 use Rattle.p2p_directory.specs.Tracked.{counted, discounted, enrolled, retired, if_needed, needed, blanked, one_more, joined, parted, enters, leaves}
 

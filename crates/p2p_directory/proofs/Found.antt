@@ -11,7 +11,7 @@ use Rattle.std.specs.BTreeMap.{is_at}
 use Rattle.std.specs.declared.cmp.Ordering.{Ordering}
 use Rattle.std.specs.declared.cmp.Ordering.TheVariants.{Less}
 use Rattle.p2p_base.specs.Moments.{is_moment}
-use Rattle.p2p_base.specs.declared.address.ip.IpAddr.{IpAddr}
+use Rattle.p2p_address.specs.declared.ip.IpAddr.{IpAddr}
 use Rattle.p2p_facts.specs.Lives.{same_ip}
 use Rattle.p2p_directory.specs.Tracked.{passes}
 use Rattle.p2p_directory.specs.Listed.{is_heard, earlier, earliest, comes_by}

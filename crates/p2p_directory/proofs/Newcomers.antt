@@ -12,7 +12,7 @@ use Rattle.std.specs.Cmp.{IsTotalOrder}
 use Rattle.std.specs.declared.cmp.Ordering.{Ordering}
 use Rattle.p2p_base.specs.Sorted.{sorted_once}
 use Rattle.p2p_base.proofs.SortedLists.{sorted-sorted_once, find-sorted_once, sorted_unique}
-use Rattle.p2p_base.specs.declared.address.peer.Address.{Address as PeerAddress}
+use Rattle.p2p_address.specs.declared.peer.Address.{Address as PeerAddress}
 use Rattle.p2p_facts.specs.Sets.{only_secondary}
 use Rattle.p2p_directory.specs.Tracked.{oldest_of}
 

@@ -1,7 +1,7 @@
 -- What the sets, the records and the blocks tell of who is tracked, of whom to dial, and of where peers come from.
 use Rattle.std.specs.Prelude.{ℕ, Bool, true, false, cond, not, ◌||◌, nat_lt, List, [], ◌∷◌, Option, Some, None}
-use Rattle.p2p_base.specs.Addresses.{is_global}
-use Rattle.p2p_base.specs.declared.address.ip.IpAddr.{IpAddr}
+use Rattle.p2p_address.specs.Addresses.{is_global}
+use Rattle.p2p_address.specs.declared.ip.IpAddr.{IpAddr}
 use Rattle.p2p_facts.specs.Blocks.{lasts_at}
 use Rattle.p2p_facts.specs.Lives.{same_ip}
 use Rattle.p2p_facts.specs.Sets.{PeerSet}

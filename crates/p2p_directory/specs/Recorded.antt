@@ -3,10 +3,10 @@ use Rattle.std.specs.Prelude.{ℕ, ◌+◌, Bool, true, false, cond, not, ◌&&�
 use Rattle.std.specs.BTreeMap.{is_at}
 use Rattle.std.specs.Map.{set_value}
 use Rattle.std.specs.declared.cmp.Ordering.{Ordering}
-use Rattle.p2p_base.specs.Addresses.{ingress_of, egress_of, is_valid}
-use Rattle.p2p_base.specs.declared.address.ip.IpAddr.{IpAddr}
-use Rattle.p2p_base.specs.declared.address.peer.Address.{Address as PeerAddress}
-use Rattle.p2p_base.specs.declared.address.peer.Ingress.{Ingress}
+use Rattle.p2p_address.specs.Addresses.{ingress_of, egress_of, is_valid}
+use Rattle.p2p_address.specs.declared.ip.IpAddr.{IpAddr}
+use Rattle.p2p_address.specs.declared.peer.Address.{Address as PeerAddress}
+use Rattle.p2p_address.specs.declared.peer.Ingress.{Ingress}
 use Rattle.p2p_facts.specs.Lives.{same_address, same_ip}
 use Rattle.p2p_directory.specs.declared.record.Address.{Address}
 use Rattle.p2p_directory.specs.declared.record.Address.TheVariants as address

@@ -5,7 +5,7 @@ use Rattle.std.specs.List.Sorted.{IsStrictlySortedBy}
 use Rattle.std.specs.Map.{lookup, keys_of}
 use Rattle.std.specs.BTreeMap.{is_at}
 use Rattle.std.specs.declared.cmp.Ordering.{Ordering}
-use Rattle.p2p_base.specs.declared.address.peer.Address.{Address as PeerAddress}
+use Rattle.p2p_address.specs.declared.peer.Address.{Address as PeerAddress}
 use Rattle.p2p_facts.specs.Rules.{Rules}
 use Rattle.p2p_facts.specs.Sets.{PeerSet, accepted_sets, kept_sets, latest_index, primary_sets, secondary_sets}
 use Rattle.p2p_facts.specs.Grants.{is_held}

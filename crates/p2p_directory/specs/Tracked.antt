@@ -4,9 +4,9 @@ use Rattle.std.specs.Option.{option_map, option_or}
 use Rattle.std.specs.List.{list_any}
 use Rattle.std.specs.Map.{lookup}
 use Rattle.std.specs.declared.cmp.Ordering.{Ordering}
-use Rattle.p2p_base.specs.declared.address.ip.IpAddr.TheVariants.{V4}
-use Rattle.p2p_base.specs.declared.address.peer.Address.{Address as PeerAddress}
-use Rattle.p2p_base.specs.declared.address.peer.Address.TheVariants.{Symmetric}
+use Rattle.p2p_address.specs.declared.ip.IpAddr.TheVariants.{V4}
+use Rattle.p2p_address.specs.declared.peer.Address.{Address as PeerAddress}
+use Rattle.p2p_address.specs.declared.peer.Address.TheVariants.{Symmetric}
 use Rattle.p2p_facts.specs.Sets.{PeerSet, is_primary_in, is_secondary_in}
 use Rattle.p2p_directory.specs.declared.record.Address.{Address}
 use Rattle.p2p_directory.specs.declared.record.Address.TheVariants as address

@@ -6,7 +6,7 @@ ghost use Rattle.p2p_directory.specs.Tracked.{gets_other};
 ghost use Rattle.std.specs.Option.{option_copied};
 ghost use Rattle.p2p_directory.specs.declared.record.Address.TheVariants as place;
 
-use p2p_base::{Ingress, IpAddr};
+use p2p_address::{Ingress, IpAddr};
 use std::alloc::{AllocError, Global};
 use std::marker::Model;
 
@@ -332,10 +332,10 @@ impl Record {
     {
         match &self.address {
             Address::Myself => false,
-            Address::Known(p2p_base::Address::Symmetric(socket)) => {
+            Address::Known(p2p_address::Address::Symmetric(socket)) => {
                 private || p2p_base::is_global(&socket.ip)
             }
-            Address::Known(p2p_base::Address::Asymmetric { ingress, .. }) => {
+            Address::Known(p2p_address::Address::Asymmetric { ingress, .. }) => {
                 ingress.is_valid(private, dns)
             }
         }

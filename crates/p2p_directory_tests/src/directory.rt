@@ -1,5 +1,6 @@
 //! Records and directories at concrete keys.
-use p2p_base::{Address, Feedback, IpAddr, Key, Map, Set, SetError, SocketAddr};
+use p2p_address::{Address, IpAddr, SocketAddr};
+use p2p_base::{Feedback, Key, Map, Set, SetError};
 use p2p_directory::{Config, DialStatus, Directory, Metadata, Record, ReserveResult};
 use p2p_flow::{AddressableTrackedPeers, PeerSetUpdate, TrackedPeers};
 use p2p_oracle::{Mailbox, Message};

@@ -1,5 +1,6 @@
 //! What those who ask the tracker are told, and what they are given.
-use p2p_base::{Feedback, IpAddr, Key, Set};
+use p2p_address::IpAddr;
+use p2p_base::{Feedback, Key, Set};
 use p2p_flow::{Blocker, PeerSetUpdate, Polled, Provider, TrackedPeers};
 use p2p_oracle::{Mailbox, Message, Metadata, Oracle};
 use std::test::Fail;

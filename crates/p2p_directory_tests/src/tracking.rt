@@ -1,5 +1,6 @@
 //! Peer sets that are handed in.
-use p2p_base::{Address, Feedback, IpAddr, Key, Map, SetError, SocketAddr};
+use p2p_address::{Address, IpAddr, SocketAddr};
+use p2p_base::{Feedback, Key, Map, SetError};
 use p2p_flow::{AddressableManager, AddressableTrackedPeers, TrackError};
 use p2p_oracle::{Mailbox, Message, Oracle};
 use std::alloc::{AllocError, Global};

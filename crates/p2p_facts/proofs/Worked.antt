@@ -1,10 +1,10 @@
 -- The facts on short lists of calls, newest first. The own key is 0.
 use Rattle.std.proofs.Common.{◌≡◌, ℕ, true, false, List, [], ◌∷◌, Some, refl}
 use Rattle.std.specs.Ordering.{nat_cmp}
-use Rattle.p2p_base.specs.declared.address.ip.IpAddr.{IpAddr}
-use Rattle.p2p_base.specs.declared.address.ip.IpAddr.TheVariants.{V4}
-use Rattle.p2p_base.specs.declared.address.peer.Address.{Address}
-use Rattle.p2p_base.specs.declared.address.peer.Address.TheVariants.{Symmetric}
+use Rattle.p2p_address.specs.declared.ip.IpAddr.{IpAddr}
+use Rattle.p2p_address.specs.declared.ip.IpAddr.TheVariants.{V4}
+use Rattle.p2p_address.specs.declared.peer.Address.{Address}
+use Rattle.p2p_address.specs.declared.peer.Address.TheVariants.{Symmetric}
 use Rattle.p2p_facts.specs.declared.call.Call.{Call}
 use Rattle.p2p_facts.specs.declared.call.Call.TheVariants as call
 use Rattle.p2p_facts.specs.Rules.{Rules}

@@ -1,9 +1,9 @@
 -- When a reservation is granted.
 use Rattle.std.specs.Prelude.{ℕ, Bool, false, not, ◌&&◌, ◌||◌, nat_lt, List, Option, Some, None}
 use Rattle.std.specs.declared.cmp.Ordering.{Ordering}
-use Rattle.p2p_base.specs.Addresses.{ingress_of, egress_of, is_valid}
-use Rattle.p2p_base.specs.declared.address.ip.IpAddr.{IpAddr}
-use Rattle.p2p_base.specs.declared.address.peer.Address.{Address}
+use Rattle.p2p_address.specs.Addresses.{ingress_of, egress_of, is_valid}
+use Rattle.p2p_address.specs.declared.ip.IpAddr.{IpAddr}
+use Rattle.p2p_address.specs.declared.peer.Address.{Address}
 use Rattle.p2p_facts.specs.declared.call.Call.{Call}
 use Rattle.p2p_facts.specs.Rules.{Rules}
 use Rattle.p2p_facts.specs.Sets.{is_primary}

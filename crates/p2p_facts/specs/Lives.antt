@@ -5,13 +5,13 @@ use Rattle.std.specs.Cmp.Lexicographic.{pointwise}
 use Rattle.std.specs.Map.{lookup}
 use Rattle.std.specs.BTreeMap.{is_at}
 use Rattle.std.specs.declared.cmp.Ordering.{Ordering}
-use Rattle.p2p_base.specs.declared.address.ip.IpAddr.{IpAddr}
-use Rattle.p2p_base.specs.declared.address.ip.IpAddr.TheVariants.{V4, V6}
-use Rattle.p2p_base.specs.declared.address.ip.SocketAddr.{SocketAddr}
-use Rattle.p2p_base.specs.declared.address.peer.Ingress.{Ingress}
-use Rattle.p2p_base.specs.declared.address.peer.Ingress.TheVariants.{Socket, Dns}
-use Rattle.p2p_base.specs.declared.address.peer.Address.{Address}
-use Rattle.p2p_base.specs.declared.address.peer.Address.TheVariants.{Symmetric, Asymmetric}
+use Rattle.p2p_address.specs.declared.ip.IpAddr.{IpAddr}
+use Rattle.p2p_address.specs.declared.ip.IpAddr.TheVariants.{V4, V6}
+use Rattle.p2p_address.specs.declared.ip.SocketAddr.{SocketAddr}
+use Rattle.p2p_address.specs.declared.peer.Ingress.{Ingress}
+use Rattle.p2p_address.specs.declared.peer.Ingress.TheVariants.{Socket, Dns}
+use Rattle.p2p_address.specs.declared.peer.Address.{Address}
+use Rattle.p2p_address.specs.declared.peer.Address.TheVariants.{Symmetric, Asymmetric}
 use Rattle.p2p_facts.specs.declared.call.Call.{Call}
 use Rattle.p2p_facts.specs.declared.call.Call.TheVariants as call
 use Rattle.p2p_facts.specs.Rules.{Rules}

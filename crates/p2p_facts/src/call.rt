@@ -1,6 +1,7 @@
 //! `Call`, one call of a directory.
 
-use p2p_base::{Address, List};
+use p2p_address::Address;
+use p2p_base::List;
 
 /// A call of a directory of peers, with what was answered where that isn't told by the calls before it.
 ///

@@ -1,7 +1,8 @@
 //! `AddressableTrackedPeers`, the addresses of a peer set in its two roles.
 ghost use Rattle.std.specs.Prelude.{◌≡◌, [], IfOk};
 
-use p2p_base::{Address, Map, PublicKey};
+use p2p_address::Address;
+use p2p_base::{Map, PublicKey};
 use std::alloc::{AllocError, Global};
 
 /// The peers of a set with their addresses: the primary ones, and the secondary ones.

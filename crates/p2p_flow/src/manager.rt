@@ -1,13 +1,14 @@
 //! `Manager` and `AddressableManager`, which say who is in the peer sets.
 ghost use Rattle.std.specs.Prelude.{◌≡◌, ◌<◌, ◌≤◌, ℕ, List, IfOk, IfSome, IsTrue, OnOk, OnErr, is_some};
 ghost use Rattle.std.specs.Map.{keys_of};
-ghost use Rattle.p2p_base.specs.declared.address.peer.Address.{Address as Where};
+ghost use Rattle.p2p_address.specs.declared.peer.Address.{Address as Where};
 ghost use Rattle.p2p_flow.specs.SetSize.{set_size, IfTooLarge};
 ghost use Rattle.p2p_flow.specs.declared.addressable.AddressableTrackedPeers.{AddressableTrackedPeers as Addressed};
 ghost use Rattle.p2p_flow.specs.declared.tracked.TrackedPeers.{TrackedPeers as Tracked};
 
 use crate::{AddressableTrackedPeers, Provider, TrackError, TrackedPeers};
-use p2p_base::{Address, Feedback, Map};
+use p2p_address::Address;
+use p2p_base::{Feedback, Map};
 use std::alloc::{AllocError, Global};
 
 /// Says which keys are in the peer sets, where addresses aren't told.

@@ -1,6 +1,7 @@
 //! `Message`, what the tracker is told and asked.
 use crate::Metadata;
-use p2p_base::{Address, IpAddr, Keep, Map, Policy, PublicKey, UnreliablePolicy};
+use p2p_address::{Address, IpAddr};
+use p2p_base::{Keep, Map, Policy, PublicKey, UnreliablePolicy};
 use p2p_flow::AddressableTrackedPeers;
 
 /// What the tracker is told and asked. A full mailbox keeps it in its overflow.

@@ -1,7 +1,8 @@
 //! How `Oracle` says who is in the peer sets.
 use crate::set_size::set_size;
 use crate::{Mailbox, Message, Oracle};
-use p2p_base::{Address, Feedback, Map, PublicKey};
+use p2p_address::Address;
+use p2p_base::{Feedback, Map, PublicKey};
 use p2p_flow::{AddressableManager, AddressableTrackedPeers, TrackError};
 use std::alloc::{AllocError, Global};
 

@@ -1,7 +1,7 @@
 //! What is written of an input, and what is left of its run.
 ghost use Rattle.std.specs.Prelude.{◌≡◌, ℕ, ◌≤◌, List, ◌++◌, ◌⊎◌};
 ghost use Rattle.std.specs.Option.{option_map};
-ghost use Rattle.p2p_base.specs.Streams.{Rose};
+ghost use Rattle.p2p_runtime.specs.Streams.{Rose};
 ghost use Rattle.p2p_sim.specs.Input.{Adds};
 ghost use Rattle.p2p_sim.specs.Faults.{status_of, line_of};
 ghost use Rattle.p2p_sim.specs.Judged.{judged, status_due};
@@ -12,7 +12,7 @@ use crate::fault::Fault;
 use crate::judging::{Stop, judge};
 use crate::program::Program;
 use crate::status::Status;
-use p2p_base::{Sink, write_all};
+use p2p_runtime::{Sink, write_all};
 use std::alloc::Global;
 
 /// Runs an input, writes its report and leaves its world in `end`. Of an input that isn't run it writes one line.

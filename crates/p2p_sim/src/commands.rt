@@ -1,6 +1,6 @@
 //! The commands, over any program.
 ghost use Rattle.std.specs.Prelude.{◌≡◌, ℕ, ◌+◌, ◌≤◌, ◌↔◌, ◌⊎◌, List, [], length, Some, IfSome};
-ghost use Rattle.p2p_base.specs.Streams.{Rose};
+ghost use Rattle.p2p_runtime.specs.Streams.{Rose};
 ghost use Rattle.p2p_sim.specs.Input.{Takes, IsAllOf};
 ghost use Rattle.p2p_sim.specs.Judged.{judged, status_due};
 ghost use Rattle.p2p_sim.specs.Outcomes.{IsRefusal, IsSilent, HasRun, HasRefused, HasStopped};
@@ -12,7 +12,7 @@ use crate::program::Program;
 use crate::reading::{LIMIT, ReadEnd, read_all};
 use crate::status::Status;
 use crate::words::is_run;
-use p2p_base::{Sink, Source};
+use p2p_runtime::{Sink, Source};
 use std::alloc::Global;
 
 /// Does the command that the words name. `run` reads the source to its end, runs what it read, writes the report and

@@ -19,7 +19,7 @@ mod words;
 use crate::status::Status;
 use crate::top::sim;
 use crate::words::words_of;
-use p2p_base::{StdSink, StdSource};
+use p2p_runtime::{StdSink, StdSource};
 use std::process::ExitCode;
 
 fn main(rt: HostRuntime) -> ExitCode {

@@ -1,10 +1,10 @@
 //! The source, read to its end.
 ghost use Rattle.std.specs.Prelude.{◌≡◌, ℕ, ◌+◌, ◌<◌, ◌≤◌, ◌↔◌, List, [], length, vec_len, Err, IfOk, OnOk, OnErr, IfSome};
-ghost use Rattle.p2p_base.specs.Streams.{Rose};
+ghost use Rattle.p2p_runtime.specs.Streams.{Rose};
 ghost use Rattle.p2p_sim.specs.Input.{Takes, IsAllOf};
 ghost use Rattle.p2p_sim.specs.declared.reading.ReadEnd.TheVariants as read_end;
 
-use p2p_base::{Failed, Source};
+use p2p_runtime::{Failed, Source};
 use std::alloc::{AllocError, Global};
 use thiserror::Error;
 

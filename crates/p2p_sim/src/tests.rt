@@ -6,8 +6,9 @@ use crate::program::Refusal;
 use crate::reading::LIMIT;
 use crate::status::Status;
 use crate::top::sim;
-use p2p_base::{
-    Failed, FailingSink, FailingSource, List, MemorySink, MemorySource, Sink, Source, StdSink,
+use p2p_base::List;
+use p2p_runtime::{
+    Failed, FailingSink, FailingSource, MemorySink, MemorySource, Sink, Source, StdSink,
 };
 use std::alloc::{AllocError, Global};
 use std::test::Fail;

@@ -2,7 +2,7 @@
 ghost use Rattle.std.specs.Prelude.{◌≡◌, ℕ, ◌+◌, ◌≤◌, ◌↔◌, ◌⊎◌, List, [], ◌++◌, length, Some, None, IfSome};
 ghost use Rattle.std.specs.Option.{option_map};
 ghost use Rattle.serde_json.specs.Data.{Data};
-ghost use Rattle.p2p_base.specs.Streams.{Rose};
+ghost use Rattle.p2p_runtime.specs.Streams.{Rose};
 ghost use Rattle.p2p_sim.specs.Input.{Takes, json_of};
 ghost use Rattle.p2p_sim.specs.Judged.{judged, status_due};
 ghost use Rattle.p2p_sim.specs.Outcomes.{IsRefusal, IsSilent, HasRefused, HasStopped};
@@ -16,8 +16,8 @@ use crate::commands::sim_with;
 use crate::network::Network;
 use crate::reading::LIMIT;
 use crate::status::Status;
-use p2p_base::{Sink, Source};
 use p2p_net::World;
+use p2p_runtime::{Sink, Source};
 use std::alloc::Global;
 
 /// Does the command that the words name. `run` reads the source to its end, runs what it read, writes the report and

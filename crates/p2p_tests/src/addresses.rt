@@ -1,5 +1,6 @@
 //! Tables of addresses: each range's first and last one and the neighbours of both, subnets, and what may be dialed.
-use p2p_base::{Address, Ingress, IpAddr, SocketAddr, Text, is_global, resolve_filtered, subnet};
+use p2p_address::{Address, Ingress, IpAddr, SocketAddr, is_global, resolve_filtered, subnet};
+use p2p_base::Text;
 use std::alloc::{AllocError, Global};
 use std::test::Fail;
 

@@ -1,5 +1,5 @@
 //! The first draws of two seeds, worked out by hand from the generator's definition.
-use p2p_base::Draws;
+use p2p_runtime::Draws;
 
 // The first two words of a seed as one number, the next draws up to 9, and a shuffle of six items.
 fn drawn(seed: u64) -> (u64, [u64; 4], [u8; 6]) {

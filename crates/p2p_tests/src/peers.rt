@@ -1,6 +1,7 @@
 //! Peer sets in their two roles, with and without addresses, and why they are refused.
 use crate::order::set_of;
-use p2p_base::{Address, IpAddr, Key, Map, PublicKey, SetError, SocketAddr};
+use p2p_address::{Address, IpAddr, SocketAddr};
+use p2p_base::{Key, Map, PublicKey, SetError};
 use p2p_flow::{
     AddressableTrackedPeers, BlockedSubscription, Ended, PeerSetSubscription, PeerSetUpdate,
     TrackError, TrackedPeers,

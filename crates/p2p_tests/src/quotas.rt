@@ -1,5 +1,5 @@
 //! Quotas, and the limiters by rate, by key and by places.
-use p2p_base::{KeyedRateLimiter, Limiter, Quota, RateLimiter};
+use p2p_runtime::{KeyedRateLimiter, Limiter, Quota, RateLimiter};
 use std::test::Fail;
 
 #[test]

@@ -1,8 +1,9 @@
 //! Sources, sinks and links at concrete types.
 use bytes::Bytes;
-use p2p_base::{
-    Failed, FailingSink, FailingSource, Link, List, MemoryLink, MemorySink, MemorySource, Sink,
-    Source, StdSink, StdSource, write_all,
+use p2p_base::List;
+use p2p_runtime::{
+    Failed, FailingSink, FailingSource, Link, MemoryLink, MemorySink, MemorySource, Sink, Source,
+    StdSink, StdSource, write_all,
 };
 use std::alloc::Global;
 use std::test::Fail;

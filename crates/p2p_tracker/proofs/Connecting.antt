@@ -3,7 +3,7 @@ use Rattle.std.proofs.Common.{◌≡◌, ℕ, true, false, ◌&&◌, not, List, 
 use Rattle.std.proofs.lemmas.Bool.Decides.{nat_tests}
 use Rattle.std.specs.Prelude.{nat_lt}
 use Rattle.std.specs.declared.cmp.Ordering.{Ordering}
-use Rattle.p2p_base.specs.declared.address.peer.Address.{Address}
+use Rattle.p2p_address.specs.declared.peer.Address.{Address}
 use Rattle.p2p_facts.specs.declared.call.Call.{Call}
 use Rattle.p2p_facts.specs.declared.call.Call.TheVariants as call
 use Rattle.p2p_facts.specs.Rules.{Rules}

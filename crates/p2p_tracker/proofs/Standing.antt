@@ -7,7 +7,7 @@ use Rattle.std.specs.BTreeMap.{is_at}
 use Rattle.std.specs.declared.cmp.Ordering.{Ordering}
 use Rattle.p2p_facts.specs.declared.call.Call.{Call}
 use Rattle.p2p_facts.specs.declared.call.Call.TheVariants as call
-use Rattle.p2p_base.specs.declared.address.ip.IpAddr.{IpAddr}
+use Rattle.p2p_address.specs.declared.ip.IpAddr.{IpAddr}
 use Rattle.p2p_facts.specs.Rules.{Rules}
 use Rattle.p2p_facts.specs.Allows.{allows_dial, allows_listen}
 use Rattle.p2p_facts.specs.Sets.{accepted_sets, kept_sets, is_tracked, primary_sets, secondary_sets}

@@ -2,7 +2,8 @@
 ghost use Rattle.std.specs.Prelude.{◌≡◌, IfOk};
 ghost use Rattle.p2p_oracle.specs.Desk.{new_desk};
 
-use p2p_base::{Address, IpAddr, Key, Map, PublicKey, SetError, SocketAddr};
+use p2p_address::{Address, IpAddr, SocketAddr};
+use p2p_base::{Key, Map, PublicKey, SetError};
 use p2p_flow::{AddressableManager, AddressableTrackedPeers, Blocker, Provider};
 use p2p_tracker::{Actor, Config, Mailbox, Oracle, Put, Stepped};
 use std::alloc::{AllocError, Global};

@@ -8,7 +8,7 @@ ghost use Rattle.p2p_directory.specs.declared.record.ReserveResult.TheVariants a
 use crate::Record;
 use crate::directory::Config;
 use crate::directory::grants::{reserve_dial, reserve_listen};
-use p2p_base::{Address, IpAddr};
+use p2p_address::{Address, IpAddr};
 use std::collections::BTreeMap;
 
 // Reserves a peer that isn't blocked, where it may be dialed. True exactly where it did.

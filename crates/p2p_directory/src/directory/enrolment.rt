@@ -9,7 +9,8 @@ ghost use Rattle.p2p_directory.specs.Tracked.{blanked, swept, enters, leaves, re
 use crate::Record;
 use crate::directory::entries::{enter, forget, leave, make_blank};
 use crate::directory::sets::TrackedSet;
-use p2p_base::{Address, PublicKey};
+use p2p_address::Address;
+use p2p_base::PublicKey;
 use std::alloc::AllocError;
 use std::collections::BTreeMap;
 

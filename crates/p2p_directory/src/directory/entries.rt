@@ -6,7 +6,8 @@ ghost use Rattle.p2p_directory.specs.Recorded.{updated, written};
 ghost use Rattle.p2p_directory.specs.Tracked.{blanked, is_unneeded_in, needed, joined, parted, leaves};
 
 use crate::Record;
-use p2p_base::{Address, IpAddr, PublicKey, SocketAddr};
+use p2p_address::{Address, IpAddr, SocketAddr};
+use p2p_base::PublicKey;
 use std::alloc::AllocError;
 use std::collections::BTreeMap;
 

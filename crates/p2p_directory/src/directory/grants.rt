@@ -5,7 +5,7 @@ ghost use Rattle.p2p_directory.specs.declared.record.ReserveResult.TheVariants a
 
 use crate::directory::Config;
 use crate::{Record, ReserveResult};
-use p2p_base::IpAddr;
+use p2p_address::IpAddr;
 
 // Reserves the peer where it may be dialed. True exactly where it did.
 pub(super) fn reserve_dial(known: &mut Record, cfg: &Config, now: u64, jitter: u64) -> bool

@@ -10,7 +10,8 @@ ghost use Rattle.p2p_directory.specs.Tracked.{is_left, gets_other, is_ended_by, 
 
 use crate::Record;
 use crate::directory::sets::{TrackedSet, has};
-use p2p_base::{Address, Map, PublicKey, Set};
+use p2p_address::Address;
+use p2p_base::{Map, PublicKey, Set};
 use std::alloc::{AllocError, Global};
 use std::collections::BTreeMap;
 

@@ -7,7 +7,8 @@ ghost use Rattle.p2p_facts.specs.Blocks.{lasts_at};
 ghost use Rattle.p2p_directory.specs.Listed.{heard};
 
 use crate::Record;
-use p2p_base::{IpAddr, PrioritySet, PublicKey, is_global};
+use p2p_address::{IpAddr, is_global};
+use p2p_base::{PrioritySet, PublicKey};
 use std::alloc::{AllocError, Global};
 use std::collections::BTreeMap;
 

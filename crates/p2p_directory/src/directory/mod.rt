@@ -8,7 +8,7 @@ ghost use Rattle.p2p_facts.specs.Lives.{address_of, is_eligible, is_stale, is_ov
 ghost use Rattle.p2p_facts.specs.Kills.{is_killed};
 ghost use Rattle.p2p_facts.specs.Lists.{is_dialable, next_query, is_listenable};
 ghost use Rattle.p2p_directory.specs.Listed.{is_heard, comes_by, peers_of, newest_of};
-ghost use Rattle.p2p_base.specs.declared.address.ip.IpAddr.{IpAddr};
+ghost use Rattle.p2p_address.specs.declared.ip.IpAddr.{IpAddr};
 ghost use Rattle.std.specs.List.Sorted.{IsStrictlySortedBy};
 ghost use Rattle.p2p_facts.specs.Sets.{is_above, is_among, accepted_sets, kept_sets, latest_index, set_at, is_tracked, is_primary};
 ghost use Rattle.p2p_directory.specs.Tracked.{is_above_latest};
@@ -18,7 +18,7 @@ ghost use Rattle.p2p_directory.specs.Recorded.{is_eligible_in, is_acceptable_in,
 ghost use Rattle.p2p_directory.specs.Stands.{StandsFor};
 ghost use Rattle.p2p_oracle.specs.Reserved.{peer_of};
 ghost use Rattle.p2p_oracle.specs.declared.metadata.Metadata.TheVariants as side;
-ghost use Rattle.p2p_base.specs.Addresses.{ingress_of};
+ghost use Rattle.p2p_address.specs.Addresses.{ingress_of};
 ghost use Rattle.std.specs.Option.{option_map};
 
 mod blocks;
@@ -46,7 +46,8 @@ use kills::killed;
 use listens::addresses;
 use lists::{blocked, primary_peers, secondary_peers};
 use newcomers::prepare;
-use p2p_base::{Address, Ingress, IpAddr, PrioritySet, PublicKey, Set};
+use p2p_address::{Address, Ingress, IpAddr};
+use p2p_base::{PrioritySet, PublicKey, Set};
 use p2p_flow::{AddressableTrackedPeers, PeerSetUpdate, TrackedPeers};
 use sets::{TrackedSet, falling, find_set, newest, peers_of, take_oldest};
 use std::alloc::{AllocError, Global};

@@ -7,7 +7,8 @@ ghost use Rattle.std.specs.BTreeMap.{is_at};
 ghost use Rattle.p2p_facts.specs.Sets.{only_secondary, set_of};
 
 use crate::directory::sets::TrackedSet;
-use p2p_base::{Address, Map, PublicKey, Set};
+use p2p_address::Address;
+use p2p_base::{Map, PublicKey, Set};
 use std::alloc::{AllocError, Global};
 
 // The peers of a map with their addresses.

@@ -18,8 +18,10 @@ ghost use Rattle.p2p_tracker.specs.Serving.{IsEligible};
 use super::Actor;
 use super::kills::{forget, keep};
 use crate::{Metadata, Put};
-use p2p_base::{Draws, IpAddr, List, PublicKey};
+use p2p_address::IpAddr;
+use p2p_base::{List, PublicKey};
 use p2p_directory::Directory;
+use p2p_runtime::Draws;
 use std::alloc::AllocError;
 
 impl<C: PublicKey> Actor<C> {

@@ -12,7 +12,8 @@ ghost use Rattle.std.specs.Prelude.{◌≡◌, ◌++◌, cond, is_some, List, []
 use super::Actor;
 use super::telling::tell;
 use crate::{Mailbox, Put};
-use p2p_base::{IpAddr, List, PublicKey};
+use p2p_address::IpAddr;
+use p2p_base::{List, PublicKey};
 use std::alloc::AllocError;
 
 impl<C: PublicKey> Actor<C> {

@@ -3,8 +3,8 @@ use Rattle.p2p_tracker.specs.Putting.{IsDialAnswer}
 use Rattle.p2p_facts.specs.Lives.{address_of}
 use Rattle.p2p_facts.specs.declared.call.Call.{Call}
 use Rattle.p2p_oracle.specs.declared.metadata.Metadata.{Metadata}
-use Rattle.p2p_base.specs.declared.address.peer.Ingress.{Ingress}
-use Rattle.p2p_base.specs.Addresses.{ingress_of}
+use Rattle.p2p_address.specs.declared.peer.Ingress.{Ingress}
+use Rattle.p2p_address.specs.Addresses.{ingress_of}
 use Rattle.std.specs.Option.{option_map}
 use Rattle.p2p_directory.specs.Stands.{StandsFor}
 use Rattle.std.proofs.Common.{◌≡◌, sym, ap, subst, Some, List}

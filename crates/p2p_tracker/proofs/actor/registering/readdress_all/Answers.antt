@@ -1,7 +1,7 @@
 use Rattle.std.proofs.Common.{◌≡◌, ◌+◌, ◌<◌, ◌≤◌, ◌||◌, ◌++◌, List, length, get_or, take, drop, refl, sym, ap, ◌∙◌, subst, arith, append-nil}
 use Rattle.std.proofs.lemmas.List.{take_all, at_drop_all}
 use Rattle.std.specs.Map.{keys_of, values_of}
-use Rattle.p2p_base.specs.declared.address.peer.Address.{Address}
+use Rattle.p2p_address.specs.declared.peer.Address.{Address}
 use Rattle.p2p_facts.specs.declared.call.Call.{Call}
 use Rattle.p2p_directory.specs.Stands.{StandsFor}
 use Rattle.p2p_tracker.specs.Following.{Follows}

@@ -1,6 +1,0 @@
-use Rattle.p2p_base.specs.Draws.{seeded}
-use Rattle.p2p_base.proofs.draws.Draws.new.Goals as goal
-
-pub returns : goal.returns
-unfolding seeded
-returns c = c.seed_from_u64.ensures

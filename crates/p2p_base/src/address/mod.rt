@@ -1,8 +1,0 @@
-//! Addresses: what names a place to dial or one that dials, and which of them are global.
-
-pub mod ip;
-pub mod peer;
-pub mod ranges;
-
-pub use ip::{IpAddr, SocketAddr, is_global, resolve_filtered, subnet};
-pub use peer::{Address, Ingress};

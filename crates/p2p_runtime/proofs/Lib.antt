@@ -1,0 +1,6 @@
+mod DrawsTable
+pub mod QuotaChecks
+pub mod QuotaEach
+pub mod QuotaWindow
+pub mod Shuffling
+pub mod StreamLaws

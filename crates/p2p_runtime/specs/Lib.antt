@@ -1,0 +1,9 @@
+pub mod Draws
+pub mod Ends
+pub mod MemoryBytes
+pub mod QuotaKept
+pub mod QuotaKeys
+pub mod QuotaLaw
+pub mod QuotaPlaces
+pub mod QuotaStep
+pub mod Streams
