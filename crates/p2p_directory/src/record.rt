@@ -18,7 +18,7 @@ pub enum Address {
     /// This node itself.
     Myself,
     /// Another peer, at this address.
-    Known(p2p_base::Address),
+    Known(p2p_address::Address),
 }
 
 impl Address {
@@ -93,7 +93,7 @@ impl Model for Record {
 }
 
 // Whether `known` is another address than `given`.
-fn differs(known: &p2p_base::Address, given: &p2p_base::Address) -> bool
+fn differs(known: &p2p_address::Address, given: &p2p_address::Address) -> bool
     ensures { result ≡ not (same_address known.now given.now) }
 {
     known != given
@@ -101,7 +101,7 @@ fn differs(known: &p2p_base::Address, given: &p2p_base::Address) -> bool
 
 impl Record {
     /// The record of another peer at this address, in no set and never granted.
-    pub fn known(address: p2p_base::Address) -> Record
+    pub fn known(address: p2p_address::Address) -> Record
         ensures { result ≡ fresh (place.Known address) }
     {
         Record::at(Address::Known(address))
@@ -130,7 +130,7 @@ impl Record {
 
     /// Gives the peer another address. True exactly where it is another peer's and changed. A change while the peer is held
     /// leaves a mark.
-    pub fn update(&mut self, address: p2p_base::Address) -> bool
+    pub fn update(&mut self, address: p2p_address::Address) -> bool
         ensures changed { result ≡ differs self.old.address address }
         ensures after { self.new ≡ updated self.old address }
     {
@@ -273,7 +273,7 @@ impl Record {
     }
 
     // Whether another address than the known one is given.
-    pub(crate) fn gets_other(&self, given: Option<&p2p_base::Address>) -> bool
+    pub(crate) fn gets_other(&self, given: Option<&p2p_address::Address>) -> bool
         ensures { result ≡ gets_other self.now.address (option_copied given.entry) }
     {
         match (&self.address, given) {
@@ -333,7 +333,7 @@ impl Record {
         match &self.address {
             Address::Myself => false,
             Address::Known(p2p_address::Address::Symmetric(socket)) => {
-                private || p2p_base::is_global(&socket.ip)
+                private || p2p_address::is_global(&socket.ip)
             }
             Address::Known(p2p_address::Address::Asymmetric { ingress, .. }) => {
                 ingress.is_valid(private, dns)

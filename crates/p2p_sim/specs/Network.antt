@@ -15,8 +15,8 @@ use Rattle.p2p_script.specs.Form.{script_of}
 use Rattle.p2p_script.specs.FirstForm.{is_first_form}
 use Rattle.p2p_report.specs.ReportText.{report_text}
 use Rattle.p2p_net.specs.World.{WorldView}
-use Rattle.p2p_sim.specs.declared.program.Refusal.{Refusal}
-use Rattle.p2p_sim.specs.declared.program.Refusal.TheVariants as refusal
+use Rattle.p2p_command.specs.declared.program.Refusal.{Refusal}
+use Rattle.p2p_command.specs.declared.program.Refusal.TheVariants as refusal
 
 -- all configurations are valid, and all events
 abbrev pub is_valid : List Config → List Event → Bool

@@ -1,22 +1,14 @@
 //! The program `p2p_sim`: reads a script from standard input, runs it and writes the report to standard output.
 #![tactic(auto)]
 
-mod answering;
-mod commands;
-mod fault;
-mod judging;
 mod network;
-mod program;
-mod reading;
 #[cfg(test)]
 mod script_tests;
-mod status;
 #[cfg(test)]
 mod tests;
 mod top;
 mod words;
 
-use crate::status::Status;
 use crate::top::sim;
 use crate::words::words_of;
 use p2p_runtime::{StdSink, StdSource};

@@ -9,10 +9,10 @@ ghost use Rattle.p2p_log.specs.Lawful.{IsLawful};
 ghost use Rattle.p2p_script.specs.Form.{script_of};
 ghost use Rattle.p2p_script.specs.FirstForm.{is_first_form as is_form};
 ghost use Rattle.p2p_sim.specs.Network.{is_valid, refusal_of as refusal_of_tree, HasRunScript, IsAccounted};
-ghost use Rattle.p2p_sim.specs.declared.program.RunError.TheVariants as run_error;
+ghost use Rattle.p2p_command.specs.declared.program.RunError.TheVariants as run_error;
 
-use crate::program::{Program, Refusal, RunError};
 use p2p_base::List;
+use p2p_command::{Program, Refusal, RunError};
 use p2p_ledger::{
     delivered_in_order, each_drop_shows_its_cause, fates_are_true, one_end, only_sent_is_delivered,
 };

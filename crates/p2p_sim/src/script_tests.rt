@@ -1,6 +1,6 @@
 //! Worked scripts, each with its whole report.
-use crate::status::Status;
 use crate::tests::outcome;
+use p2p_command::Status;
 use std::test::Fail;
 
 // An input, the status, and what is written.

@@ -1,12 +1,9 @@
 //! The top call over sources and sinks in memory.
 ghost use Rattle.std.specs.Prelude.{◌<◌};
 
-use crate::fault::Fault;
-use crate::program::Refusal;
-use crate::reading::LIMIT;
-use crate::status::Status;
 use crate::top::sim;
 use p2p_base::List;
+use p2p_command::{Fault, LIMIT, Refusal, Status};
 use p2p_runtime::{
     Failed, FailingSink, FailingSource, MemorySink, MemorySource, Sink, Source, StdSink,
 };

@@ -1,24 +1,13 @@
 //! The words of the command line.
-ghost use Rattle.std.specs.Prelude.{◌≡◌, ◌↔◌, ◌⊎◌, drop, IfOk, IfErr, IsTrue};
+ghost use Rattle.std.specs.Prelude.{◌≡◌, ◌↔◌, ◌⊎◌, drop, IfOk, IfErr};
 ghost use Rattle.std.specs.declared.io.ErrorKind.TheVariants.{OutOfMemory};
-ghost use Rattle.p2p_sim.specs.Words.{IsRunCommand};
-ghost use Rattle.p2p_sim.specs.declared.status.Status.TheVariants as status;
+ghost use Rattle.p2p_command.specs.declared.status.Status.TheVariants as status;
 
-use crate::status::Status;
+use p2p_command::Status;
 use std::alloc::{AllocError, Global};
 use std::env;
 use std::io::ErrorKind;
 use std::rt::Env;
-
-/// Whether the words are the command `run`, which is that one word.
-pub fn is_run(words: &[String]) -> bool
-    ensures { IsTrue result ↔ IsRunCommand words.now }
-{
-    match words {
-        [word] => word.as_str() == "run",
-        _ => false,
-    }
-}
 
 /// The words without the first, which is the name of the program.
 fn without_name(alloc: Global, words: Vec<String>) -> Result<Vec<String>, AllocError>

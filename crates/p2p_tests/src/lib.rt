@@ -1,8 +1,8 @@
 //! The tests of the lowest crates, through their public names alone. They stand apart so that the gate proves each of
 //! those crates once.
 //!
-//! Of `p2p_base` are `addresses`, `data`, `draws`, `order`, `queues`, `quotas` and `streams`; of `p2p_wire` is `frames`;
-//! and of `p2p_flow` are `blocking`, `peers` and `relays`.
+//! Of `p2p_base` are `data`, `order` and `queues`; of `p2p_address` is `addresses`; of `p2p_runtime` are `draws`, `quotas`
+//! and `streams`; of `p2p_wire` is `frames`; and of `p2p_flow` are `blocking`, `peers` and `relays`.
 #![tactic(auto)]
 
 #[cfg(test)]

@@ -9,6 +9,3 @@ mod steps;
 
 pub use served::Served;
 pub use shared::{Out, Pass, Shared};
-
-#[cfg(test)]
-mod tests;

@@ -1,0 +1,6 @@
+pub mod Codes
+pub mod Faults
+pub mod Input
+pub mod Judged
+pub mod Outcomes
+pub mod Words

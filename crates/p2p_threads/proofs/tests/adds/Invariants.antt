@@ -1,5 +1,0 @@
-use Rattle.p2p_threads.specs.Account.{IsAlike}
-use Rattle.p2p_threads.proofs.tests.adds.Given as goal
-
-abbrev pub invariant-loop-i : goal.invariant-loop-i
-invariant-loop-i g l = IsAlike l.initial.pass l.pass
