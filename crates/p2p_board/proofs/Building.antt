@@ -26,6 +26,7 @@ use Rattle.p2p_log.proofs.Names.{AreApart-filter, AreApart-live_from, filter_sta
 use Rattle.p2p_board.specs.declared.board.Board.{Board}
 use Rattle.p2p_board.specs.Board.{held}
 use Rattle.p2p_board.specs.Stands.{is_boards, Holds, Builds, row_goes}
+use Rattle.p2p_board.proofs.Queues.{is_boards-apart}
 
 pub placed-append :
     (n p : ℕ) (xs : List (Queue × Item)) (x : Queue × Item)
@@ -37,21 +38,25 @@ placed-append n p (y ∷ ys) x =
 
 -- one more item, last
 pub Holds-push :
-    (old new : Board Envelope) (items : List Envelope) (x : Envelope) → Holds old items
+    (old new : Board Envelope) (items : List Envelope) (x : Envelope) → is_boards x.queue ≡ true → Holds old items
     → ((q : Queue) → held new q ≡ held old q ++ cond (same_queue x.queue q) (x ∷ []) []) → Holds new (items ++ x ∷ [])
-Holds-push old new items x h step = record {
+Holds-push old new items x on h step = record {
   each = λ q own.
       step q
       ∙ (ap (λ l. l ++ cond (same_queue x.queue q) (x ∷ []) []) (h.each q own)
       ∙ (ap (λ b. filter (stands_in q) items ++ cond b (x ∷ []) []) (same_queue-sym x.queue q)
       ∙ sym (filter-append (stands_in q) items (x ∷ []))));
+  others = λ q off.
+      step q
+      ∙ (ap (λ b. held old q ++ cond b (x ∷ []) []) (is_boards-apart x.queue q on off)
+      ∙ (append-nil (held old q) ∙ h.others q off));
 }
 
 builds_put :
-    (old new : Board Envelope) (log : List Entry) (r : Row) (n : ℕ) (q : Queue) (i : Item) → length log ≡ n → Builds old log r
+    (old new : Board Envelope) (log : List Entry) (r : Row) (n : ℕ) (q : Queue) (i : Item) → is_boards q ≡ true → length log ≡ n → Builds old log r
     → ((p : Queue) → held new p ≡ held old p ++ cond (same_queue q p) (record { entry = n; place = length r.puts; queue = q; item = i } ∷ []) [])
     → Builds new log (record r { puts = r.puts ++ (q, i) ∷ [] })
-builds_put old new log r n q i at h step =
+builds_put old new log r n q i on at h step =
     let x : Envelope = record { entry = n; place = length r.puts; queue = q; item = i } in
     let kept = filter (stays (row_goes r)) (live log) in
     let whole : (kept ++ placed (length log) 0 r.puts) ++ x ∷ [] ≡ kept ++ placed (length log) 0 (r.puts ++ (q, i) ∷ []) =
@@ -61,17 +66,17 @@ builds_put old new log r n q i at h step =
     ∙ (ap (λ k. placed (length log) 0 r.puts ++ record { entry = k; place = 0 + length r.puts; queue = q; item = i } ∷ []) at
     ∙ ap (λ k. placed (length log) 0 r.puts ++ record { entry = n; place = k; queue = q; item = i } ∷ []) (omega arith))))
     in
-    subst (Holds new) whole (Holds-push old new (kept ++ placed (length log) 0 r.puts) x h step)
+    subst (Holds new) whole (Holds-push old new (kept ++ placed (length log) 0 r.puts) x on h step)
 
 -- one put: an envelope with this place and an equal item enters its queue
 pub Builds-put :
     (old new : Board Envelope) (log : List Entry) (r : Row) (puts : List (Queue × Item)) (n p : ℕ) (q : Queue) (i j : Item)
-    → length log ≡ n → p ≡ length r.puts → j ≡ i → puts ≡ r.puts ++ (q, i) ∷ [] → Builds old log r
+    → is_boards q ≡ true → length log ≡ n → p ≡ length r.puts → j ≡ i → puts ≡ r.puts ++ (q, i) ∷ [] → Builds old log r
     → ((k : Queue) → held new k ≡ held old k ++ cond (same_queue q k) (record { entry = n; place = p; queue = q; item = j } ∷ []) [])
     → Builds new log (record r { puts = puts })
-Builds-put old new log r puts n p q i j at here same all h step =
+Builds-put old new log r puts n p q i j on at here same all h step =
     subst (λ l. Builds new log (record r { puts = l })) (sym all)
-    (builds_put old new log r n q i at h
+    (builds_put old new log r n q i on at h
     (λ k. step k
     ∙ (ap (λ m. held old k ++ cond (same_queue q k) (record { entry = n; place = m; queue = q; item = j } ∷ []) []) here
     ∙ ap (λ m. held old k ++ cond (same_queue q k) (record { entry = n; place = length r.puts; queue = q; item = m } ∷ []) []) same)))
@@ -92,6 +97,7 @@ Holds-pop old new items q x rest on apart h first step = record {
         | false ↦ λ k. h.each p own
       ]) refl
       ∙ sym (filter_stays-first items q p x rest apart (sym (h.each q on) ∙ first)));
+  others = λ p off. step p ∙ (ap (λ b. cond b (drop 1 (held old p)) (held old p)) (is_boards-apart q p on off) ∙ h.others p off);
 }
 
 -- nothing taken of a queue that holds nothing
@@ -110,6 +116,7 @@ Holds-idle old new items q on h none step = record {
         | false ↦ λ k. refl
       ]) refl
       ∙ h.each p own);
+  others = λ p off. step p ∙ (ap (λ b. cond b (drop 1 (held old p)) (held old p)) (is_boards-apart q p on off) ∙ h.others p off);
 }
 
 pub none_first : (xs : List Envelope) → slice_get xs 0 ≡ None → xs ≡ []

@@ -1,4 +1,5 @@
 pub mod Building
 pub mod Kept
 pub mod Posted
+pub mod Queues
 pub mod Steps

@@ -5,8 +5,6 @@ use Rattle.std.specs.List.{AllByRecursion}
 use Rattle.std.proofs.lemmas.List.Elements.{filter-append}
 use Rattle.std.proofs.lemmas.Option.{slice_get-get_or}
 use Rattle.p2p_log.specs.declared.queue.Queue.{Queue}
-use Rattle.p2p_log.specs.declared.queue.Queue.TheVariants as queue
-use Rattle.p2p_log.specs.declared.queue.Side.TheVariants as side
 use Rattle.p2p_log.specs.declared.item.Item.{Item}
 use Rattle.p2p_log.specs.declared.item.Envelope.{Envelope}
 use Rattle.p2p_log.specs.declared.entry.Entry.{Entry}
@@ -19,6 +17,7 @@ use Rattle.p2p_board.specs.declared.board.Board.{Board}
 use Rattle.p2p_board.specs.Board.{held}
 use Rattle.p2p_board.specs.Stands.{is_boards, Holds, Builds, row_goes}
 use Rattle.p2p_board.proofs.Building.{placed-append}
+use Rattle.p2p_board.proofs.Queues.{is_boards-apart}
 
 take_more : {X : Type 0} (i : ℕ) (xs : List X) (x : X) → slice_get xs i ≡ Some x → take (suc i) xs ≡ take i xs ++ x ∷ []
 take_more i [] x h = cc
@@ -54,32 +53,6 @@ held-posted q old now new n i puts x lt is h step =
 
 -- ---- rows of a router
 
--- a queue of the board is none of a router's
-pub is_boards-apart : (q p : Queue) → is_boards q ≡ true → is_boards p ≡ false → same_queue q p ≡ false
-is_boards-apart (queue.Ready n conn) (queue.Router m) h k = refl
-is_boards-apart (queue.Ready n conn) (queue.Peers m c) h k = refl
-is_boards-apart (queue.Ready n conn) (queue.High m d) h k = refl
-is_boards-apart (queue.Ready n conn) (queue.Low m d) h k = refl
-is_boards-apart (queue.Link e side.Out) (queue.Router m) h k = refl
-is_boards-apart (queue.Link e side.Out) (queue.Peers m c) h k = refl
-is_boards-apart (queue.Link e side.Out) (queue.High m d) h k = refl
-is_boards-apart (queue.Link e side.Out) (queue.Low m d) h k = refl
-is_boards-apart (queue.Link e side.In) (queue.Router m) h k = refl
-is_boards-apart (queue.Link e side.In) (queue.Peers m c) h k = refl
-is_boards-apart (queue.Link e side.In) (queue.High m d) h k = refl
-is_boards-apart (queue.Link e side.In) (queue.Low m d) h k = refl
-is_boards-apart (queue.Channel n c) (queue.Router m) h k = refl
-is_boards-apart (queue.Channel n c) (queue.Peers m d) h k = refl
-is_boards-apart (queue.Channel n c) (queue.High m d) h k = refl
-is_boards-apart (queue.Channel n c) (queue.Low m d) h k = refl
-is_boards-apart (queue.Router n) p h k = cc
-is_boards-apart (queue.Peers n c) p h k = cc
-is_boards-apart (queue.High n d) p h k = cc
-is_boards-apart (queue.Low n d) p h k = cc
-is_boards-apart q (queue.Ready m d) h k = cc
-is_boards-apart q (queue.Link m d) h k = cc
-is_boards-apart q (queue.Channel m d) h k = cc
-
 -- none of these puts stands on the board
 abbrev pub AreRouters : List (Queue × Item) → Type 0
 AreRouters puts = AllByRecursion (λ (x : Queue × Item). is_boards x.0 ≡ false) puts
@@ -108,6 +81,7 @@ Builds-routers board log r nt ne away h = record {
       ∙ (ap (λ l. filter (stands_in q) (filter (stays (row_goes r)) (live log)) ++ l) (placed_away q (length log) 0 r.puts on away)
       ∙ (append-nil (filter (stands_in q) (filter (stays (row_goes r)) (live log)))
       ∙ ap (filter (stands_in q)) (ap (λ g. filter (stays g) (live log)) goes ∙ filter_stays-nil (live log)))));
+  others = h.others;
 }
 
 -- a row that takes nothing of the board, whose puts were posted
@@ -115,10 +89,12 @@ pub Builds-posted :
     (old new : Board Envelope) (log : List Entry) (r : Row) (n : ℕ) → length log ≡ n → Holds old (live log)
     → ((q : Queue) → is_boards q ≡ true → filter (stands_in q) (filter (stays (row_goes r)) (live log) ++ placed n 0 r.puts) ≡ filter (stands_in q) (live log) ++ filter (stands_in q) (placed n 0 r.puts))
     → ((q : Queue) → is_boards q ≡ true → held new q ≡ held old q ++ filter (stands_in q) (placed n 0 r.puts))
+    → ((q : Queue) → is_boards q ≡ false → held new q ≡ held old q)
     → Builds new log r
-Builds-posted old new log r n at h adds posted = record {
+Builds-posted old new log r n at h adds posted kept = record {
   each = λ q on.
       posted q on
       ∙ (ap (λ l. l ++ filter (stands_in q) (placed n 0 r.puts)) (h.each q on)
       ∙ (sym (adds q on) ∙ ap (λ k. filter (stands_in q) (filter (stays (row_goes r)) (live log) ++ placed k 0 r.puts)) (sym at)));
+  others = λ q off. kept q off ∙ h.others q off;
 }

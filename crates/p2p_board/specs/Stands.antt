@@ -16,9 +16,10 @@ is_boards (queue.Link conn side) = true
 is_boards (queue.Channel n c) = true
 is_boards _ = false
 
--- of these items the board holds those of its queues, each in its queue, in this order
+-- of these items the board holds those of its queues, each in its queue, in this order, and it holds nothing of a queue that is a router's own
 pub record Holds (board : Board Envelope) (items : List Envelope) : Type 0 where
   pub each : (q : Queue) → is_boards q ≡ true → held board q ≡ filter (stands_in q) items
+  pub others : (q : Queue) → is_boards q ≡ false → held board q ≡ []
 
 -- the names of the items that a row takes or ends
 abbrev pub row_goes : Row → List (ℕ × ℕ)

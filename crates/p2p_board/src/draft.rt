@@ -33,7 +33,7 @@ pub fn put(
     item: Item,
 ) -> Result<(), AllocError>
     ensures row { OnOk result (row.new ≡ record row.old { puts = row.old.puts ++ (queue, item) ∷ [] }) }
-    ensures builds { OnOk result ((log : _) → length log ≡ entry → Builds board.old log row.old → Builds board.new log row.new) }
+    ensures builds { OnOk result ((log : _) → is_boards queue ≡ true → length log ≡ entry → Builds board.old log row.old → Builds board.new log row.new) }
     ensures others { OnOk result ((q : _) → same_queue queue q ≡ false → held board.new q ≡ held board.old q) }
 {
     let place = row.puts.len() as u64;

@@ -74,4 +74,5 @@ Builds-batch board log r taken batch b e h =
           ∙ sym
           (ap (filter (stands_in q)) (append-nil (filter (stays (map name_of batch ++ flat_map ended_item [])) (live log)) ∙ ap (λ g. filter (stays g) (live log)) (append-nil (map name_of batch)))
           ∙ b.aside q on);
+      others = h.others;
     })

@@ -1,10 +1,10 @@
 //! The sending half of a connection.
-ghost use Rattle.std.specs.Prelude.{◌≡◌, ℕ, ◌++◌, ◌∷◌, [], length, map, IfOk, OnOk};
+ghost use Rattle.std.specs.Prelude.{◌≡◌, ℕ, ◌++◌, ◌∷◌, [], true, length, map, IfOk, OnOk};
 ghost use Rattle.p2p_log.specs.Lines.{live};
 ghost use Rattle.p2p_log.specs.Facts.{is_answer as answer_test};
 ghost use Rattle.p2p_log.specs.Effect.{begin_row, write_row};
 ghost use Rattle.p2p_board.specs.Board.{held};
-ghost use Rattle.p2p_board.specs.Stands.{Holds, Builds};
+ghost use Rattle.p2p_board.specs.Stands.{is_boards, Holds, Builds};
 ghost use Rattle.p2p_routers.specs.Batches.{named};
 ghost use Rattle.p2p_halves.specs.Answered.{is_answered};
 ghost use Rattle.p2p_halves.specs.Batches.{IsBatch};
@@ -68,7 +68,7 @@ fn put_items(
     taken: List<((u64, u64), Item)>,
 ) -> Result<(), AllocError>
     ensures row { OnOk result (row.new ≡ record row.old { puts = row.old.puts ++ map (λ t. (queue, t.1)) taken }) }
-    ensures builds { OnOk result ((log : _) → length log ≡ entry → Builds board.old log row.old → Builds board.new log row.new) }
+    ensures builds { OnOk result ((log : _) → is_boards queue ≡ true → length log ≡ entry → Builds board.old log row.old → Builds board.new log row.new) }
 {
     for (_, item) in taken.into_inner() {
         put(alloc, board, row, entry, queue, item)?;

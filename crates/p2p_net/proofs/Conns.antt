@@ -22,7 +22,7 @@ use Rattle.p2p_log.specs.Effect.{entry_of, batch, batch_size_at, begin_row, writ
 use Rattle.p2p_log.specs.QueueCode.{same_queue}
 use Rattle.p2p_log.proofs.Names.{AreApart-live_from}
 use Rattle.p2p_log.proofs.Queues.{same_queue-sym}
-use Rattle.p2p_board.proofs.Posted.{is_boards-apart}
+use Rattle.p2p_board.proofs.Queues.{is_boards-apart}
 use Rattle.p2p_routers.specs.Batches.{batch_of, named, AreKept}
 use Rattle.p2p_routers.specs.Names.{is_routers}
 use Rattle.p2p_routers.specs.Stands.{StandsFor, IsBeside, AreAway}

@@ -103,7 +103,7 @@ each-append P xs x each last n y s =
 -- empty queues hold what stands there before anything was asked
 pub Holds-nothing : (board : Board Envelope) → ((q : Queue) → held board q ≡ []) → Holds board (live [])
 unfolding live_from
-Holds-nothing board h = record { each = λ q on. h q }
+Holds-nothing board h = record { each = λ q on. h q; others = λ q off. h q }
 
 pub NodeStands-new :
     (cs : List Config) (n : ℕ) (node : Node) → FactsStand cs [] n node → node.router.number ≡ n → StandsFor cs [] node.router

@@ -3,6 +3,6 @@ use Rattle.p2p_board.proofs.draft.put.Goals as goal
 
 pub returns-clause-builds : goal.returns-clause-builds
 returns-clause-builds c =
-    λ log at h.
+    λ log on at h.
     Builds-put c.args.board.now c.push.new.self log c.args.row.now c.push-2.new.self c.args.entry c.len-place.result c.args.queue c.args.item c.in_ok-kept.kept
-    at c.len-place.ensures c.in_ok-kept.ensures c.in_ok-push-2.ensures.ok h c.in_ok-push.ensures
+    on at c.len-place.ensures c.in_ok-kept.ensures c.in_ok-push-2.ensures.ok h c.in_ok-push.ensures

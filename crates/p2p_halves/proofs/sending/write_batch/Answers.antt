@@ -1,4 +1,4 @@
-use Rattle.std.proofs.Common.{◌≡◌, ◌++◌, ap, ◌∙◌, ℕ}
+use Rattle.std.proofs.Common.{◌≡◌, ◌++◌, ap, refl, ◌∙◌, ℕ}
 use Rattle.std.specs.Prelude.{map}
 use Rattle.p2p_log.specs.declared.item.Item.{Item}
 use Rattle.p2p_log.specs.declared.entry.Reply.TheVariants as reply
@@ -32,5 +32,5 @@ returns-clause-row c =
 pub returns-clause-builds : goal.returns-clause-builds
 returns-clause-builds c =
     λ log batch at b h.
-    c.in_ok-put_items.ensures.builds log at
+    c.in_ok-put_items.ensures.builds log refl at
     (Builds-batch c.args.board.now log c.note_taken.new.row c.args.taken batch b (noted (goal.at.returns-clause-builds c).In_ok-note_taken) h)

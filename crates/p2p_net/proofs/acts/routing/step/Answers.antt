@@ -48,6 +48,7 @@ returns-clause-builds g c =
     Builds-posted c.args.board.now c.post.new.board g.log c.in_ok-row.row c.args.entry c.requires.0 c.requires.1.0
     (λ q on. c.in_ok-row.ensures.others c.args.configs.now g.log q c.requires.1.1.router.stands (is_boards-other c.args.node.now.router.number q on))
     (λ q on. c.in_ok-post.ensures.boards q on ∙ ap (λ l. held c.args.board.now q ++ filter (stands_in q) (placed c.args.entry 0 l)) c.as_slice.ensures)
+    c.in_ok-post.ensures.others
 
 pub returns-clause-node : goal.returns-clause-node
 returns-clause-node g c =
