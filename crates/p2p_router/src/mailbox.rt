@@ -1,7 +1,7 @@
 //! `Mailbox`, where the router's messages wait.
 ghost use Rattle.std.specs.Prelude.{◌≡◌, ◌==◌, ◌≤◌, ◌+◌, ◌++◌, false, length, map, IfOk, IfErr, OnOk, OnErr};
 ghost use Rattle.std.specs.VecDeque.{deque_len, deque_capacity};
-ghost use Rattle.p2p_base.specs.Queue.{empty_queue, oldest, without_oldest};
+ghost use Rattle.p2p_base.specs.Queue.{empty_queue, has_room, oldest, without_oldest};
 ghost use Rattle.p2p_router.specs.Mailbox.{appended, feedback_of, content_told, with_content, with_subscriptions};
 ghost use Rattle.p2p_router.specs.declared.message.Message.TheVariants as message;
 
@@ -72,11 +72,18 @@ impl<P> Mailbox<P> {
         self.size
     }
 
+    // Whether a ready place is free.
+    fn has_room(&self) -> bool
+        ensures { result ≡ has_room self.now }
+    {
+        self.messages.len() < self.size
+    }
+
     // What a message that is never refused is told.
     fn feedback(&self) -> Feedback
         ensures { result ≡ feedback_of self.now }
     {
-        if self.messages.len() < self.size {
+        if self.has_room() {
             Feedback::Ok
         } else {
             Feedback::Backoff
@@ -109,9 +116,9 @@ impl<P: Drop> Mailbox<P> {
         ensures no_room { IfErr result (λ e. (e.0 ≡ relay) × (self.new ≡ self.old)) }
     {
         let feedback = self.feedback();
-        if self.messages.reserve(1).is_err() {
+        let Ok(()) = self.messages.reserve(1) else {
             return Err(NoRoom(relay));
-        }
+        };
         self.messages
             .push_back_reserved(Message::Ready { peer, relay, conn });
         Ok(feedback)
@@ -146,7 +153,7 @@ impl<P: Drop> Mailbox<P> {
         ensures after { OnOk result (self.new ≡ with_content self.old (message.Content recipients encoded priority)) }
         ensures memory { OnErr result (self.new ≡ self.old) }
     {
-        if self.messages.len() >= self.size {
+        if !self.has_room() {
             return Ok(Unreliable::Rejected);
         }
         self.messages.reserve(1)?;

@@ -1,11 +1,12 @@
 //! How content goes to the relays of its recipients.
 ghost use Rattle.std.specs.Prelude.{◌≡◌, IfOk, OnOk};
 ghost use Rattle.std.specs.Map.{keys_of};
-ghost use Rattle.p2p_router.specs.Routing.{copy_routed, copy_put, copies, copies_put, addressed};
+ghost use Rattle.p2p_flow.specs.Lanes.{send_answer, sent_on};
+ghost use Rattle.p2p_router.specs.Routing.{routed_as, copy_routed, copy_put, copies, copies_put, addressed};
 
 use crate::Routed;
 use crate::link::Link;
-use p2p_base::{NoRoom, Sent};
+use p2p_base::Sent;
 use p2p_flow::Recipients;
 use p2p_wire::EncodedData;
 use std::alloc::{AllocError, Global};
@@ -40,34 +41,54 @@ pub fn recipients_of<P: Ord + Copy>(
     }
 }
 
-// Puts the copy for one peer into its relay, or drops it.
-fn put_copy<P: Ord + Copy>(
-    links: &mut BTreeMap<P, Link>,
-    peer: P,
-    encoded: EncodedData,
-    priority: bool,
-) -> Result<Routed<P>, AllocError>
-    ensures answer { IfOk result (λ r. r ≡ copy_routed P.cmp links.old.entries encoded priority peer) }
-    ensures after { OnOk result (links.new.entries ≡ copy_put P.cmp links.old.entries encoded priority peer) }
+// What became of a copy, by what the relay answered.
+fn by_answer<P: Copy>(sent: &Sent<EncodedData>, peer: P, conn: u64, priority: bool) -> Routed<P>
+    ensures { result ≡ routed_as sent.now peer conn priority }
 {
-    let Some(link) = links.get_mut(&peer) else {
-        return Ok(Routed::NoConnection { peer });
-    };
-    let conn = link.conn;
-    match link.relay.send(encoded, priority) {
-        Ok(Sent::Ok) | Ok(Sent::Backoff) => Ok(Routed::Put {
+    match sent {
+        Sent::Ok | Sent::Backoff => Routed::Put {
             peer,
             conn,
             priority,
-        }),
-        Ok(Sent::Rejected(_)) => Ok(Routed::RelayFull { peer, conn }),
-        Ok(Sent::Closed(_)) => Ok(Routed::Closed { peer, conn }),
-        Err(NoRoom(_)) => Err(AllocError),
+        },
+        Sent::Rejected(_) => Routed::RelayFull { peer, conn },
+        Sent::Closed(_) => Routed::Closed { peer, conn },
+    }
+}
+
+// Puts the copy for one peer into the relay of its connection.
+fn put_on_link<P: Copy>(
+    link: &mut Link,
+    peer: P,
+    copy: EncodedData,
+    priority: bool,
+) -> Result<Routed<P>, AllocError>
+    ensures answer { IfOk result (λ r. r ≡ routed_as (send_answer link.old.relay copy priority) peer link.old.conn priority) }
+    ensures after { OnOk result (link.new ≡ record { conn = link.old.conn; relay = sent_on link.old.relay copy priority }) }
+{
+    match link.relay.send(copy, priority) {
+        Ok(sent) => Ok(by_answer(&sent, peer, link.conn, priority)),
+        Err(_) => Err(AllocError),
+    }
+}
+
+// Puts the copy for one peer into its relay, or makes none where it has no connection.
+fn put_copy<P: Ord + Copy>(
+    links: &mut BTreeMap<P, Link>,
+    peer: P,
+    encoded: &EncodedData,
+    priority: bool,
+) -> Result<Routed<P>, AllocError>
+    ensures answer { IfOk result (λ r. r ≡ copy_routed P.cmp links.old.entries encoded.now priority peer) }
+    ensures after { OnOk result (links.new.entries ≡ copy_put P.cmp links.old.entries encoded.now priority peer) }
+{
+    match links.get_mut(&peer) {
+        Some(link) => put_on_link(link, peer, encoded.clone()?, priority),
+        None => Ok(Routed::NoConnection { peer }),
     }
 }
 
 // Puts one copy for each of these peers, in order.
-#[tactic(auto, unfolding(crate::specs::Routing::copies, crate::specs::Routing::copies_put))]
 pub fn route<P: Ord + Copy>(
     alloc: Global,
     links: &mut BTreeMap<P, Link>,
@@ -80,8 +101,7 @@ pub fn route<P: Ord + Copy>(
 {
     let mut routed = Vec::with_capacity(alloc, peers.len())?;
     for peer in peers {
-        let copy = encoded.clone()?;
-        routed.push(put_copy(links, *peer, copy, priority)?)?;
+        routed.push(put_copy(links, *peer, encoded, priority)?)?;
     }
     Ok(routed)
 }

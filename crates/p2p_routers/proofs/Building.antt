@@ -1,8 +1,9 @@
 -- The names of a router, once a row puts one more item, or ends the list of one more channel.
-use Rattle.std.proofs.Common.{◌≡◌, ℕ, true, cond, List, [], ◌∷◌, ◌++◌, length, drop, refl, ap, sym, subst, ◌∙◌, arith, append_assoc, Option}
+use Rattle.std.proofs.Common.{◌≡◌, ℕ, ◌+◌, ◌<◌, ◌≤◌, true, cond, List, [], ◌∷◌, ◌++◌, length, get_or, drop, take, refl, ap, sym, subst, ◌∙◌, arith, append_assoc, Option}
 use Rattle.std.specs.Prelude.{filter, flat_map, map, ◌==◌}
 use Rattle.std.proofs.lemmas.Bool.Decides.{nat_tests}
 use Rattle.std.proofs.lemmas.Grind.{flat_map-append}
+use Rattle.std.proofs.lemmas.List.{map-append, take_more, take_all}
 use Rattle.p2p_log.specs.declared.queue.Queue.{Queue}
 use Rattle.p2p_log.specs.declared.queue.Queue.TheVariants as queue
 use Rattle.p2p_log.specs.declared.item.Item.{Item}
@@ -34,6 +35,23 @@ NamesBuild-put n old new items entry r puts place q i tag at is all h step =
     (λ k own. step k
     ∙ (ap (λ p. held old k ++ cond (same_queue q k) (record { entry = entry; place = p; tag = tag } ∷ []) []) at
     ∙ ap (λ t. held old k ++ cond (same_queue q k) (record { entry = entry; place = length r.puts; tag = t } ∷ []) []) is)))
+
+-- one more of the puts that a list makes
+pub puts_more :
+    (f : ℕ → Queue × Item) (all : List ℕ) (i : ℕ) (r s t : Row) → i < length all
+    → s ≡ record r { puts = r.puts ++ map f (take i all) } → t ≡ record s { puts = s.puts ++ f (get_or all i 0) ∷ [] } → t ≡ record r { puts = r.puts ++ map f (take (i + 1) all) }
+puts_more f all i r s t within e g =
+    let one = f (get_or all i 0) ∷ [] in
+    g
+    ∙ (ap (λ (y : Row). record y { puts = y.puts ++ one }) e
+    ∙ ap (λ l. record r { puts = l })
+    (append_assoc r.puts (map f (take i all)) one
+    ∙ ap (λ l. r.puts ++ l) (sym (map-append f (take i all) (get_or all i 0 ∷ [])) ∙ ap (map f) (sym (take_more all i 0 within)))))
+
+-- all of them
+pub puts_all :
+    (f : ℕ → Queue × Item) (all : List ℕ) (i : ℕ) (r s : Row) → length all ≤ i → s ≡ record r { puts = r.puts ++ map f (take i all) } → s ≡ record r { puts = r.puts ++ map f all }
+puts_all f all i r s end e = e ∙ ap (λ l. record r { puts = r.puts ++ map f l }) (take_all i all end)
 
 ends_of-label : (xs : List Envelope) → ends_of (map label xs) ≡ overwritten xs
 ends_of-label [] = refl

@@ -22,6 +22,7 @@ pub mod Routed
 pub mod Sent
 pub mod Standing
 pub mod Started
+pub mod Stepping
 pub mod Steps
 pub mod Subscribed
 pub mod Taken

@@ -1,5 +1,5 @@
 -- A router that was handed content.
-use Rattle.std.proofs.Common.{◌≡◌, ℕ, ◌+◌, ◌≤◌, Bool, true, false, List, [], ◌∷◌, ◌++◌, length, refl, ap, sym, subst, ◌∙◌, arith, append-nil, if◌then◌else◌}
+use Rattle.std.proofs.Common.{◌≡◌, ℕ, ◌+◌, ◌≤◌, Bool, true, false, List, [], ◌∷◌, ◌++◌, length, refl, ap, sym, subst, ◌∙◌, arith, append-nil, if◌then◌else◌, Some, None}
 use Rattle.std.specs.Prelude.{filter, flat_map, map, nat_le, nat_lt, not, ◌||◌}
 use Rattle.std.proofs.lemmas.Bool.Decides.{nat_tests}
 use Rattle.std.proofs.lemmas.Bool.{false≢true}
@@ -10,6 +10,7 @@ use Rattle.p2p_base.specs.declared.outcome.Unreliable.TheVariants.{Outcome, Reje
 use Rattle.p2p_base.specs.Queue.{Queue as Waiting, has_room}
 use Rattle.p2p_flow.specs.declared.plain.Recipients.{Recipients}
 use Rattle.p2p_flow.specs.declared.plain.Recipients.TheVariants as to
+use Rattle.p2p_wire.specs.declared.encoded.EncodedData.{EncodedData}
 use Rattle.p2p_router.specs.Mailbox.{appended, with_content}
 use Rattle.p2p_router.specs.Routing.{link_of}
 use Rattle.p2p_router.specs.Messenger.{Desk, is_bound, in_mailbox, content_answered, content_taken, encoded_of}
@@ -41,7 +42,7 @@ use Rattle.p2p_board.specs.Board.{held}
 use Rattle.p2p_board.proofs.Building.{ended_item-copies}
 use Rattle.p2p_routers.specs.Names.{Agrees, label, bare_item}
 use Rattle.p2p_routers.specs.Building.{NamesBuild}
-use Rattle.p2p_routers.specs.Frames.{refuses}
+use Rattle.p2p_routers.specs.Frames.{refuses, frame_taken_in}
 use Rattle.p2p_routers.specs.Items.{key_cmp, message_item}
 use Rattle.p2p_routers.specs.Sound.{IsSound, counted, told_times}
 use Rattle.p2p_routers.specs.Holds.{Holds, after}
@@ -55,11 +56,6 @@ use Rattle.p2p_routers.proofs.Routed.{line_is}
 use Rattle.p2p_routers.proofs.Telling.{NamesBuild-start}
 
 -- ---- the mailbox
-
-kept_unbound : (f : Waiting (Message Key) → Waiting (Message Key)) (b : Binding Key) → is_bound b ≡ false → in_mailbox f b ≡ b
-kept_unbound f Unbound h = refl
-kept_unbound f (Bound q) h = absurd (false≢true (sym h))
-kept_unbound f Closed h = refl
 
 no_room : (q : Waiting (Message Key)) → refuses (if has_room q then Outcome feedback.Ok else Rejected) ≡ true → has_room q ≡ false
 no_room q h = (elim (has_room q) as (λ b. refuses (if b then Outcome feedback.Ok else Rejected) ≡ true → b ≡ false) [ true ↦ λ e. absurd (false≢true e) | false ↦ λ e. refl ]) h
@@ -85,6 +81,19 @@ accepted Closed h r = absurd (false≢true h)
 
 room_or_full : (x size : ℕ) → nat_lt x size ≡ not (nat_le size x)
 room_or_full x size = grind (arith, nat_tests)
+
+-- what the messenger told, by the frame that was handed back
+pub was_refused : (b : Bool) (frame : List ℕ) → None ≡ frame_taken_in b frame → b ≡ true
+was_refused true frame h = refl
+was_refused false frame h = cc
+
+pub was_taken_in : (b : Bool) (frame same : List ℕ) → Some same ≡ frame_taken_in b frame → (b ≡ false) × (same ≡ frame)
+was_taken_in true frame same h = cc
+was_taken_in false frame same h = (refl, cc)
+
+pub encoded_same : (e : EncodedData) (channel : ℕ) (bytes same : List ℕ) → e.channel ≡ channel → e.payload ≡ frame_of channel bytes → bytes ≡ same → e ≡ encoded_of channel same
+encoded_same e channel bytes same c p b =
+    ap (λ k. record { channel = k; payload = e.payload }) c ∙ ap (λ l. record { channel = channel; payload = l }) (p ∙ ap (frame_of channel) b)
 
 -- the mailbox has room where the log has
 log_room :
@@ -172,14 +181,12 @@ sent_nothing configs log entry event r desk row bytes channel priority whom s at
     (subst (Holds (mailbox_size_at configs r.number) r) (sym whole) s.holds) (s.bound ∙ or-none (is_up log r.number)) s.places)
 
 pub lost_stands :
-    (configs : List Config) (log : List Entry) (entry : ℕ) (event : Event) (r : Router) (desk : Desk Key) (row : Row) (bytes : List ℕ) (channel : ℕ) (priority : Bool) (whom : Whom) (to : Recipients Key) (keys : List Key)
+    (configs : List Config) (log : List Entry) (entry : ℕ) (event : Event) (r : Router) (row : Row) (bytes : List ℕ) (channel : ℕ) (priority : Bool) (whom : Whom) (keys : List Key)
     → StandsFor configs log r → length log ≡ entry → event.act ≡ act.Send bytes channel r.number priority whom
-    → desk ≡ content_taken r.messenger to channel bytes priority → is_bound r.messenger.binding ≡ false
     → row ≡ record { reply = reply.Sent keys; takes = []; puts = []; ends = copies_end entry 0 keys (outcome.Dropped cause.Unbound) }
-    → StandsFor configs (log ++ entry_of event row ∷ []) (rebound r desk r.names)
-lost_stands configs log entry event r desk row bytes channel priority whom to keys s at is told none e =
-    sent_nothing configs log entry event r desk row bytes channel priority whom s at is
-    (desk_same r.messenger desk to channel bytes priority told (kept_unbound _ r.messenger.binding none))
+    → StandsFor configs (log ++ entry_of event row ∷ []) (rebound r r.messenger r.names)
+lost_stands configs log entry event r row bytes channel priority whom keys s at is e =
+    sent_nothing configs log entry event r r.messenger row bytes channel priority whom s at is refl
     (ap (λ (x : Row). x.takes) e) (ap (λ (x : Row). x.puts) e) (ap (λ (x : Row). flat_map ended_item x.ends) e ∙ ended_item-copies entry 0 keys (outcome.Dropped cause.Unbound))
 
 kept_refused : (b : Binding Key) (m : Message Key) → HasRoom b false → in_mailbox (λ q. with_content q m) b ≡ b

@@ -1,5 +1,5 @@
 -- The row of a step that took the oldest message, and the names after it.
-use Rattle.std.proofs.Common.{◌≡◌, ℕ, List, [], ◌∷◌, ◌++◌, ◌+◌, cond, length, drop, refl, ap, sym, subst, ◌∙◌, append-nil, Option, Some}
+use Rattle.std.proofs.Common.{◌≡◌, ℕ, List, [], ◌∷◌, ◌++◌, ◌+◌, cond, length, drop, refl, ap, sym, subst, ◌∙◌, append-nil, Option, Some, None}
 use Rattle.std.specs.Prelude.{filter, flat_map, map, slice_get}
 use Rattle.std.proofs.lemmas.Grind.{flat_map-append}
 use Rattle.p2p_base.specs.declared.key.Key.{Key}
@@ -28,6 +28,7 @@ use Rattle.p2p_routers.specs.Building.{NamesBuild}
 use Rattle.p2p_routers.specs.Copies.{copy_spread, copies_spread}
 use Rattle.p2p_routers.specs.Holds.{after}
 use Rattle.p2p_routers.specs.Oldest.{IsOldest, without, send_of, send_named, told_row}
+use Rattle.p2p_routers.specs.Stepped.{answers_put, listless, with_lists}
 use Rattle.p2p_routers.specs.declared.name.Name.{Name}
 use Rattle.p2p_routers.proofs.Agreeing.{Agrees-pop, Agrees-other, answer_away, placed-last}
 use Rattle.p2p_routers.proofs.Building.{own_peers}
@@ -39,12 +40,13 @@ oldest_name n names items x rest h = ap (λ l. slice_get l 0) (h.agree (queue.Ro
 
 pub took_row :
     (n : ℕ) (names : Board Name) (items : List Envelope) (x : Envelope) (rest : List Envelope) (o : Option Name) (r s : Row)
-    → IsOldest n names items x rest → o ≡ slice_get (held names (queue.Router n)) 0 → r ≡ only reply.Ok → s ≡ record r { takes = r.takes ++ takes_of o }
-    → s ≡ taken_row (name_of x)
-took_row n names items x rest o r s h at e f =
-    f
-    ∙ (ap (λ (y : Row). record y { takes = y.takes ++ takes_of o }) e
-    ∙ ap (λ p. record (only reply.Ok) { takes = takes_of p }) (at ∙ oldest_name n names items x rest h))
+    → IsOldest n names items x rest → o ≡ slice_get (held names (queue.Router n)) 0 → s ≡ record r { takes = r.takes ++ takes_of o }
+    → s ≡ record r { takes = r.takes ++ name_of x ∷ [] }
+took_row n names items x rest o r s h at f = f ∙ ap (λ p. record r { takes = r.takes ++ takes_of p }) (at ∙ oldest_name n names items x rest h)
+
+-- the row that has taken a message, and no more
+pub row_taken : (x : Envelope) (r s : Row) → r ≡ only reply.Ok → s ≡ record r { takes = r.takes ++ name_of x ∷ [] } → s ≡ taken_row (name_of x)
+row_taken x r s e f = f ∙ ap (λ (y : Row). record y { takes = y.takes ++ name_of x ∷ [] }) e
 
 pub took_send :
     (n : ℕ) (names : Board Name) (items : List Envelope) (x : Envelope) (rest : List Envelope) (o : Option Name)
@@ -83,34 +85,27 @@ NamesBuild-answer n names items entry r s m conn e h =
 
 -- ---- lists
 
--- the items without the lists of these channels
-abbrev pub listless : ℕ → List ℕ → List Envelope → List Envelope
-listless n cs items = filter (stays (flat_map ended_item (peers_ends items n cs))) items
+pub NamesBuild-answered :
+    (n : ℕ) (names : Board Name) (items : List Envelope) (entry : ℕ) (r s : Row) (m : ℕ) (o : Option ℕ)
+    → s.puts ≡ r.puts ++ answers_put m o → NamesBuild n names items entry r → NamesBuild n names items entry s
+NamesBuild-answered n names items entry r s m None e h = subst (λ l. Agrees n label (held names) (items ++ placed entry 0 l)) (sym (e ∙ append-nil r.puts)) h
+NamesBuild-answered n names items entry r s m (Some conn) e h = NamesBuild-answer n names items entry r s m conn e h
+
+pub row_listed :
+    (n : ℕ) (items : List Envelope) (puts : List (Queue × Item)) (keys same : List Key) (cs es ds : List ℕ) (r s u t : Row)
+    → s ≡ record r { ends = r.ends ++ peers_ends items n cs } → u ≡ record s { puts = s.puts ++ puts }
+    → t ≡ record u { puts = u.puts ++ map (peers_put n keys) es } → keys ≡ same → cs ≡ ds → es ≡ ds
+    → t ≡ with_lists r items n puts same ds
+row_listed n items puts keys same cs es ds r s u t e a g k d i =
+    g
+    ∙ (ap (λ (y : Row). record y { puts = y.puts ++ map (peers_put n keys) es }) (a ∙ ap (λ (y : Row). record y { puts = y.puts ++ puts }) e)
+    ∙ (ap (λ l. record (with_lists r items n puts keys l) { puts = (r.puts ++ puts) ++ map (peers_put n keys) es }) d
+    ∙ (ap (λ l. record (with_lists r items n puts keys ds) { puts = (r.puts ++ puts) ++ map (peers_put n keys) l }) i ∙ ap (λ l. with_lists r items n puts l ds) k)))
 
 pub row_told :
-    (n : ℕ) (x : Envelope) (items : List Envelope) (keys same : List Key) (cs es ds : List ℕ) (r s t : Row)
-    → r ≡ taken_row (name_of x) → s ≡ record r { ends = r.ends ++ peers_ends (without x items) n cs }
-    → t ≡ record s { puts = s.puts ++ map (peers_put n keys) es } → keys ≡ same → cs ≡ ds → es ≡ ds
-    → t ≡ told_row n x items [] same ds
-row_told n x items keys same cs es ds r s t e f g k d i =
-    g
-    ∙ (ap (λ (y : Row). record y { puts = y.puts ++ map (peers_put n keys) es }) (f ∙ ap (λ (y : Row). record y { ends = y.ends ++ peers_ends (without x items) n cs }) e)
-    ∙ (ap (λ l. record (told_row n x items [] keys l) { puts = map (peers_put n keys) es }) d
-    ∙ (ap (λ l. record (told_row n x items [] keys ds) { puts = map (peers_put n keys) l }) i ∙ ap (λ l. told_row n x items [] l ds) k)))
-
-pub row_readied :
-    (n conn : ℕ) (x : Envelope) (items : List Envelope) (keys same : List Key) (cs es ds : List ℕ) (r s u t : Row)
-    → r ≡ taken_row (name_of x) → s ≡ record r { ends = r.ends ++ peers_ends (without x items) n cs }
-    → u ≡ record s { puts = s.puts ++ (queue.Ready n conn, item.Answer) ∷ [] }
-    → t ≡ record u { puts = u.puts ++ map (peers_put n keys) es } → keys ≡ same → cs ≡ ds → es ≡ ds
-    → t ≡ told_row n x items ((queue.Ready n conn, item.Answer) ∷ []) same ds
-row_readied n conn x items keys same cs es ds r s u t e f a g k d i =
-    g
-    ∙ (ap (λ (y : Row). record y { puts = y.puts ++ map (peers_put n keys) es })
-    (a ∙ ap (λ (y : Row). record y { puts = y.puts ++ (queue.Ready n conn, item.Answer) ∷ [] }) (f ∙ ap (λ (y : Row). record y { ends = y.ends ++ peers_ends (without x items) n cs }) e))
-    ∙ (ap (λ l. record (told_row n x items [] keys l) { puts = (queue.Ready n conn, item.Answer) ∷ map (peers_put n keys) es }) d
-    ∙ (ap (λ l. record (told_row n x items [] keys ds) { puts = (queue.Ready n conn, item.Answer) ∷ map (peers_put n keys) l }) i
-    ∙ ap (λ l. told_row n x items ((queue.Ready n conn, item.Answer) ∷ []) l ds) k)))
+    (n : ℕ) (x : Envelope) (items : List Envelope) (puts : List (Queue × Item)) (keys : List Key) (cs : List ℕ) (r t : Row)
+    → r ≡ taken_row (name_of x) → t ≡ with_lists r (without x items) n puts keys cs → t ≡ told_row n x items puts keys cs
+row_told n x items puts keys cs r t e g = g ∙ ap (λ (y : Row). with_lists y (without x items) n puts keys cs) e
 
 -- the names after lists were put, by the row as it is told
 pub names_told :

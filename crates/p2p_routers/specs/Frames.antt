@@ -1,5 +1,5 @@
 -- The frames of a router's relays, and what a mailbox says of content.
-use Rattle.std.specs.Prelude.{Bool, true, false, List, Option, Some, None}
+use Rattle.std.specs.Prelude.{ℕ, Bool, true, false, List, Option, Some, None}
 use Rattle.p2p_base.specs.Queue.{oldest, without_oldest}
 use Rattle.p2p_base.specs.declared.key.Key.{Key}
 use Rattle.p2p_base.specs.declared.outcome.Unreliable.{Unreliable}
@@ -13,6 +13,11 @@ use Rattle.p2p_routers.specs.Items.{key_cmp}
 abbrev pub refuses : Unreliable → Bool
 refuses (Outcome f) = false
 refuses Rejected = true
+
+-- the frame, where it was not refused
+abbrev pub frame_taken_in : Bool → List ℕ → Option (List ℕ)
+frame_taken_in true frame = None
+frame_taken_in false frame = Some frame
 
 -- the oldest frame of a lane, where there is a link
 abbrev pub frame_waiting : Option Link → Bool → Option EncodedData

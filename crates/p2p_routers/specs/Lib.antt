@@ -10,3 +10,4 @@ pub mod Passes
 pub mod Relays
 pub mod Sound
 pub mod Stands
+pub mod Stepped

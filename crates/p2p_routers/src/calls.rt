@@ -5,14 +5,16 @@ ghost use Rattle.std.specs.BTreeMap.{get};
 ghost use Rattle.p2p_log.specs.Frames.{frame_of};
 ghost use Rattle.p2p_log.specs.Facts.{is_up};
 ghost use Rattle.p2p_log.specs.Lines.{line, stands_in, stays};
-ghost use Rattle.p2p_log.specs.Effect.{entry_of, mailbox_size_at, copies_end, relay_queue, router_capacity, sent_row, start_row};
+ghost use Rattle.p2p_log.specs.Effect.{only as only_reply, entry_of, mailbox_size_at, copies_end, relay_queue, router_capacity, sent_row, start_row};
 ghost use Rattle.p2p_log.specs.Apart.{AreApart};
-ghost use Rattle.p2p_router.specs.Mailbox.{appended};
-ghost use Rattle.p2p_router.specs.Messenger.{is_unbound, is_bound, bound_to, in_mailbox};
+ghost use Rattle.p2p_base.specs.Queue.{empty_queue};
+ghost use Rattle.p2p_flow.specs.declared.plain.Recipients.TheVariants as recipients;
+ghost use Rattle.p2p_router.specs.Mailbox.{appended, with_content};
+ghost use Rattle.p2p_router.specs.Messenger.{is_unbound, is_bound, bound_to, in_mailbox, content_answered, content_taken};
 ghost use Rattle.p2p_router.specs.declared.message.Message.TheVariants as message;
 ghost use Rattle.p2p_router.specs.Routing.{link_of};
 ghost use Rattle.p2p_routers.specs.Items.{key_cmp};
-ghost use Rattle.p2p_routers.specs.Frames.{refuses, frame_waiting, without_frame};
+ghost use Rattle.p2p_routers.specs.Frames.{refuses, frame_taken_in, frame_waiting, without_frame};
 ghost use Rattle.p2p_routers.specs.Building.{NamesBuild, subscription};
 ghost use Rattle.p2p_routers.specs.Holds.{Holds, IsStranger, frame_taken, frame_gone, routes_in};
 ghost use Rattle.p2p_routers.specs.Stands.{StandsFor, HasPlaces, IsBeside, IsReadied};
@@ -24,7 +26,7 @@ use bytes::Bytes;
 use p2p_base::{Key, List, Unreliable};
 use p2p_board::draft::only;
 use p2p_board::{Board, end_copies};
-use p2p_flow::{Carrier, Recipients, Relay};
+use p2p_flow::{Recipients, Relay};
 use p2p_log::{Act, Cause, Item, Outcome, Queue, Reply, Row};
 use p2p_router::{Actor, Mailbox, Messenger};
 use p2p_wire::EncodedData;
@@ -73,11 +75,13 @@ fn is_rejected(told: &Unreliable) -> bool
     }
 }
 
-/// Gives a messenger its mailbox.
-fn bind(messenger: &mut Messenger<Key>, mailbox: Mailbox<Key>) -> Result<(), AllocError>
-    requires { IsTrue (is_unbound messenger.old.binding) }
-    ensures { OnOk result (messenger.new ≡ bound_to messenger.old mailbox) }
+/// Gives a messenger its mailbox, with so many places.
+fn bind(alloc: Global, messenger: &mut Messenger<Key>, places: usize) -> Result<(), AllocError>
+    requires places { 1 ≤ places }
+    requires unbound { IsTrue (is_unbound messenger.old.binding) }
+    ensures { OnOk result (messenger.new ≡ bound_to messenger.old (empty_queue places)) }
 {
+    let mailbox = Mailbox::new(alloc, places)?;
     match messenger.bind(mailbox) {
         Ok(()) => Ok(()),
         Err(_) => Err(AllocError),
@@ -101,6 +105,73 @@ fn tell_ready(
         Ok(_) => Ok(()),
         Err(_) => Err(AllocError),
     }
+}
+
+/// Hands a frame to the mailbox of a bound messenger, and says what was told.
+fn hand_frame(
+    messenger: &mut Messenger<Key>,
+    whom: Recipients<Key>,
+    encoded: EncodedData,
+    priority: bool,
+) -> Result<Unreliable, AllocError>
+    requires { IsTrue (is_bound messenger.old.binding) }
+    ensures told { IfOk result (λ told. told ≡ content_answered messenger.old.binding) }
+    ensures after { OnOk result (messenger.new ≡ record messenger.old { binding = in_mailbox (λ q. with_content q (message.Content whom encoded priority)) messenger.old.binding }) }
+{
+    let Some(mailbox) = messenger.mailbox() else {
+        return Err(AllocError);
+    };
+    mailbox.content(whom, encoded, priority)
+}
+
+/// Hands a message for these keys to a bound messenger. Gives its frame, and `None` where the mailbox refuses it.
+fn hand(
+    alloc: Global,
+    messenger: &mut Messenger<Key>,
+    channel: u64,
+    priority: bool,
+    bytes: &Bytes,
+    to: &List<Key>,
+) -> Result<Option<Bytes>, AllocError>
+    requires length { length bytes.now < 2 ^ 32 }
+    requires bound { IsTrue (is_bound messenger.old.binding) }
+    ensures frame { IfOk result (λ frame. frame ≡ frame_taken_in (refuses (content_answered messenger.old.binding)) (frame_of channel bytes.now)) }
+    ensures after { OnOk result (messenger.new ≡ content_taken messenger.old (recipients.Some to.now) channel bytes.now priority) }
+{
+    let encoded = EncodedData::new(alloc, channel, bytes.clone()?)?;
+    let frame = encoded.payload.clone()?;
+    let whom = Recipients::Some(to.try_clone(alloc)?);
+    let told = hand_frame(messenger, whom, encoded, priority)?;
+    if is_rejected(&told) {
+        return Ok(None);
+    }
+    Ok(Some(frame))
+}
+
+/// The row of a message for these keys that the mailbox took in, with its frame.
+fn note_sent(
+    alloc: Global,
+    names: &mut Board<Name>,
+    number: u64,
+    entry: u64,
+    channel: u64,
+    priority: bool,
+    frame: Bytes,
+    to: List<Key>,
+) -> Result<Row, AllocError>
+    ensures row { IfOk result (λ row. row ≡ record { reply = Reply.Sent to; takes = []; puts = (Queue.Router number, Item.Content channel frame priority entry to) ∷ []; ends = [] }) }
+    ensures names { IfOk result (λ row. (n : _) (items : _) → NamesBuild n names.old items entry (only_reply (Reply.Sent to)) → NamesBuild n names.new items entry row) }
+{
+    let item = Item::Content {
+        channel,
+        frame,
+        priority,
+        send: entry,
+        to: to.try_clone(alloc)?,
+    };
+    let mut row = only(alloc, Reply::Sent(to));
+    note(alloc, names, &mut row, entry, Queue::Router(number), item)?;
+    Ok(row)
 }
 
 /// Removes the oldest frame of a lane of a key's relay.
@@ -130,8 +201,7 @@ impl Router {
         ensures bound { OnOk result (IsTrue (is_bound self.new.messenger.binding)) }
         ensures rest { OnOk result (self.new ≡ record self.old { messenger = self.new.messenger; names = self.new.names }) }
     {
-        let mailbox = Mailbox::new(alloc, places)?;
-        bind(&mut self.messenger, mailbox)?;
+        bind(alloc, &mut self.messenger, places)?;
         let mut row = only(alloc, Reply::Ok);
         note_subscriptions(
             alloc,
@@ -200,28 +270,22 @@ impl Router {
         ensures rest { OnOk result (self.new ≡ record self.old { messenger = self.new.messenger; names = self.new.names }) }
     {
         let bound = self.messenger.bound();
-        let whom = Recipients::Some(to.try_clone(alloc)?);
-        let told = self
-            .messenger
-            .content(alloc, whom, channel, bytes.clone()?, priority)?;
         if !bound {
             return Ok(lost(alloc, entry, to)?);
         }
-        if is_rejected(&told) {
-            return Ok(only(alloc, Reply::Sent(List::empty(alloc))));
+        match hand(alloc, &mut self.messenger, channel, priority, bytes, &to)? {
+            None => Ok(only(alloc, Reply::Sent(List::empty(alloc)))),
+            Some(frame) => Ok(note_sent(
+                alloc,
+                &mut self.names,
+                self.number,
+                entry,
+                channel,
+                priority,
+                frame,
+                to,
+            )?),
         }
-        let encoded = EncodedData::new(alloc, channel, bytes.clone()?)?;
-        let item = Item::Content {
-            channel,
-            frame: encoded.payload,
-            priority,
-            send: entry,
-            to: to.try_clone(alloc)?,
-        };
-        let mut row = only(alloc, Reply::Sent(to));
-        let queue = Queue::Router(self.number);
-        note(alloc, &mut self.names, &mut row, entry, queue, item)?;
-        Ok(row)
     }
 
     /// Takes the oldest frame that waits for a connection, with priority or without, and its name.

@@ -16,6 +16,16 @@ use p2p_board::Board;
 use p2p_log::{End, Item, Queue, Row};
 use std::alloc::{AllocError, Global};
 
+/// The channel of a subscription.
+fn channel_at(channels: &[u64], subscription: u64) -> u64
+    ensures { result ≡ channel_of channels.now subscription }
+{
+    match channels.get(subscription as usize) {
+        Some(channel) => *channel,
+        None => 0,
+    }
+}
+
 /// The channels of these subscriptions.
 pub fn channels_of(
     alloc: Global,
@@ -26,11 +36,7 @@ pub fn channels_of(
 {
     let mut found = Vec::new(alloc);
     for subscription in subscriptions {
-        let channel = match channels.get(*subscription as usize) {
-            Some(channel) => *channel,
-            None => 0,
-        };
-        found.push(channel)?;
+        found.push(channel_at(channels, *subscription))?;
     }
     Ok(found)
 }

@@ -35,8 +35,8 @@ pub fn note(
 {
     let place = row.puts.len() as u64;
     let tag = tag(&item);
-    names.push(alloc, queue, Name { entry, place, tag })?;
     row.puts.push((queue, item))?;
+    names.push(alloc, queue, Name { entry, place, tag })?;
     Ok(())
 }
 

@@ -15,13 +15,12 @@ ghost use Rattle.p2p_routers.specs.Names.{is_routers};
 ghost use Rattle.p2p_routers.specs.Stands.{StandsFor, IsRegistration};
 
 use crate::Name;
-use crate::step::{note_content, note_ready, note_told};
+use crate::step::note_step;
 use p2p_base::Key;
 use p2p_board::Board;
-use p2p_board::draft::only;
 use p2p_flow::Connected;
-use p2p_log::{Act, Queue, Reply, Row};
-use p2p_router::{Actor, Messenger, Stepped};
+use p2p_log::{Act, Queue, Row};
+use p2p_router::{Actor, Messenger};
 use std::alloc::{AllocError, Global};
 use std::collections::BTreeMap;
 
@@ -97,44 +96,14 @@ impl Router {
             → event.act ≡ Act.Router self.old.number → StandsFor configs (log ++ entry_of event row ∷ []) self.new) }
         ensures rest { OnOk result (self.new ≡ record self.old { messenger = self.new.messenger; actor = self.new.actor; names = self.new.names }) }
     {
-        let number = self.number;
-        let names = &mut self.names;
-        match self.actor.step(&mut self.messenger)? {
-            Stepped::Idle => Ok(only(alloc, Reply::Idle)),
-            Stepped::Ready { conn, told, .. } => Ok(note_ready(
-                alloc,
-                names,
-                entry,
-                number,
-                self.channels.as_slice(),
-                conn,
-                &told,
-            )?),
-            Stepped::SubscribePeers { told, .. } => Ok(note_told(
-                alloc,
-                names,
-                entry,
-                number,
-                self.channels.as_slice(),
-                &told,
-            )?),
-            // No connection of a network is released.
-            Stepped::Release { told, .. } => Ok(note_told(
-                alloc,
-                names,
-                entry,
-                number,
-                self.channels.as_slice(),
-                &told,
-            )?),
-            Stepped::Content { encoded, copies } => Ok(note_content(
-                alloc,
-                names,
-                entry,
-                number,
-                &encoded.payload,
-                copies.as_slice(),
-            )?),
-        }
+        let stepped = self.actor.step(&mut self.messenger)?;
+        note_step(
+            alloc,
+            &mut self.names,
+            entry,
+            self.number,
+            self.channels.as_slice(),
+            &stepped,
+        )
     }
 }

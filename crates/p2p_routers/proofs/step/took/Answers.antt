@@ -5,8 +5,7 @@ use Rattle.p2p_routers.proofs.step.took.Goals as goal
 pub returns-clause-row : goal.returns-clause-row
 returns-clause-row c =
     λ items x rest h.
-    took_row c.args.number c.args.names.now items x rest c.in_ok-taken.taken c.only-row.result c.take.new.row h c.in_ok-taken.ensures.first c.only-row.ensures
-    c.in_ok-taken.ensures.row
+    took_row c.args.number c.args.names.now items x rest c.in_ok-taken.taken c.args.row.now c.take.new.row h c.in_ok-taken.ensures.first c.in_ok-taken.ensures.row
 
 pub returns-clause-send : goal.returns-clause-send
 returns-clause-send c =

@@ -1,7 +1,5 @@
-use Rattle.std.proofs.Common.{◌≡◌, List, Some, Option, refl, sym, ap, ◌∙◌}
+use Rattle.std.proofs.Common.{List, Some, Option, refl, ap, ◌∙◌}
 use Rattle.std.specs.BTreeMap.{BTreeMap}
-use Rattle.p2p_flow.specs.Lanes.{Lanes}
-use Rattle.p2p_wire.specs.declared.encoded.EncodedData.{EncodedData}
 use Rattle.p2p_router.specs.declared.link.Link.{Link}
 use Rattle.p2p_router.specs.Routes.{Routes}
 use Rattle.p2p_router.specs.Routing.{relay_over, relay_of, relay_set, with_relay}

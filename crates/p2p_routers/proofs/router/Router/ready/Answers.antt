@@ -1,4 +1,5 @@
 use Rattle.std.proofs.Common.{◌++◌, ◌∷◌, [], length, refl, ap, sym, subst, ◌∙◌}
+use Rattle.std.specs.Prelude.{IsTrue}
 use Rattle.p2p_log.specs.declared.queue.Queue.TheVariants as queue
 use Rattle.p2p_log.specs.declared.item.Item.TheVariants as item
 use Rattle.p2p_log.specs.Lines.{live}
@@ -23,6 +24,15 @@ returns-clause-holds c =
     (c.in_ok-tell_ready.ensures
     ∙ ap (λ (l : Lanes EncodedData). record r.messenger { binding = in_mailbox (λ q. appended q (message.Ready c.args.key l c.args.conn)) r.messenger.binding }) c.in_ok-relay.ensures)
     h stranger (c.in_ok-insert.ensures.updates.0) c.in_ok-push.ensures
+
+pub returns-clause-bound : goal.returns-clause-bound
+returns-clause-bound c =
+    let b = c.args.self.now.messenger.binding in
+    subst IsTrue (sym (ap (λ (d : Desk Key). is_bound d.binding) c.in_ok-tell_ready.ensures ∙ bound_appended b _)) c.requires.bound
+
+pub returns-clause-places : goal.returns-clause-places
+returns-clause-places c =
+    λ k h. subst (λ (d : Desk Key). HasPlaces k d.binding) (sym c.in_ok-tell_ready.ensures) (places_appended k c.args.self.now.messenger.binding _ h)
 
 pub returns-clause-stands : goal.returns-clause-stands
 returns-clause-stands c =

@@ -1,5 +1,3 @@
-use Rattle.std.proofs.Common.{ap, ◌∙◌}
-use Rattle.p2p_router.specs.Messenger.{bound_to}
 use Rattle.p2p_routers.proofs.Started.{started_row, started_stands}
 use Rattle.p2p_routers.proofs.router.Router.start.Goals as goal
 
@@ -13,5 +11,5 @@ pub returns-clause-stands : goal.returns-clause-stands
 returns-clause-stands c =
     λ configs log event s at is room.
     started_stands configs log c.args.entry c.args.places event c.args.self.now c.bind.new.messenger c.note_subscriptions.new.names c.as_slice.result.now c.only-row.result c.note_subscriptions.new.row
-    s at is room c.requires.unbound (c.in_ok-bind.ensures ∙ ap (bound_to c.args.self.now.messenger) c.in_ok-mailbox.ensures) c.only-row.ensures c.in_ok-note_subscriptions.ensures.row
+    s at is room c.requires.unbound c.in_ok-bind.ensures c.only-row.ensures c.in_ok-note_subscriptions.ensures.row
     c.as_slice.ensures.value c.in_ok-note_subscriptions.ensures.names
