@@ -125,14 +125,16 @@ const AWAY: SocketAddr = SocketAddr {
     port: 80,
 };
 
+// Whether these addresses are found, with this leave for private ones.
+fn resolves(alloc: Global, private: bool, wanted: &[SocketAddr]) -> Result<bool, AllocError> {
+    let found = resolve_filtered(alloc, &[HOME, AWAY, HOME], private)?;
+    Ok(found.as_slice() == wanted)
+}
+
 #[test]
-fn private_ones_are_resolved_by_leave(rt: HostRuntime) -> Result<(), Fail> {
-    let addresses = [HOME, AWAY, HOME];
-    let found = resolve_filtered(rt.alloc(), &addresses, false)?;
-    assert_eq!(rt; found.as_slice(), [AWAY].as_slice());
-    let found = resolve_filtered(rt.alloc(), &addresses, true)?;
-    assert_eq!(rt; found.as_slice(), addresses.as_slice());
-    Ok(())
+fn private_ones_are_resolved_by_leave(rt: HostRuntime) {
+    assert_eq!(rt; resolves(rt.alloc(), false, &[AWAY]), Ok(true));
+    assert_eq!(rt; resolves(rt.alloc(), true, &[HOME, AWAY, HOME]), Ok(true));
 }
 
 // A name that is looked up.
@@ -146,12 +148,21 @@ fn dialed(ingress: &Ingress) -> (bool, bool) {
     (ingress.is_valid(false, true), ingress.is_valid(true, false))
 }
 
+// The same of a socket.
+fn socket_is_dialed(address: SocketAddr) -> (bool, bool) {
+    dialed(&Ingress::from(address))
+}
+
+// The same of a name.
+fn name_is_dialed(alloc: Global) -> Result<(bool, bool), AllocError> {
+    Ok(dialed(&named(alloc)?))
+}
+
 #[test]
-fn private_ones_and_names_are_dialed_by_leave(rt: HostRuntime) -> Result<(), Fail> {
-    assert_eq!(rt; dialed(&Ingress::from(HOME)), (false, true));
-    assert_eq!(rt; dialed(&Ingress::from(AWAY)), (true, true));
-    assert_eq!(rt; dialed(&named(rt.alloc())?), (true, false));
-    Ok(())
+fn private_ones_and_names_are_dialed_by_leave(rt: HostRuntime) {
+    assert_eq!(rt; socket_is_dialed(HOME), (false, true));
+    assert_eq!(rt; socket_is_dialed(AWAY), (true, true));
+    assert_eq!(rt; name_is_dialed(rt.alloc()), Ok((true, false)));
 }
 
 // An address that is dialed by name, and dials from another one.
@@ -163,39 +174,53 @@ fn asymmetric(alloc: Global) -> Result<Address, AllocError> {
     })
 }
 
-// Whether copies of the address are equal to it.
-fn is_copied(alloc: Global, address: &Address) -> Result<(bool, bool), AllocError> {
-    let cloned = address.clone()? == *address;
-    let copied = address.try_clone(alloc)? == *address;
-    Ok((cloned, copied))
+// Whether copies of an address are equal to it, and another address is.
+fn compares(alloc: Global) -> Result<(bool, bool, bool), AllocError> {
+    let both = asymmetric(alloc)?;
+    let cloned = both.clone()? == both;
+    let copied = both.try_clone(alloc)? == both;
+    Ok((cloned, copied, Address::from(AWAY) == both))
 }
 
 #[test]
-fn an_address_equals_its_copies(rt: HostRuntime) -> Result<(), Fail> {
-    let both = asymmetric(rt.alloc())?;
-    assert_eq!(rt; is_copied(rt.alloc(), &both)?, (true, true));
-    assert!(rt; both != Address::from(AWAY));
-    Ok(())
+fn an_address_equals_its_copies(rt: HostRuntime) {
+    assert_eq!(rt; compares(rt.alloc()), Ok((true, true, false)));
+}
+
+// Whether an address is dialed at this ingress, and where it dials from.
+fn ends(alloc: Global, address: &Address, ingress: &Ingress) -> Result<(bool, IpAddr), AllocError> {
+    let is_dialed = address.ingress(alloc)? == *ingress;
+    Ok((is_dialed, address.egress_ip()))
+}
+
+// The same of an address with two ends.
+fn ends_of_two(alloc: Global) -> Result<(bool, IpAddr), AllocError> {
+    let both = asymmetric(alloc)?;
+    ends(alloc, &both, &named(alloc)?)
+}
+
+// The same of an address with one end.
+fn ends_of_one(alloc: Global) -> Result<(bool, IpAddr), AllocError> {
+    ends(alloc, &Address::from(HOME), &Ingress::from(HOME))
 }
 
 #[test]
-fn an_address_tells_its_two_ends(rt: HostRuntime) -> Result<(), Fail> {
-    let both = asymmetric(rt.alloc())?;
-    assert_eq!(rt; both.ingress(rt.alloc())?, named(rt.alloc())?);
-    assert_eq!(rt; both.egress_ip(), AWAY.ip);
-    let home = Address::from(HOME);
-    assert_eq!(rt; home.ingress(rt.alloc())?, Ingress::from(HOME));
-    assert_eq!(rt; home.egress_ip(), HOME.ip);
-    Ok(())
+fn an_address_tells_its_two_ends(rt: HostRuntime) {
+    assert_eq!(rt; ends_of_two(rt.alloc()), Ok((true, AWAY.ip)));
+    assert_eq!(rt; ends_of_one(rt.alloc()), Ok((true, HOME.ip)));
 }
 
 const PRINTED: &str =
     r#"Asymmetric { ingress: Dns { host: "peer.example", port: 1 }, egress: SocketAddr { ip: V4([11, 0, 0, 1]), port: 80 } }"#;
 
+// How an address with two ends prints.
+fn printed(alloc: Global) -> Result<String, AllocError> {
+    let both = asymmetric(alloc)?;
+    Ok(format!(in alloc; "{both:?}")?)
+}
+
 #[test]
 fn an_address_prints_its_parts(rt: HostRuntime) -> Result<(), Fail> {
-    let both = asymmetric(rt.alloc())?;
-    let text = format!(in rt.alloc(); "{both:?}")?;
-    assert_eq!(rt; text.as_str(), PRINTED);
+    assert_eq!(rt; printed(rt.alloc())?.as_str(), PRINTED);
     Ok(())
 }
