@@ -4,6 +4,16 @@ use p2p_base::Text;
 use std::alloc::{AllocError, Global};
 use std::test::Fail;
 
+// The first of these addresses that is global where none is to be, or is not where each is.
+fn otherwise(addresses: &[[u8; 4]], global: bool) -> Option<[u8; 4]> {
+    for bytes in addresses {
+        if is_global(&IpAddr::V4(*bytes)) != global {
+            return Some(*bytes);
+        }
+    }
+    None
+}
+
 #[test]
 fn ranges_of_v4_end_at_the_table(rt: HostRuntime) {
     let inside = [
@@ -34,9 +44,6 @@ fn ranges_of_v4_end_at_the_table(rt: HostRuntime) {
         [240, 0, 0, 0],
         [255, 255, 255, 255],
     ];
-    for bytes in inside {
-        assert!(rt; !is_global(&IpAddr::V4(bytes)), "{bytes:?}");
-    }
     let outside = [
         [1, 0, 0, 0],
         [9, 255, 255, 255],
@@ -63,9 +70,8 @@ fn ranges_of_v4_end_at_the_table(rt: HostRuntime) {
         [203, 0, 114, 0],
         [239, 255, 255, 255],
     ];
-    for bytes in outside {
-        assert!(rt; is_global(&IpAddr::V4(bytes)), "{bytes:?}");
-    }
+    let found = (otherwise(&inside, false), otherwise(&outside, true));
+    assert_eq!(rt; found, (None, None));
 }
 
 #[test]
@@ -103,16 +109,17 @@ fn ranges_of_v6_end_at_the_table(rt: HostRuntime) {
 
 #[test]
 fn subnets_keep_the_first_bits(rt: HostRuntime) {
-    assert_eq!(rt;
-        subnet(&IpAddr::V4([203, 7, 255, 9])),
-        IpAddr::V4([203, 7, 255, 0])
-    );
     let long: u128 = 0x2001_0db9_1234_5678_9abc_def0_1234_5678;
     let short: u128 = 0x2001_0db9_1234_0000_0000_0000_0000_0000;
-    assert_eq!(rt;
+    let found = [
+        subnet(&IpAddr::V4([203, 7, 255, 9])),
         subnet(&IpAddr::V6(long.to_be_bytes())),
-        IpAddr::V6(short.to_be_bytes())
-    );
+    ];
+    let wanted = [
+        IpAddr::V4([203, 7, 255, 0]),
+        IpAddr::V6(short.to_be_bytes()),
+    ];
+    assert_eq!(rt; found, wanted);
 }
 
 const HOME: SocketAddr = SocketAddr {
@@ -133,8 +140,11 @@ fn resolves(alloc: Global, private: bool, wanted: &[SocketAddr]) -> Result<bool,
 
 #[test]
 fn private_ones_are_resolved_by_leave(rt: HostRuntime) {
-    assert_eq!(rt; resolves(rt.alloc(), false, &[AWAY]), Ok(true));
-    assert_eq!(rt; resolves(rt.alloc(), true, &[HOME, AWAY, HOME]), Ok(true));
+    let found = [
+        resolves(rt.alloc(), false, &[AWAY]),
+        resolves(rt.alloc(), true, &[HOME, AWAY, HOME]),
+    ];
+    assert_eq!(rt; found, [Ok(true), Ok(true)]);
 }
 
 // A name that is looked up.
@@ -148,21 +158,17 @@ fn dialed(ingress: &Ingress) -> (bool, bool) {
     (ingress.is_valid(false, true), ingress.is_valid(true, false))
 }
 
-// The same of a socket.
-fn socket_is_dialed(address: SocketAddr) -> (bool, bool) {
-    dialed(&Ingress::from(address))
-}
-
-// The same of a name.
-fn name_is_dialed(alloc: Global) -> Result<(bool, bool), AllocError> {
-    Ok(dialed(&named(alloc)?))
+// The same of a private socket, of a global one, and of a name.
+fn dialed_each(alloc: Global) -> Result<[(bool, bool); 3], AllocError> {
+    let name = dialed(&named(alloc)?);
+    let home = dialed(&Ingress::from(HOME));
+    Ok([home, dialed(&Ingress::from(AWAY)), name])
 }
 
 #[test]
 fn private_ones_and_names_are_dialed_by_leave(rt: HostRuntime) {
-    assert_eq!(rt; socket_is_dialed(HOME), (false, true));
-    assert_eq!(rt; socket_is_dialed(AWAY), (true, true));
-    assert_eq!(rt; name_is_dialed(rt.alloc()), Ok((true, false)));
+    let wanted = [(false, true), (true, true), (true, false)];
+    assert_eq!(rt; dialed_each(rt.alloc()), Ok(wanted));
 }
 
 // An address that is dialed by name, and dials from another one.
@@ -174,17 +180,21 @@ fn asymmetric(alloc: Global) -> Result<Address, AllocError> {
     })
 }
 
-// Whether copies of an address are equal to it, and another address is.
-fn compares(alloc: Global) -> Result<(bool, bool, bool), AllocError> {
+// Whether copies of the address are equal to it.
+fn is_copied(alloc: Global, address: &Address) -> Result<(bool, bool), AllocError> {
+    let cloned = address.clone()? == *address;
+    Ok((cloned, address.try_clone(alloc)? == *address))
+}
+
+// The same of an address with two ends, and whether another one is equal to it.
+fn compares(alloc: Global) -> Result<((bool, bool), bool), AllocError> {
     let both = asymmetric(alloc)?;
-    let cloned = both.clone()? == both;
-    let copied = both.try_clone(alloc)? == both;
-    Ok((cloned, copied, Address::from(AWAY) == both))
+    Ok((is_copied(alloc, &both)?, both == Address::from(AWAY)))
 }
 
 #[test]
 fn an_address_equals_its_copies(rt: HostRuntime) {
-    assert_eq!(rt; compares(rt.alloc()), Ok((true, true, false)));
+    assert_eq!(rt; compares(rt.alloc()), Ok(((true, true), false)));
 }
 
 // Whether an address is dialed at this ingress, and where it dials from.
@@ -206,8 +216,8 @@ fn ends_of_one(alloc: Global) -> Result<(bool, IpAddr), AllocError> {
 
 #[test]
 fn an_address_tells_its_two_ends(rt: HostRuntime) {
-    assert_eq!(rt; ends_of_two(rt.alloc()), Ok((true, AWAY.ip)));
-    assert_eq!(rt; ends_of_one(rt.alloc()), Ok((true, HOME.ip)));
+    let found = [ends_of_two(rt.alloc()), ends_of_one(rt.alloc())];
+    assert_eq!(rt; found, [Ok((true, AWAY.ip)), Ok((true, HOME.ip))]);
 }
 
 const PRINTED: &str =

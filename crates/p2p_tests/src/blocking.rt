@@ -105,7 +105,7 @@ impl<P: PublicKey> Blocker for Stub<P> {
     ghost closed_once_ended = { λ m w s. elim w.has_ended as (λ b. ((if b then feedback.Closed else feedback.Ok) ≡ feedback.Closed) ↔ IsTrue b) [ true ↦ (λ _. refl, λ _. refl) | false ↦ (λ e. Prim.cc, λ h. Prim.cc) ] };
 }
 
-// A wall, where a set waits for the subscription 0 or none does, and its blocker.
+// A wall without subscriptions, which has ended or not, and its blocker.
 fn walled(alloc: Global, ended: bool) -> (Wall<Key>, Stub<Key>) {
     let sets = Vec::new(alloc);
     (Wall { ended, sets }, Stub { of: PhantomData })

@@ -4,6 +4,7 @@ ghost use Rattle.p2p_tests.specs.declared.data.Sample.TheVariants as sample;
 
 use p2p_base::{Key, List, PublicKey, Text};
 use std::alloc::{AllocError, Global};
+use std::fmt::Debug;
 
 #[derive(Drop, PartialEq, Eq)]
 enum Sample {
@@ -59,13 +60,17 @@ fn plain_data_compares(rt: HostRuntime) {
     assert_eq!(rt; comparisons(rt.alloc()), Ok(wanted));
 }
 
+// Whether a value prints so.
+fn prints<T: Debug>(alloc: Global, value: &T, text: &str) -> Result<bool, AllocError> {
+    Ok(format!(in alloc; "{value:?}")?.as_str() == text)
+}
+
 // Whether copies of a text are equal to it, and whether it prints in quotes.
 fn text_is_copied(alloc: Global) -> Result<(bool, bool, bool), AllocError> {
     let text = Text::from_str(alloc, "a")?;
     let cloned = text.clone()? == text;
     let copied = text.try_clone(alloc)? == text;
-    let printed = format!(in alloc; "{text:?}")?.as_str() == "\"a\"";
-    Ok((cloned, copied, printed))
+    Ok((cloned, copied, prints(alloc, &text, "\"a\"")?))
 }
 
 // Whether copies of a list are equal to it, and whether it prints as a slice.
@@ -73,8 +78,7 @@ fn list_is_copied(alloc: Global) -> Result<(bool, bool, bool), AllocError> {
     let list = List::from_slice(alloc, &[Key(1), Key(2)])?;
     let cloned = list.clone()? == list;
     let copied = list.try_clone(alloc)? == list;
-    let printed = format!(in alloc; "{list:?}")?.as_str() == "[Key(1), Key(2)]";
-    Ok((cloned, copied, printed))
+    Ok((cloned, copied, prints(alloc, &list, "[Key(1), Key(2)]")?))
 }
 
 #[test]
@@ -105,6 +109,6 @@ fn a_key_prints_in_decimal_and_has_eight_bytes_high_byte_first(rt: HostRuntime) 
 #[test]
 fn eight_bytes_make_a_key_and_seven_none(rt: HostRuntime) {
     let bytes = [0, 0, 0, 0, 0, 0, 1, 44];
-    assert_eq!(rt; Key::from_bytes(&bytes), Some(Key(300)));
-    assert_eq!(rt; Key::from_bytes(&bytes[1..]), None);
+    let found = [Key::from_bytes(&bytes), Key::from_bytes(&bytes[1..])];
+    assert_eq!(rt; found, [Some(Key(300)), None]);
 }

@@ -81,10 +81,12 @@ fn parsed(
 
 #[test]
 fn prefixes(rt: HostRuntime) {
-    assert_eq!(rt; is_prefix(rt.alloc(), 300, &[0xAC, 0x02]), Ok(true));
-    let found = parsed(rt.alloc(), &[0xAC, 0x02, 0x68, 0x69], b"hi");
-    assert_eq!(rt; found, Ok(Ok((300, true))));
-    assert_eq!(rt; prefixed(2), 12);
+    let found = (
+        is_prefix(rt.alloc(), 300, &[0xAC, 0x02]),
+        parsed(rt.alloc(), &[0xAC, 0x02, 0x68, 0x69], b"hi"),
+        prefixed(2),
+    );
+    assert_eq!(rt; found, (Ok(true), Ok(Ok((300, true))), 12));
 }
 
 // The channel of a message that is encoded once, and whether its bytes are those of its frame.
@@ -100,12 +102,13 @@ fn encoded(alloc: Global) -> Result<(u64, bool), AllocError> {
 
 #[test]
 fn sizes(rt: HostRuntime) {
-    assert_eq!(rt; encoded(rt.alloc()), Ok((7, true)));
-    assert_eq!(rt; [max_size(15), max_size(16)], [None, Some(0)]);
-    assert_eq!(rt;
+    let found = (
+        encoded(rt.alloc()),
+        [max_size(15), max_size(16)],
         [max_message_size(&[]), max_message_size(&[4, 9])],
-        [Some(0), Some(9)]
     );
+    let wanted = (Ok((7, true)), [None, Some(0)], [Some(0), Some(9)]);
+    assert_eq!(rt; found, wanted);
 }
 
 // Whether an error has this text.

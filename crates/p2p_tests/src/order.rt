@@ -19,19 +19,18 @@ fn told(set: &Set<Key>) -> (usize, bool, Option<usize>, Option<usize>) {
 // What is told of a set.
 type Told = (usize, bool, Option<usize>, Option<usize>);
 
-// What is told of a set of keys that were given twice, and whether it has each of them once.
-fn deduplicated(alloc: Global) -> Result<(Told, bool), AllocError> {
+// What is told of a set of keys that were given twice and of an empty set, and whether the first has each key once.
+fn deduplicated(alloc: Global) -> Result<([Told; 2], bool), AllocError> {
     let keys = [Key(5), Key(2), Key(9), Key(5), Key(2)];
     let set = Set::from_iter_dedup(Vec::from_slice(alloc, &keys)?)?;
     let each_once = set.as_slice() == KEYS.as_slice();
-    Ok((told(&set), each_once))
+    Ok(([told(&set), told(&Set::empty(alloc))], each_once))
 }
 
 #[test]
 fn a_set_has_each_key_once(rt: HostRuntime) {
-    let wanted = ((3, false, Some(1), None), true);
-    assert_eq!(rt; deduplicated(rt.alloc()), Ok(wanted));
-    assert_eq!(rt; told(&Set::empty(rt.alloc())), (0, true, None, None));
+    let wanted = [(3, false, Some(1), None), (0, true, None, None)];
+    assert_eq!(rt; deduplicated(rt.alloc()), Ok((wanted, true)));
 }
 
 // What is told of the set of these keys.
@@ -41,11 +40,17 @@ fn told_of(alloc: Global, keys: &[Key]) -> Result<Told, SetError> {
 
 #[test]
 fn a_set_takes_no_repeated_key(rt: HostRuntime) {
-    let wanted = (3, false, Some(1), None);
-    assert_eq!(rt; told_of(rt.alloc(), &[Key(9), Key(2), Key(5)]), Ok(wanted));
-    let repeated = [Key(1), Key(2), Key(3), Key(3)];
-    assert_eq!(rt; told_of(rt.alloc(), &repeated), Err(SetError::Duplicate));
-    assert_eq!(rt; told_of(rt.alloc(), &[]), Ok((0, true, None, None)));
+    let found = [
+        told_of(rt.alloc(), &[Key(9), Key(2), Key(5)]),
+        told_of(rt.alloc(), &[Key(1), Key(2), Key(3), Key(3)]),
+        told_of(rt.alloc(), &[]),
+    ];
+    let wanted = [
+        Ok((3, false, Some(1), None)),
+        Err(SetError::Duplicate),
+        Ok((0, true, None, None)),
+    ];
+    assert_eq!(rt; found, wanted);
 }
 
 // Whether copies of a set are equal to it, and an empty one is.

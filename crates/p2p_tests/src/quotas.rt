@@ -70,17 +70,22 @@ fn otherwise(mut limiter: RateLimiter, checks: &[(u64, Result<(), u128>)]) -> Op
     None
 }
 
-#[test]
-fn checks_of_one_limiter(rt: HostRuntime) -> Result<(), Fail> {
+// The same of all checks, with the burst.
+fn any_otherwise() -> Option<(u32, u64)> {
     for (burst, period, checks) in CHECKS {
-        let quota = Quota::new(burst, period).ok_or("a quota of nothing")?;
-        assert_eq!(rt;
-            otherwise(RateLimiter::new(quota), checks),
-            None,
-            "burst {burst}"
-        );
+        let Some(quota) = Quota::new(burst, period) else {
+            return Some((burst, 0));
+        };
+        if let Some(now) = otherwise(RateLimiter::new(quota), checks) {
+            return Some((burst, now));
+        }
     }
-    Ok(())
+    None
+}
+
+#[test]
+fn checks_of_one_limiter(rt: HostRuntime) {
+    assert_eq!(rt; any_otherwise(), None);
 }
 
 // Checks of keys at these moments, in turn, at burst 1 and period 10, with what each answers.

@@ -71,17 +71,17 @@ fn a_closed_relay_hands_messages_back(rt: HostRuntime) {
     assert_eq!(rt; closed(rt.alloc()), Ok(wanted));
 }
 
-// Whether lists of recipients are equal to themselves, and to others.
-fn lists_compare(alloc: Global) -> Result<(bool, bool), AllocError> {
+// Whether recipients are equal to themselves, and to others.
+fn recipients_compare(alloc: Global) -> Result<[bool; 3], AllocError> {
     let twice = Recipients::Some(List::from_slice(alloc, &[Key(2), Key(2)])?);
     let once = Recipients::Some(List::from_slice(alloc, &[Key(2)])?);
-    Ok((twice == twice, twice == once))
+    let one = Recipients::One(Key(2));
+    Ok([twice == twice, twice == once, one == Recipients::All])
 }
 
 #[test]
 fn plain_data_compares(rt: HostRuntime) {
-    assert_eq!(rt; lists_compare(rt.alloc()), Ok((true, false)));
-    assert!(rt; Recipients::One(Key(2)) != Recipients::All);
+    assert_eq!(rt; recipients_compare(rt.alloc()), Ok([true, false, false]));
     assert_eq!(rt; Polled::Ready(7), Polled::Ready(7));
-    assert_ne!(rt; Polled::Ready(7), Polled::Pending);
+    assert!(rt; Polled::Ready(7) != Polled::Pending);
 }
