@@ -1,5 +1,6 @@
 //! Small runs of messenger and router, with the answers that are wanted.
-ghost use Rattle.std.specs.Prelude.{◌≡◌, ◌+◌, ◌<◌, length, IfOk, OnOk};
+ghost use Rattle.std.specs.Prelude.{◌≡◌, ◌+◌, ◌<◌, length, IfOk, OnOk, IsTrue};
+ghost use Rattle.p2p_router.specs.Messenger.{is_unbound};
 
 use bytes::Bytes;
 use p2p_base::{Feedback, Key, List, Unreliable};
@@ -40,17 +41,21 @@ enum Taken {
     Subscription(u64),
 }
 
+fn taken_by(stepped: &Stepped<Key>) -> Taken {
+    match stepped {
+        Stepped::Idle => Taken::Nothing,
+        Stepped::Ready { conn, .. } => Taken::Ready(*conn),
+        Stepped::Release { peer, .. } => Taken::Release(*peer),
+        Stepped::Content { .. } => Taken::Content,
+        Stepped::SubscribePeers { subscription, .. } => Taken::Subscription(*subscription),
+    }
+}
+
 // What the next step takes.
 fn next_taken(actor: &mut Actor<Key>, messenger: &mut Messenger<Key>) -> Result<Taken, AllocError>
     ensures { length messenger.new.lists ≡ length messenger.old.lists }
 {
-    match actor.step(messenger)? {
-        Stepped::Idle => Ok(Taken::Nothing),
-        Stepped::Ready { conn, .. } => Ok(Taken::Ready(conn)),
-        Stepped::Release { peer, .. } => Ok(Taken::Release(peer)),
-        Stepped::Content { .. } => Ok(Taken::Content),
-        Stepped::SubscribePeers { subscription, .. } => Ok(Taken::Subscription(subscription)),
-    }
+    Ok(taken_by(&actor.step(messenger)?))
 }
 
 // What the first three steps of a router take.
@@ -66,21 +71,28 @@ fn offered(alloc: Global, mailbox: &mut Mailbox<Key>) -> Result<Unreliable, Allo
     mailbox.content(Recipients::One(Key(2)), frame(alloc)?, false)
 }
 
-// What a mailbox of one place answers to two frames and to a release, and what a router takes from it.
-fn overflowed(alloc: Global) -> Result<([Unreliable; 2], Feedback, [Taken; 3]), Fail> {
+// What a mailbox answers to two frames and to a release.
+fn fill(
+    alloc: Global,
+    mailbox: &mut Mailbox<Key>,
+) -> Result<([Unreliable; 2], Feedback), AllocError> {
+    let first = offered(alloc, mailbox)?;
+    let second = offered(alloc, mailbox)?;
+    Ok(([first, second], mailbox.release(Key(2))?))
+}
+
+// The same at a mailbox of one place, and what a router takes from it.
+fn overflowed(alloc: Global) -> Result<(([Unreliable; 2], Feedback), [Taken; 3]), Fail> {
     let mut mailbox = Mailbox::new(alloc, 1)?;
-    let first = offered(alloc, &mut mailbox)?;
-    let second = offered(alloc, &mut mailbox)?;
-    let released = mailbox.release(Key(2))?;
+    let answers = fill(alloc, &mut mailbox)?;
     let mut messenger = bound_to(alloc, mailbox)?;
-    let taken = first_taken(alloc, &mut messenger)?;
-    Ok(([first, second], released, taken))
+    Ok((answers, first_taken(alloc, &mut messenger)?))
 }
 
 #[test]
 fn a_full_mailbox_refuses_content_alone(rt: HostRuntime) -> Result<(), Fail> {
     let taken = [Taken::Content, Taken::Release(Key(2)), Taken::Nothing];
-    let wanted = ([OK, Unreliable::Rejected], Feedback::Backoff, taken);
+    let wanted = (([OK, Unreliable::Rejected], Feedback::Backoff), taken);
     assert_eq!(rt; overflowed(rt.alloc())?, wanted);
     Ok(())
 }
@@ -90,8 +102,26 @@ fn binding(messenger: &mut Messenger<Key>) -> (bool, Option<usize>) {
     (messenger.bound(), messenger.mailbox().map(|m| m.len()))
 }
 
-// What an unbound messenger answers to content and two subscriptions, and whether it has no mailbox; its binding once it has
-// one, and what a router takes from it.
+// What an unbound messenger answers to content and two subscriptions, and whether it has no mailbox. It has one then.
+fn bind_late(
+    alloc: Global,
+    messenger: &mut Messenger<Key>,
+) -> Result<(Unreliable, [u64; 2], bool), AllocError>
+    requires { IsTrue (is_unbound messenger.old.binding) }
+{
+    let hello = Bytes::from_static(b"hello");
+    let content = messenger.content(alloc, Recipients::All, 7, hello, true)?;
+    let first = messenger.subscribe(alloc)?;
+    let second = messenger.subscribe(alloc)?;
+    let has_none = messenger.mailbox().is_none();
+    let mailbox = Mailbox::<Key>::new(alloc, 1)?;
+    if messenger.bind(mailbox).is_err() {
+        return Err(AllocError);
+    }
+    Ok((content, [first, second], has_none))
+}
+
+// The same, its binding then, and what a router takes from the mailbox.
 fn bound_late(
     alloc: Global,
 ) -> Result<
@@ -103,18 +133,9 @@ fn bound_late(
     AllocError,
 > {
     let mut messenger = Messenger::unbound(alloc);
-    let hello = Bytes::from_static(b"hello");
-    let content = messenger.content(alloc, Recipients::All, 7, hello, true)?;
-    let first = messenger.subscribe(alloc)?;
-    let second = messenger.subscribe(alloc)?;
-    let has_none = messenger.mailbox().is_none();
-    let mailbox = Mailbox::<Key>::new(alloc, 1)?;
-    if messenger.bind(mailbox).is_err() {
-        return Err(AllocError);
-    }
+    let answers = bind_late(alloc, &mut messenger)?;
     let binding = binding(&mut messenger);
-    let taken = first_taken(alloc, &mut messenger)?;
-    Ok(((content, [first, second], has_none), binding, taken))
+    Ok((answers, binding, first_taken(alloc, &mut messenger)?))
 }
 
 #[test]
@@ -267,13 +288,26 @@ fn is_refused(
 }
 
 // These three in turn, with whether the key 3 has no relay.
+fn route(
+    alloc: Global,
+    actor: &mut Actor<Key>,
+    messenger: &mut Messenger<Key>,
+) -> Result<[bool; 4], Fail> {
+    let spread = are_spread(alloc, actor, messenger)?;
+    let unknown = actor.relay(&Key(3)).is_none();
+    let framed = has_frame(alloc, actor)?;
+    Ok([
+        spread,
+        unknown,
+        framed,
+        is_refused(alloc, actor, messenger)?,
+    ])
+}
+
+// The same at a new connection.
 fn routed(alloc: Global) -> Result<[bool; 4], Fail> {
     let (mut actor, mut messenger) = connected(alloc)?;
-    let spread = are_spread(alloc, &mut actor, &mut messenger)?;
-    let unknown = actor.relay(&Key(3)).is_none();
-    let framed = has_frame(alloc, &mut actor)?;
-    let refused = is_refused(alloc, &mut actor, &mut messenger)?;
-    Ok([spread, unknown, framed, refused])
+    route(alloc, &mut actor, &mut messenger)
 }
 
 #[test]
@@ -329,15 +363,24 @@ fn has_newest(
 }
 
 // What subscribers are told of two connections, how many there are, and what waits for the one that is kept.
+fn change(
+    alloc: Global,
+    actor: &mut Actor<Key>,
+    messenger: &mut Messenger<Key>,
+) -> Result<([bool; 4], usize, (bool, bool)), Fail> {
+    let kept = subscribed(alloc, messenger)?;
+    let dropped = subscribed(alloc, messenger)?;
+    messenger.close_peers(dropped);
+    ready(alloc, messenger, Key(2), 24)?;
+    ready(alloc, messenger, Key(1), 30)?;
+    let told = are_told(alloc, actor, messenger)?;
+    Ok((told, actor.len(), has_newest(alloc, messenger, kept)?))
+}
+
+// The same of a new router.
 fn changed(alloc: Global) -> Result<([bool; 4], usize, (bool, bool)), Fail> {
     let (mut actor, mut messenger) = started(alloc)?;
-    let kept = subscribed(alloc, &mut messenger)?;
-    let dropped = subscribed(alloc, &mut messenger)?;
-    messenger.close_peers(dropped);
-    ready(alloc, &mut messenger, Key(2), 24)?;
-    ready(alloc, &mut messenger, Key(1), 30)?;
-    let told = are_told(alloc, &mut actor, &mut messenger)?;
-    Ok((told, actor.len(), has_newest(alloc, &mut messenger, kept)?))
+    change(alloc, &mut actor, &mut messenger)
 }
 
 #[test]
@@ -349,16 +392,30 @@ fn subscribers_are_told_of_changes(rt: HostRuntime) -> Result<(), Fail> {
 
 // Whether a messenger is closed, what it answers to content, what a step takes, whether a new subscription has no list, and
 // how many peers are known.
-fn closed(alloc: Global) -> Result<(bool, Unreliable, Taken, bool, usize), Fail> {
-    let (mut actor, mut messenger) = started(alloc)?;
+fn close(
+    alloc: Global,
+    actor: &mut Actor<Key>,
+    messenger: &mut Messenger<Key>,
+) -> Result<(bool, Unreliable, Taken, bool, usize), Fail> {
     messenger.close();
     let is_closed = messenger.closed();
-    let answer = handed_in(alloc, &mut messenger, Recipients::All)?;
-    let late = subscribed(alloc, &mut messenger)?;
-    let taken = next_taken(&mut actor, &mut messenger)?;
+    let answer = handed_in(alloc, messenger, Recipients::All)?;
+    let late = subscribed(alloc, messenger)?;
+    let taken = next_taken(actor, messenger)?;
     let has_none = messenger.try_peers(late).is_none();
-    let known = messenger.peers(alloc)?.len();
-    Ok((is_closed, answer, taken, has_none, known))
+    Ok((
+        is_closed,
+        answer,
+        taken,
+        has_none,
+        messenger.peers(alloc)?.len(),
+    ))
+}
+
+// The same of a new one.
+fn closed(alloc: Global) -> Result<(bool, Unreliable, Taken, bool, usize), Fail> {
+    let (mut actor, mut messenger) = started(alloc)?;
+    close(alloc, &mut actor, &mut messenger)
 }
 
 #[test]

@@ -1,4 +1,7 @@
 //! Small runs of a router, with the rows that are wanted.
+ghost use Rattle.std.specs.Prelude.{IsTrue};
+ghost use Rattle.p2p_router.specs.Messenger.{is_unbound};
+
 use bytes::Bytes;
 use p2p_base::{Key, List};
 use p2p_log::{Item, Row};
@@ -13,12 +16,20 @@ fn counts(row: &Row) -> Counts {
     (row.takes.len(), row.puts.len(), row.ends.len())
 }
 
-// A router with one channel, which was told of a connection 2 with the key 5.
-fn started(alloc: Global) -> Result<Router, Fail> {
-    let mut router = Router::new(alloc, 3);
+// Starts a router with one channel, and tells it of a connection 2 with the key 5.
+fn start(alloc: Global, router: &mut Router) -> Result<(), Fail>
+    requires { IsTrue (is_unbound router.old.messenger.binding) }
+{
     router.subscribe(alloc, 7)?;
     router.start(alloc, 1, 4)?;
     router.ready(alloc, 2, 0, 2, Key(5), 1)?;
+    Ok(())
+}
+
+// A router that was started so.
+fn started(alloc: Global) -> Result<Router, Fail> {
+    let mut router = Router::new(alloc, 3);
+    start(alloc, &mut router)?;
     Ok(router)
 }
 
@@ -95,11 +106,16 @@ fn each_copy_waits_in_a_relay_or_ends(rt: HostRuntime) -> Result<(), Fail> {
 }
 
 // What three sends take, put and end.
+fn send_three_times(alloc: Global, router: &mut Router) -> Result<[Counts; 3], Fail> {
+    let first = sent(alloc, router, 3, &[Key(5)])?;
+    let second = sent(alloc, router, 4, &[Key(5)])?;
+    Ok([first, second, sent(alloc, router, 5, &[Key(5)])?])
+}
+
+// The same of a new router.
 fn sent_three_times(alloc: Global) -> Result<[Counts; 3], Fail> {
     let mut router = started(alloc)?;
-    let first = sent(alloc, &mut router, 3, &[Key(5)])?;
-    let second = sent(alloc, &mut router, 4, &[Key(5)])?;
-    Ok([first, second, sent(alloc, &mut router, 5, &[Key(5)])?])
+    send_three_times(alloc, &mut router)
 }
 
 #[test]
