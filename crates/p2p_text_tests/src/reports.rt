@@ -257,7 +257,7 @@ fn last_entries(alloc: Global, log: &mut Vec<Entry>) -> Result<(), AllocError> {
     Ok(())
 }
 
-const LINES: [&str; 18] = [
+const LINES: &[&str] = &[
     r#"{"end":[],"n":0,"put":[],"reply":{"capacity":8},"take":[]}"#,
     r#"{"end":[],"n":1,"put":[["router:0",{"subscribe":7}],["router:1",{"ready":{"conn":4,"key":2}}]],"reply":"ok","take":[]}"#,
     r#"{"end":[],"n":2,"put":[["router:0",{"content":{"channel":7,"frame":"0007026a4d","priority":true,"send":2,"to":[2,3,4,5]}}]],"reply":{"sent":[2,3,4,5]},"take":[]}"#,
@@ -305,7 +305,7 @@ fn is_written(alloc: Global, report: &Report, lines: &[&str]) -> Result<bool, Al
 
 // The same of a report with each kind of what there is, and of one without entries.
 fn are_written(alloc: Global) -> Result<(bool, bool), AllocError> {
-    let kinds = is_written(alloc, &report(alloc)?, &LINES)?;
+    let kinds = is_written(alloc, &report(alloc)?, LINES)?;
     let nothing = Report {
         log: List::empty(alloc),
     };

@@ -54,7 +54,7 @@ fn kind_with(alloc: Global, from: &str, to: &str) -> Result<&'static str, Fail> 
 }
 
 // Changes of the text above in one place, and of which kind it is then.
-const CHANGES_OF_KIND: [(&str, &str, &str); 32] = [
+const CHANGES_OF_KIND: &[(&str, &str, &str)] = &[
     (r#""a":0"#, r#""a":0"#, "a script"),
     (r#"{"one":2}"#, r#"{"some":[2]}"#, "a script"),
     (
@@ -111,7 +111,7 @@ const CHANGES_OF_KIND: [(&str, &str, &str); 32] = [
 
 #[test]
 fn kinds(rt: HostRuntime) -> Result<(), Fail> {
-    for (from, to, expected) in CHANGES_OF_KIND {
+    for &(from, to, expected) in CHANGES_OF_KIND {
         assert_eq!(rt; kind_with(rt.alloc(), from, to)?, expected, "{to}");
     }
     Ok(())
@@ -138,7 +138,7 @@ const SEND: &str =
 const OTHER: &str = r#""channel":7,"do":"register","node":1"#;
 
 // Changes of the text above in one or two places, and of which form it is then.
-const CHANGES_OF_FORM: [(&str, &str, &str, &str, &str); 15] = [
+const CHANGES_OF_FORM: &[(&str, &str, &str, &str, &str)] = &[
     ("", "", "", "", "first form"),
     (
         r#""priority":false"#,
@@ -224,7 +224,7 @@ const CHANGES_OF_FORM: [(&str, &str, &str, &str, &str); 15] = [
 
 #[test]
 fn forms(rt: HostRuntime) -> Result<(), Fail> {
-    for (from, to, also_from, also_to, expected) in CHANGES_OF_FORM {
+    for &(from, to, also_from, also_to, expected) in CHANGES_OF_FORM {
         let found = form_with(rt.alloc(), from, to, also_from, also_to)?;
         assert_eq!(rt; found, expected, "{to} {also_to}");
     }
