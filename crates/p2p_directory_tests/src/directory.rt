@@ -1,11 +1,11 @@
 //! Records and directories at concrete keys.
+use crate::oracle::taken;
 use p2p_address::{Address, IpAddr, SocketAddr};
 use p2p_base::{Feedback, Key, Map, Set, SetError};
 use p2p_directory::{Config, DialStatus, Directory, Metadata, Record, ReserveResult};
 use p2p_flow::{AddressableTrackedPeers, PeerSetUpdate, TrackedPeers};
-use p2p_oracle::{Mailbox, Message};
+use p2p_oracle::Mailbox;
 use std::alloc::{AllocError, Global};
-use std::test::Fail;
 
 // What a directory is asked. A key is a number, and so is a host: the last byte of its address.
 #[derive(Clone, Copy)]
@@ -105,13 +105,26 @@ fn release(directory: &mut Directory<Key>, key: u64) -> bool {
     true
 }
 
+fn dial(directory: &mut Directory<Key>, key: u64, now: u64) -> Result<bool, AllocError> {
+    Ok(directory.dial(&Key(key), now, 0)?.is_some())
+}
+
+fn listen(
+    directory: &mut Directory<Key>,
+    key: u64,
+    host: u8,
+    now: u64,
+) -> Result<bool, AllocError> {
+    Ok(directory.listen(&Key(key), ip(host), now, 0)?.is_some())
+}
+
 // Whether a question that has no set is answered by yes.
 fn holds(directory: &mut Directory<Key>, ask: Ask) -> Result<bool, AllocError> {
     match ask {
         Ask::Track(_, _, _) => Ok(false),
         Ask::Overwrite(key, host) => directory.overwrite(&Key(key), address(host)),
-        Ask::Dial(key, now) => Ok(directory.dial(&Key(key), now, 0)?.is_some()),
-        Ask::Listen(key, host, now) => Ok(directory.listen(&Key(key), ip(host), now, 0)?.is_some()),
+        Ask::Dial(key, now) => dial(directory, key, now),
+        Ask::Listen(key, host, now) => listen(directory, key, host, now),
         Ask::Connect(key) => Ok(connect(directory, key)),
         Ask::Release(key) => Ok(release(directory, key)),
         Ask::Block(key, now) => directory.block(&Key(key), now),
@@ -143,18 +156,24 @@ fn otherwise(
     Ok(None)
 }
 
-#[test]
-fn a_record_is_reserved_once(rt: HostRuntime) {
+// Whether a new primary peer may come from its host, what its record says of a dial, and what two reservations give.
+fn reserved_twice() -> (bool, DialStatus, [ReserveResult; 2]) {
     let mut record = Record::known(address(7));
     record.increment_primary();
-    assert!(rt; record.acceptable(ip(7), false));
-    assert_eq!(rt; record.dialable(0, true, false), DialStatus::Now);
-    assert_eq!(rt; record.reserve(0, 10, 3), ReserveResult::Reserved);
-    assert_eq!(rt; record.reserve(20, 10, 3), ReserveResult::Unavailable);
+    let acceptable = record.acceptable(ip(7), false);
+    let dialable = record.dialable(0, true, false);
+    let first = record.reserve(0, 10, 3);
+    (acceptable, dialable, [first, record.reserve(20, 10, 3)])
 }
 
 #[test]
-fn a_block_ends_at_its_moment(rt: HostRuntime) -> Result<(), Fail> {
+fn a_record_is_reserved_once(rt: HostRuntime) {
+    let reserved = [ReserveResult::Reserved, ReserveResult::Unavailable];
+    assert_eq!(rt; reserved_twice(), (true, DialStatus::Now, reserved));
+}
+
+#[test]
+fn a_block_ends_at_its_moment(rt: HostRuntime) {
     let table = [
         (Ask::Block(7, 10), Answer::Yes),
         (Ask::Block(7, 14), Answer::No),
@@ -164,12 +183,11 @@ fn a_block_ends_at_its_moment(rt: HostRuntime) -> Result<(), Fail> {
         (Ask::Unblock(20), Answer::Yes),
         (Ask::Unblock(20), Answer::No),
     ];
-    assert_eq!(rt; otherwise(rt.alloc(), 2, table.as_slice())?, None);
-    Ok(())
+    assert_eq!(rt; otherwise(rt.alloc(), 2, table.as_slice()), Ok(None));
 }
 
 #[test]
-fn who_is_in_no_set_is_refused(rt: HostRuntime) -> Result<(), Fail> {
+fn who_is_in_no_set_is_refused(rt: HostRuntime) {
     let table = [
         (Ask::Eligible(7, 0), Answer::No),
         (Ask::Acceptable(7, 7, 0), Answer::No),
@@ -177,12 +195,11 @@ fn who_is_in_no_set_is_refused(rt: HostRuntime) -> Result<(), Fail> {
         (Ask::Dial(7, 0), Answer::No),
         (Ask::Listen(7, 7, 0), Answer::No),
     ];
-    assert_eq!(rt; otherwise(rt.alloc(), 2, table.as_slice())?, None);
-    Ok(())
+    assert_eq!(rt; otherwise(rt.alloc(), 2, table.as_slice()), Ok(None));
 }
 
 #[test]
-fn the_cooldown_lasts_while_the_record_does(rt: HostRuntime) -> Result<(), Fail> {
+fn the_cooldown_lasts_while_the_record_does(rt: HostRuntime) {
     let table = [
         (Ask::Track(0, 7, 7), Answer::Kills(0)),
         (Ask::Dial(7, 0), Answer::Yes),
@@ -191,12 +208,11 @@ fn the_cooldown_lasts_while_the_record_does(rt: HostRuntime) -> Result<(), Fail>
         (Ask::Dial(7, 999_999_999), Answer::No),
         (Ask::Dial(7, 1_000_000_000), Answer::Yes),
     ];
-    assert_eq!(rt; otherwise(rt.alloc(), 1, table.as_slice())?, None);
-    Ok(())
+    assert_eq!(rt; otherwise(rt.alloc(), 1, table.as_slice()), Ok(None));
 }
 
 #[test]
-fn a_new_record_has_no_cooldown(rt: HostRuntime) -> Result<(), Fail> {
+fn a_new_record_has_no_cooldown(rt: HostRuntime) {
     let table = [
         (Ask::Track(0, 7, 7), Answer::Kills(0)),
         (Ask::Dial(7, 0), Answer::Yes),
@@ -207,24 +223,22 @@ fn a_new_record_has_no_cooldown(rt: HostRuntime) -> Result<(), Fail> {
         (Ask::Dial(7, 0), Answer::Yes),
         (Ask::Track(2, 7, 7), Answer::Refused),
     ];
-    assert_eq!(rt; otherwise(rt.alloc(), 1, table.as_slice())?, None);
-    Ok(())
+    assert_eq!(rt; otherwise(rt.alloc(), 1, table.as_slice()), Ok(None));
 }
 
 #[test]
-fn a_change_of_address_kills(rt: HostRuntime) -> Result<(), Fail> {
+fn a_change_of_address_kills(rt: HostRuntime) {
     let table = [
         (Ask::Track(0, 7, 7), Answer::Kills(0)),
         (Ask::Dial(7, 0), Answer::Yes),
         (Ask::Track(1, 7, 8), Answer::Kills(1)),
         (Ask::Track(2, 7, 7), Answer::Kills(1)),
     ];
-    assert_eq!(rt; otherwise(rt.alloc(), 1, table.as_slice())?, None);
-    Ok(())
+    assert_eq!(rt; otherwise(rt.alloc(), 1, table.as_slice()), Ok(None));
 }
 
 #[test]
-fn an_address_there_and_back_kills_with_the_next_set(rt: HostRuntime) -> Result<(), Fail> {
+fn an_address_there_and_back_kills_with_the_next_set(rt: HostRuntime) {
     let table = [
         (Ask::Track(0, 7, 7), Answer::Kills(0)),
         (Ask::Dial(7, 0), Answer::Yes),
@@ -234,12 +248,11 @@ fn an_address_there_and_back_kills_with_the_next_set(rt: HostRuntime) -> Result<
         (Ask::Connect(7), Answer::No),
         (Ask::Track(1, 7, 7), Answer::Kills(1)),
     ];
-    assert_eq!(rt; otherwise(rt.alloc(), 1, table.as_slice())?, None);
-    Ok(())
+    assert_eq!(rt; otherwise(rt.alloc(), 1, table.as_slice()), Ok(None));
 }
 
 #[test]
-fn who_listens_is_looked_at_anew(rt: HostRuntime) -> Result<(), Fail> {
+fn who_listens_is_looked_at_anew(rt: HostRuntime) {
     let table = [
         (Ask::Track(0, 7, 7), Answer::Kills(0)),
         (Ask::Acceptable(7, 7, 0), Answer::Yes),
@@ -249,8 +262,7 @@ fn who_listens_is_looked_at_anew(rt: HostRuntime) -> Result<(), Fail> {
         (Ask::Connect(7), Answer::Yes),
         (Ask::Acceptable(7, 8, 0), Answer::No),
     ];
-    assert_eq!(rt; otherwise(rt.alloc(), 1, table.as_slice())?, None);
-    Ok(())
+    assert_eq!(rt; otherwise(rt.alloc(), 1, table.as_slice()), Ok(None));
 }
 
 // A directory with a set of the key 7 and one of the key 8.
@@ -276,24 +288,27 @@ fn dial_and_give_back(
     }
 }
 
+// What the mailbox tells at two dials.
+fn dial_twice(
+    directory: &mut Directory<Key>,
+    way: &mut Mailbox<Key>,
+) -> Result<[Option<Feedback>; 2], AllocError> {
+    let first = dial_and_give_back(directory, way)?;
+    Ok([first, dial_and_give_back(directory, way)?])
+}
+
+// The same, and what it holds then.
+fn given_back(alloc: Global) -> Result<([Option<Feedback>; 2], [(char, u64); 2]), SetError> {
+    let mut directory = two_sets(alloc)?;
+    let mut way = Mailbox::new(alloc, 1)?;
+    let told = dial_twice(&mut directory, &mut way)?;
+    Ok((told, [taken(&mut way), taken(&mut way)]))
+}
+
 #[test]
-fn a_reservation_goes_back_through_the_mailbox(rt: HostRuntime) -> Result<(), Fail> {
-    let mut directory = two_sets(rt.alloc())?;
-    let mut way = Mailbox::new(rt.alloc(), 1)?;
-    let first = dial_and_give_back(&mut directory, &mut way)?;
-    assert_eq!(rt; first, Some(Feedback::Ok));
-    let second = dial_and_give_back(&mut directory, &mut way)?;
-    assert_eq!(rt; second, None);
-    assert!(rt;
-        matches!(
-            way.take(),
-            Some(Message::Release {
-                metadata: Metadata::Dialer(Key(8))
-            })
-        )
-    );
-    assert!(rt; way.take().is_none());
-    Ok(())
+fn a_reservation_goes_back_through_the_mailbox(rt: HostRuntime) {
+    let wanted = ([Some(Feedback::Ok), None], [('g', 8), ('-', 0)]);
+    assert_eq!(rt; given_back(rt.alloc()), Ok(wanted));
 }
 
 // These keys as primary peers.
@@ -302,27 +317,77 @@ fn primary(alloc: Global, keys: &[Key]) -> Result<TrackedPeers<Key>, AllocError>
     Ok(TrackedPeers::primary(alloc, keys))
 }
 
-#[test]
-fn the_latest_update_is_that_of_the_newest_set(rt: HostRuntime) -> Result<(), Fail> {
-    assert!(rt; alone(rt.alloc(), 2)?.latest_update()?.is_none());
-    let directory = two_sets(rt.alloc())?;
-    let index = 5;
-    let latest = primary(rt.alloc(), &[Key(8)])?;
-    let all = primary(rt.alloc(), &[Key(7), Key(8)])?;
-    assert!(rt; directory.get_peer_set(index)? == Some(latest.try_clone()?));
-    assert!(rt; directory.latest_update()? == Some(PeerSetUpdate { index, latest, all }));
-    Ok(())
+// Whether the set 5 has the key 8 alone.
+fn has_newest_set(alloc: Global, directory: &Directory<Key>) -> Result<bool, AllocError> {
+    let latest = primary(alloc, &[Key(8)])?;
+    Ok(directory.get_peer_set(5)? == Some(latest))
+}
+
+// The update of the set 5.
+fn newest_update(alloc: Global) -> Result<PeerSetUpdate<Key>, AllocError> {
+    let latest = primary(alloc, &[Key(8)])?;
+    let all = primary(alloc, &[Key(7), Key(8)])?;
+    Ok(PeerSetUpdate {
+        index: 5,
+        latest,
+        all,
+    })
+}
+
+// Whether that is the latest one.
+fn has_newest_update(alloc: Global, directory: &Directory<Key>) -> Result<bool, AllocError> {
+    let wanted = newest_update(alloc)?;
+    Ok(directory.latest_update()? == Some(wanted))
+}
+
+// The same of a directory of two sets.
+fn has_newest(alloc: Global) -> Result<(bool, bool), SetError> {
+    let directory = two_sets(alloc)?;
+    let has_set = has_newest_set(alloc, &directory)?;
+    Ok((has_set, has_newest_update(alloc, &directory)?))
+}
+
+// Whether a directory without sets has no update.
+fn has_no_update(alloc: Global) -> Result<bool, AllocError> {
+    let directory = alone(alloc, 2)?;
+    Ok(directory.latest_update()?.is_none())
 }
 
 #[test]
-fn who_is_tracked_and_not_blocked_is_listed(rt: HostRuntime) -> Result<(), Fail> {
-    let mut directory = two_sets(rt.alloc())?;
-    assert!(rt; directory.block(&Key(7), 0)?);
+fn the_latest_update_is_that_of_the_newest_set(rt: HostRuntime) {
+    assert_eq!(rt; has_no_update(rt.alloc()), Ok(true));
+    assert_eq!(rt; has_newest(rt.alloc()), Ok((true, true)));
+}
+
+// Whether the key 8 alone is listed for dialing at a moment, with the moment of the next query, and how many are at the next
+// moment.
+fn dialable(directory: &Directory<Key>) -> Result<(bool, Option<u128>, usize), AllocError> {
     let listed = directory.dialable(4)?;
-    assert_eq!(rt; listed.peers.as_slice(), [Key(8)].as_slice());
-    assert_eq!(rt; listed.next_query_at, Some(5));
-    assert_eq!(rt; directory.dialable(5)?.peers.len(), 2);
-    assert_eq!(rt; directory.listenable(4)?.as_slice(), [ip(8)].as_slice());
-    assert_eq!(rt; directory.blocked_peers(4)?.as_slice(), [Key(7)].as_slice());
-    Ok(())
+    let alone = listed.peers.as_slice() == [Key(8)].as_slice();
+    Ok((
+        alone,
+        listed.next_query_at,
+        directory.dialable(5)?.peers.len(),
+    ))
+}
+
+// Whether the host 8 alone is listed for listening, and the key 7 alone as blocked.
+fn listenable(directory: &Directory<Key>) -> Result<(bool, bool), AllocError> {
+    let listenable = directory.listenable(4)?.as_slice() == [ip(8)].as_slice();
+    let blocked = directory.blocked_peers(4)?.as_slice() == [Key(7)].as_slice();
+    Ok((listenable, blocked))
+}
+
+// Whether the key 7 is blocked, and what is listed then.
+fn listed(alloc: Global) -> Result<(bool, (bool, Option<u128>, usize), (bool, bool)), SetError> {
+    let mut directory = two_sets(alloc)?;
+    let blocked = directory.block(&Key(7), 0)?;
+    let dialable = dialable(&directory)?;
+    Ok((blocked, dialable, listenable(&directory)?))
+}
+
+#[test]
+fn who_is_tracked_and_not_blocked_is_listed(rt: HostRuntime) {
+    let wanted = (true, (true, Some(5), 2), (true, true));
+    assert_eq!(rt; listed(rt.alloc()), Ok(wanted));
 }

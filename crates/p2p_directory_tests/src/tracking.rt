@@ -1,10 +1,10 @@
 //! Peer sets that are handed in.
+use crate::oracle::taken;
 use p2p_address::{Address, IpAddr, SocketAddr};
 use p2p_base::{Feedback, Key, Map, SetError};
 use p2p_flow::{AddressableManager, AddressableTrackedPeers, TrackError};
-use p2p_oracle::{Mailbox, Message, Oracle};
+use p2p_oracle::{Mailbox, Oracle};
 use std::alloc::{AllocError, Global};
-use std::test::Fail;
 
 // These keys with one address.
 fn at(alloc: Global, keys: &[Key]) -> Result<Map<Key, Address>, SetError> {
@@ -21,33 +21,52 @@ fn at(alloc: Global, keys: &[Key]) -> Result<Map<Key, Address>, SetError> {
     Map::try_from(pairs)
 }
 
-#[test]
-fn a_set_with_too_many_keys_is_refused(rt: HostRuntime) -> Result<(), Fail> {
-    let mut way = Mailbox::new(rt.alloc(), 4)?;
-    let mut oracle = Oracle::new(Key(1), 2);
-    let primary = at(rt.alloc(), &[Key(2)])?;
-    let secondary = at(rt.alloc(), &[Key(3)])?;
+// What an oracle whose sets have at most two keys is told at one of these keys.
+fn tracked(
+    alloc: Global,
+    way: &mut Mailbox<Key>,
+    primary: &[Key],
+    secondary: &[Key],
+) -> Result<Result<Feedback, TrackError>, SetError> {
+    let primary = at(alloc, primary)?;
+    let secondary = at(alloc, secondary)?;
     let peers = AddressableTrackedPeers::new(primary, secondary);
-    let told = oracle.track(rt.alloc(), &mut way, 0, peers);
-    assert!(rt; told == Err(TrackError::PeerSetTooLarge { count: 3, limit: 2 }));
-    assert!(rt; way.take().is_none());
-    Ok(())
+    Ok(Oracle::new(Key(1), 2).track(alloc, way, 6, peers))
+}
+
+// The same of two keys, which are three with its own, and what waits then.
+fn refused(alloc: Global) -> Result<(Result<Feedback, TrackError>, (char, u64)), SetError> {
+    let mut way = Mailbox::new(alloc, 4)?;
+    let told = tracked(alloc, &mut way, &[Key(2)], &[Key(3)])?;
+    Ok((told, taken(&mut way)))
 }
 
 #[test]
-fn a_set_that_fits_waits_for_the_tracker(rt: HostRuntime) -> Result<(), Fail> {
-    let mut way = Mailbox::new(rt.alloc(), 1)?;
-    let mut oracle = Oracle::new(Key(1), 2);
-    let primary = at(rt.alloc(), &[Key(1), Key(2)])?;
-    let secondary = at(rt.alloc(), &[Key(2)])?;
-    let peers = AddressableTrackedPeers::new(primary, secondary);
-    let told = oracle.track(rt.alloc(), &mut way, 6, peers);
-    assert!(rt; told == Ok(Feedback::Ok));
-    let again = at(rt.alloc(), &[Key(2)])?;
-    let told = oracle.overwrite(rt.alloc(), &mut way, again)?;
-    assert_eq!(rt; told, Feedback::Backoff);
-    assert!(rt; matches!(way.take(), Some(Message::Register { index: 6, .. })));
-    assert!(rt; matches!(way.take(), Some(Message::Overwrite { .. })));
-    assert!(rt; way.take().is_none());
-    Ok(())
+fn a_set_with_too_many_keys_is_refused(rt: HostRuntime) {
+    let refusal = TrackError::PeerSetTooLarge { count: 3, limit: 2 };
+    assert_eq!(rt; refused(rt.alloc()), Ok((Err(refusal), ('-', 0))));
+}
+
+// What it is told at a new address of a key.
+fn overwritten(alloc: Global, way: &mut Mailbox<Key>) -> Result<Feedback, SetError> {
+    let peers = at(alloc, &[Key(2)])?;
+    Ok(Oracle::new(Key(1), 2).overwrite(alloc, way, peers)?)
+}
+
+// What is told at a set that fits and at a new address, and what waits then.
+fn accepted(
+    alloc: Global,
+) -> Result<(Result<Feedback, TrackError>, Feedback, [(char, u64); 3]), SetError> {
+    let mut way = Mailbox::new(alloc, 1)?;
+    let told = tracked(alloc, &mut way, &[Key(1), Key(2)], &[Key(2)])?;
+    let again = overwritten(alloc, &mut way)?;
+    let waiting = [taken(&mut way), taken(&mut way), taken(&mut way)];
+    Ok((told, again, waiting))
+}
+
+#[test]
+fn a_set_that_fits_waits_for_the_tracker(rt: HostRuntime) {
+    let waiting = [('r', 6), ('o', 0), ('-', 0)];
+    let wanted = (Ok(Feedback::Ok), Feedback::Backoff, waiting);
+    assert_eq!(rt; accepted(rt.alloc()), Ok(wanted));
 }

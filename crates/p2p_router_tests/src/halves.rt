@@ -7,7 +7,6 @@ use p2p_log::{Envelope, Item, Queue, Side};
 use p2p_wire::EncodedData;
 use std::alloc::{AllocError, Global};
 use std::collections::BTreeMap;
-use std::test::Fail;
 
 /// A board on whose link the frame of `hi` on channel 5 stands.
 fn written(alloc: Global) -> Result<Board<Envelope>, AllocError> {
@@ -46,9 +45,7 @@ fn read(alloc: Global, limit: u32) -> Result<usize, AllocError> {
 }
 
 #[test]
-fn moves_a_message(rt: HostRuntime) -> Result<(), Fail> {
-    let alloc = rt.alloc();
-    assert_eq!(rt; read(alloc, 2)?, 1);
-    assert_eq!(rt; read(alloc, 1)?, 0);
-    Ok(())
+fn moves_a_message(rt: HostRuntime) {
+    assert_eq!(rt; read(rt.alloc(), 2), Ok(1));
+    assert_eq!(rt; read(rt.alloc(), 1), Ok(0));
 }

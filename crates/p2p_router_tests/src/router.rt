@@ -1,5 +1,6 @@
 //! Small runs of messenger and router, with the answers that are wanted.
-ghost use Rattle.std.specs.Prelude.{◌≡◌, ◌+◌, length, IfOk, OnOk};
+ghost use Rattle.std.specs.Prelude.{◌≡◌, ◌+◌, ◌<◌, length, IfOk, OnOk, IsTrue};
+ghost use Rattle.p2p_router.specs.Messenger.{is_unbound};
 
 use bytes::Bytes;
 use p2p_base::{Feedback, Key, List, Unreliable};
@@ -40,15 +41,21 @@ enum Taken {
     Subscription(u64),
 }
 
-// What the next step takes.
-fn next_taken(actor: &mut Actor<Key>, messenger: &mut Messenger<Key>) -> Result<Taken, AllocError> {
-    match actor.step(messenger)? {
-        Stepped::Idle => Ok(Taken::Nothing),
-        Stepped::Ready { conn, .. } => Ok(Taken::Ready(conn)),
-        Stepped::Release { peer, .. } => Ok(Taken::Release(peer)),
-        Stepped::Content { .. } => Ok(Taken::Content),
-        Stepped::SubscribePeers { subscription, .. } => Ok(Taken::Subscription(subscription)),
+fn taken_by(stepped: &Stepped<Key>) -> Taken {
+    match stepped {
+        Stepped::Idle => Taken::Nothing,
+        Stepped::Ready { conn, .. } => Taken::Ready(*conn),
+        Stepped::Release { peer, .. } => Taken::Release(*peer),
+        Stepped::Content { .. } => Taken::Content,
+        Stepped::SubscribePeers { subscription, .. } => Taken::Subscription(*subscription),
     }
+}
+
+// What the next step takes.
+fn next_taken(actor: &mut Actor<Key>, messenger: &mut Messenger<Key>) -> Result<Taken, AllocError>
+    ensures { length messenger.new.lists ≡ length messenger.old.lists }
+{
+    Ok(taken_by(&actor.step(messenger)?))
 }
 
 // What the first three steps of a router take.
@@ -64,49 +71,82 @@ fn offered(alloc: Global, mailbox: &mut Mailbox<Key>) -> Result<Unreliable, Allo
     mailbox.content(Recipients::One(Key(2)), frame(alloc)?, false)
 }
 
-#[test]
-fn a_full_mailbox_refuses_content_alone(rt: HostRuntime) -> Result<(), Fail> {
-    let alloc = rt.alloc();
+// What a mailbox answers to two frames and to a release.
+fn fill(
+    alloc: Global,
+    mailbox: &mut Mailbox<Key>,
+) -> Result<([Unreliable; 2], Feedback), AllocError> {
+    let first = offered(alloc, mailbox)?;
+    let second = offered(alloc, mailbox)?;
+    Ok(([first, second], mailbox.release(Key(2))?))
+}
+
+// The same at a mailbox of one place, and what a router takes from it.
+fn overflowed(alloc: Global) -> Result<(([Unreliable; 2], Feedback), [Taken; 3]), Fail> {
     let mut mailbox = Mailbox::new(alloc, 1)?;
-    assert_eq!(rt; offered(alloc, &mut mailbox)?, OK);
-    assert_eq!(rt; offered(alloc, &mut mailbox)?, Unreliable::Rejected);
-    assert_eq!(rt; mailbox.release(Key(2))?, Feedback::Backoff);
+    let answers = fill(alloc, &mut mailbox)?;
     let mut messenger = bound_to(alloc, mailbox)?;
-    assert_eq!(rt;
-        first_taken(alloc, &mut messenger)?,
-        [Taken::Content, Taken::Release(Key(2)), Taken::Nothing]
-    );
-    Ok(())
+    Ok((answers, first_taken(alloc, &mut messenger)?))
 }
 
 #[test]
-fn what_waits_is_put_at_bind(rt: HostRuntime) -> Result<(), Fail> {
-    let alloc = rt.alloc();
-    let mut messenger = Messenger::unbound(alloc);
-    let content = messenger.content(
-        alloc,
-        Recipients::All,
-        7,
-        Bytes::from_static(b"hello"),
-        true,
-    );
-    assert_eq!(rt; content?, OK);
-    assert_eq!(rt;
-        (messenger.subscribe(alloc)?, messenger.subscribe(alloc)?),
-        (0, 1)
-    );
-    assert!(rt; messenger.mailbox().is_none());
+fn a_full_mailbox_refuses_content_alone(rt: HostRuntime) -> Result<(), Fail> {
+    let taken = [Taken::Content, Taken::Release(Key(2)), Taken::Nothing];
+    let wanted = (([OK, Unreliable::Rejected], Feedback::Backoff), taken);
+    assert_eq!(rt; overflowed(rt.alloc())?, wanted);
+    Ok(())
+}
+
+// Whether a messenger is bound, and how many messages stand in its mailbox.
+fn binding(messenger: &mut Messenger<Key>) -> (bool, Option<usize>) {
+    (messenger.bound(), messenger.mailbox().map(|m| m.len()))
+}
+
+// What an unbound messenger answers to content and two subscriptions, and whether it has no mailbox. It has one then.
+fn bind_late(
+    alloc: Global,
+    messenger: &mut Messenger<Key>,
+) -> Result<(Unreliable, [u64; 2], bool), AllocError>
+    requires { IsTrue (is_unbound messenger.old.binding) }
+{
+    let hello = Bytes::from_static(b"hello");
+    let content = messenger.content(alloc, Recipients::All, 7, hello, true)?;
+    let first = messenger.subscribe(alloc)?;
+    let second = messenger.subscribe(alloc)?;
+    let has_none = messenger.mailbox().is_none();
     let mailbox = Mailbox::<Key>::new(alloc, 1)?;
-    assert!(rt; messenger.bind(mailbox).is_ok());
-    assert!(rt; messenger.bound());
-    assert_eq!(rt; messenger.mailbox().map(|m| m.len()), Some(2));
-    let wanted = [
+    if messenger.bind(mailbox).is_err() {
+        return Err(AllocError);
+    }
+    Ok((content, [first, second], has_none))
+}
+
+// The same, its binding then, and what a router takes from the mailbox.
+fn bound_late(
+    alloc: Global,
+) -> Result<
+    (
+        (Unreliable, [u64; 2], bool),
+        (bool, Option<usize>),
+        [Taken; 3],
+    ),
+    AllocError,
+> {
+    let mut messenger = Messenger::unbound(alloc);
+    let answers = bind_late(alloc, &mut messenger)?;
+    let binding = binding(&mut messenger);
+    Ok((answers, binding, first_taken(alloc, &mut messenger)?))
+}
+
+#[test]
+fn what_waits_is_put_at_bind(rt: HostRuntime) {
+    let taken = [
         Taken::Subscription(0),
         Taken::Subscription(1),
         Taken::Nothing,
     ];
-    assert_eq!(rt; first_taken(alloc, &mut messenger)?, wanted);
-    Ok(())
+    let wanted = ((OK, [0, 1], true), (true, Some(2)), taken);
+    assert_eq!(rt; bound_late(rt.alloc()), Ok(wanted));
 }
 
 // A bound messenger and its router, with nothing to do.
@@ -204,12 +244,14 @@ fn closed_after(actor: &mut Actor<Key>) -> Option<EncodedData> {
     frame
 }
 
-#[test]
-fn each_recipient_gets_a_copy_or_a_cause(rt: HostRuntime) -> Result<(), Fail> {
-    let alloc = rt.alloc();
-    let (mut actor, mut messenger) = connected(alloc)?;
+// Whether two copies for the key 2, and one for the key 3 between them, become what is wanted.
+fn are_spread(
+    alloc: Global,
+    actor: &mut Actor<Key>,
+    messenger: &mut Messenger<Key>,
+) -> Result<bool, Fail> {
     let some = Recipients::Some(List::from_slice(alloc, &[Key(2), Key(3), Key(2)])?);
-    let copies = sent(alloc, &mut actor, &mut messenger, some)?;
+    let copies = sent(alloc, actor, messenger, some)?;
     let wanted = [
         Routed::Put {
             peer: Key(2),
@@ -222,52 +264,164 @@ fn each_recipient_gets_a_copy_or_a_cause(rt: HostRuntime) -> Result<(), Fail> {
             conn: 24,
         },
     ];
-    assert!(rt; copies.as_slice() == wanted.as_slice());
-    assert!(rt; actor.relay(&Key(3)).is_none());
-    assert!(rt; closed_after(&mut actor) == Some(frame(alloc)?));
-    let copies = sent(alloc, &mut actor, &mut messenger, Recipients::All)?;
+    Ok(copies.as_slice() == wanted.as_slice())
+}
+
+// Whether the frame waits for the key 2, whose relay is closed then.
+fn has_frame(alloc: Global, actor: &mut Actor<Key>) -> Result<bool, AllocError> {
+    let wanted = frame(alloc)?;
+    Ok(closed_after(actor) == Some(wanted))
+}
+
+// Whether the copy for the key 2 finds its relay closed.
+fn is_refused(
+    alloc: Global,
+    actor: &mut Actor<Key>,
+    messenger: &mut Messenger<Key>,
+) -> Result<bool, Fail> {
+    let copies = sent(alloc, actor, messenger, Recipients::All)?;
     let wanted = [Routed::Closed {
         peer: Key(2),
         conn: 24,
     }];
-    assert!(rt; copies.as_slice() == wanted.as_slice());
+    Ok(copies.as_slice() == wanted.as_slice())
+}
+
+// These three in turn, with whether the key 3 has no relay.
+fn route(
+    alloc: Global,
+    actor: &mut Actor<Key>,
+    messenger: &mut Messenger<Key>,
+) -> Result<[bool; 4], Fail> {
+    let spread = are_spread(alloc, actor, messenger)?;
+    let unknown = actor.relay(&Key(3)).is_none();
+    let framed = has_frame(alloc, actor)?;
+    Ok([
+        spread,
+        unknown,
+        framed,
+        is_refused(alloc, actor, messenger)?,
+    ])
+}
+
+// The same at a new connection.
+fn routed(alloc: Global) -> Result<[bool; 4], Fail> {
+    let (mut actor, mut messenger) = connected(alloc)?;
+    route(alloc, &mut actor, &mut messenger)
+}
+
+#[test]
+fn each_recipient_gets_a_copy_or_a_cause(rt: HostRuntime) -> Result<(), Fail> {
+    assert_eq!(rt; routed(rt.alloc())?, [true, true, true, true]);
     Ok(())
+}
+
+// Whether the next step tells these subscriptions of these peers.
+fn is_told(
+    alloc: Global,
+    actor: &mut Actor<Key>,
+    messenger: &mut Messenger<Key>,
+    peers: &[u64],
+    subscriptions: &[u64],
+) -> Result<bool, Fail>
+    ensures { length messenger.new.lists ≡ length messenger.old.lists }
+{
+    let (list, to) = told(alloc, actor, messenger)?;
+    Ok(list.as_slice() == peers && to.as_slice() == subscriptions)
+}
+
+// Whether the next steps tell what is wanted of two subscriptions, of which one is kept, and of two connections.
+fn are_told(
+    alloc: Global,
+    actor: &mut Actor<Key>,
+    messenger: &mut Messenger<Key>,
+) -> Result<[bool; 4], Fail>
+    ensures { length messenger.new.lists ≡ length messenger.old.lists }
+{
+    let kept = is_told(alloc, actor, messenger, &[], &[0])?;
+    let dropped = is_told(alloc, actor, messenger, &[], &[])?;
+    let one = is_told(alloc, actor, messenger, &[2], &[0])?;
+    Ok([
+        kept,
+        dropped,
+        one,
+        is_told(alloc, actor, messenger, &[1, 2], &[0])?,
+    ])
+}
+
+// Whether the list that waits for a subscription has the keys 1 and 2, and none waits after it.
+fn has_newest(
+    alloc: Global,
+    messenger: &mut Messenger<Key>,
+    subscription: u64,
+) -> Result<(bool, bool), Fail>
+    requires { subscription < length messenger.old.lists }
+{
+    let newest = messenger.try_peers(subscription).ok_or("a list")?;
+    let is_newest = numbers(alloc, &newest)?.as_slice() == [1, 2].as_slice();
+    Ok((is_newest, messenger.try_peers(subscription).is_none()))
+}
+
+// What subscribers are told of two connections, how many there are, and what waits for the one that is kept.
+fn change(
+    alloc: Global,
+    actor: &mut Actor<Key>,
+    messenger: &mut Messenger<Key>,
+) -> Result<([bool; 4], usize, (bool, bool)), Fail> {
+    let kept = subscribed(alloc, messenger)?;
+    let dropped = subscribed(alloc, messenger)?;
+    messenger.close_peers(dropped);
+    ready(alloc, messenger, Key(2), 24)?;
+    ready(alloc, messenger, Key(1), 30)?;
+    let told = are_told(alloc, actor, messenger)?;
+    Ok((told, actor.len(), has_newest(alloc, messenger, kept)?))
+}
+
+// The same of a new router.
+fn changed(alloc: Global) -> Result<([bool; 4], usize, (bool, bool)), Fail> {
+    let (mut actor, mut messenger) = started(alloc)?;
+    change(alloc, &mut actor, &mut messenger)
 }
 
 #[test]
 fn subscribers_are_told_of_changes(rt: HostRuntime) -> Result<(), Fail> {
-    let alloc = rt.alloc();
-    let (mut actor, mut messenger) = started(alloc)?;
-    let kept = subscribed(alloc, &mut messenger)?;
-    let dropped = subscribed(alloc, &mut messenger)?;
-    messenger.close_peers(dropped);
-    ready(alloc, &mut messenger, Key(2), 24)?;
-    ready(alloc, &mut messenger, Key(1), 30)?;
-    let wanted: [(&[u64], &[u64]); 4] = [(&[], &[0]), (&[], &[]), (&[2], &[0]), (&[1, 2], &[0])];
-    for (peers, subscriptions) in wanted {
-        let (list, to) = told(alloc, &mut actor, &mut messenger)?;
-        assert_eq!(rt; (list.as_slice(), to.as_slice()), (peers, subscriptions));
-    }
-    assert_eq!(rt; actor.len(), 2);
-    let newest = messenger.try_peers(kept).ok_or("a list")?;
-    assert_eq!(rt; numbers(alloc, &newest)?.as_slice(), [1, 2].as_slice());
-    assert!(rt; messenger.try_peers(kept).is_none());
+    let wanted = ([true, true, true, true], 2, (true, true));
+    assert_eq!(rt; changed(rt.alloc())?, wanted);
     Ok(())
+}
+
+// Whether a messenger is closed, what it answers to content, what a step takes, whether a new subscription has no list, and
+// how many peers are known.
+fn close(
+    alloc: Global,
+    actor: &mut Actor<Key>,
+    messenger: &mut Messenger<Key>,
+) -> Result<(bool, Unreliable, Taken, bool, usize), Fail> {
+    messenger.close();
+    let is_closed = messenger.closed();
+    let answer = handed_in(alloc, messenger, Recipients::All)?;
+    let late = subscribed(alloc, messenger)?;
+    let taken = next_taken(actor, messenger)?;
+    let has_none = messenger.try_peers(late).is_none();
+    Ok((
+        is_closed,
+        answer,
+        taken,
+        has_none,
+        messenger.peers(alloc)?.len(),
+    ))
+}
+
+// The same of a new one.
+fn closed(alloc: Global) -> Result<(bool, Unreliable, Taken, bool, usize), Fail> {
+    let (mut actor, mut messenger) = started(alloc)?;
+    close(alloc, &mut actor, &mut messenger)
 }
 
 #[test]
 fn a_closed_messenger_tells_nobody(rt: HostRuntime) -> Result<(), Fail> {
-    let alloc = rt.alloc();
-    let (mut actor, mut messenger) = started(alloc)?;
-    messenger.close();
-    assert!(rt; messenger.closed());
-    assert_eq!(rt;
-        handed_in(alloc, &mut messenger, Recipients::All)?,
-        Unreliable::Outcome(Feedback::Closed)
-    );
-    let late = subscribed(alloc, &mut messenger)?;
-    assert!(rt; matches!(actor.step(&mut messenger), Ok(Stepped::Idle)));
-    assert!(rt; messenger.try_peers(late).is_none());
-    assert_eq!(rt; messenger.peers(alloc)?.len(), 0);
+    let answer = Unreliable::Outcome(Feedback::Closed);
+    let wanted = (true, answer, Taken::Nothing, true, 0);
+    assert_eq!(rt; closed(rt.alloc())?, wanted);
     Ok(())
 }

@@ -4,6 +4,16 @@ use p2p_base::Text;
 use std::alloc::{AllocError, Global};
 use std::test::Fail;
 
+// The first of these addresses that is global where none is to be, or is not where each is.
+fn otherwise(addresses: &[[u8; 4]], global: bool) -> Option<[u8; 4]> {
+    for bytes in addresses {
+        if is_global(&IpAddr::V4(*bytes)) != global {
+            return Some(*bytes);
+        }
+    }
+    None
+}
+
 #[test]
 fn ranges_of_v4_end_at_the_table(rt: HostRuntime) {
     let inside = [
@@ -34,9 +44,6 @@ fn ranges_of_v4_end_at_the_table(rt: HostRuntime) {
         [240, 0, 0, 0],
         [255, 255, 255, 255],
     ];
-    for bytes in inside {
-        assert!(rt; !is_global(&IpAddr::V4(bytes)), "{bytes:?}");
-    }
     let outside = [
         [1, 0, 0, 0],
         [9, 255, 255, 255],
@@ -63,9 +70,8 @@ fn ranges_of_v4_end_at_the_table(rt: HostRuntime) {
         [203, 0, 114, 0],
         [239, 255, 255, 255],
     ];
-    for bytes in outside {
-        assert!(rt; is_global(&IpAddr::V4(bytes)), "{bytes:?}");
-    }
+    let found = (otherwise(&inside, false), otherwise(&outside, true));
+    assert_eq!(rt; found, (None, None));
 }
 
 #[test]
@@ -103,16 +109,17 @@ fn ranges_of_v6_end_at_the_table(rt: HostRuntime) {
 
 #[test]
 fn subnets_keep_the_first_bits(rt: HostRuntime) {
-    assert_eq!(rt;
-        subnet(&IpAddr::V4([203, 7, 255, 9])),
-        IpAddr::V4([203, 7, 255, 0])
-    );
     let long: u128 = 0x2001_0db9_1234_5678_9abc_def0_1234_5678;
     let short: u128 = 0x2001_0db9_1234_0000_0000_0000_0000_0000;
-    assert_eq!(rt;
+    let found = [
+        subnet(&IpAddr::V4([203, 7, 255, 9])),
         subnet(&IpAddr::V6(long.to_be_bytes())),
-        IpAddr::V6(short.to_be_bytes())
-    );
+    ];
+    let wanted = [
+        IpAddr::V4([203, 7, 255, 0]),
+        IpAddr::V6(short.to_be_bytes()),
+    ];
+    assert_eq!(rt; found, wanted);
 }
 
 const HOME: SocketAddr = SocketAddr {
@@ -125,14 +132,19 @@ const AWAY: SocketAddr = SocketAddr {
     port: 80,
 };
 
+// Whether these addresses are found, with this leave for private ones.
+fn resolves(alloc: Global, private: bool, wanted: &[SocketAddr]) -> Result<bool, AllocError> {
+    let found = resolve_filtered(alloc, &[HOME, AWAY, HOME], private)?;
+    Ok(found.as_slice() == wanted)
+}
+
 #[test]
-fn private_ones_are_resolved_by_leave(rt: HostRuntime) -> Result<(), Fail> {
-    let addresses = [HOME, AWAY, HOME];
-    let found = resolve_filtered(rt.alloc(), &addresses, false)?;
-    assert_eq!(rt; found.as_slice(), [AWAY].as_slice());
-    let found = resolve_filtered(rt.alloc(), &addresses, true)?;
-    assert_eq!(rt; found.as_slice(), addresses.as_slice());
-    Ok(())
+fn private_ones_are_resolved_by_leave(rt: HostRuntime) {
+    let found = [
+        resolves(rt.alloc(), false, &[AWAY]),
+        resolves(rt.alloc(), true, &[HOME, AWAY, HOME]),
+    ];
+    assert_eq!(rt; found, [Ok(true), Ok(true)]);
 }
 
 // A name that is looked up.
@@ -146,12 +158,17 @@ fn dialed(ingress: &Ingress) -> (bool, bool) {
     (ingress.is_valid(false, true), ingress.is_valid(true, false))
 }
 
+// The same of a private socket, of a global one, and of a name.
+fn dialed_each(alloc: Global) -> Result<[(bool, bool); 3], AllocError> {
+    let name = dialed(&named(alloc)?);
+    let home = dialed(&Ingress::from(HOME));
+    Ok([home, dialed(&Ingress::from(AWAY)), name])
+}
+
 #[test]
-fn private_ones_and_names_are_dialed_by_leave(rt: HostRuntime) -> Result<(), Fail> {
-    assert_eq!(rt; dialed(&Ingress::from(HOME)), (false, true));
-    assert_eq!(rt; dialed(&Ingress::from(AWAY)), (true, true));
-    assert_eq!(rt; dialed(&named(rt.alloc())?), (true, false));
-    Ok(())
+fn private_ones_and_names_are_dialed_by_leave(rt: HostRuntime) {
+    let wanted = [(false, true), (true, true), (true, false)];
+    assert_eq!(rt; dialed_each(rt.alloc()), Ok(wanted));
 }
 
 // An address that is dialed by name, and dials from another one.
@@ -166,36 +183,54 @@ fn asymmetric(alloc: Global) -> Result<Address, AllocError> {
 // Whether copies of the address are equal to it.
 fn is_copied(alloc: Global, address: &Address) -> Result<(bool, bool), AllocError> {
     let cloned = address.clone()? == *address;
-    let copied = address.try_clone(alloc)? == *address;
-    Ok((cloned, copied))
+    Ok((cloned, address.try_clone(alloc)? == *address))
+}
+
+// The same of an address with two ends, and whether another one is equal to it.
+fn compares(alloc: Global) -> Result<((bool, bool), bool), AllocError> {
+    let both = asymmetric(alloc)?;
+    Ok((is_copied(alloc, &both)?, both == Address::from(AWAY)))
 }
 
 #[test]
-fn an_address_equals_its_copies(rt: HostRuntime) -> Result<(), Fail> {
-    let both = asymmetric(rt.alloc())?;
-    assert_eq!(rt; is_copied(rt.alloc(), &both)?, (true, true));
-    assert!(rt; both != Address::from(AWAY));
-    Ok(())
+fn an_address_equals_its_copies(rt: HostRuntime) {
+    assert_eq!(rt; compares(rt.alloc()), Ok(((true, true), false)));
+}
+
+// Whether an address is dialed at this ingress, and where it dials from.
+fn ends(alloc: Global, address: &Address, ingress: &Ingress) -> Result<(bool, IpAddr), AllocError> {
+    let is_dialed = address.ingress(alloc)? == *ingress;
+    Ok((is_dialed, address.egress_ip()))
+}
+
+// The same of an address with two ends.
+fn ends_of_two(alloc: Global) -> Result<(bool, IpAddr), AllocError> {
+    let both = asymmetric(alloc)?;
+    ends(alloc, &both, &named(alloc)?)
+}
+
+// The same of an address with one end.
+fn ends_of_one(alloc: Global) -> Result<(bool, IpAddr), AllocError> {
+    ends(alloc, &Address::from(HOME), &Ingress::from(HOME))
 }
 
 #[test]
-fn an_address_tells_its_two_ends(rt: HostRuntime) -> Result<(), Fail> {
-    let both = asymmetric(rt.alloc())?;
-    assert_eq!(rt; both.ingress(rt.alloc())?, named(rt.alloc())?);
-    assert_eq!(rt; both.egress_ip(), AWAY.ip);
-    let home = Address::from(HOME);
-    assert_eq!(rt; home.ingress(rt.alloc())?, Ingress::from(HOME));
-    assert_eq!(rt; home.egress_ip(), HOME.ip);
-    Ok(())
+fn an_address_tells_its_two_ends(rt: HostRuntime) {
+    let found = [ends_of_two(rt.alloc()), ends_of_one(rt.alloc())];
+    assert_eq!(rt; found, [Ok((true, AWAY.ip)), Ok((true, HOME.ip))]);
 }
 
 const PRINTED: &str =
     r#"Asymmetric { ingress: Dns { host: "peer.example", port: 1 }, egress: SocketAddr { ip: V4([11, 0, 0, 1]), port: 80 } }"#;
 
+// How an address with two ends prints.
+fn printed(alloc: Global) -> Result<String, AllocError> {
+    let both = asymmetric(alloc)?;
+    Ok(format!(in alloc; "{both:?}")?)
+}
+
 #[test]
 fn an_address_prints_its_parts(rt: HostRuntime) -> Result<(), Fail> {
-    let both = asymmetric(rt.alloc())?;
-    let text = format!(in rt.alloc(); "{both:?}")?;
-    assert_eq!(rt; text.as_str(), PRINTED);
+    assert_eq!(rt; printed(rt.alloc())?.as_str(), PRINTED);
     Ok(())
 }

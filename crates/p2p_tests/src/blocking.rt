@@ -7,7 +7,6 @@ use p2p_base::{Feedback, Key, PublicKey, Set};
 use p2p_flow::{BlockedSubscription, Blocker, Ended, Polled};
 use std::alloc::{AllocError, Global};
 use std::marker::{Model, PhantomData};
-use std::test::Fail;
 
 // Whether it has ended, and the set that waits for each subscription.
 #[derive(Drop)]
@@ -106,42 +105,35 @@ impl<P: PublicKey> Blocker for Stub<P> {
     ghost closed_once_ended = { λ m w s. elim w.has_ended as (λ b. ((if b then feedback.Closed else feedback.Ok) ≡ feedback.Closed) ↔ IsTrue b) [ true ↦ (λ _. refl, λ _. refl) | false ↦ (λ e. Prim.cc, λ h. Prim.cc) ] };
 }
 
-// What a set that waits, and then nothing, give a subscription.
-#[test]
-fn a_set_is_taken_once(rt: HostRuntime) -> Result<(), Fail> {
-    let mut wall = Wall {
-        ended: false,
-        sets: Vec::new(rt.alloc()),
-    };
-    let mut blocker: Stub<Key> = Stub { of: PhantomData };
-    assert!(rt;
-        matches!(
-            blocker.block(rt.alloc(), &mut wall, Key(2)),
-            Ok(Feedback::Ok)
-        )
-    );
-    let (number, _) = blocker.blocked(rt.alloc(), &mut wall)?;
-    let subscription = BlockedSubscription::new(number);
-    assert!(rt;
-        matches!(
-            subscription.poll(&mut blocker, &mut wall),
-            Ok(Polled::Pending)
-        )
-    );
-    Ok(())
+// A wall without subscriptions, which has ended or not, and its blocker.
+fn walled(alloc: Global, ended: bool) -> (Wall<Key>, Stub<Key>) {
+    let sets = Vec::new(alloc);
+    (Wall { ended, sets }, Stub { of: PhantomData })
 }
 
-// What a subscription gives once the tracker has ended.
+// What a blocker says of a key, and whether a new subscription waits for a set.
+fn waits(alloc: Global) -> Result<(Feedback, bool), AllocError> {
+    let (mut wall, mut blocker) = walled(alloc, false);
+    let told = blocker.block(alloc, &mut wall, Key(2))?;
+    let (number, _) = blocker.blocked(alloc, &mut wall)?;
+    let polled = BlockedSubscription::new(number).poll(&mut blocker, &mut wall);
+    Ok((told, matches!(polled, Ok(Polled::Pending))))
+}
+
 #[test]
-fn nothing_comes_after_the_end(rt: HostRuntime) -> Result<(), Fail> {
-    let mut wall = Wall {
-        ended: true,
-        sets: Vec::new(rt.alloc()),
-    };
-    let mut blocker: Stub<Key> = Stub { of: PhantomData };
-    let (number, told) = blocker.blocked(rt.alloc(), &mut wall)?;
-    assert_eq!(rt; told, Feedback::Closed);
-    let subscription = BlockedSubscription::new(number);
-    assert!(rt; subscription.poll(&mut blocker, &mut wall) == Err(Ended));
-    Ok(())
+fn a_subscription_waits_for_a_set(rt: HostRuntime) {
+    assert_eq!(rt; waits(rt.alloc()), Ok((Feedback::Ok, true)));
+}
+
+// What a subscription is told once the tracker has ended, and whether it is at its end.
+fn ends(alloc: Global) -> Result<(Feedback, bool), AllocError> {
+    let (mut wall, mut blocker) = walled(alloc, true);
+    let (number, told) = blocker.blocked(alloc, &mut wall)?;
+    let polled = BlockedSubscription::new(number).poll(&mut blocker, &mut wall);
+    Ok((told, polled == Err(Ended)))
+}
+
+#[test]
+fn nothing_comes_after_the_end(rt: HostRuntime) {
+    assert_eq!(rt; ends(rt.alloc()), Ok((Feedback::Closed, true)));
 }

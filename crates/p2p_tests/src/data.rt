@@ -4,7 +4,7 @@ ghost use Rattle.p2p_tests.specs.declared.data.Sample.TheVariants as sample;
 
 use p2p_base::{Key, List, PublicKey, Text};
 use std::alloc::{AllocError, Global};
-use std::test::Fail;
+use std::fmt::Debug;
 
 #[derive(Drop, PartialEq, Eq)]
 enum Sample {
@@ -43,63 +43,72 @@ fn kinds_are_equal(alloc: Global) -> Result<bool, AllocError> {
     Ok(first == one_number(alloc, 7)?)
 }
 
-#[test]
-fn plain_data_compares(rt: HostRuntime) -> Result<(), Fail> {
-    assert!(rt; are_equal(rt.alloc(), 7, 7)?);
-    assert!(rt; !are_equal(rt.alloc(), 7, 8)?);
-    assert!(rt; names_are_equal(rt.alloc(), "a")?);
-    assert!(rt; !names_are_equal(rt.alloc(), "b")?);
-    assert!(rt; !kinds_are_equal(rt.alloc())?);
-    Ok(())
-}
-
-// Whether copies of the text are equal to it.
-fn text_is_copied(alloc: Global, text: &Text) -> Result<(bool, bool), AllocError> {
-    let cloned = text.clone()? == *text;
-    Ok((cloned, text.try_clone(alloc)? == *text))
-}
-
-// Whether copies of the list are equal to it.
-fn list_is_copied(alloc: Global, list: &List<Key>) -> Result<(bool, bool), AllocError> {
-    let cloned = list.clone()? == *list;
-    Ok((cloned, list.try_clone(alloc)? == *list))
+// Each comparison once.
+fn comparisons(alloc: Global) -> Result<[bool; 5], AllocError> {
+    Ok([
+        are_equal(alloc, 7, 7)?,
+        are_equal(alloc, 7, 8)?,
+        names_are_equal(alloc, "a")?,
+        names_are_equal(alloc, "b")?,
+        kinds_are_equal(alloc)?,
+    ])
 }
 
 #[test]
-fn a_text_equals_its_copies_and_prints_in_quotes(rt: HostRuntime) -> Result<(), Fail> {
-    let text = Text::from_str(rt.alloc(), "a")?;
-    assert_eq!(rt; text_is_copied(rt.alloc(), &text)?, (true, true));
-    assert_eq!(rt; format!(in rt.alloc(); "{text:?}")?.as_str(), "\"a\"");
-    Ok(())
+fn plain_data_compares(rt: HostRuntime) {
+    let wanted = [true, false, true, false, false];
+    assert_eq!(rt; comparisons(rt.alloc()), Ok(wanted));
+}
+
+// Whether a value prints so.
+fn prints<T: Debug>(alloc: Global, value: &T, text: &str) -> Result<bool, AllocError> {
+    Ok(format!(in alloc; "{value:?}")?.as_str() == text)
+}
+
+// Whether copies of a text are equal to it, and whether it prints in quotes.
+fn text_is_copied(alloc: Global) -> Result<(bool, bool, bool), AllocError> {
+    let text = Text::from_str(alloc, "a")?;
+    let cloned = text.clone()? == text;
+    let copied = text.try_clone(alloc)? == text;
+    Ok((cloned, copied, prints(alloc, &text, "\"a\"")?))
+}
+
+// Whether copies of a list are equal to it, and whether it prints as a slice.
+fn list_is_copied(alloc: Global) -> Result<(bool, bool, bool), AllocError> {
+    let list = List::from_slice(alloc, &[Key(1), Key(2)])?;
+    let cloned = list.clone()? == list;
+    let copied = list.try_clone(alloc)? == list;
+    Ok((cloned, copied, prints(alloc, &list, "[Key(1), Key(2)]")?))
 }
 
 #[test]
-fn a_list_equals_its_copies_and_prints_as_a_slice(rt: HostRuntime) -> Result<(), Fail> {
-    let list = List::from_slice(rt.alloc(), &[Key(1), Key(2)])?;
-    assert_eq!(rt; list_is_copied(rt.alloc(), &list)?, (true, true));
+fn a_text_equals_its_copies_and_prints_in_quotes(rt: HostRuntime) {
+    assert_eq!(rt; text_is_copied(rt.alloc()), Ok((true, true, true)));
+}
+
+#[test]
+fn a_list_equals_its_copies_and_prints_as_a_slice(rt: HostRuntime) {
+    assert_eq!(rt; list_is_copied(rt.alloc()), Ok((true, true, true)));
+}
+
+// Whether a key prints as 300, and whether its bytes are these.
+fn key_is_written(alloc: Global, key: Key, bytes: &[u8]) -> Result<(bool, bool), AllocError> {
+    let printed = format!(in alloc; "{key}")?.as_str() == "300";
+    Ok((printed, key.to_bytes(alloc)?.as_slice() == bytes))
+}
+
+#[test]
+fn a_key_prints_in_decimal_and_has_eight_bytes_high_byte_first(rt: HostRuntime) {
+    let bytes = [0, 0, 0, 0, 0, 0, 1, 44];
     assert_eq!(rt;
-        format!(in rt.alloc(); "{list:?}")?.as_str(),
-        "[Key(1), Key(2)]"
+        key_is_written(rt.alloc(), Key(300), &bytes),
+        Ok((true, true))
     );
-    Ok(())
-}
-
-#[test]
-fn a_key_prints_in_decimal(rt: HostRuntime) -> Result<(), Fail> {
-    assert_eq!(rt; format!(in rt.alloc(); "{}", Key(300))?.as_str(), "300");
-    Ok(())
-}
-
-#[test]
-fn a_key_has_eight_bytes_high_byte_first(rt: HostRuntime) -> Result<(), Fail> {
-    let bytes = Key(300).to_bytes(rt.alloc())?;
-    assert_eq!(rt; bytes.as_slice(), [0, 0, 0, 0, 0, 0, 1, 44].as_slice());
-    Ok(())
 }
 
 #[test]
 fn eight_bytes_make_a_key_and_seven_none(rt: HostRuntime) {
     let bytes = [0, 0, 0, 0, 0, 0, 1, 44];
-    assert_eq!(rt; Key::from_bytes(&bytes), Some(Key(300)));
-    assert_eq!(rt; Key::from_bytes(&bytes[1..]), None);
+    let found = [Key::from_bytes(&bytes), Key::from_bytes(&bytes[1..])];
+    assert_eq!(rt; found, [Some(Key(300)), None]);
 }

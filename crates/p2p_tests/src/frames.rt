@@ -1,37 +1,53 @@
 //! Frames, prefixes and sizes, and the answers to bytes that are none.
+ghost use Rattle.p2p_wire.specs.Frame.{IsEncodable};
+
 use bytes::Bytes;
 use p2p_wire::{
     CodecError, Data, EncodedData, Message, max_message_size, max_size, parse, prefix, prefixed,
 };
-use std::test::Fail;
+use std::alloc::{AllocError, Global};
 
-fn decoded(
-    rt: &HostRuntime,
+// Whether a message is written as these bytes, and whether these are read as it, with this limit.
+fn is_carried(
+    alloc: Global,
+    message: &Message,
     bytes: &[u8],
     limit: usize,
-) -> Result<Result<Message, CodecError>, Fail> {
-    Ok(Message::decode(Bytes::copy_from_slice(rt.alloc(), bytes)?, limit))
+) -> Result<(bool, bool), AllocError>
+    requires { IsEncodable message.now }
+{
+    let written = message.encode(alloc)?.as_slice() == bytes;
+    let read = match Message::decode(Bytes::copy_from_slice(alloc, bytes)?, limit) {
+        Ok(found) => found == *message,
+        Err(_) => false,
+    };
+    Ok((written, read))
 }
 
-#[test]
-fn frames(rt: HostRuntime) -> Result<(), Fail> {
-    let ping = Message::from(Data {
+// The same of a message with data.
+fn data_is_carried(alloc: Global) -> Result<(bool, bool), AllocError> {
+    let data = Message::from(Data {
         channel: 7,
-        message: Bytes::copy_from_slice(rt.alloc(), b"ping")?,
+        message: Bytes::copy_from_slice(alloc, b"ping")?,
     });
     let bytes = [0x00, 0x07, 0x04, 0x70, 0x69, 0x6E, 0x67];
-    assert_eq!(rt; ping.encode(rt.alloc())?.as_slice(), bytes.as_slice());
-    assert_eq!(rt; decoded(&rt, &bytes, 4)?, Ok(ping));
-    assert_eq!(rt;
-        Message::Ping.encode(rt.alloc())?.as_slice(),
-        [1].as_slice()
-    );
-    assert_eq!(rt; decoded(&rt, &[1], 0)?, Ok(Message::Ping));
-    Ok(())
+    is_carried(alloc, &data, &bytes, 4)
 }
 
 #[test]
-fn refusals(rt: HostRuntime) -> Result<(), Fail> {
+fn frames(rt: HostRuntime) {
+    assert_eq!(rt; data_is_carried(rt.alloc()), Ok((true, true)));
+    let ping = is_carried(rt.alloc(), &Message::Ping, &[1], 0);
+    assert_eq!(rt; ping, Ok((true, true)));
+}
+
+// Why bytes are no frame of at most four bytes.
+fn refusal(alloc: Global, bytes: &[u8]) -> Result<Option<CodecError>, AllocError> {
+    Ok(Message::decode(Bytes::copy_from_slice(alloc, bytes)?, 4).err())
+}
+
+#[test]
+fn refusals(rt: HostRuntime) {
     let long = [0x00, 0x09, 0x05, 0x68, 0x65, 0x6C, 0x6C, 0x6F];
     let rows = [
         (long.as_slice(), CodecError::InvalidLength(5)),
@@ -42,42 +58,66 @@ fn refusals(rt: HostRuntime) -> Result<(), Fail> {
         ([0x00, 0x07, 0x04, 0x70].as_slice(), CodecError::EndOfBuffer),
     ];
     for (bytes, error) in rows {
-        assert_eq!(rt; decoded(&rt, bytes, 4)?, Err(error));
+        assert_eq!(rt; refusal(rt.alloc(), bytes), Ok(Some(error)));
     }
-    Ok(())
+}
+
+// Whether a number is written before a message as these bytes.
+fn is_prefix(alloc: Global, number: u64, bytes: &[u8]) -> Result<bool, AllocError> {
+    Ok(prefix(alloc, number)?.as_slice() == bytes)
+}
+
+// The number before a message, and whether the message is this one.
+fn parsed(
+    alloc: Global,
+    bytes: &[u8],
+    message: &[u8],
+) -> Result<Result<(u64, bool), CodecError>, AllocError> {
+    match parse(Bytes::copy_from_slice(alloc, bytes)?) {
+        Ok((number, rest)) => Ok(Ok((number, rest.as_slice() == message))),
+        Err(error) => Ok(Err(error)),
+    }
 }
 
 #[test]
-fn prefixes(rt: HostRuntime) -> Result<(), Fail> {
-    assert_eq!(rt;
-        prefix(rt.alloc(), 300)?.as_slice(),
-        [0xAC, 0x02].as_slice()
+fn prefixes(rt: HostRuntime) {
+    let found = (
+        is_prefix(rt.alloc(), 300, &[0xAC, 0x02]),
+        parsed(rt.alloc(), &[0xAC, 0x02, 0x68, 0x69], b"hi"),
+        prefixed(2),
     );
-    let bytes = Bytes::copy_from_slice(rt.alloc(), &[0xAC, 0x02, 0x68, 0x69])?;
-    let hi = Bytes::copy_from_slice(rt.alloc(), b"hi")?;
-    assert_eq!(rt; parse(bytes), Ok((300, hi)));
-    assert_eq!(rt; prefixed(2), 12);
-    Ok(())
+    assert_eq!(rt; found, (Ok(true), Ok(Ok((300, true))), 12));
+}
+
+// The channel of a message that is encoded once, and whether its bytes are those of its frame.
+fn encoded(alloc: Global) -> Result<(u64, bool), AllocError> {
+    let hello = Bytes::copy_from_slice(alloc, b"hello")?;
+    let encoded = EncodedData::new(alloc, 7, hello)?;
+    let bytes = [0x00, 0x07, 0x05, 0x68, 0x65, 0x6C, 0x6C, 0x6F];
+    Ok((
+        encoded.channel,
+        encoded.payload.as_slice() == bytes.as_slice(),
+    ))
 }
 
 #[test]
-fn sizes(rt: HostRuntime) -> Result<(), Fail> {
-    let hello = Bytes::copy_from_slice(rt.alloc(), b"hello")?;
-    let encoded = EncodedData::new(rt.alloc(), 7, hello)?;
-    assert_eq!(rt; encoded.channel, 7);
-    assert_eq!(rt;
-        encoded.payload.as_slice(),
-        [0x00, 0x07, 0x05, 0x68, 0x65, 0x6C, 0x6C, 0x6F].as_slice()
+fn sizes(rt: HostRuntime) {
+    let found = (
+        encoded(rt.alloc()),
+        [max_size(15), max_size(16)],
+        [max_message_size(&[]), max_message_size(&[4, 9])],
     );
-    assert_eq!(rt; max_size(15), None);
-    assert_eq!(rt; max_size(16), Some(0));
-    assert_eq!(rt; max_message_size(&[]), Some(0));
-    assert_eq!(rt; max_message_size(&[4, 9]), Some(9));
-    Ok(())
+    let wanted = (Ok((7, true)), [None, Some(0)], [Some(0), Some(9)]);
+    assert_eq!(rt; found, wanted);
+}
+
+// Whether an error has this text.
+fn is_told(alloc: Global, error: CodecError, text: &str) -> Result<bool, AllocError> {
+    Ok(format!(in alloc; "{error}")?.as_str() == text)
 }
 
 #[test]
-fn texts(rt: HostRuntime) -> Result<(), Fail> {
+fn texts(rt: HostRuntime) {
     let rows = [
         (CodecError::EndOfBuffer, "the bytes end early"),
         (CodecError::InvalidEnum(2), "2 is no known kind"),
@@ -90,7 +130,6 @@ fn texts(rt: HostRuntime) -> Result<(), Fail> {
         (CodecError::Memory, "out of memory"),
     ];
     for (error, text) in rows {
-        assert_eq!(rt; format!(in rt.alloc(); "{error}")?.as_str(), text);
+        assert_eq!(rt; is_told(rt.alloc(), error, text), Ok(true), "{text}");
     }
-    Ok(())
 }

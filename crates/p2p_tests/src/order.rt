@@ -1,7 +1,9 @@
 //! Sets, maps and priority sets: each call once, and each generic type at concrete ones.
 use p2p_base::{Key, Map, PrioritySet, PublicKey, Set, SetError};
 use std::alloc::{AllocError, Global};
-use std::test::Fail;
+
+// The keys of the set and of the map.
+const KEYS: [Key; 3] = [Key(2), Key(5), Key(9)];
 
 // The set of these keys, through the bound alone.
 pub fn set_of<P: PublicKey>(alloc: Global, keys: &[P]) -> Result<Set<P>, SetError> {
@@ -14,37 +16,53 @@ fn told(set: &Set<Key>) -> (usize, bool, Option<usize>, Option<usize>) {
     (set.len(), set.is_empty(), places.0, places.1)
 }
 
-#[test]
-fn a_set_has_each_key_once(rt: HostRuntime) -> Result<(), Fail> {
+// What is told of a set.
+type Told = (usize, bool, Option<usize>, Option<usize>);
+
+// What is told of a set of keys that were given twice and of an empty set, and whether the first has each key once.
+fn deduplicated(alloc: Global) -> Result<([Told; 2], bool), AllocError> {
     let keys = [Key(5), Key(2), Key(9), Key(5), Key(2)];
-    let set = Set::from_iter_dedup(Vec::from_slice(rt.alloc(), &keys)?)?;
-    assert_eq!(rt; set.as_slice(), [Key(2), Key(5), Key(9)].as_slice());
-    assert_eq!(rt; told(&set), (3, false, Some(1), None));
-    assert_eq!(rt; told(&Set::empty(rt.alloc())), (0, true, None, None));
-    Ok(())
+    let set = Set::from_iter_dedup(Vec::from_slice(alloc, &keys)?)?;
+    let each_once = set.as_slice() == KEYS.as_slice();
+    Ok(([told(&set), told(&Set::empty(alloc))], each_once))
 }
 
 #[test]
-fn a_set_takes_no_repeated_key(rt: HostRuntime) -> Result<(), Fail> {
-    let set = set_of(rt.alloc(), &[Key(9), Key(2), Key(5)])?;
-    assert_eq!(rt; told(&set), (3, false, Some(1), None));
-    let repeated = set_of(rt.alloc(), &[Key(1), Key(2), Key(3), Key(3)]);
-    assert!(rt; matches!(repeated, Err(SetError::Duplicate)));
-    assert_eq!(rt; told(&set_of(rt.alloc(), &[])?), (0, true, None, None));
-    Ok(())
+fn a_set_has_each_key_once(rt: HostRuntime) {
+    let wanted = [(3, false, Some(1), None), (0, true, None, None)];
+    assert_eq!(rt; deduplicated(rt.alloc()), Ok((wanted, true)));
 }
 
-// Whether copies of the set are equal to it, and an empty one is not.
-fn compares(alloc: Global, set: &Set<Key>) -> Result<(bool, bool, bool), AllocError> {
-    let copies = (set.clone()? == *set, set.try_clone()? == *set);
-    Ok((copies.0, copies.1, Set::empty(alloc) == *set))
+// What is told of the set of these keys.
+fn told_of(alloc: Global, keys: &[Key]) -> Result<Told, SetError> {
+    Ok(told(&set_of(alloc, keys)?))
 }
 
 #[test]
-fn a_set_equals_its_copies(rt: HostRuntime) -> Result<(), Fail> {
-    let set = set_of(rt.alloc(), &[Key(2), Key(5)])?;
-    assert_eq!(rt; compares(rt.alloc(), &set)?, (true, true, false));
-    Ok(())
+fn a_set_takes_no_repeated_key(rt: HostRuntime) {
+    let found = [
+        told_of(rt.alloc(), &[Key(9), Key(2), Key(5)]),
+        told_of(rt.alloc(), &[Key(1), Key(2), Key(3), Key(3)]),
+        told_of(rt.alloc(), &[]),
+    ];
+    let wanted = [
+        Ok((3, false, Some(1), None)),
+        Err(SetError::Duplicate),
+        Ok((0, true, None, None)),
+    ];
+    assert_eq!(rt; found, wanted);
+}
+
+// Whether copies of a set are equal to it, and an empty one is.
+fn compares(alloc: Global) -> Result<(bool, bool, bool), SetError> {
+    let set = set_of(alloc, &[Key(2), Key(5)])?;
+    let copies = (set.clone()? == set, set.try_clone()? == set);
+    Ok((copies.0, copies.1, Set::empty(alloc) == set))
+}
+
+#[test]
+fn a_set_equals_its_copies(rt: HostRuntime) {
+    assert_eq!(rt; compares(rt.alloc()), Ok((true, true, false)));
 }
 
 const PAIRS: [(Key, char); 3] = [(Key(5), 'b'), (Key(2), 'a'), (Key(9), 'c')];
@@ -64,36 +82,50 @@ fn found_each(map: &Map<Key, char>) -> [(Option<usize>, Option<char>); 3] {
     [found(map, 5), found(map, 9), found(map, 1)]
 }
 
+// Whether it has these keys in order, with their values in the same places.
+fn columns(map: &Map<Key, char>) -> (bool, bool) {
+    let keys = map.keys() == KEYS.as_slice();
+    (keys, map.values() == ['a', 'b', 'c'].as_slice())
+}
+
+// What is found in the map of the pairs, in each way.
+fn found_in_each_way(
+    alloc: Global,
+) -> Result<
+    (
+        [(Option<usize>, Option<char>); 3],
+        (bool, bool),
+        (usize, bool),
+    ),
+    SetError,
+> {
+    let map = map_of(alloc, &PAIRS)?;
+    Ok((found_each(&map), columns(&map), (map.len(), map.is_empty())))
+}
+
 #[test]
-fn a_map_has_a_value_under_each_key(rt: HostRuntime) -> Result<(), Fail> {
-    let map = map_of(rt.alloc(), &PAIRS)?;
-    assert_eq!(rt; map.keys(), [Key(2), Key(5), Key(9)].as_slice());
-    assert_eq!(rt; map.values(), ['a', 'b', 'c'].as_slice());
-    assert_eq!(rt; (map.len(), map.is_empty()), (3, false));
-    let wanted = [(Some(1), Some('b')), (Some(2), Some('c')), (None, None)];
-    assert_eq!(rt; found_each(&map), wanted);
-    Ok(())
+fn a_map_has_a_value_under_each_key(rt: HostRuntime) {
+    let found = [(Some(1), Some('b')), (Some(2), Some('c')), (None, None)];
+    let wanted = (found, (true, true), (3, false));
+    assert_eq!(rt; found_in_each_way(rt.alloc()), Ok(wanted));
 }
 
 #[test]
 fn a_map_takes_no_repeated_key(rt: HostRuntime) {
     let pairs = [(Key(5), 'b'), (Key(2), 'a'), (Key(5), 'b')];
-    let repeated = map_of(rt.alloc(), &pairs);
-    assert!(rt; matches!(repeated, Err(SetError::Duplicate)));
+    assert_eq!(rt; map_of(rt.alloc(), &pairs).err(), Some(SetError::Duplicate));
 }
 
-// Whether a copy of the map is equal to it.
-fn is_copied(map: &Map<Key, char>) -> Result<bool, AllocError> {
-    Ok(map.clone()? == *map)
+// Whether a copy of a map is equal to it, and whether it gives its keys.
+fn map_is_copied(alloc: Global) -> Result<(bool, bool), SetError> {
+    let map = map_of(alloc, &PAIRS)?;
+    let is_copied = map.clone()? == map;
+    Ok((is_copied, map.into_keys().as_slice() == KEYS.as_slice()))
 }
 
 #[test]
-fn a_map_equals_its_copy_and_gives_its_keys(rt: HostRuntime) -> Result<(), Fail> {
-    let map = map_of(rt.alloc(), &PAIRS)?;
-    assert!(rt; is_copied(&map)?);
-    let keys = map.into_keys();
-    assert_eq!(rt; keys.as_slice(), [Key(2), Key(5), Key(9)].as_slice());
-    Ok(())
+fn a_map_equals_its_copy_and_gives_its_keys(rt: HostRuntime) {
+    assert_eq!(rt; map_is_copied(rt.alloc()), Ok((true, true)));
 }
 
 const PUTS: [(u64, u128); 7] = [
@@ -115,20 +147,36 @@ fn put_all(alloc: Global) -> Result<PrioritySet<Key>, AllocError> {
     Ok(set)
 }
 
+// A key with its moment.
+type Entry = Option<(Key, u128)>;
+
+// The least entry, looked at and then taken out.
+fn next(set: &mut PrioritySet<Key>) -> (Entry, Entry) {
+    (set.peek(), set.pop())
+}
+
+// The least entries, in turn.
+fn emptied(set: &mut PrioritySet<Key>) -> [(Entry, Entry); 5] {
+    [next(set), next(set), next(set), next(set), next(set)]
+}
+
+// The same of the set of `PUTS`, with what it says of 7, of 8, and at last of 9.
+fn ordered(alloc: Global) -> Result<([(Entry, Entry); 5], [Option<u128>; 3]), AllocError> {
+    let mut set = put_all(alloc)?;
+    let found = (set.get(&Key(7)), set.get(&Key(8)));
+    let order = emptied(&mut set);
+    Ok((order, [found.0, found.1, set.get(&Key(9))]))
+}
+
 #[test]
-fn a_priority_set_gives_the_least_moment(rt: HostRuntime) -> Result<(), Fail> {
-    let mut set = put_all(rt.alloc())?;
-    assert_eq!(rt; (set.get(&Key(7)), set.get(&Key(8))), (Some(10), None));
+fn a_priority_set_gives_the_least_moment(rt: HostRuntime) {
     let order = [
         Some((Key(7), 10)),
         Some((Key(3), 20)),
         Some((Key(9), 20)),
         Some((Key(1), 50)),
         None,
-    ];
-    for want in order {
-        assert_eq!(rt; (set.peek(), set.pop()), (want, want));
-    }
-    assert_eq!(rt; set.get(&Key(9)), None);
-    Ok(())
+    ]
+    .map(|entry| (entry, entry));
+    assert_eq!(rt; ordered(rt.alloc()), Ok((order, [Some(10), None, None])));
 }

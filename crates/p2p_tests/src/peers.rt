@@ -7,7 +7,6 @@ use p2p_flow::{
     TrackError, TrackedPeers,
 };
 use std::alloc::{AllocError, Global};
-use std::test::Fail;
 
 // These primary and these secondary peers.
 fn peers_of(
@@ -20,12 +19,16 @@ fn peers_of(
     Ok(TrackedPeers::new(primary, secondary))
 }
 
+// Whether the union of both roles has each key once.
+fn union_has_each_once(alloc: Global) -> Result<bool, SetError> {
+    let peers = peers_of(alloc, &[Key(5), Key(2)], &[Key(9), Key(2)])?;
+    let union = peers.union(alloc)?;
+    Ok(union.as_slice() == [Key(2), Key(5), Key(9)].as_slice())
+}
+
 #[test]
-fn a_union_has_the_keys_of_both_roles_once(rt: HostRuntime) -> Result<(), Fail> {
-    let peers = peers_of(rt.alloc(), &[Key(5), Key(2)], &[Key(9), Key(2)])?;
-    let union = peers.union(rt.alloc())?;
-    assert_eq!(rt; union.as_slice(), [Key(2), Key(5), Key(9)].as_slice());
-    Ok(())
+fn a_union_has_the_keys_of_both_roles_once(rt: HostRuntime) {
+    assert_eq!(rt; union_has_each_once(rt.alloc()), Ok(true));
 }
 
 // Whether the peers are these primary and these secondary ones.
@@ -46,26 +49,39 @@ fn compares(alloc: Global, peers: &TrackedPeers<Key>) -> Result<(bool, bool), Al
     ))
 }
 
-#[test]
-fn who_is_primary_alone_has_one_role(rt: HostRuntime) -> Result<(), Fail> {
-    let peers = TrackedPeers::primary(rt.alloc(), set_of(rt.alloc(), &[Key(2)])?);
-    assert!(rt; are(rt.alloc(), &peers, &[Key(2)], &[])?);
-    assert!(rt; !are(rt.alloc(), &peers, &[], &[Key(2)])?);
-    assert_eq!(rt; compares(rt.alloc(), &peers)?, (true, false));
-    Ok(())
+// Whether peers of the primary role are that, whether they are of the other role, and how they compare.
+fn primary_ones(alloc: Global) -> Result<(bool, bool, (bool, bool)), SetError> {
+    let peers = TrackedPeers::primary(alloc, set_of(alloc, &[Key(2)])?);
+    let is_primary = are(alloc, &peers, &[Key(2)], &[])?;
+    let is_secondary = are(alloc, &peers, &[], &[Key(2)])?;
+    Ok((is_primary, is_secondary, compares(alloc, &peers)?))
 }
 
 #[test]
-fn an_update_equals_its_copy(rt: HostRuntime) -> Result<(), Fail> {
-    let latest = peers_of(rt.alloc(), &[Key(2)], &[])?;
-    let all = peers_of(rt.alloc(), &[Key(2)], &[Key(3)])?;
-    let update = PeerSetUpdate {
+fn who_is_primary_alone_has_one_role(rt: HostRuntime) {
+    let wanted = (true, false, (true, false));
+    assert_eq!(rt; primary_ones(rt.alloc()), Ok(wanted));
+}
+
+fn update(alloc: Global) -> Result<PeerSetUpdate<Key>, SetError> {
+    let latest = peers_of(alloc, &[Key(2)], &[])?;
+    let all = peers_of(alloc, &[Key(2)], &[Key(3)])?;
+    Ok(PeerSetUpdate {
         index: 7,
         latest,
         all,
-    };
-    assert!(rt; update.try_clone()? == update);
-    Ok(())
+    })
+}
+
+// Whether a copy of an update is equal to it.
+fn update_is_copied(alloc: Global) -> Result<bool, SetError> {
+    let update = update(alloc)?;
+    Ok(update.try_clone()? == update)
+}
+
+#[test]
+fn an_update_equals_its_copy(rt: HostRuntime) {
+    assert_eq!(rt; update_is_copied(rt.alloc()), Ok(true));
 }
 
 // The one address of a key, through the bound alone.
@@ -81,16 +97,23 @@ fn at<P: PublicKey>(alloc: Global, key: P) -> Result<Map<P, Address>, SetError> 
     Map::try_from(pairs)
 }
 
-#[test]
-fn addresses_equal_their_copy(rt: HostRuntime) -> Result<(), Fail> {
-    let map = at(rt.alloc(), Key(2))?;
-    let peers = AddressableTrackedPeers::primary(rt.alloc(), map)?;
-    assert_eq!(rt; (peers.primary.len(), peers.secondary.len()), (1, 0));
+// How many peers of each role stand with an address.
+fn lengths(peers: &AddressableTrackedPeers<Key>) -> (usize, usize) {
+    (peers.primary.len(), peers.secondary.len())
+}
+
+// The same of peers in the primary role, and whether a copy is equal to them before and after its roles are turned.
+fn addresses_compare(alloc: Global) -> Result<((usize, usize), bool, bool), SetError> {
+    let peers = AddressableTrackedPeers::primary(alloc, at(alloc, Key(2))?)?;
     let copy = peers.try_clone()?;
-    assert!(rt; copy == peers);
+    let is_copied = copy == peers;
     let turned = AddressableTrackedPeers::new(copy.secondary, copy.primary);
-    assert!(rt; turned != peers);
-    Ok(())
+    Ok((lengths(&peers), is_copied, turned == peers))
+}
+
+#[test]
+fn addresses_equal_their_copy(rt: HostRuntime) {
+    assert_eq!(rt; addresses_compare(rt.alloc()), Ok(((1, 0), true, false)));
 }
 
 #[test]
@@ -100,13 +123,15 @@ fn subscriptions_go_by_numbers(rt: HostRuntime) {
     assert_eq!(rt; (sets.ticket(), blocks.ticket()), (3, 4));
 }
 
-#[test]
-fn refusals_tell_their_cause(rt: HostRuntime) -> Result<(), Fail> {
+// Whether a set that is too large, and an end, have their texts.
+fn refusals_are_told(alloc: Global) -> Result<(bool, bool), AllocError> {
     let large = TrackError::PeerSetTooLarge { count: 3, limit: 2 };
-    assert_eq!(rt;
-        format!(in rt.alloc(); "{large}")?.as_str(),
-        "peer set too large: 3 > 2"
-    );
-    assert_eq!(rt; format!(in rt.alloc(); "{Ended}")?.as_str(), "stream ended");
-    Ok(())
+    let large = format!(in alloc; "{large}")?.as_str() == "peer set too large: 3 > 2";
+    let ended = format!(in alloc; "{Ended}")?.as_str() == "stream ended";
+    Ok((large, ended))
+}
+
+#[test]
+fn refusals_tell_their_cause(rt: HostRuntime) {
+    assert_eq!(rt; refusals_are_told(rt.alloc()), Ok((true, true)));
 }

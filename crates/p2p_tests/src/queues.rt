@@ -2,9 +2,9 @@
 use p2p_base::{
     Feedback, Keep, Mailbox, NoRoom, Policy, Pushed, Ring, Sent, Unreliable, UnreliablePolicy,
 };
-use std::test::Fail;
+use std::alloc::{AllocError, Global};
 
-#[derive(Drop, Debug, PartialEq)]
+#[derive(Clone, Copy, Debug, PartialEq)]
 struct Note(Keep, u8);
 
 impl UnreliablePolicy for Note {
@@ -16,59 +16,102 @@ impl UnreliablePolicy for Note {
 }
 
 // The answer in one letter, and a message that was handed back.
-fn told(answer: Result<Sent<Note>, NoRoom<Note>>) -> (char, u8) {
+pub fn told<T: Drop>(answer: Result<Sent<T>, NoRoom<T>>) -> (char, Option<T>) {
     match answer {
-        Ok(Sent::Ok) => ('o', 0),
-        Ok(Sent::Backoff) => ('b', 0),
-        Ok(Sent::Rejected(note)) => ('r', note.1),
-        Ok(Sent::Closed(note)) => ('c', note.1),
-        Err(NoRoom(note)) => ('m', note.1),
+        Ok(Sent::Ok) => ('o', None),
+        Ok(Sent::Backoff) => ('b', None),
+        Ok(Sent::Rejected(message)) => ('r', Some(message)),
+        Ok(Sent::Closed(message)) => ('c', Some(message)),
+        Err(NoRoom(message)) => ('m', Some(message)),
     }
 }
 
+// The answer to a note, and the number of one that was handed back.
+fn sent(mailbox: &mut Mailbox<Note>, keep: Keep, number: u8) -> (char, Option<u8>) {
+    let (answer, note) = told(mailbox.enqueue(Note(keep, number)));
+    (answer, note.map(|n| n.1))
+}
+
+// The answers to six notes.
+fn overflow(mailbox: &mut Mailbox<Note>) -> [(char, Option<u8>); 6] {
+    [
+        sent(mailbox, Keep::Refuse, 0),
+        sent(mailbox, Keep::Refuse, 1),
+        sent(mailbox, Keep::Append, 2),
+        sent(mailbox, Keep::Append, 3),
+        sent(mailbox, Keep::Replace, 4),
+        sent(mailbox, Keep::Refuse, 5),
+    ]
+}
+
+// The same at a mailbox of one place, and what it gives then.
+fn overflowed(alloc: Global) -> Result<([(char, Option<u8>); 6], [Option<Note>; 3]), AllocError> {
+    let mut mailbox = Mailbox::new(alloc, 1)?;
+    let answers = overflow(&mut mailbox);
+    Ok((answers, [mailbox.take(), mailbox.take(), mailbox.take()]))
+}
+
 #[test]
-fn a_mailbox_overflows_by_policy(rt: HostRuntime) -> Result<(), Fail> {
-    let mut mailbox = Mailbox::new(rt.alloc(), 1)?;
-    let sends = [
-        (Keep::Refuse, ('o', 0)),
-        (Keep::Refuse, ('r', 1)),
-        (Keep::Append, ('b', 0)),
-        (Keep::Append, ('b', 0)),
-        (Keep::Replace, ('b', 0)),
-        (Keep::Refuse, ('r', 5)),
+fn a_mailbox_overflows_by_policy(rt: HostRuntime) {
+    let answers = [
+        ('o', None),
+        ('r', Some(1)),
+        ('b', None),
+        ('b', None),
+        ('b', None),
+        ('r', Some(5)),
     ];
-    for (i, (keep, answer)) in sends.into_iter().enumerate() {
-        assert_eq!(rt; told(mailbox.enqueue(Note(keep, i as u8))), answer);
-    }
-    assert_eq!(rt; mailbox.take(), Some(Note(Keep::Refuse, 0)));
-    assert_eq!(rt; mailbox.take(), Some(Note(Keep::Replace, 4)));
-    assert_eq!(rt; mailbox.take(), None);
-    Ok(())
+    let taken = [
+        Some(Note(Keep::Refuse, 0)),
+        Some(Note(Keep::Replace, 4)),
+        None,
+    ];
+    assert_eq!(rt; overflowed(rt.alloc()), Ok((answers, taken)));
 }
 
-#[test]
-fn a_closed_mailbox_hands_messages_back(rt: HostRuntime) -> Result<(), Fail> {
-    let mut mailbox = Mailbox::new(rt.alloc(), 1)?;
-    assert_eq!(rt; told(mailbox.enqueue(Note(Keep::Append, 9))), ('o', 0));
+// The answers of a mailbox before and after it is closed, with its length and its capacity then.
+fn closed(alloc: Global) -> Result<([(char, Option<u8>); 2], usize, usize), AllocError> {
+    let mut mailbox = Mailbox::new(alloc, 1)?;
+    let open = sent(&mut mailbox, Keep::Append, 9);
     mailbox.close();
-    assert_eq!(rt; (mailbox.len(), mailbox.capacity()), (0, 1));
-    assert_eq!(rt; told(mailbox.enqueue(Note(Keep::Append, 9))), ('c', 9));
-    Ok(())
+    let answers = [open, sent(&mut mailbox, Keep::Append, 9)];
+    Ok((answers, mailbox.len(), mailbox.capacity()))
 }
 
 #[test]
-fn a_ring_overwrites_the_oldest(rt: HostRuntime) -> Result<(), Fail> {
-    let mut ring = Ring::new(rt.alloc(), 2)?;
-    assert!(rt; matches!(ring.send_lossy(1u8), Pushed::Kept));
-    assert!(rt; matches!(ring.send_lossy(2), Pushed::Kept));
-    assert!(rt; matches!(ring.send_lossy(3), Pushed::Replaced(1)));
-    assert_eq!(rt;
-        (ring.try_recv(), ring.try_recv(), ring.try_recv()),
-        (Some(2), Some(3), None)
-    );
+fn a_closed_mailbox_hands_messages_back(rt: HostRuntime) {
+    let answers = [('o', None), ('c', Some(9))];
+    assert_eq!(rt; closed(rt.alloc()), Ok((answers, 0, 1)));
+}
+
+// What a ring does with an item, in one letter, and an item that it lets go.
+fn pushed(ring: &mut Ring<u8>, item: u8) -> (char, Option<u8>) {
+    match ring.send_lossy(item) {
+        Pushed::Kept => ('k', None),
+        Pushed::Replaced(oldest) => ('r', Some(oldest)),
+        Pushed::Closed(item) => ('c', Some(item)),
+    }
+}
+
+// What a ring of two places does with three items, and with a fourth once it gave all and is closed.
+fn rung(alloc: Global) -> Result<([(char, Option<u8>); 4], [Option<u8>; 3]), AllocError> {
+    let mut ring = Ring::new(alloc, 2)?;
+    let open = [
+        pushed(&mut ring, 1),
+        pushed(&mut ring, 2),
+        pushed(&mut ring, 3),
+    ];
+    let received = [ring.try_recv(), ring.try_recv(), ring.try_recv()];
     ring.close();
-    assert!(rt; matches!(ring.send_lossy(4), Pushed::Closed(4)));
-    Ok(())
+    let closed = pushed(&mut ring, 4);
+    Ok(([open[0], open[1], open[2], closed], received))
+}
+
+#[test]
+fn a_ring_overwrites_the_oldest(rt: HostRuntime) {
+    let answers = [('k', None), ('k', None), ('r', Some(1)), ('c', Some(4))];
+    let received = [Some(2), Some(3), None];
+    assert_eq!(rt; rung(rt.alloc()), Ok((answers, received)));
 }
 
 #[derive(Drop)]
@@ -102,11 +145,16 @@ fn put<T: Policy>(mailbox: &mut Mailbox<T>, message: T) -> Result<Feedback, NoRo
     }
 }
 
+// The answers to two messages at a mailbox of one place.
+fn released(alloc: Global) -> Result<[Option<Feedback>; 2], AllocError> {
+    let mut mailbox = Mailbox::new(alloc, 1)?;
+    let first = put(&mut mailbox, Release(1)).ok();
+    Ok([first, put(&mut mailbox, Release(2)).ok()])
+}
+
 #[test]
-fn a_policy_is_never_refused(rt: HostRuntime) -> Result<(), Fail> {
-    let mut mailbox = Mailbox::new(rt.alloc(), 1)?;
-    assert!(rt; matches!(put(&mut mailbox, Release(1)), Ok(Feedback::Ok)));
-    assert!(rt; matches!(put(&mut mailbox, Release(2)), Ok(Feedback::Backoff)));
+fn a_policy_is_never_refused(rt: HostRuntime) {
+    let wanted = [Some(Feedback::Ok), Some(Feedback::Backoff)];
+    assert_eq!(rt; released(rt.alloc()), Ok(wanted));
     assert!(rt; Unreliable::Outcome(Feedback::Backoff).accepted());
-    Ok(())
 }

@@ -1,5 +1,6 @@
 //! Quotas, and the limiters by rate, by key and by places.
 use p2p_runtime::{KeyedRateLimiter, Limiter, Quota, RateLimiter};
+use std::alloc::AllocError;
 use std::test::Fail;
 
 #[test]
@@ -59,16 +60,32 @@ const CHECKS: [(u32, u64, &[(u64, Result<(), u128>)]); 5] = [
     ),
 ];
 
-#[test]
-fn checks_of_one_limiter(rt: HostRuntime) -> Result<(), Fail> {
-    for (burst, period, checks) in CHECKS {
-        let quota = Quota::new(burst, period).ok_or("a quota of nothing")?;
-        let mut limiter = RateLimiter::new(quota);
-        for &(now, want) in checks {
-            assert_eq!(rt; limiter.check(now), want, "burst {burst}, at {now}");
+// The moment of the first check that a limiter answers otherwise.
+fn otherwise(mut limiter: RateLimiter, checks: &[(u64, Result<(), u128>)]) -> Option<u64> {
+    for (now, want) in checks.iter() {
+        if limiter.check(*now) != *want {
+            return Some(*now);
         }
     }
-    Ok(())
+    None
+}
+
+// The same of all checks, with the burst.
+fn any_otherwise() -> Option<(u32, u64)> {
+    for (burst, period, checks) in CHECKS {
+        let Some(quota) = Quota::new(burst, period) else {
+            return Some((burst, 0));
+        };
+        if let Some(now) = otherwise(RateLimiter::new(quota), checks) {
+            return Some((burst, now));
+        }
+    }
+    None
+}
+
+#[test]
+fn checks_of_one_limiter(rt: HostRuntime) {
+    assert_eq!(rt; any_otherwise(), None);
 }
 
 // Checks of keys at these moments, in turn, at burst 1 and period 10, with what each answers.
@@ -83,17 +100,28 @@ const KEYED_CHECKS: [(u64, u64, Result<(), u128>); 8] = [
     (3, 15, Err(24)),
 ];
 
+// The key and the moment of the first check that a limiter answers otherwise, which is pruned after each or never.
+fn keyed_otherwise(
+    mut limiter: KeyedRateLimiter<u64>,
+    pruned: bool,
+) -> Result<Option<(u64, u64)>, AllocError> {
+    for (key, now, want) in KEYED_CHECKS {
+        if limiter.check_key(&key, now)? != want {
+            return Ok(Some((key, now)));
+        }
+        if pruned {
+            limiter.retain_recent(u64::MAX);
+        }
+    }
+    Ok(None)
+}
+
 #[test]
 fn checks_of_keys(rt: HostRuntime) -> Result<(), Fail> {
+    let quota = Quota::new(1, 10).ok_or("a quota of nothing")?;
     for pruned in [false, true] {
-        let quota = Quota::new(1, 10).ok_or("a quota of nothing")?;
-        let mut limiter = KeyedRateLimiter::new(rt.alloc(), quota);
-        for (key, now, want) in KEYED_CHECKS {
-            assert_eq!(rt; limiter.check_key(&key, now)?, want, "key {key}, at {now}");
-            if pruned {
-                limiter.retain_recent(u64::MAX);
-            }
-        }
+        let limiter = KeyedRateLimiter::new(rt.alloc(), quota);
+        assert_eq!(rt; keyed_otherwise(limiter, pruned), Ok(None));
     }
     Ok(())
 }

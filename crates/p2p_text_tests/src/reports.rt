@@ -6,7 +6,6 @@ use p2p_log::{
 };
 use p2p_report::write_report;
 use std::alloc::{AllocError, Global};
-use std::test::Fail;
 
 fn entry(
     act: Act,
@@ -73,164 +72,192 @@ fn frame(
     Ok((queue, Item::Frame { copy, frame }))
 }
 
-fn started(alloc: Global) -> Result<Vec<(Queue, Item)>, AllocError> {
-    Ok(vec![in alloc;
-        (Queue::Router(0), Item::Subscribe(7)),
-        (
-            Queue::Router(1),
-            Item::Ready {
-                conn: 4,
-                key: Key(2)
-            }
-        ),
-    ]?)
+fn peers(alloc: Global, numbers: &[u64]) -> Result<(Queue, Item), AllocError> {
+    let item = Item::Peers(keys(alloc, numbers)?);
+    let queue = Queue::Peers {
+        node: 0,
+        channel: 7,
+    };
+    Ok((queue, item))
 }
 
-fn routed(alloc: Global) -> Result<Vec<(Queue, Item)>, AllocError> {
-    let high = frame(alloc, Queue::High { node: 0, conn: 4 }, Some((2, 0)))?;
-    let low = frame(alloc, Queue::Low { node: 0, conn: 4 }, None)?;
-    let none = Item::Peers(keys(alloc, &[])?);
-    let two = Item::Peers(keys(alloc, &[2, 3])?);
-    Ok(vec![in alloc;
-        (
-            Queue::Peers {
-                node: 0,
-                channel: 7
-            },
-            none
-        ),
-        (
-            Queue::Peers {
-                node: 0,
-                channel: 7
-            },
-            two
-        ),
-        (Queue::Ready { node: 0, conn: 4 }, Item::Answer),
-        high,
-        low,
-    ]?)
-}
-
-fn written(alloc: Global) -> Result<Vec<(Queue, Item)>, AllocError> {
-    let out = frame(
-        alloc,
-        Queue::Link {
-            link: 4,
-            side: Side::Out,
-        },
-        Some((2, 0)),
-    )?;
-    let back = frame(
-        alloc,
-        Queue::Link {
-            link: 4,
-            side: Side::In,
-        },
-        None,
-    )?;
-    Ok(vec![in alloc; out, back]?)
-}
-
-fn received(alloc: Global) -> Result<Vec<(Queue, Item)>, AllocError> {
+fn message(alloc: Global) -> Result<(Queue, Item), AllocError> {
     let bytes = Bytes::copy_from_slice(alloc, &[106, 77])?;
-    let message = Item::Message {
+    let item = Item::Message {
         bytes,
         copy: (2, 0),
         from: Key(1),
     };
-    Ok(vec![in alloc;
-        (
-            Queue::Channel {
-                node: 1,
-                channel: 7
-            },
-            message
-        ),
-    ]?)
+    let queue = Queue::Channel {
+        node: 1,
+        channel: 7,
+    };
+    Ok((queue, item))
+}
+
+fn started(alloc: Global) -> Result<Vec<(Queue, Item)>, AllocError> {
+    let ready = Item::Ready {
+        conn: 4,
+        key: Key(2),
+    };
+    let mut puts = Vec::new(alloc);
+    puts.push((Queue::Router(0), Item::Subscribe(7)))?;
+    puts.push((Queue::Router(1), ready))?;
+    Ok(puts)
+}
+
+fn routed(alloc: Global) -> Result<Vec<(Queue, Item)>, AllocError> {
+    let mut puts = Vec::new(alloc);
+    puts.push(peers(alloc, &[])?)?;
+    puts.push(peers(alloc, &[2, 3])?)?;
+    puts.push((Queue::Ready { node: 0, conn: 4 }, Item::Answer))?;
+    puts.push(frame(alloc, Queue::High { node: 0, conn: 4 }, Some((2, 0)))?)?;
+    puts.push(frame(alloc, Queue::Low { node: 0, conn: 4 }, None)?)?;
+    Ok(puts)
+}
+
+fn on_link(side: Side) -> Queue {
+    Queue::Link { link: 4, side }
+}
+
+fn written(alloc: Global) -> Result<Vec<(Queue, Item)>, AllocError> {
+    let mut puts = Vec::new(alloc);
+    puts.push(frame(alloc, on_link(Side::Out), Some((2, 0)))?)?;
+    puts.push(frame(alloc, on_link(Side::In), None)?)?;
+    Ok(puts)
+}
+
+fn received(alloc: Global) -> Result<Vec<(Queue, Item)>, AllocError> {
+    let mut puts = Vec::new(alloc);
+    puts.push(message(alloc)?)?;
+    Ok(puts)
 }
 
 fn dropped(send: u64, place: u64, cause: Cause) -> End {
     End::Copy(send, place, Outcome::Dropped(cause))
 }
 
-// A log that no run makes, of five entries: it is about the text alone.
-fn first_entries(alloc: Global, log: &mut Vec<Entry>) -> Result<(), AllocError> {
+fn registered(alloc: Global) -> Entry {
     let quota = Rate {
         burst: 8,
         period: 1,
     };
-    let register = Act::Register {
+    let act = Act::Register {
         channel: 7,
         node: 0,
         quota,
     };
-    log.push(entry(
-        register,
+    entry(
+        act,
         Reply::Capacity(8),
         Vec::new(alloc),
         Vec::new(alloc),
         Vec::new(alloc),
-    ))?;
-    let start = Act::Start { node: 0 };
-    log.push(entry(
-        start,
-        Reply::Ok,
-        Vec::new(alloc),
-        started(alloc)?,
-        Vec::new(alloc),
-    ))?;
-    let sent = Reply::Sent(keys(alloc, &[2, 3, 4, 5])?);
-    let puts = vec![in alloc; content(alloc, 2, keys(alloc, &[2, 3, 4, 5])?)?]?;
-    log.push(entry(send(alloc)?, sent, Vec::new(alloc), puts, Vec::new(alloc)))?;
+    )
+}
+
+fn started_entry(alloc: Global) -> Result<Entry, AllocError> {
+    let puts = started(alloc)?;
+    let act = Act::Start { node: 0 };
+    Ok(entry(act, Reply::Ok, Vec::new(alloc), puts, Vec::new(alloc)))
+}
+
+// The content of a send to these keys, alone.
+fn contents(alloc: Global, send: u64, to: &[u64]) -> Result<Vec<(Queue, Item)>, AllocError> {
+    let to = keys(alloc, to)?;
+    let mut puts = Vec::new(alloc);
+    puts.push(content(alloc, send, to)?)?;
+    Ok(puts)
+}
+
+// A send that is accepted for these keys.
+fn sent(
+    alloc: Global,
+    to: &[u64],
+    puts: Vec<(Queue, Item)>,
+    ends: Vec<End>,
+) -> Result<Entry, AllocError> {
+    let reply = Reply::Sent(keys(alloc, to)?);
+    Ok(entry(send(alloc)?, reply, Vec::new(alloc), puts, ends))
+}
+
+// The same, where the router takes its content.
+fn sent_on(alloc: Global, send: u64, to: &[u64]) -> Result<Entry, AllocError> {
+    let puts = contents(alloc, send, to)?;
+    sent(alloc, to, puts, Vec::new(alloc))
+}
+
+fn routed_entry(alloc: Global) -> Result<Entry, AllocError> {
     let takes = vec![in alloc; (2, 0)]?;
     let ends = vec![in alloc;
         End::Item(1, 0),
         dropped(2, 1, Cause::NoConnection),
         dropped(2, 2, Cause::RelayFull),
     ]?;
-    log.push(entry(
-        Act::Router { node: 0 },
-        Reply::Ok,
-        takes,
-        routed(alloc)?,
-        ends,
-    ))?;
-    let step = Act::SendStep { conn: 4, node: 0 };
+    let puts = routed(alloc)?;
+    Ok(entry(Act::Router { node: 0 }, Reply::Ok, takes, puts, ends))
+}
+
+fn written_entry(alloc: Global) -> Result<Entry, AllocError> {
     let takes = vec![in alloc; (3, 3), (3, 4)]?;
-    log.push(entry(step, Reply::Idle, takes, written(alloc)?, Vec::new(alloc)))?;
+    let puts = written(alloc)?;
+    let act = Act::SendStep { conn: 4, node: 0 };
+    Ok(entry(act, Reply::Idle, takes, puts, Vec::new(alloc)))
+}
+
+// A log that no run makes, of five entries: it is about the text alone.
+fn first_entries(alloc: Global, log: &mut Vec<Entry>) -> Result<(), AllocError> {
+    log.push(registered(alloc))?;
+    log.push(started_entry(alloc)?)?;
+    log.push(sent_on(alloc, 2, &[2, 3, 4, 5])?)?;
+    log.push(routed_entry(alloc)?)?;
+    log.push(written_entry(alloc)?)?;
     Ok(())
 }
 
-fn last_entries(alloc: Global, log: &mut Vec<Entry>) -> Result<(), AllocError> {
+fn received_entry(alloc: Global) -> Result<Entry, AllocError> {
     let takes = vec![in alloc; (4, 0)]?;
     let ends = vec![in alloc; dropped(2, 3, Cause::MailboxFull)]?;
-    let step = Act::RecvStep { conn: 4, node: 1 };
-    log.push(entry(step, Reply::Pending, takes, received(alloc)?, ends))?;
-    let message = Reply::Message {
+    let puts = received(alloc)?;
+    let act = Act::RecvStep { conn: 4, node: 1 };
+    Ok(entry(act, Reply::Pending, takes, puts, ends))
+}
+
+fn delivered_entry(alloc: Global) -> Result<Entry, AllocError> {
+    let takes = vec![in alloc; (5, 0)]?;
+    let ends = vec![in alloc; End::Copy(2, 0, Outcome::Delivered)]?;
+    let reply = Reply::Message {
         bytes: Bytes::copy_from_slice(alloc, &[106, 77])?,
         from: Key(1),
     };
-    let takes = vec![in alloc; (5, 0)]?;
-    let ends = vec![in alloc; End::Copy(2, 0, Outcome::Delivered)]?;
-    log.push(entry(recv(), message, takes, Vec::new(alloc), ends))?;
-    let sent = Reply::Sent(keys(alloc, &[1])?);
-    let puts = vec![in alloc; content(alloc, 7, keys(alloc, &[1])?)?]?;
-    log.push(entry(send(alloc)?, sent, Vec::new(alloc), puts, Vec::new(alloc)))?;
-    let sent = Reply::Sent(keys(alloc, &[1, 9])?);
+    Ok(entry(recv(), reply, takes, Vec::new(alloc), ends))
+}
+
+fn unbound_entry(alloc: Global) -> Result<Entry, AllocError> {
     let ends = vec![in alloc; dropped(8, 0, Cause::Unbound)]?;
-    log.push(entry(send(alloc)?, sent, Vec::new(alloc), Vec::new(alloc), ends))?;
-    log.push(entry(
+    sent(alloc, &[1, 9], Vec::new(alloc), ends)
+}
+
+fn gone_entry(alloc: Global) -> Entry {
+    entry(
         recv(),
         Reply::Gone,
         Vec::new(alloc),
         Vec::new(alloc),
         Vec::new(alloc),
-    ))?;
+    )
+}
+
+fn last_entries(alloc: Global, log: &mut Vec<Entry>) -> Result<(), AllocError> {
+    log.push(received_entry(alloc)?)?;
+    log.push(delivered_entry(alloc)?)?;
+    log.push(sent_on(alloc, 7, &[1])?)?;
+    log.push(unbound_entry(alloc)?)?;
+    log.push(gone_entry(alloc))?;
     Ok(())
 }
 
-const LINES: [&str; 18] = [
+const LINES: &[&str] = &[
     r#"{"end":[],"n":0,"put":[],"reply":{"capacity":8},"take":[]}"#,
     r#"{"end":[],"n":1,"put":[["router:0",{"subscribe":7}],["router:1",{"ready":{"conn":4,"key":2}}]],"reply":"ok","take":[]}"#,
     r#"{"end":[],"n":2,"put":[["router:0",{"content":{"channel":7,"frame":"0007026a4d","priority":true,"send":2,"to":[2,3,4,5]}}]],"reply":{"sent":[2,3,4,5]},"take":[]}"#,
@@ -251,34 +278,42 @@ const LINES: [&str; 18] = [
     r#"{"copies":7,"entries":10}"#,
 ];
 
-// These lines, each with its end.
-pub fn text_of(alloc: Global, lines: &[&str]) -> Result<String, Fail> {
-    let mut text = String::new(alloc);
+// Whether a text has these lines, each with its end.
+pub fn is_text(alloc: Global, text: &str, lines: &[&str]) -> Result<bool, AllocError> {
+    let mut wanted = String::new(alloc);
     for line in lines {
-        text.push_str(line)?;
-        text.push_str("\n")?;
+        wanted.push_str(line)?;
+        wanted.push_str("\n")?;
     }
-    Ok(text)
+    Ok(wanted.as_str() == text)
 }
 
-#[test]
-fn each_kind_has_its_text(rt: HostRuntime) -> Result<(), Fail> {
-    let alloc = rt.alloc();
+fn report(alloc: Global) -> Result<Report, AllocError> {
     let mut log = Vec::new(alloc);
     first_entries(alloc, &mut log)?;
     last_entries(alloc, &mut log)?;
-    let report = Report {
+    Ok(Report {
         log: List::new(log),
-    };
-    let text = write_report(alloc, &report)?;
-    let wanted = text_of(alloc, &LINES)?;
-    assert_eq!(rt; text.as_str(), wanted.as_str());
+    })
+}
+
+// Whether the text of a report has these lines.
+fn is_written(alloc: Global, report: &Report, lines: &[&str]) -> Result<bool, AllocError> {
+    let text = write_report(alloc, report)?;
+    is_text(alloc, text.as_str(), lines)
+}
+
+// The same of a report with each kind of what there is, and of one without entries.
+fn are_written(alloc: Global) -> Result<(bool, bool), AllocError> {
+    let kinds = is_written(alloc, &report(alloc)?, LINES)?;
     let nothing = Report {
-        log: List::new(Vec::new(alloc)),
+        log: List::empty(alloc),
     };
-    assert_eq!(rt;
-        write_report(alloc, &nothing)?.as_str(),
-        "{\"copies\":0,\"entries\":0}\n"
-    );
-    Ok(())
+    let lines = [r#"{"copies":0,"entries":0}"#];
+    Ok((kinds, is_written(alloc, &nothing, &lines)?))
+}
+
+#[test]
+fn each_kind_has_its_text(rt: HostRuntime) {
+    assert_eq!(rt; are_written(rt.alloc()), Ok((true, true)));
 }

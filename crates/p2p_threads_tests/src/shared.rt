@@ -5,7 +5,6 @@ ghost use Rattle.p2p_threads.specs.Account.{IsMadeBy, IsAlike};
 use p2p_threads::{Out, Pass, Served, Shared};
 use std::alloc::{AllocError, Global};
 use std::sync::Wait;
-use std::test::Fail;
 use std::thread;
 use std::thread::{Threads, yield_now};
 
@@ -37,26 +36,58 @@ impl Served for Counter {
     }
 }
 
-#[test]
-fn two_passes_make_one_history(rt: HostRuntime) -> Result<(), Fail> {
-    let (shared, mut one) = Shared::new(rt.alloc(), Counter { sum: 0 })?;
-    assert_eq!(rt; shared.call(&rt, &mut one, Add(2))?, (0, 2));
-    assert_eq!(rt; shared.call(&rt, &mut one, Add(3))?, (1, 5));
-    let mut two = shared.split(&mut one)?;
-    assert_eq!(rt; shared.call(&rt, &mut two, Add(4))?, (2, 9));
-    let Err(Out(shared, mut one)) = shared.close(&rt, one) else {
-        panic!(rt; "a call is out")
+// The places and the replies of two calls with one pass, and of a third with one that is split off it, which comes back.
+fn three_calls(
+    rt: &impl Wait,
+    shared: &Shared<Counter>,
+    one: &mut Pass<Counter>,
+) -> Result<([(u64, u64); 3], Pass<Counter>), AllocError>
+    requires { IsMadeBy shared.now one.old }
+    ensures one { IsAlike one.old one.new }
+    ensures two { IfOk result (λ r. IsAlike one.old r.1) }
+{
+    let first = shared.call(rt, one, Add(2))?;
+    let second = shared.call(rt, one, Add(3))?;
+    let mut two = shared.split(one)?;
+    let third = shared.call(rt, &mut two, Add(4))?;
+    Ok(([first, second, third], two))
+}
+
+// The sum, and whether the history is that of the three calls, where one pass alone does not close and both do.
+fn closed(
+    rt: &impl Wait,
+    shared: Shared<Counter>,
+    one: Pass<Counter>,
+    two: Pass<Counter>,
+) -> Option<(u64, bool)>
+    requires one { IsMadeBy shared one }
+    requires two { IsMadeBy shared two }
+{
+    let Err(Out(shared, mut one)) = shared.close(rt, one) else {
+        return None;
     };
     shared.join(&mut one, two);
-    let Ok((counter, history)) = shared.close(&rt, one) else {
-        panic!(rt; "no call is out")
+    let Ok((counter, history)) = shared.close(rt, one) else {
+        return None;
     };
-    assert_eq!(rt; counter.sum, 9);
-    assert_eq!(rt;
-        history.as_slice(),
-        [(Add(2), 2), (Add(3), 5), (Add(4), 9)].as_slice()
-    );
-    Ok(())
+    let wanted = [(Add(2), 2), (Add(3), 5), (Add(4), 9)];
+    Some((counter.sum, history.as_slice() == wanted.as_slice()))
+}
+
+// What three calls with two passes are told, and what both passes close with.
+fn called(
+    rt: &impl Wait,
+    alloc: Global,
+) -> Result<([(u64, u64); 3], Option<(u64, bool)>), AllocError> {
+    let (shared, mut one) = Shared::new(alloc, Counter { sum: 0 })?;
+    let (answers, two) = three_calls(rt, &shared, &mut one)?;
+    Ok((answers, closed(rt, shared, one, two)))
+}
+
+#[test]
+fn two_passes_make_one_history(rt: HostRuntime) {
+    let answers = [(0, 2), (1, 5), (2, 9)];
+    assert_eq!(rt; called(&rt, rt.alloc()), Ok((answers, Some((9, true)))));
 }
 
 // One caller's calls, in order.
@@ -146,13 +177,20 @@ fn is_in_order(history: &[(Add, u64)]) -> bool {
     calls == [CALLS; CALLERS]
 }
 
-#[test]
-fn four_callers_keep_their_order(rt: HostRuntime) -> Result<(), Fail> {
-    let (shared, pass) = Shared::new(rt.alloc(), Counter { sum: 0 })?;
-    let pass = four_add(&rt, &shared, pass)?;
-    let Ok((_, history)) = shared.close(&rt, pass) else {
-        panic!(rt; "no call is out")
+// Whether the history of four callers at once is in order, where no call is out.
+fn are_in_order<R: Threads + Wait + Sync>(
+    rt: &R,
+    alloc: Global,
+) -> Result<Option<bool>, AllocError> {
+    let (shared, pass) = Shared::new(alloc, Counter { sum: 0 })?;
+    let pass = four_add(rt, &shared, pass)?;
+    let Ok((_, history)) = shared.close(rt, pass) else {
+        return Ok(None);
     };
-    assert!(rt; is_in_order(history.as_slice()));
-    Ok(())
+    Ok(Some(is_in_order(history.as_slice())))
+}
+
+#[test]
+fn four_callers_keep_their_order(rt: HostRuntime) {
+    assert_eq!(rt; are_in_order(&rt, rt.alloc()), Ok(Some(true)));
 }
