@@ -20,8 +20,8 @@ fn row(alloc: Global, configs: &[Config], log: &[Entry], act: &Act) -> Result<Ro
 {
     match act {
         Act::Register { node, quota, .. } => Ok(register(alloc, configs, *node, *quota)),
-        Act::Start { node } => Ok(start(alloc, configs, log, *node)?),
-        Act::Join { a, b } => Ok(join(alloc, configs, log, *a, *b)?),
+        Act::Start { node } => start(alloc, configs, log, *node),
+        Act::Join { a, b } => join(alloc, configs, log, *a, *b),
         Act::Send {
             bytes,
             channel,
@@ -31,12 +31,12 @@ fn row(alloc: Global, configs: &[Config], log: &[Entry], act: &Act) -> Result<Ro
         } => {
             let most = limit(configs, *node);
             prove!(bytes.len() <= most as usize);
-            Ok(send(alloc, configs, log, bytes, *channel, *node, *priority, to)?)
+            send(alloc, configs, log, bytes, *channel, *node, *priority, to)
         }
-        Act::Router { node } => Ok(router(alloc, configs, log, *node)?),
-        Act::SendStep { conn, node } => Ok(send_step(alloc, configs, log, *conn, *node)?),
-        Act::RecvStep { conn, node } => Ok(recv_step(alloc, configs, log, *conn, *node)?),
-        Act::Recv { channel, node } => Ok(recv(alloc, configs, log, *channel, *node)?),
+        Act::Router { node } => router(alloc, configs, log, *node),
+        Act::SendStep { conn, node } => send_step(alloc, configs, log, *conn, *node),
+        Act::RecvStep { conn, node } => recv_step(alloc, configs, log, *conn, *node),
+        Act::Recv { channel, node } => recv(alloc, configs, log, *channel, *node),
     }
 }
 

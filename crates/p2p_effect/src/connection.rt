@@ -1,13 +1,14 @@
 //! The steps of a connection.
 ghost use Rattle.std.specs.Prelude.{◌≡◌, ◌++◌, ◌∷◌, [], map, take, IfOk, None, Some};
+ghost use Rattle.p2p_log.specs.declared.item.Envelope.{Envelope};
 ghost use Rattle.p2p_log.specs.Lines.{line as line_of, name_of as name_of_item};
 ghost use Rattle.p2p_log.specs.Effect.{begin_row, write_row, batch_size_at, batch as batch_of, send_step_row, other_side as other_side_of, deliver_row, limit_at, message_row, frame_row, receive_row, recv_step_row};
 ghost use Rattle.p2p_effect.specs.Counted.{AreCounted};
 
-use crate::calls::only;
-use crate::facts::{capacity_in, channels, half_at, is_running};
+use crate::calls::{only, only_put, put, taking};
+use crate::facts::{channel_capacity, half_at, is_running};
 use crate::frames::message_in;
-use crate::lines::{line, name_of};
+use crate::lines::{line, line_length, name_of};
 use bytes::Bytes;
 use p2p_base::{Key, List};
 use p2p_log::{Cause, Config, End, Entry, Envelope, Item, Outcome, Queue, Reply, Row, Side};
@@ -20,13 +21,35 @@ fn begin(alloc: Global, answers: &[Envelope]) -> Result<Row, AllocError>
     ensures { IfOk result (λ r. r ≡ begin_row answers.now) }
 {
     match answers.first() {
-        Some(x) => {
-            let mut row = only(alloc, Reply::Ok);
-            row.takes.push(name_of(x))?;
-            Ok(row)
-        }
+        Some(x) => { Ok(taking(alloc, name_of(x), List::empty(alloc), List::empty(alloc))?) }
         None => Ok(only(alloc, Reply::Idle)),
     }
+}
+
+// The names of these items, in order.
+fn names_of(alloc: Global, items: &[Envelope]) -> Result<List<(u64, u64)>, AllocError>
+    ensures { IfOk result (λ names. names ≡ map name_of_item items.now) }
+{
+    let mut names = List::empty(alloc);
+    for x in items {
+        names.push(name_of(x))?;
+    }
+    Ok(names)
+}
+
+// Puts of these items to the queue, in order.
+fn puts_to(
+    alloc: Global,
+    queue: Queue,
+    items: &[Envelope],
+) -> Result<List<(Queue, Item)>, AllocError>
+    ensures { IfOk result (λ puts. puts ≡ map (λ (y : Envelope). (queue, y.item)) items.now) }
+{
+    let mut puts = List::empty(alloc);
+    for x in items {
+        put(&mut puts, queue, x.item.try_clone(alloc)?)?;
+    }
+    Ok(puts)
 }
 
 // A batch, written to the link in order.
@@ -36,12 +59,14 @@ fn write(alloc: Global, queue: Queue, items: &[Envelope]) -> Result<Row, AllocEr
     if items.is_empty() {
         return Ok(only(alloc, Reply::Idle));
     }
-    let mut row = only(alloc, Reply::Ok);
-    for x in items {
-        row.takes.push(name_of(x))?;
-        row.puts.push((queue, x.item.try_clone(alloc)?))?;
-    }
-    Ok(row)
+    let takes = names_of(alloc, items)?;
+    let puts = puts_to(alloc, queue, items)?;
+    Ok(Row {
+        reply: Reply::Ok,
+        takes,
+        puts,
+        ends: List::empty(alloc),
+    })
 }
 
 /// How many messages the node writes at once, and 0 for a node that is not there.
@@ -82,6 +107,30 @@ pub fn batch(
     Ok(List::new(items))
 }
 
+// A step of a sending half that waits for its router's answer.
+fn begin_step(alloc: Global, log: &[Entry], conn: u64, node: u64) -> Result<Row, AllocError>
+    ensures { IfOk result (λ r. r ≡ begin_row (line_of log.now (Queue.Ready node conn))) }
+{
+    let answers = line(alloc, log, Queue::Ready { node, conn })?;
+    Ok(begin(alloc, answers.as_slice())?)
+}
+
+// A step of a sending half that runs, and writes in this direction of the link.
+fn write_step(
+    alloc: Global,
+    configs: &[Config],
+    log: &[Entry],
+    conn: u64,
+    node: u64,
+    side: Side,
+) -> Result<Row, AllocError>
+    ensures { IfOk result (λ r. r ≡ write_row (Queue.Link conn side) (batch_of configs.now log.now node conn)) }
+{
+    let items = batch(alloc, configs, log, node, conn)?;
+    let queue = Queue::Link { link: conn, side };
+    Ok(write(alloc, queue, items.as_slice())?)
+}
+
 /// A step of the sending half of a connection.
 pub fn send_step(
     alloc: Global,
@@ -96,15 +145,9 @@ pub fn send_step(
         return Ok(only(alloc, Reply::Gone));
     };
     if !is_running(alloc, log, node, conn)? {
-        let answers = line(alloc, log, Queue::Ready { node, conn })?;
-        return Ok(begin(alloc, answers.as_slice())?);
+        return Ok(begin_step(alloc, log, conn, node)?);
     }
-    let items = batch(alloc, configs, log, node, conn)?;
-    let queue = Queue::Link {
-        link: conn,
-        side: half.writes,
-    };
-    Ok(write(alloc, queue, items.as_slice())?)
+    Ok(write_step(alloc, configs, log, conn, node, half.writes)?)
 }
 
 // ---- the receiving half
@@ -119,6 +162,31 @@ fn other_side(side: Side) -> Side
     }
 }
 
+// A copy that is dropped, since its channel's queue is full.
+fn drop_copy(alloc: Global, name: (u64, u64), copy: (u64, u64)) -> Result<Row, AllocError>
+    ensures { IfOk result (λ r. r ≡ record { reply = Reply.Ok; takes = name ∷ []; puts = []; ends = End.Copy copy.0 copy.1 (Outcome.Dropped Cause.MailboxFull) ∷ [] }) }
+{
+    let dropped = End::Copy(copy.0, copy.1, Outcome::Dropped(Cause::MailboxFull));
+    let ends = List::from_slice(alloc, &[dropped])?;
+    Ok(taking(alloc, name, List::empty(alloc), ends)?)
+}
+
+// A copy that enters the queue as a message.
+fn put_message(
+    alloc: Global,
+    queue: Queue,
+    name: (u64, u64),
+    from: Key,
+    copy: (u64, u64),
+    bytes: &Bytes,
+) -> Result<Row, AllocError>
+    ensures { IfOk result (λ r. r ≡ record { reply = Reply.Ok; takes = name ∷ []; puts = (queue, Item.Message bytes.now copy from) ∷ []; ends = [] }) }
+{
+    let bytes = bytes.clone()?;
+    let puts = only_put(alloc, queue, Item::Message { bytes, copy, from })?;
+    Ok(taking(alloc, name, puts, List::empty(alloc))?)
+}
+
 // To deliver a message: into its channel's queue, or dropped where that is full.
 fn deliver(
     alloc: Global,
@@ -128,22 +196,16 @@ fn deliver(
     from: Key,
     copy: (u64, u64),
     channel: u64,
-    bytes: Bytes,
+    bytes: &Bytes,
     capacity: usize,
 ) -> Result<Row, AllocError>
-    ensures { IfOk result (λ r. r ≡ deliver_row log.now node name from copy (channel, bytes) capacity) }
+    ensures { IfOk result (λ r. r ≡ deliver_row log.now node name from copy (channel, bytes.now) capacity) }
 {
     let queue = Queue::Channel { node, channel };
-    let waiting = line(alloc, log, queue)?;
-    let mut row = only(alloc, Reply::Ok);
-    row.takes.push(name)?;
-    if capacity <= waiting.len() {
-        let dropped = Outcome::Dropped(Cause::MailboxFull);
-        row.ends.push(End::Copy(copy.0, copy.1, dropped))?;
-        return Ok(row);
+    if capacity <= line_length(alloc, log, queue)? {
+        return Ok(drop_copy(alloc, name, copy)?);
     }
-    row.puts.push((queue, Item::Message { bytes, copy, from }))?;
-    Ok(row)
+    Ok(put_message(alloc, queue, name, from, copy, bytes)?)
 }
 
 /// How many bytes a message of the node has at most, and 0 for a node that is not there.
@@ -165,18 +227,17 @@ fn receive_message(
     name: (u64, u64),
     from: Key,
     copy: (u64, u64),
-    message: Option<(u64, Bytes)>,
+    message: &Option<(u64, Bytes)>,
 ) -> Result<Row, AllocError>
     requires { AreCounted configs.now log.now node }
-    ensures { IfOk result (λ r. r ≡ message_row configs.now log.now node name from copy message) }
+    ensures { IfOk result (λ r. r ≡ message_row configs.now log.now node name from copy message.now) }
 {
     let Some((channel, bytes)) = message else {
         return Ok(only(alloc, Reply::Idle));
     };
-    let registered = channels(alloc, configs, log, node)?;
-    match capacity_in(registered.as_slice(), channel) {
+    match channel_capacity(alloc, configs, log, node, *channel)? {
         Some(capacity) => Ok(deliver(
-            alloc, log, node, name, from, copy, channel, bytes, capacity,
+            alloc, log, node, name, from, copy, *channel, bytes, capacity,
         )?),
         None => Ok(only(alloc, Reply::Idle)),
     }
@@ -201,7 +262,7 @@ fn receive_frame(
             frame,
         } => {
             let message = message_in(frame, limit(configs, node))?;
-            Ok(receive_message(alloc, configs, log, node, name, from, *copy, message)?)
+            Ok(receive_message(alloc, configs, log, node, name, from, *copy, &message)?)
         }
         _ => Ok(only(alloc, Reply::Idle)),
     }
@@ -225,6 +286,22 @@ fn receive(
     }
 }
 
+// A step of a receiving half that runs, and reads what stands in this queue.
+fn receive_step(
+    alloc: Global,
+    configs: &[Config],
+    log: &[Entry],
+    node: u64,
+    from: Key,
+    queue: Queue,
+) -> Result<Row, AllocError>
+    requires { AreCounted configs.now log.now node }
+    ensures { IfOk result (λ r. r ≡ receive_row configs.now log.now node from (line_of log.now queue)) }
+{
+    let items = line(alloc, log, queue)?;
+    Ok(receive(alloc, configs, log, node, from, items.as_slice())?)
+}
+
 /// A step of the receiving half of a connection.
 pub fn recv_step(
     alloc: Global,
@@ -246,6 +323,5 @@ pub fn recv_step(
         link: conn,
         side: other_side(half.writes),
     };
-    let items = line(alloc, log, queue)?;
-    Ok(receive(alloc, configs, log, node, half.peer, items.as_slice())?)
+    Ok(receive_step(alloc, configs, log, node, half.peer, queue)?)
 }

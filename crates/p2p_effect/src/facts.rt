@@ -96,6 +96,21 @@ pub fn capacity_in(channels: &[(u64, usize)], channel: u64) -> Option<usize>
     None
 }
 
+/// The capacity of a node's channel, where it is registered.
+pub fn channel_capacity(
+    alloc: Global,
+    configs: &[Config],
+    log: &[Entry],
+    node: u64,
+    channel: u64,
+) -> Result<Option<usize>, AllocError>
+    requires { AreCounted configs.now log.now node }
+    ensures { IfOk result (λ capacity. capacity ≡ capacity_in_of (channels_of configs.now log.now node) channel) }
+{
+    let registered = channels(alloc, configs, log, node)?;
+    Ok(capacity_in(registered.as_slice(), channel))
+}
+
 /// The capacities of these channels together.
 pub fn sum_capacities(channels: &[(u64, usize)]) -> u128
     ensures sum { result ≡ sum_of channels.now }

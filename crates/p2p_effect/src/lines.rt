@@ -112,19 +112,15 @@ pub fn is_same_queue(p: Queue, q: Queue) -> bool
 
 /// Those of these items that stand in the queue.
 pub fn standing_in(
-    alloc: Global,
+    _alloc: Global,
     items: List<Envelope>,
     queue: Queue,
 ) -> Result<List<Envelope>, AllocError>
     ensures { IfOk result (λ kept. kept ≡ filter (stands_in_of queue) items) }
 {
-    let mut kept = List::empty(alloc);
-    for item in items.into_inner() {
-        if is_same_queue(queue, item.queue) {
-            kept.push(item)?;
-        }
-    }
-    Ok(kept)
+    let mut kept = items.into_inner();
+    kept.retain(|item| is_same_queue(queue, item.queue));
+    Ok(List::new(kept))
 }
 
 /// What stands in the queue.
@@ -135,21 +131,32 @@ pub fn line(alloc: Global, log: &[Entry], queue: Queue) -> Result<List<Envelope>
     Ok(standing_in(alloc, live(alloc, log)?, queue)?)
 }
 
+/// How many items stand in the queue.
+pub fn line_length(alloc: Global, log: &[Entry], queue: Queue) -> Result<usize, AllocError>
+    ensures { IfOk result (λ count. count ≡ length (line_of log.now queue)) }
+{
+    let items = line(alloc, log, queue)?;
+    Ok(items.len())
+}
+
+// Whether an item does not go by the name.
+fn stays(item: &Envelope, gone: (u64, u64)) -> bool
+    ensures { result ≡ stays_of (gone ∷ []) item.now }
+{
+    !is_same(name_of(item), gone)
+}
+
 /// Those of these items that do not go by the name.
 pub fn staying(
-    alloc: Global,
+    _alloc: Global,
     items: List<Envelope>,
     gone: (u64, u64),
 ) -> Result<List<Envelope>, AllocError>
     ensures { IfOk result (λ kept. kept ≡ filter (stays_of (gone ∷ [])) items) }
 {
-    let mut kept = List::empty(alloc);
-    for item in items.into_inner() {
-        if !is_same(name_of(&item), gone) {
-            kept.push(item)?;
-        }
-    }
-    Ok(kept)
+    let mut kept = items.into_inner();
+    kept.retain(|item| stays(item, gone));
+    Ok(List::new(kept))
 }
 
 /// How many of these items stand in the queue.

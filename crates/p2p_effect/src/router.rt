@@ -1,10 +1,10 @@
 //! The router's step.
 ghost use Rattle.std.specs.Prelude.{◌≡◌, ◌++◌, ◌∷◌, [], map, filter, flat_map, count_by, IfOk, OnOk};
-ghost use Rattle.p2p_log.specs.Lines.{stands_in, stays, ended_item, name_of as name_of_item};
+ghost use Rattle.p2p_log.specs.Lines.{live as live_of, stands_in, stays, ended_item, name_of as name_of_item};
 ghost use Rattle.p2p_log.specs.Facts.{keys_in as keys_in_of, route_to as route_to_of, with_route, routes as routes_of, subscribers as subscribers_of};
 ghost use Rattle.p2p_log.specs.Effect.{overwritten as overwritten_of, peers_put, peers_ends, relay_queue as relay_queue_of, goes_to as goes_to_of, spread_one, spread_to, spread as spread_of, mailbox_size_at, route_row, route_oldest as route_oldest_of, router_row};
 
-use crate::calls::{mailbox_size, only};
+use crate::calls::{mailbox_size, only, only_put, put, taking};
 use crate::facts::{is_up, keys_in, route_to, routes, subscribers};
 use crate::lines::{count_in, first_in, is_same_queue, line, live, name_of, staying};
 use bytes::Bytes;
@@ -30,7 +30,7 @@ fn put_peers(
             node,
             channel: *channel,
         };
-        puts.push((queue, Item::Peers(List::from_slice(alloc, keys)?)))?;
+        put(puts, queue, Item::Peers(List::from_slice(alloc, keys)?))?;
     }
     Ok(())
 }
@@ -124,8 +124,7 @@ fn relay(
         copy: Some(copy),
         frame: frame.clone()?,
     };
-    puts.push((queue, item))?;
-    Ok(())
+    Ok(put(puts, queue, item)?)
 }
 
 // A copy whose recipient has no connection is dropped.
@@ -181,7 +180,45 @@ fn spread(
     Ok(())
 }
 
+// What the copies of a send come to, by the connections that the router has now.
+fn spread_routed(
+    alloc: Global,
+    puts: &mut List<(Queue, Item)>,
+    ends: &mut List<End>,
+    size: usize,
+    items: &[Envelope],
+    log: &[Entry],
+    node: u64,
+    priority: bool,
+    send: u64,
+    frame: &Bytes,
+    to: &[Key],
+) -> Result<(), AllocError>
+    ensures { OnOk result (record { puts = puts.new; ends = ends.new }
+        ≡ spread_of size items.now node priority (routes_of log.now node) send 0 frame.now to.now (record { puts = puts.old; ends = ends.old })) }
+{
+    let reached = routes(alloc, log, node)?;
+    Ok(spread(
+        puts, ends, size, items, node, priority, &reached, send, frame, to,
+    )?)
+}
+
 // ---- what the router took, by its kind
+
+// The list of the peers that are connected now, to this channel.
+fn put_connected(
+    alloc: Global,
+    log: &[Entry],
+    node: u64,
+    channel: u64,
+) -> Result<List<(Queue, Item)>, AllocError>
+    ensures { IfOk result (λ puts. puts ≡ map (peers_put node (keys_in_of (routes_of log.now node))) (channel ∷ [])) }
+{
+    let keys = keys_in(alloc, &routes(alloc, log, node)?)?;
+    let mut puts = List::empty(alloc);
+    put_peers(alloc, &mut puts, node, keys.as_slice(), &[channel])?;
+    Ok(puts)
+}
 
 // A subscription: the peers that are connected now.
 fn route_subscription(
@@ -194,12 +231,42 @@ fn route_subscription(
 ) -> Result<Row, AllocError>
     ensures { IfOk result (λ r. (configs : _) → r ≡ route_row configs log.now node name (Item.Subscribe channel) items) }
 {
-    let mut row = only(alloc, Reply::Ok);
-    row.takes.push(name)?;
-    let keys = keys_in(alloc, &routes(alloc, log, node)?)?;
-    put_peers(alloc, &mut row.puts, node, keys.as_slice(), &[channel])?;
-    row.ends = end_all_peers(alloc, items, node, &[channel])?;
-    Ok(row)
+    let ends = end_all_peers(alloc, items, node, &[channel])?;
+    let puts = put_connected(alloc, log, node, channel)?;
+    Ok(taking(alloc, name, puts, ends)?)
+}
+
+// The peers that are connected once this connection is.
+fn keys_with(
+    alloc: Global,
+    log: &[Entry],
+    node: u64,
+    conn: u64,
+    key: Key,
+) -> Result<List<Key>, AllocError>
+    ensures { IfOk result (λ keys. keys ≡ keys_in_of (with_route (routes_of log.now node) (Item.Ready conn key))) }
+{
+    let mut reached = routes(alloc, log, node)?;
+    let _ = reached.insert(key.0, conn)?;
+    Ok(keys_in(alloc, &reached)?)
+}
+
+// The answer to a connection, and its peers to each of these channels.
+fn put_ready(
+    alloc: Global,
+    log: &[Entry],
+    node: u64,
+    conn: u64,
+    key: Key,
+    channels: &[u64],
+) -> Result<List<(Queue, Item)>, AllocError>
+    ensures { IfOk result (λ puts. puts ≡ (Queue.Ready node conn, Item.Answer)
+        ∷ map (peers_put node (keys_in_of (with_route (routes_of log.now node) (Item.Ready conn key)))) channels.now) }
+{
+    let keys = keys_with(alloc, log, node, conn, key)?;
+    let mut puts = only_put(alloc, Queue::Ready { node, conn }, Item::Answer)?;
+    put_peers(alloc, &mut puts, node, keys.as_slice(), channels)?;
+    Ok(puts)
 }
 
 // A connection: it may run, and each subscriber hears of it.
@@ -214,22 +281,10 @@ fn route_ready(
 ) -> Result<Row, AllocError>
     ensures { IfOk result (λ r. (configs : _) → r ≡ route_row configs log.now node name (Item.Ready conn key) items) }
 {
-    let mut row = only(alloc, Reply::Ok);
-    row.takes.push(name)?;
-    row.puts.push((Queue::Ready { node, conn }, Item::Answer))?;
-    let mut reached = routes(alloc, log, node)?;
-    let _ = reached.insert(key.0, conn)?;
-    let keys = keys_in(alloc, &reached)?;
     let wanting = subscribers(alloc, log, node)?;
-    put_peers(
-        alloc,
-        &mut row.puts,
-        node,
-        keys.as_slice(),
-        wanting.as_slice(),
-    )?;
-    row.ends = end_all_peers(alloc, items, node, wanting.as_slice())?;
-    Ok(row)
+    let ends = end_all_peers(alloc, items, node, wanting.as_slice())?;
+    let puts = put_ready(alloc, log, node, conn, key, wanting.as_slice())?;
+    Ok(taking(alloc, name, puts, ends)?)
 }
 
 // Content: a copy to each recipient, in order.
@@ -247,32 +302,20 @@ fn route_content(
 ) -> Result<Row, AllocError>
     ensures { IfOk result (λ r. (channel : _) → r ≡ route_row configs.now log.now node name (Item.Content channel frame.now priority send to.now) items.now) }
 {
-    let mut row = only(alloc, Reply::Ok);
-    row.takes.push(name)?;
     let size = mailbox_size(configs, node);
-    let reached = routes(alloc, log, node)?;
-    spread(
-        &mut row.puts,
-        &mut row.ends,
-        size,
-        items,
-        node,
-        priority,
-        &reached,
-        send,
-        frame,
-        to,
+    let mut puts = List::empty(alloc);
+    let mut ends = List::empty(alloc);
+    spread_routed(
+        alloc, &mut puts, &mut ends, size, items, log, node, priority, send, frame, to,
     )?;
-    Ok(row)
+    Ok(taking(alloc, name, puts, ends)?)
 }
 
 // An item of another kind: it is taken, and nothing comes of it.
 fn route_other(alloc: Global, name: (u64, u64)) -> Result<Row, AllocError>
     ensures { IfOk result (λ r. r ≡ record { reply = Reply.Ok; takes = name ∷ []; puts = []; ends = [] }) }
 {
-    let mut row = only(alloc, Reply::Ok);
-    row.takes.push(name)?;
-    Ok(row)
+    Ok(taking(alloc, name, List::empty(alloc), List::empty(alloc))?)
 }
 
 // The item that the router took, by its kind, given what stands in queues once it is taken.
@@ -316,6 +359,17 @@ fn route(
     }
 }
 
+// What stands in queues once the item of this name is taken.
+fn live_without(
+    alloc: Global,
+    log: &[Entry],
+    name: (u64, u64),
+) -> Result<List<Envelope>, AllocError>
+    ensures { IfOk result (λ items. items ≡ filter (stays (name ∷ [])) (live_of log.now)) }
+{
+    Ok(staying(alloc, live(alloc, log)?, name)?)
+}
+
 // The oldest of the items that wait for the router.
 fn route_oldest(
     alloc: Global,
@@ -328,7 +382,7 @@ fn route_oldest(
 {
     match waiting.first() {
         Some(x) => {
-            let items = staying(alloc, live(alloc, log)?, name_of(x))?;
+            let items = live_without(alloc, log, name_of(x))?;
             Ok(route(alloc, configs, log, node, name_of(x), &x.item, items)?)
         }
         None => Ok(only(alloc, Reply::Idle)),

@@ -1,7 +1,7 @@
 //! Whether an event may be asked for, after those of the log.
-ghost use Rattle.std.specs.Prelude.{◌≡◌, IfOk};
+ghost use Rattle.std.specs.Prelude.{◌≡◌, Some, IfOk};
 ghost use Rattle.p2p_log.specs.Facts.{events_of};
-ghost use Rattle.p2p_log.specs.Valid.{last_moment as last_moment_of, names_join as names_join_of, may_register as may_register_of, may_act as may_act_of, is_valid_event};
+ghost use Rattle.p2p_log.specs.Valid.{last_moment as last_moment_of, joins_node as joins_node_of, names_join as names_join_of, may_register as may_register_of, may_act as may_act_of, is_valid_event};
 ghost use Rattle.p2p_effect.specs.Counted.{AreCounted, AllCounted};
 
 use crate::calls::mailbox_size;
@@ -20,15 +20,22 @@ fn last_moment(log: &[Entry]) -> u64
     }
 }
 
+// Whether the event is a join of the node.
+fn joins_node(event: &Event, node: u64) -> bool
+    ensures { result ≡ joins_node_of node (Some event.now) }
+{
+    match &event.act {
+        Act::Join { a, b } => *a == node || *b == node,
+        _ => false,
+    }
+}
+
 // Whether an earlier event is a join of the node.
 fn names_join(log: &[Entry], node: u64, conn: u64) -> bool
     ensures { result ≡ names_join_of (events_of log.now) node conn }
 {
     match log.get(conn as usize) {
-        Some(entry) => match &entry.event.act {
-            Act::Join { a, b } => *a == node || *b == node,
-            _ => false,
-        },
+        Some(entry) => joins_node(&entry.event, node),
         None => false,
     }
 }

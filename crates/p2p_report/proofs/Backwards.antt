@@ -59,7 +59,7 @@ first_of-before copy log n e gone some within is tells =
     ∙ ap (λ xs. option_or (first_of copy xs) (first_of copy (live_from n rest)))
     (sym (filter_agree (λ x. not (gone (name_of x))) (stays (flat_map goes rest)) (λ x. ap not (tells (name_of x))) (placed (n - 1) 0 e.puts)))
 
-turned : (t e r : Bool) → ((t || e) || r) ≡ (e || (t || r))
+pub turned : (t e r : Bool) → ((t || e) || r) ≡ (e || (t || r))
 turned true true r = refl
 turned true false r = refl
 turned false true r = refl

@@ -167,13 +167,21 @@ fn note_taken(gone: &mut BTreeSet<(u64, u64)>, takes: &[(u64, u64)]) -> Result<(
     Ok(())
 }
 
+// The item that ends here is gone.
+fn note_end(gone: &mut BTreeSet<(u64, u64)>, end: End) -> Result<(), AllocError>
+    ensures { OnOk result ((name : ℕ × ℕ) → has gone.new name ≡ (list_any (same_name name) (ended_item end) || has gone.old name)) }
+{
+    match end {
+        End::Item(entry, place) => add(gone, (entry, place)),
+        _ => Ok(()),
+    }
+}
+
 fn note_ended(gone: &mut BTreeSet<(u64, u64)>, ends: &[End]) -> Result<(), AllocError>
     ensures { OnOk result ((name : ℕ × ℕ) → has gone.new name ≡ (list_any (same_name name) (flat_map ended_item ends.now) || has gone.old name)) }
 {
     for end in ends {
-        if let End::Item(entry, place) = *end {
-            add(gone, (entry, place))?;
-        }
+        note_end(gone, *end)?;
     }
     Ok(())
 }

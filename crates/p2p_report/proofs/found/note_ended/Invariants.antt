@@ -1,5 +1,5 @@
--- The items' ends so far are noted.
-use Rattle.std.proofs.Common.{◌≡◌, ℕ, ◌||◌, take}
+-- What is noted, and the items' ends that are left.
+use Rattle.std.proofs.Common.{◌≡◌, ℕ, ◌||◌, drop}
 use Rattle.std.specs.Prelude.{flat_map}
 use Rattle.std.specs.List.{list_any}
 use Rattle.p2p_log.specs.Lines.{ended_item, same_name}
@@ -8,4 +8,5 @@ use Rattle.p2p_report.proofs.found.note_ended.Given as goal
 
 abbrev pub invariant-loop-end : goal.invariant-loop-end
 invariant-loop-end l =
-    (name : ℕ × ℕ) → has l.gone name ≡ (list_any (same_name name) (flat_map ended_item (take l.end-index l.ends)) || has l.fn.gone name)
+    (name : ℕ × ℕ) → (list_any (same_name name) (flat_map ended_item (drop l.end-index l.ends)) || has l.gone name)
+    ≡ (list_any (same_name name) (flat_map ended_item l.ends) || has l.fn.gone name)
