@@ -26,7 +26,7 @@ returns-in-Some-Ready-clause-stepped g c =
     let r = c.args.self.now in
     let d = c.args.messenger.now in
     let m : Message g.row.P.Denot = message.Ready c.in-Some-Ready.peer c.in-Some-Ready.relay c.in-Some-Ready.conn in
-    let is : message_waiting d ≡ Some m = let took = c.take.ensures.value in let some = c.in-Some-Ready.is in let it = c.in-Some-Ready.field-0-is in cc in
+    let is : message_waiting d ≡ Some m = sym c.take.ensures.value ∙ (c.in-Some-Ready.is ∙ ap Some c.in-Some-Ready.field-0-is) in
     of_oldest d c.take.new.self (message_waiting d) m (λ x. IfOk c.ready.result (λ s. s ≡ stepped_by g.P.Ord.cmp r x m)) (λ o. IfOk c.ready.result (λ s. s ≡ stepped_on g.P.Ord.cmp r d o)) is c.take.ensures.after (λ h. h) c.ready.ensures.stepped
 
 pub returns-in-Some-Ready-clause-actor : goal.returns-in-Some-Ready-clause-actor
@@ -34,7 +34,7 @@ returns-in-Some-Ready-clause-actor g c =
     let r = c.args.self.now in
     let d = c.args.messenger.now in
     let m : Message g.row.P.Denot = message.Ready c.in-Some-Ready.peer c.in-Some-Ready.relay c.in-Some-Ready.conn in
-    let is : message_waiting d ≡ Some m = let took = c.take.ensures.value in let some = c.in-Some-Ready.is in let it = c.in-Some-Ready.field-0-is in cc in
+    let is : message_waiting d ≡ Some m = sym c.take.ensures.value ∙ (c.in-Some-Ready.is ∙ ap Some c.in-Some-Ready.field-0-is) in
     of_oldest d c.take.new.self (message_waiting d) m (λ x. OnOk c.ready.result (c.ready.new.self ≡ routes_by g.P.Ord.cmp r x m)) (λ o. OnOk c.ready.result (c.ready.new.self ≡ routes_on g.P.Ord.cmp r d o)) is c.take.ensures.after (λ h. h) c.ready.ensures.actor
 
 pub returns-in-Some-Ready-clause-messenger : goal.returns-in-Some-Ready-clause-messenger
@@ -42,7 +42,7 @@ returns-in-Some-Ready-clause-messenger g c =
     let r = c.args.self.now in
     let d = c.args.messenger.now in
     let m : Message g.row.P.Denot = message.Ready c.in-Some-Ready.peer c.in-Some-Ready.relay c.in-Some-Ready.conn in
-    let is : message_waiting d ≡ Some m = let took = c.take.ensures.value in let some = c.in-Some-Ready.is in let it = c.in-Some-Ready.field-0-is in cc in
+    let is : message_waiting d ≡ Some m = sym c.take.ensures.value ∙ (c.in-Some-Ready.is ∙ ap Some c.in-Some-Ready.field-0-is) in
     of_oldest d c.take.new.self (message_waiting d) m (λ x. OnOk c.ready.result (c.ready.new.messenger ≡ desk_by g.P.Ord.cmp r x m)) (λ o. OnOk c.ready.result (c.ready.new.messenger ≡ desk_on g.P.Ord.cmp r d o)) is c.take.ensures.after (λ h. h) c.ready.ensures.messenger
 
 pub returns-in-Some-Release-clause-stepped : goal.returns-in-Some-Release-clause-stepped
@@ -50,7 +50,7 @@ returns-in-Some-Release-clause-stepped g c =
     let r = c.args.self.now in
     let d = c.args.messenger.now in
     let m : Message g.row.P.Denot = message.Release c.in-Some-Release.peer in
-    let is : message_waiting d ≡ Some m = let took = c.take.ensures.value in let some = c.in-Some-Release.is in let it = c.in-Some-Release.field-0-is in cc in
+    let is : message_waiting d ≡ Some m = sym c.take.ensures.value ∙ (c.in-Some-Release.is ∙ ap Some c.in-Some-Release.field-0-is) in
     of_oldest d c.take.new.self (message_waiting d) m (λ x. IfOk c.release.result (λ s. s ≡ stepped_by g.P.Ord.cmp r x m)) (λ o. IfOk c.release.result (λ s. s ≡ stepped_on g.P.Ord.cmp r d o)) is c.take.ensures.after (λ h. h) c.release.ensures.stepped
 
 pub returns-in-Some-Release-clause-actor : goal.returns-in-Some-Release-clause-actor
@@ -58,7 +58,7 @@ returns-in-Some-Release-clause-actor g c =
     let r = c.args.self.now in
     let d = c.args.messenger.now in
     let m : Message g.row.P.Denot = message.Release c.in-Some-Release.peer in
-    let is : message_waiting d ≡ Some m = let took = c.take.ensures.value in let some = c.in-Some-Release.is in let it = c.in-Some-Release.field-0-is in cc in
+    let is : message_waiting d ≡ Some m = sym c.take.ensures.value ∙ (c.in-Some-Release.is ∙ ap Some c.in-Some-Release.field-0-is) in
     of_oldest d c.take.new.self (message_waiting d) m (λ x. OnOk c.release.result (c.release.new.self ≡ routes_by g.P.Ord.cmp r x m)) (λ o. OnOk c.release.result (c.release.new.self ≡ routes_on g.P.Ord.cmp r d o)) is c.take.ensures.after (λ h. h) c.release.ensures.actor
 
 pub returns-in-Some-Release-clause-messenger : goal.returns-in-Some-Release-clause-messenger
@@ -66,7 +66,7 @@ returns-in-Some-Release-clause-messenger g c =
     let r = c.args.self.now in
     let d = c.args.messenger.now in
     let m : Message g.row.P.Denot = message.Release c.in-Some-Release.peer in
-    let is : message_waiting d ≡ Some m = let took = c.take.ensures.value in let some = c.in-Some-Release.is in let it = c.in-Some-Release.field-0-is in cc in
+    let is : message_waiting d ≡ Some m = sym c.take.ensures.value ∙ (c.in-Some-Release.is ∙ ap Some c.in-Some-Release.field-0-is) in
     of_oldest d c.take.new.self (message_waiting d) m (λ x. OnOk c.release.result (c.release.new.messenger ≡ desk_by g.P.Ord.cmp r x m)) (λ o. OnOk c.release.result (c.release.new.messenger ≡ desk_on g.P.Ord.cmp r d o)) is c.take.ensures.after (λ h. h) c.release.ensures.messenger
 
 pub returns-in-Some-Content-clause-stepped : goal.returns-in-Some-Content-clause-stepped
@@ -74,7 +74,7 @@ returns-in-Some-Content-clause-stepped g c =
     let r = c.args.self.now in
     let d = c.args.messenger.now in
     let m : Message g.row.P.Denot = message.Content c.in-Some-Content.recipients c.in-Some-Content.encoded c.in-Some-Content.priority in
-    let is : message_waiting d ≡ Some m = let took = c.take.ensures.value in let some = c.in-Some-Content.is in let it = c.in-Some-Content.field-0-is in cc in
+    let is : message_waiting d ≡ Some m = sym c.take.ensures.value ∙ (c.in-Some-Content.is ∙ ap Some c.in-Some-Content.field-0-is) in
     of_oldest d c.take.new.self (message_waiting d) m (λ x. IfOk c.content.result (λ s. s ≡ stepped_by g.P.Ord.cmp r x m)) (λ o. IfOk c.content.result (λ s. s ≡ stepped_on g.P.Ord.cmp r d o)) is c.take.ensures.after (λ h. h) c.content.ensures.stepped
 
 pub returns-in-Some-Content-clause-actor : goal.returns-in-Some-Content-clause-actor
@@ -82,7 +82,7 @@ returns-in-Some-Content-clause-actor g c =
     let r = c.args.self.now in
     let d = c.args.messenger.now in
     let m : Message g.row.P.Denot = message.Content c.in-Some-Content.recipients c.in-Some-Content.encoded c.in-Some-Content.priority in
-    let is : message_waiting d ≡ Some m = let took = c.take.ensures.value in let some = c.in-Some-Content.is in let it = c.in-Some-Content.field-0-is in cc in
+    let is : message_waiting d ≡ Some m = sym c.take.ensures.value ∙ (c.in-Some-Content.is ∙ ap Some c.in-Some-Content.field-0-is) in
     of_oldest d c.take.new.self (message_waiting d) m (λ x. OnOk c.content.result (c.content.new.self ≡ routes_by g.P.Ord.cmp r x m)) (λ o. OnOk c.content.result (c.content.new.self ≡ routes_on g.P.Ord.cmp r d o)) is c.take.ensures.after (λ h. h) c.content.ensures.actor
 
 pub returns-in-Some-SubscribePeers-clause-stepped : goal.returns-in-Some-SubscribePeers-clause-stepped
@@ -90,7 +90,7 @@ returns-in-Some-SubscribePeers-clause-stepped g c =
     let r = c.args.self.now in
     let d = c.args.messenger.now in
     let m : Message g.row.P.Denot = message.SubscribePeers c.in-Some-SubscribePeers.subscription in
-    let is : message_waiting d ≡ Some m = let took = c.take.ensures.value in let some = c.in-Some-SubscribePeers.is in let it = c.in-Some-SubscribePeers.field-0-is in cc in
+    let is : message_waiting d ≡ Some m = sym c.take.ensures.value ∙ (c.in-Some-SubscribePeers.is ∙ ap Some c.in-Some-SubscribePeers.field-0-is) in
     of_oldest d c.take.new.self (message_waiting d) m (λ x. IfOk c.subscribe.result (λ s. s ≡ stepped_by g.P.Ord.cmp r x m)) (λ o. IfOk c.subscribe.result (λ s. s ≡ stepped_on g.P.Ord.cmp r d o)) is c.take.ensures.after (λ h. h) c.subscribe.ensures.stepped
 
 pub returns-in-Some-SubscribePeers-clause-actor : goal.returns-in-Some-SubscribePeers-clause-actor
@@ -98,7 +98,7 @@ returns-in-Some-SubscribePeers-clause-actor g c =
     let r = c.args.self.now in
     let d = c.args.messenger.now in
     let m : Message g.row.P.Denot = message.SubscribePeers c.in-Some-SubscribePeers.subscription in
-    let is : message_waiting d ≡ Some m = let took = c.take.ensures.value in let some = c.in-Some-SubscribePeers.is in let it = c.in-Some-SubscribePeers.field-0-is in cc in
+    let is : message_waiting d ≡ Some m = sym c.take.ensures.value ∙ (c.in-Some-SubscribePeers.is ∙ ap Some c.in-Some-SubscribePeers.field-0-is) in
     of_oldest d c.take.new.self (message_waiting d) m (λ x. OnOk c.subscribe.result (c.subscribe.new.self ≡ routes_by g.P.Ord.cmp r x m)) (λ o. OnOk c.subscribe.result (c.subscribe.new.self ≡ routes_on g.P.Ord.cmp r d o)) is c.take.ensures.after (λ h. h) c.subscribe.ensures.actor
 
 pub returns-in-Some-SubscribePeers-clause-messenger : goal.returns-in-Some-SubscribePeers-clause-messenger
@@ -106,5 +106,5 @@ returns-in-Some-SubscribePeers-clause-messenger g c =
     let r = c.args.self.now in
     let d = c.args.messenger.now in
     let m : Message g.row.P.Denot = message.SubscribePeers c.in-Some-SubscribePeers.subscription in
-    let is : message_waiting d ≡ Some m = let took = c.take.ensures.value in let some = c.in-Some-SubscribePeers.is in let it = c.in-Some-SubscribePeers.field-0-is in cc in
+    let is : message_waiting d ≡ Some m = sym c.take.ensures.value ∙ (c.in-Some-SubscribePeers.is ∙ ap Some c.in-Some-SubscribePeers.field-0-is) in
     of_oldest d c.take.new.self (message_waiting d) m (λ x. OnOk c.subscribe.result (c.subscribe.new.messenger ≡ desk_by g.P.Ord.cmp r x m)) (λ o. OnOk c.subscribe.result (c.subscribe.new.messenger ≡ desk_on g.P.Ord.cmp r d o)) is c.take.ensures.after (λ h. h) c.subscribe.ensures.messenger
