@@ -48,6 +48,12 @@ module _ {X : Type 0} (n : ℕ) where
   take-fell x xs rest None h f = sym (append-nil rest) ∙ (sym f.parts ∙ sym (take-fits n (x ∷ xs) (none_fell (x ∷ xs) rest f)))
   take-fell x xs rest (Some last) h f = sym (ap (take n) f.parts ∙ take-init n rest last (rest_full x xs rest last h f))
 
+  -- the whole is what was kept, with one more before it
+  pub fell-pushed : (x pushed : X) (xs reserved whole rest : List X) (fallen : Option X) → pushed ≡ x → reserved ≡ xs → whole ≡ pushed ∷ reserved
+      → Fell n whole rest fallen → Fell n (x ∷ xs) rest fallen
+  fell-pushed x pushed xs reserved whole rest fallen x_is xs_are whole_is f =
+      subst (λ ys. Fell n ys rest fallen) (whole_is ∙ (ap (λ y. y ∷ reserved) x_is ∙ ap (λ ys. x ∷ ys) xs_are)) f
+
   how_many-fell : (test : X → Bool) (x : X) (xs rest : List X) (fallen : Option X) → length xs ≤ n → Fell n (x ∷ xs) rest fallen
       → how_many test (take n (x ∷ xs)) ≡ (how_many test xs + one_if (test x)) - one_if (passes test fallen)
   how_many-fell test x xs rest None h f = how_many-fits test n x xs (none_fell (x ∷ xs) rest f)
