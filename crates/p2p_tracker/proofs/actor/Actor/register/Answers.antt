@@ -16,6 +16,9 @@ use Rattle.p2p_tracker.proofs.Following.{follows-refused, follows-track}
 use Rattle.p2p_tracker.proofs.Putting.{told-if}
 use Rattle.p2p_tracker.proofs.actor.Actor.register.Goals as goal
 
+pub returns-in_default-clause-stands : goal.returns-in_default-clause-stands
+returns-in_default-clause-stands g c = λ calls s. c.in_ok-killed.ensures.stands calls (subst (λ (k : Kept g.row.C.Denot). StandsFor g.C.Ord.cmp k calls) (sym (ap (λ (t : Tracking g.row.C.Denot). t.directory) c.self.view_is)) s)
+
 pub returns-in_default-clause-follows : goal.returns-in_default-clause-follows
 returns-in_default-clause-follows g c = λ calls f.
     let kept = subst (λ (t : Tracking g.row.C.Denot). Follows g.C.Ord.cmp t.directory t.controls calls) (sym c.self.view_is) f in
