@@ -23,13 +23,13 @@ use Rattle.p2p_facts.specs.Lives.{is_change, given_by, address_of, last_grant, i
 use Rattle.p2p_facts.specs.Kills.{is_evicted, is_killed}
 use Rattle.p2p_directory.specs.Recorded.{Recorded}
 use Rattle.p2p_directory.specs.Stands.{Kept, StandsFor, record_of}
-use Rattle.p2p_directory.specs.Tracked.{needed, swept, blanked, enters, enrolled, retired, is_left, is_above_latest, oldest_of, is_killed_where, is_killed_in, candidates, passes, is_primary_of, is_secondary_of}
+use Rattle.p2p_directory.specs.Tracked.{Fell, needed, swept, blanked, enters, enrolled, retired, is_left, is_above_latest, oldest_of, is_killed_where, is_killed_in, candidates, passes, is_primary_of, is_secondary_of}
 use Rattle.p2p_directory.proofs.Counts.{is_tracked-counts}
 use Rattle.p2p_directory.proofs.Enrolling.{HasRoom, enters-blanked}
 use Rattle.p2p_directory.proofs.Keeping.{how_many-least, given_by-roles}
 use Rattle.p2p_directory.proofs.Killing.{kill_step, is_left-less, lookup-flip, same_test, any-filter, lookup-only_secondary}
 use Rattle.p2p_directory.proofs.Newcomers.{list_any-flip}
-use Rattle.p2p_directory.proofs.StandingTracks.{Fell, none_fell, one_fell, rest_full, kept_least, stands-track, primary_sets-fell, secondary_sets-fell}
+use Rattle.p2p_directory.proofs.StandingTracks.{none_fell, one_fell, rest_full, kept_least, stands-track, primary_sets-fell, secondary_sets-fell}
 use Rattle.p2p_directory.proofs.Steps.{own, peer}
 use Rattle.p2p_directory.proofs.Tracking.{needed_if}
 
@@ -201,20 +201,20 @@ module _ {P : Type 0} {cmp : P → P → Ordering} (o : IsTotalOrder cmp) {kept 
     module _ (rest : List (PeerSet P)) (fallen : Option (PeerSet P)) (f : Fell kept.rules.max_sets (set_of cmp index primary secondary ∷ kept.sets) rest fallen) where
       pub stands-accepted : length kept.sets < 2 ^ 64 - 1
           → (set : PeerSet P) (first second : List (P × PeerAddress)) → set ≡ set_of cmp index primary secondary → first ≡ primary → second ≡ only_secondary cmp primary secondary
-          → (made joined both es : List (P × Recorded))
+          → (made both es : List (P × Recorded))
           → ((q : P) → lookup (is_at (cmp q)) made ≡ blanked (is_among cmp set.secondary q) (blanked (is_among cmp set.primary q) (lookup (is_at (cmp q)) kept.records)))
-          → ((q : P) → lookup (is_at (cmp q)) joined ≡ enters true (lookup (λ p. is_at (cmp p) q) first) (lookup (is_at (cmp q)) made))
-          → ((q : P) → lookup (is_at (cmp q)) both ≡ enters false (lookup (λ p. is_at (cmp p) q) second) (lookup (is_at (cmp q)) joined))
+          → ((q : P) → lookup (is_at (cmp q)) both
+          ≡ enters false (lookup (λ p. is_at (cmp p) q) second) (enters true (lookup (λ p. is_at (cmp p) q) first) (lookup (is_at (cmp q)) made)))
           → ((q : P) → lookup (is_at (cmp q)) es ≡ retired (lookup (is_at (cmp q)) both) (is_primary_of cmp fallen q) (is_secondary_of cmp fallen q))
           → StandsFor cmp (record kept { sets = rest; latest = Some index; records = es }) (call.Track index primary secondary ∷ calls)
-      stands-accepted h set first second set_is first_is second_is made joined both es m j b r =
+      stands-accepted h set first second set_is first_is second_is made both es m b r =
           stands-track s index primary secondary above rest fallen f es
           (λ q. r q ∙ ap (λ x. retired x (is_primary_of cmp fallen q) (is_secondary_of cmp fallen q))
-          (b q ∙ (ap (λ x. enters false (lookup (λ p. is_at (cmp p) q) x) (lookup (is_at (cmp q)) joined)) second_is
+          (b q ∙ (ap (λ x. enters false (lookup (λ p. is_at (cmp p) q) x) (enters true (lookup (λ p. is_at (cmp p) q) first) (lookup (is_at (cmp q)) made))) second_is
           ∙ (ap (enters false (lookup (λ p. is_at (cmp p) q) (only_secondary cmp primary secondary)))
-          (j q ∙ (ap (λ x. enters true (lookup (λ p. is_at (cmp p) q) x) (lookup (is_at (cmp q)) made)) first_is
+          (ap (λ x. enters true (lookup (λ p. is_at (cmp p) q) x) (lookup (is_at (cmp q)) made)) first_is
           ∙ ap (enters true (lookup (λ p. is_at (cmp p) q) primary))
-          (m q ∙ ap (λ x. blanked (is_among cmp x.secondary q) (blanked (is_among cmp x.primary q) (lookup (is_at (cmp q)) kept.records))) set_is)))
+          (m q ∙ ap (λ x. blanked (is_among cmp x.secondary q) (blanked (is_among cmp x.primary q) (lookup (is_at (cmp q)) kept.records))) set_is))
           ∙ entered h q))))
 
       evicted-fell : (q : P) → is_evicted cmp kept.rules index primary secondary calls q ≡ (is_primary_of cmp fallen q || is_secondary_of cmp fallen q)

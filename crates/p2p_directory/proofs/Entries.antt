@@ -1,5 +1,6 @@
 -- Which keys stand in a list of the entries that pass a test.
-use Rattle.std.proofs.Common.{◌≡◌, Bool, true, false, cond, ◌||◌, List, [], ◌∷◌, Some, None, refl, sym, ap, ◌∙◌}
+use Rattle.std.proofs.Common.{◌≡◌, Bool, true, false, cond, ◌||◌, List, [], ◌∷◌, ◌++◌, Some, None, refl, sym, ap, ◌∙◌}
+use Rattle.std.proofs.lemmas.List.{append_assoc}
 use Rattle.std.specs.Cmp.{IsTotalOrder}
 use Rattle.std.specs.List.{AllByRecursion, filter}
 use Rattle.std.specs.List.Sorted.{IsStrictlySortedBy}
@@ -58,3 +59,19 @@ module _ {P X : Type 0} {cmp : P → P → Ordering} (o : IsTotalOrder cmp) wher
       ∙ (any-sorted_once o q (keys_of (filter (λ x. test x.0 x.1) es))
       ∙ (list_any-flip o q (keys_of (filter (λ x. test x.0 x.1) es))
       ∙ (among-entries test q es s h ∙ ap (passes (test q)) (sym (lookup-flip o q es))))))
+
+-- the keys of the entries that pass a test, listed one entry after another
+module _ {P X : Type 0} (test : P × X → Bool) (all : List P) where
+  pub listed : (at rest : List (P × X)) (e : P × X) (keys more : List P) → at ≡ e ∷ rest → test e ≡ true → more ≡ keys ++ e.0 ∷ []
+      → keys ++ keys_of (filter test at) ≡ all → more ++ keys_of (filter test rest) ≡ all
+  listed at rest e keys more at_is passed more_is so_far =
+      ap (λ ks. ks ++ keys_of (filter test rest)) more_is
+      ∙ (append_assoc keys (e.0 ∷ []) (keys_of (filter test rest))
+      ∙ (ap (λ b. keys ++ keys_of (cond b (e ∷ filter test rest) (filter test rest))) (sym passed)
+      ∙ (ap (λ es. keys ++ keys_of (filter test es)) (sym at_is) ∙ so_far)))
+
+  pub passed_over : (at rest : List (P × X)) (e : P × X) (keys : List P) → at ≡ e ∷ rest → test e ≡ false
+      → keys ++ keys_of (filter test at) ≡ all → keys ++ keys_of (filter test rest) ≡ all
+  passed_over at rest e keys at_is fails so_far =
+      ap (λ b. keys ++ keys_of (cond b (e ∷ filter test rest) (filter test rest))) (sym fails)
+      ∙ (ap (λ es. keys ++ keys_of (filter test es)) (sym at_is) ∙ so_far)

@@ -1,5 +1,5 @@
 -- How the peers of a set are copied, one after another.
-use Rattle.std.proofs.Common.{◌≡◌, ℕ, ◌+◌, suc, Bool, true, false, not, cond, ◌||◌, List, [], ◌∷◌, length, get_or, ◌-◌, ◌<◌, Some, refl, sym, ap, ◌∙◌, subst, arith}
+use Rattle.std.proofs.Common.{◌≡◌, ℕ, ◌+◌, zero, suc, Bool, true, false, not, cond, ◌||◌, List, [], ◌∷◌, ◌++◌, length, take, get_or, add-one, ◌-◌, ◌<◌, Some, refl, sym, ap, ◌∙◌, subst, arith}
 use Rattle.std.proofs.lemmas.Cmp.{eq_by_cmp_equiv}
 use Rattle.std.proofs.lemmas.Iterator.Adapters.{position_from-zero}
 use Rattle.std.proofs.lemmas.List.Kept.{IsStrictlySortedBy-filter}
@@ -31,6 +31,15 @@ is_some-position test xs = ap is_some (position_from-zero test xs) ∙ is_some-p
 pub length-parts : {K V : Type 0} (es : List (K × V)) → length (keys_of es) ≡ length (values_of es)
 length-parts [] = refl
 length-parts (e ∷ es) = ap suc (length-parts es)
+
+keys-suc : {P A : Type 0} (es : List (P × A)) (i : ℕ) (e : P × A) → i < length es → e ≡ get_or es i e → keys_of (take (suc i) es) ≡ keys_of (take i es) ++ e.0 ∷ []
+keys-suc [] i e h q = absurd (omega (arith, h))
+keys-suc (x ∷ es) zero e h q = ap (λ y. y.0 ∷ []) (sym q)
+keys-suc (x ∷ es) (suc i) e h q = ap (λ ks. x.0 ∷ ks) (keys-suc es i e (omega (arith, h)) q)
+
+-- one more key
+pub keys-more : {P A : Type 0} (es : List (P × A)) (i : ℕ) (e : P × A) → i < length es → e ≡ get_or es i e → keys_of (take (i + 1) es) ≡ keys_of (take i es) ++ e.0 ∷ []
+keys-more es i e h q = ap (λ n. keys_of (take n es)) (add-one i) ∙ keys-suc es i e h q
 
 -- keys in order are the same, taken once
 pub sorted_once-sorted : {P : Type 0} {cmp : P → P → Ordering} (o : IsTotalOrder cmp) (ks : List P) → IsStrictlySortedBy cmp ks → sorted_once cmp ks ≡ ks

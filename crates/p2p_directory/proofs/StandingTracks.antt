@@ -3,7 +3,7 @@ use Rattle.std.proofs.Common.{◌≡◌, ℕ, ◌+◌, ◌-◌, ◌≤◌, ◌<�
 use Rattle.std.proofs.lemmas.Bool.{false≢true, ltb-true, ltb-false}
 use Rattle.std.proofs.lemmas.List.{length-take}
 use Rattle.std.specs.Prelude.{is_some, nat_lt}
-use Rattle.std.specs.Option.{option_or, option_to_list}
+use Rattle.std.specs.Option.{option_or}
 use Rattle.std.specs.Map.{lookup}
 use Rattle.std.specs.BTreeMap.{is_at}
 use Rattle.std.specs.declared.cmp.Ordering.{Ordering}
@@ -14,16 +14,10 @@ use Rattle.p2p_facts.specs.Sets.{PeerSet, how_many, is_above, latest_index, set_
 use Rattle.p2p_facts.specs.Blocks.{block_of}
 use Rattle.p2p_facts.specs.Lives.{given_by}
 use Rattle.p2p_directory.specs.Recorded.{Recorded}
-use Rattle.p2p_directory.specs.Tracked.{one_if, enrolled, retired, passes, is_primary_of, is_secondary_of}
+use Rattle.p2p_directory.specs.Tracked.{Fell, one_if, enrolled, retired, passes, is_primary_of, is_secondary_of}
 use Rattle.p2p_directory.specs.Stands.{Kept, StandsFor, record_of}
 use Rattle.p2p_directory.proofs.Enrolling.{enrolled-none, retired-none}
 use Rattle.p2p_directory.proofs.Keeping.{take-fits, take-init, how_many-fits, how_many-over, kept_sets-track, kept_sets-refused, record_of-track, addressed-track, given_by-roles}
-
--- a list that holds at most `n` is what stays of the whole, and another fell out where the whole was longer
-pub record Fell {X : Type 0} (n : ℕ) (whole rest : List X) (fallen : Option X) : Type 0 where
-  pub parts : whole ≡ rest ++ option_to_list fallen
-  pub fits : length whole ≤ n → fallen ≡ None
-  pub over : n < length whole → is_some fallen ≡ true
 
 module _ {X : Type 0} (n : ℕ) where
   take_least : (xs : List X) → length (take n xs) ≤ n
@@ -53,6 +47,12 @@ module _ {X : Type 0} (n : ℕ) where
   take-fell : (x : X) (xs rest : List X) (fallen : Option X) → length xs ≤ n → Fell n (x ∷ xs) rest fallen → rest ≡ take n (x ∷ xs)
   take-fell x xs rest None h f = sym (append-nil rest) ∙ (sym f.parts ∙ sym (take-fits n (x ∷ xs) (none_fell (x ∷ xs) rest f)))
   take-fell x xs rest (Some last) h f = sym (ap (take n) f.parts ∙ take-init n rest last (rest_full x xs rest last h f))
+
+  -- the whole is what was kept, with one more before it
+  pub fell-pushed : (x pushed : X) (xs reserved whole rest : List X) (fallen : Option X) → pushed ≡ x → reserved ≡ xs → whole ≡ pushed ∷ reserved
+      → Fell n whole rest fallen → Fell n (x ∷ xs) rest fallen
+  fell-pushed x pushed xs reserved whole rest fallen x_is xs_are whole_is f =
+      subst (λ ys. Fell n ys rest fallen) (whole_is ∙ (ap (λ y. y ∷ reserved) x_is ∙ ap (λ ys. x ∷ ys) xs_are)) f
 
   how_many-fell : (test : X → Bool) (x : X) (xs rest : List X) (fallen : Option X) → length xs ≤ n → Fell n (x ∷ xs) rest fallen
       → how_many test (take n (x ∷ xs)) ≡ (how_many test xs + one_if (test x)) - one_if (passes test fallen)

@@ -1,5 +1,5 @@
 -- What the sets, the records and the blocks tell of who is tracked, of whom to dial, and of where peers come from.
-use Rattle.std.specs.Prelude.{ℕ, Bool, true, false, cond, not, ◌||◌, nat_lt, List, [], ◌∷◌, Option, Some, None}
+use Rattle.std.specs.Prelude.{ℕ, Bool, true, false, cond, not, ◌&&◌, ◌||◌, nat_lt, List, [], ◌∷◌, Option, Some, None}
 use Rattle.p2p_address.specs.Addresses.{is_global}
 use Rattle.p2p_address.specs.declared.ip.IpAddr.{IpAddr}
 use Rattle.p2p_facts.specs.Blocks.{lasts_at}
@@ -18,6 +18,10 @@ peers_of s = record { primary = s.primary; secondary = s.secondary }
 abbrev pub newest_of : {X : Type 0} → List X → Option X
 newest_of [] = None
 newest_of (x ∷ xs) = Some x
+
+-- the role of a peer that is primary in a set, or else of one that is primary in none and secondary in one
+abbrev pub has_role : Recorded → Bool → Bool
+has_role r primary = cond primary (nat_lt 0 r.primary) (not (nat_lt 0 r.primary) && nat_lt 0 r.secondary)
 
 -- an IP address that is global, or any where private ones are allowed
 abbrev pub if_allowed : Bool → Option IpAddr → Option IpAddr

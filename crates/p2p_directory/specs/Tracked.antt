@@ -1,6 +1,6 @@
 -- What an accepted peer set makes of a record: first the set that is new counts, and then the one that is kept no longer.
-use Rattle.std.specs.Prelude.{ℕ, ◌+◌, ◌-◌, ◌^◌, Bool, true, false, cond, not, ◌&&◌, ◌||◌, nat_lt, List, [], ◌∷◌, ◌++◌, Option, Some, None}
-use Rattle.std.specs.Option.{option_map, option_or}
+use Rattle.std.specs.Prelude.{◌≡◌, ℕ, ◌+◌, ◌-◌, ◌^◌, ◌<◌, ◌≤◌, length, is_some, Bool, true, false, cond, not, ◌&&◌, ◌||◌, nat_lt, List, [], ◌∷◌, ◌++◌, Option, Some, None}
+use Rattle.std.specs.Option.{option_map, option_or, option_to_list}
 use Rattle.std.specs.List.{list_any}
 use Rattle.std.specs.Map.{lookup}
 use Rattle.std.specs.declared.cmp.Ordering.{Ordering}
@@ -110,6 +110,12 @@ is_above_latest index (Some latest) = nat_lt latest index
 abbrev pub oldest_of : {X : Type 0} → X → List X → Option X
 oldest_of x [] = Some x
 oldest_of x (y ∷ ys) = oldest_of y ys
+
+-- a list that holds at most `n` is what stays of the whole, and another fell out where the whole was longer
+pub record Fell {X : Type 0} (n : ℕ) (whole rest : List X) (fallen : Option X) : Type 0 where
+  pub parts : whole ≡ rest ++ option_to_list fallen
+  pub fits : length whole ≤ n → fallen ≡ None
+  pub over : n < length whole → is_some fallen ≡ true
 
 -- the test of the value, where there is one
 abbrev pub passes : {X : Type 0} → (X → Bool) → Option X → Bool

@@ -21,7 +21,7 @@ pub enum Message<P: PublicKey> {
         /// The addresses.
         peers: Map<P, Address>,
     },
-    /// Who is in a set?
+    /// It is asked who is in a set.
     PeerSet {
         /// The index of the set.
         index: u64,
@@ -50,14 +50,14 @@ pub enum Message<P: PublicKey> {
         /// The connection, which is ended where it isn't allowed.
         conn: u64,
     },
-    /// Which peers may be dialed now?
+    /// It is asked which peers may be dialed now.
     Dialable,
-    /// May this peer be dialed? Where it may, it is reserved.
+    /// A peer is to be reserved for a dial, where it may be dialed.
     Dial {
         /// The peer.
         public_key: P,
     },
-    /// May this peer connect from there?
+    /// It is asked whether a peer may connect from there.
     Acceptable {
         /// The peer.
         public_key: P,
@@ -66,7 +66,7 @@ pub enum Message<P: PublicKey> {
         /// The handshake, which is answered.
         handshake: u64,
     },
-    /// May this peer connect from there? Where it may, it is reserved.
+    /// A peer that has connected is to be reserved, where it may connect from there.
     Listen {
         /// The peer.
         public_key: P,

@@ -1,5 +1,5 @@
 //! `Waiting`, items that wait for whoever subscribed to them.
-ghost use Rattle.std.specs.Prelude.{◌≡◌, ◌∷◌, ◌++◌, [], drop, slice_get, IfOk, OnOk, OnErr};
+ghost use Rattle.std.specs.Prelude.{◌≡◌, ◌∷◌, ◌++◌, [], drop, slice_get, slice_index_or, slice_set, IfOk, OnOk, OnErr};
 
 use std::alloc::{AllocError, Global};
 use std::collections::VecDeque;
@@ -50,4 +50,20 @@ impl<T> Waiting<T> {
     {
         self.items.pop_front()
     }
+}
+
+// Puts an item last for the subscription of a number. It is dropped where there is no such subscription, or no memory for it.
+pub(crate) fn put_for<T: Drop>(
+    waiting: &mut Vec<Waiting<T>>,
+    ticket: u64,
+    item: T,
+) -> Result<(), AllocError>
+    ensures after { OnOk result (waiting.new.items ≡ slice_set waiting.old.items ticket (slice_index_or waiting.old.items ticket [] ++ item ∷ [])) }
+    ensures memory { OnErr result (waiting.new.items ≡ waiting.old.items) }
+{
+    let place = ticket as usize;
+    if place < waiting.len() {
+        waiting[place].put(item)?;
+    }
+    Ok(())
 }

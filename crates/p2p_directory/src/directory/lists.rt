@@ -1,42 +1,37 @@
 //! Lists of the peers of which something holds.
-ghost use Rattle.std.specs.Prelude.{◌≡◌, ◌&&◌, not, nat_lt, IfOk};
+ghost use Rattle.std.specs.Prelude.{◌≡◌, nat_lt, IfOk};
 ghost use Rattle.std.specs.List.{filter};
 ghost use Rattle.std.specs.List.Sorted.{IsStrictlySortedBy};
 ghost use Rattle.std.specs.Map.{keys_of};
+ghost use Rattle.p2p_directory.specs.Listed.{has_role};
 
 use crate::Record;
 use p2p_base::{PrioritySet, PublicKey};
 use std::alloc::{AllocError, Global};
 use std::collections::BTreeMap;
 
-// The peers that are primary in a set.
-pub(super) fn primary_peers<C: PublicKey>(
-    alloc: Global,
-    records: &BTreeMap<C, Record>,
-) -> Result<Vec<C>, AllocError>
-    ensures peers { IfOk result (λ v. v.items ≡ keys_of (filter (λ e. nat_lt 0 e.1.primary) records.now.entries)) }
-    ensures ordered { IsStrictlySortedBy C.cmp (keys_of records.now.entries) }
+// Whether a peer is primary in a set, or else is primary in none and secondary in one.
+fn has_role(known: &Record, is_primary: bool) -> bool
+    ensures { result ≡ has_role known.now is_primary }
 {
-    let mut peers = Vec::new(alloc);
-    for (peer, known) in records {
-        if known.primary_sets() > 0 {
-            peers.push(*peer)?;
-        }
+    if is_primary {
+        return known.primary_sets() > 0;
     }
-    Ok(peers)
+    known.primary_sets() == 0 && known.secondary_sets() > 0
 }
 
-// The peers that are secondary in a set and primary in none.
-pub(super) fn secondary_peers<C: PublicKey>(
+// The peers with a role. Who is primary in a set isn't secondary.
+pub(super) fn peers_with_role<C: PublicKey>(
     alloc: Global,
     records: &BTreeMap<C, Record>,
+    is_primary: bool,
 ) -> Result<Vec<C>, AllocError>
-    ensures peers { IfOk result (λ v. v.items ≡ keys_of (filter (λ e. not (nat_lt 0 e.1.primary) && nat_lt 0 e.1.secondary) records.now.entries)) }
+    ensures peers { IfOk result (λ v. v.items ≡ keys_of (filter (λ e. has_role e.1 is_primary) records.now.entries)) }
     ensures ordered { IsStrictlySortedBy C.cmp (keys_of records.now.entries) }
 {
     let mut peers = Vec::new(alloc);
     for (peer, known) in records {
-        if known.primary_sets() == 0 && known.secondary_sets() > 0 {
+        if has_role(known, is_primary) {
             peers.push(*peer)?;
         }
     }

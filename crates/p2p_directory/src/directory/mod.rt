@@ -11,7 +11,6 @@ ghost use Rattle.p2p_directory.specs.Listed.{is_heard, comes_by, peers_of, newes
 ghost use Rattle.p2p_address.specs.declared.ip.IpAddr.{IpAddr};
 ghost use Rattle.std.specs.List.Sorted.{IsStrictlySortedBy};
 ghost use Rattle.p2p_facts.specs.Sets.{is_above, is_among, accepted_sets, kept_sets, latest_index, set_at, is_tracked, is_primary};
-ghost use Rattle.p2p_directory.specs.Tracked.{is_above_latest};
 ghost use Rattle.p2p_facts.specs.declared.call.Call.{Call};
 ghost use Rattle.p2p_facts.specs.declared.call.Call.TheVariants as call;
 ghost use Rattle.p2p_directory.specs.Recorded.{is_eligible_in, is_acceptable_in, is_reserved_in, is_held_or_unknown, found_ingress};
@@ -21,6 +20,7 @@ ghost use Rattle.p2p_oracle.specs.declared.metadata.Metadata.TheVariants as side
 ghost use Rattle.p2p_address.specs.Addresses.{ingress_of};
 ghost use Rattle.std.specs.Option.{option_map};
 
+mod acceptance;
 mod blocks;
 mod changes;
 mod conditions;
@@ -41,15 +41,12 @@ use changes::{begin, end_hold, grant_dial, grant_listen, readdress};
 pub use config::Config;
 pub use dials::Dialable;
 use dials::{dialable_peers, next_query};
-use enrolment::{enrol, make_room, retire_set};
-use kills::killed;
 use listens::addresses;
-use lists::{blocked, primary_peers, secondary_peers};
-use newcomers::prepare;
+use lists::{blocked, peers_with_role};
 use p2p_address::{Address, Ingress, IpAddr};
 use p2p_base::{PrioritySet, PublicKey, Set};
 use p2p_flow::{AddressableTrackedPeers, PeerSetUpdate, TrackedPeers};
-use sets::{TrackedSet, falling, find_set, newest, peers_of, take_oldest};
+use sets::{TrackedSet, find_set, newest, peers_of};
 use std::alloc::{AllocError, Global};
 use std::collections::{BTreeMap, VecDeque};
 use std::marker::Model;
@@ -148,8 +145,8 @@ impl<C: PublicKey> Directory<C> {
         ensures secondary { IfOk result (λ r. (calls : List (Call C)) → StandsFor C.cmp self.now calls
             → (q : C) → is_among C.cmp r.secondary q ≡ (is_tracked C.cmp self.now.rules calls q && not (is_primary C.cmp self.now.rules calls q))) }
     {
-        let first = primary_peers(self.alloc, &self.records)?;
-        let second = secondary_peers(self.alloc, &self.records)?;
+        let first = peers_with_role(self.alloc, &self.records, true)?;
+        let second = peers_with_role(self.alloc, &self.records, false)?;
         let primary = Set::from_iter_dedup(first)?;
         let secondary = Set::from_iter_dedup(second)?;
         Ok(TrackedPeers { primary, secondary })
@@ -228,16 +225,6 @@ impl<C: PublicKey> Directory<C> {
         })
     }
 
-    // Whether a peer set of this index would be accepted.
-    fn is_next(&self, index: u64) -> bool
-        ensures { result ≡ is_above_latest index self.now.latest }
-    {
-        match self.latest {
-            Some(latest) => latest < index,
-            None => true,
-        }
-    }
-
     /// Hands in the peer set of an index, with the addresses of its peers. It is kept, and of those that were kept the oldest one is no
     /// longer where there were as many as are kept. A peer with both roles is primary. Gives the peers to kill: the held ones whose
     /// address changes, and those in the oldest set that are stale or in no set then.
@@ -256,28 +243,7 @@ impl<C: PublicKey> Directory<C> {
         ensures stands { IfOk result (λ o. (calls : List (Call C)) → StandsFor C.cmp self.old calls → StandsFor C.cmp self.new (call.Track index peers.primary peers.secondary ∷ calls)) }
         ensures memory { OnErr result ((calls : List (Call C)) → StandsFor C.cmp self.old calls → StandsFor C.cmp self.new calls) }
     {
-        if !self.is_next(index) {
-            return Ok(None);
-        }
-        let newcomers = prepare(self.alloc, index, &peers.primary, &peers.secondary)?;
-        let fallen = falling(&self.sets, self.cfg.max_sets, &newcomers.set);
-        let kills = killed(
-            self.alloc,
-            &self.records,
-            &peers.primary,
-            &peers.secondary,
-            &newcomers.set,
-            fallen,
-        )?;
-        self.sets.reserve(1)?;
-        make_room(&mut self.records, &newcomers.set)?;
-        enrol(&mut self.records, newcomers.primary, true);
-        enrol(&mut self.records, newcomers.secondary, false);
-        self.sets.push_front_reserved(newcomers.set);
-        self.latest = Some(index);
-        let oldest = take_oldest(&mut self.sets, self.cfg.max_sets);
-        retire_set(&mut self.records, oldest);
-        Ok(Some(kills))
+        self.take_in(index, &peers.primary, &peers.secondary)
     }
 
     // Whether the peer's block ends after `now`.

@@ -3,6 +3,7 @@ ghost use Rattle.std.specs.Prelude.{◌≡◌, OnOk, OnErr};
 ghost use Rattle.p2p_oracle.specs.Desk.{answered_at, with_update, set_of, with_set};
 
 use super::Mailbox;
+use crate::waiting::put_for;
 use p2p_base::{PublicKey, Set};
 use p2p_flow::{PeerSetUpdate, TrackedPeers};
 use std::alloc::AllocError;
@@ -27,10 +28,7 @@ impl<P: PublicKey> Mailbox<P> {
         ensures after { OnOk result (self.new ≡ with_update self.old ticket update) }
         ensures memory { OnErr result (self.new ≡ self.old) }
     {
-        let place = ticket as usize;
-        if place < self.updates.len() {
-            self.updates[place].put(update)?;
-        }
+        put_for(&mut self.updates, ticket, update)?;
         Ok(())
     }
 

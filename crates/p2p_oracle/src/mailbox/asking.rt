@@ -49,10 +49,10 @@ impl<P: PublicKey> Mailbox<P> {
         ensures memory { OnErr result (self.new ≡ self.old) }
     {
         let ticket = self.updates.len() as u64;
-        let none = Waiting::none(*self.updates.allocator());
+        let alloc = *self.updates.allocator();
         self.updates.reserve(1)?;
         let told = put_last(&mut self.messages, Message::Subscribe { ticket })?;
-        self.updates.push_reserved(none);
+        self.updates.push_reserved(Waiting::none(alloc));
         Ok((ticket, told))
     }
 

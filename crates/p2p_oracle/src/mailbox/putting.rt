@@ -5,7 +5,7 @@ ghost use Rattle.p2p_base.specs.declared.policy.Keep.TheVariants.{Append};
 ghost use Rattle.p2p_oracle.specs.Desk.{told_by};
 
 use crate::Message;
-use p2p_base::{Feedback, Mailbox as Queue, PublicKey};
+use p2p_base::{Feedback, Mailbox as Queue, PublicKey, UnreliablePolicy};
 use std::alloc::AllocError;
 
 // What one more message is told.
@@ -21,6 +21,17 @@ fn told<P: PublicKey>(messages: &Queue<Message<P>>) -> Feedback
     Feedback::Backoff
 }
 
+// Puts an item as its policy says. One that isn't kept is dropped.
+fn enqueue<T: UnreliablePolicy + Drop>(queue: &mut Queue<T>, item: T) -> Result<(), AllocError>
+    ensures after { OnOk result (queue.new ≡ enqueued (T.keep_of item) queue.old item) }
+    ensures memory { OnErr result (queue.new ≡ queue.old) }
+{
+    match queue.enqueue(item) {
+        Ok(_) => Ok(()),
+        Err(_) => Err(AllocError),
+    }
+}
+
 // Puts a message last, and tells what became of it. A closed queue drops it.
 pub(super) fn put_last<P: PublicKey>(
     messages: &mut Queue<Message<P>>,
@@ -31,8 +42,6 @@ pub(super) fn put_last<P: PublicKey>(
     ensures memory { OnErr result (messages.new ≡ messages.old) }
 {
     let told = told(messages);
-    match messages.enqueue(message) {
-        Ok(_) => Ok(told),
-        Err(_) => Err(AllocError),
-    }
+    enqueue(messages, message)?;
+    Ok(told)
 }

@@ -7,10 +7,9 @@ ghost use Rattle.p2p_directory.specs.Stands.{StandsFor};
 ghost use Rattle.p2p_tracker.specs.declared.stepped.Put.TheVariants as puts;
 ghost use Rattle.p2p_oracle.specs.Desk.{answered_at};
 ghost use Rattle.p2p_tracker.specs.Telling.{ChangesUpdates};
-ghost use Rattle.std.specs.Prelude.{◌≡◌, ◌++◌, cond, is_some, List, [], ◌∷◌, IfOk, OnOk};
+ghost use Rattle.std.specs.Prelude.{◌≡◌, cond, is_some, List, [], ◌∷◌, IfOk};
 
 use super::Actor;
-use super::telling::tell;
 use crate::{Mailbox, Put};
 use p2p_address::IpAddr;
 use p2p_base::{List, PublicKey};
@@ -44,27 +43,9 @@ impl<C: PublicKey> Actor<C> {
             → p ≡ cond (is_some (latest_index (kept_sets C.cmp self.old.directory.rules calls))) (puts.Update ticket ∷ []) []) }
     {
         let mut put = Vec::new(self.alloc);
-        self.tell_newest(way, ticket, &mut put)?;
+        self.tell_latest(way, &[ticket], &mut put)?;
         self.updates.push(ticket)?;
         Ok(List::new(put))
-    }
-
-    // Puts the latest update for a subscription, if there is one.
-    fn tell_newest(
-        &self,
-        way: &mut Mailbox<C>,
-        ticket: u64,
-        put: &mut Vec<Put<C>>,
-    ) -> Result<(), AllocError>
-        ensures desk { ChangesUpdates way.old way.new }
-        ensures put { OnOk result ((calls : List (Call C)) → StandsFor C.cmp self.now.directory calls
-            → put.new.items ≡ put.old.items ++ cond (is_some (latest_index (kept_sets C.cmp self.now.directory.rules calls))) (puts.Update ticket ∷ []) []) }
-    {
-        let Some(update) = self.directory.latest_update()? else {
-            return Ok(());
-        };
-        tell(way, ticket, &update, put)?;
-        Ok(())
     }
 
     // Answers whom to dial.

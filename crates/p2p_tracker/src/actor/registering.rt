@@ -9,7 +9,8 @@ ghost use Rattle.p2p_tracker.specs.Telling.{has_any, kill_put, kills_put, update
 ghost use Rattle.p2p_tracker.specs.declared.stepped.Put.TheVariants as puts;
 ghost use Rattle.p2p_tracker.specs.Following.{Follows};
 ghost use Rattle.p2p_tracker.specs.Telling.{ChangesUpdates};
-ghost use Rattle.std.specs.Prelude.{◌≡◌, ℕ, List, [], ◌∷◌, ◌++◌, cond, true, false, IfOk, OnOk};
+ghost use Rattle.std.specs.Prelude.{◌≡◌, List, [], ◌∷◌, ◌++◌, cond, true, false, is_some, IfOk, OnOk};
+ghost use Rattle.p2p_facts.specs.Sets.{kept_sets, latest_index};
 ghost use Rattle.p2p_facts.specs.declared.call.Call.{Call};
 ghost use Rattle.p2p_facts.specs.declared.call.Call.TheVariants as call;
 ghost use Rattle.p2p_directory.specs.Stands.{StandsFor};
@@ -49,19 +50,25 @@ impl<C: PublicKey> Actor<C> {
         };
         kill_all(&mut self.controls, killed.as_slice(), &mut put)?;
         self.tell_listener(now, true, &mut put)?;
-        self.tell_latest(way, &mut put)?;
+        self.tell_latest(way, self.updates.as_slice(), &mut put)?;
         Ok(List::new(put))
     }
 
-    // Puts the latest update for each subscription to peer sets, if there is one.
-    fn tell_latest(&self, way: &mut Mailbox<C>, put: &mut Vec<Put<C>>) -> Result<(), AllocError>
+    // Puts the latest update for each of these subscriptions, if there is one.
+    pub(super) fn tell_latest(
+        &self,
+        way: &mut Mailbox<C>,
+        tickets: &[u64],
+        put: &mut Vec<Put<C>>,
+    ) -> Result<(), AllocError>
         ensures desk { ChangesUpdates way.old way.new }
-        ensures put { OnOk result ((told : List ℕ) × (put.new.items ≡ put.old.items ++ updates_put told)) }
+        ensures put { OnOk result ((calls : List (Call C)) → StandsFor C.cmp self.now.directory calls
+            → put.new.items ≡ put.old.items ++ cond (is_some (latest_index (kept_sets C.cmp self.now.directory.rules calls))) (updates_put tickets.now) []) }
     {
         let Some(update) = self.directory.latest_update()? else {
             return Ok(());
         };
-        tell_all(way, self.updates.as_slice(), &update, put)?;
+        tell_all(way, tickets, &update, put)?;
         Ok(())
     }
 

@@ -27,7 +27,7 @@ pub(super) fn tell_all<C: PublicKey>(
 }
 
 // Puts an update for a subscription.
-pub(super) fn tell<C: PublicKey>(
+fn tell<C: PublicKey>(
     way: &mut Mailbox<C>,
     ticket: u64,
     update: &PeerSetUpdate<C>,

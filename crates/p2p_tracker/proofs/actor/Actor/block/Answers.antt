@@ -2,11 +2,15 @@ use Rattle.p2p_tracker.specs.declared.stepped.Put.{Put}
 use Rattle.p2p_tracker.specs.Telling.{kill_put}
 use Rattle.std.specs.BTreeMap.{is_at}
 use Rattle.std.specs.Map.{lookup}
-use Rattle.std.proofs.Common.{sym, subst, ◌≡◌, ◌++◌, List, ◌∙◌}
+use Rattle.std.proofs.Common.{sym, ap, subst, ◌≡◌, ◌++◌, List, ◌∙◌}
+use Rattle.p2p_directory.specs.Stands.{Kept, StandsFor}
 use Rattle.p2p_tracker.specs.Following.{Follows}
 use Rattle.p2p_tracker.specs.Tracking.{Tracking}
 use Rattle.p2p_tracker.proofs.Following.{follows-block}
 use Rattle.p2p_tracker.proofs.actor.Actor.block.Goals as goal
+
+pub returns-clause-stands : goal.returns-clause-stands
+returns-clause-stands g c = λ calls s. c.in_ok-is_new.ensures.stands calls (subst (λ (k : Kept g.row.C.Denot). StandsFor g.C.Ord.cmp k calls) (sym (ap (λ (t : Tracking g.row.C.Denot). t.directory) c.self.view_is)) s)
 
 pub returns-clause-follows : goal.returns-clause-follows
 returns-clause-follows g c = λ calls f.

@@ -16,6 +16,13 @@ pub returns-clause-stands : goal.returns-clause-stands
 returns-clause-stands g c = λ calls s.
     c.accept.ensures.stands calls (subst (λ (k : Kept g.row.C.Denot). StandsFor g.C.Ord.cmp k calls) (sym (ap (λ (t : Tracking g.row.C.Denot). t.directory) c.self.view_is)) s)
 
+pub accept-requires : goal.accept-requires
+accept-requires g c =
+    subst (λ (t : Tracking g.row.C.Denot). IsEligible g.C.Ord.cmp t.directory c.args.public_key c.args.now → is_reserved_in (lookup (is_at (g.C.Ord.cmp c.args.public_key)) t.directory.records) ≡ true) (sym c.self.view_is) c.requires
+
+pub returns-then-accept-clause-stands : goal.returns-then-accept-clause-stands
+returns-then-accept-clause-stands g c = λ calls s. c.accept.ensures.stands calls (subst (λ (k : Kept g.row.C.Denot). StandsFor g.C.Ord.cmp k calls) (sym (ap (λ (t : Tracking g.row.C.Denot). t.directory) c.self.view_is)) s)
+
 pub returns-then-accept-clause-follows : goal.returns-then-accept-clause-follows
 returns-then-accept-clause-follows g c = λ calls f.
     let kept = subst (λ (t : Tracking g.row.C.Denot). Follows g.C.Ord.cmp t.directory t.controls calls) (sym c.self.view_is) f in

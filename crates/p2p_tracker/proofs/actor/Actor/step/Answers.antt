@@ -1,10 +1,11 @@
-use Rattle.std.proofs.Common.{sym, ◌∙◌, subst}
+use Rattle.std.proofs.Common.{◌≡◌, true, sym, ◌∙◌, subst}
 use Rattle.p2p_facts.proofs.Eligible.{is_eligible-is_kept, not_stale-is_kept}
 use Rattle.p2p_oracle.specs.Desk.{next_message}
 use Rattle.p2p_directory.specs.Stands.{StandsFor}
 use Rattle.p2p_tracker.specs.Following.{Follows}
 use Rattle.p2p_tracker.specs.Putting.{IsPutBy}
-use Rattle.p2p_tracker.specs.Serving.{calls_by}
+use Rattle.p2p_facts.specs.Blocks.{is_over, block_of}
+use Rattle.p2p_tracker.specs.Serving.{IsQuiet, calls_by}
 use Rattle.p2p_tracker.specs.Tracking.{Tracking, jitter_of}
 use Rattle.p2p_tracker.proofs.Connecting.{come-by}
 use Rattle.p2p_tracker.proofs.Turns.{grants_none_held-by}
@@ -36,6 +37,16 @@ returns-clause-put g c = λ calls s.
     let before = subst (λ (t : Tracking g.row.C.Denot). StandsFor g.C.Ord.cmp t.directory calls) (sym c.self.view_is) s in
     subst (λ (t : Tracking g.row.C.Denot). IsPutBy g.C.Ord.cmp t.directory.rules t.controls t.sets c.args.way.now calls c.args.now c.in_ok-stepped.stepped (next_message c.args.way.now)) c.self.view_is
     (c.in_ok-stepped.ensures.put calls before)
+
+pub returns-clause-due : goal.returns-clause-due
+returns-clause-due g c = λ e calls s.
+    let before = subst (λ (t : Tracking g.row.C.Denot). StandsFor g.C.Ord.cmp t.directory calls) (sym c.self.view_is) s in
+    subst (λ (t : Tracking g.row.C.Denot). (q : g.row.C.Denot) × (is_over (block_of g.C.Ord.cmp t.directory.rules calls q) c.args.now ≡ true)) c.self.view_is (c.in_ok-stepped.ensures.due e calls before)
+
+pub returns-clause-quiet : goal.returns-clause-quiet
+returns-clause-quiet g c = λ e calls s.
+    let before = subst (λ (t : Tracking g.row.C.Denot). StandsFor g.C.Ord.cmp t.directory calls) (sym c.self.view_is) s in
+    subst (λ (t : Tracking g.row.C.Denot). IsQuiet g.C.Ord.cmp t.directory.rules calls c.args.now) c.self.view_is (c.in_ok-stepped.ensures.quiet e calls before)
 
 pub returns-clause-stands : goal.returns-clause-stands
 returns-clause-stands g c = λ calls s.
