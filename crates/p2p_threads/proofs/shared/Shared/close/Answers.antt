@@ -33,8 +33,7 @@ pub returns-then-calls-length-clause-same : goal.returns-then-calls-length-claus
 returns-then-calls-length-clause-same g c =
     let t = c.take-length.ensures in
     let is = serving g.T.Served.reply g.T.Served.next c.pass.inside.seat.me c.take-length.new.seat.me c.learn-cell.new.seat.me _ _ t.view c.learn-cell.ensures.view in
-    let whole = c.give_back.ensures.view ∙ ap (λ y. (leaving y.0, [])) is in
-    (
+    let whole = c.give_back.ensures.view ∙ ap (λ y. (leaving y.0, [])) is in (
       refl,
       (c.give_back.ensures.seat.0.0 ∙ ap (λ s. s.table) c.self.view_is ∙ sym c.requires.own.0, ap (λ x. x.0.first) whole ∙ ap (λ a. a.first) c.pass.view_is),
       ap (λ x. x.0.made) whole ∙ ap (λ a. a.made) c.pass.view_is,
