@@ -1,4 +1,4 @@
-use Rattle.std.proofs.Common.{rules, ◌≡◌, ◌≤◌, length, ap, sym, ◌∙◌, arith, refl, subst, List, [], ◌∷◌}
+use Rattle.std.proofs.Common.{rules, ◌≡◌, ◌≤◌, length, ap, sym, ◌∙◌, arith, refl, subst, []}
 use mathlib.Core.List.{IsPrefix}
 use Rattle.p2p_threads.specs.History.{entry_at, Replays}
 use Rattle.p2p_threads.specs.Turns.{leaving}

@@ -3,7 +3,7 @@ use Rattle.p2p_tracker.specs.declared.stepped.Put.{Put}
 use Rattle.p2p_tracker.specs.Telling.{kills_put, updates_put}
 use Rattle.p2p_tracker.specs.Putting.{IsRegistered}
 use Rattle.std.proofs.lemmas.Bool.{false≢true}
-use Rattle.std.proofs.Common.{◌≡◌, ℕ, cond, List, Option, sym, ap, ◌∙◌, subst, ◌++◌, ◌∷◌, []}
+use Rattle.std.proofs.Common.{◌≡◌, cond, List, Option, sym, ap, ◌∙◌, subst, ◌++◌, ◌∷◌, []}
 use Rattle.std.specs.Prelude.{is_some, IfSome}
 use Rattle.p2p_facts.specs.Kills.{is_killed}
 use Rattle.p2p_facts.specs.Sets.{is_among, kept_sets, latest_index}
