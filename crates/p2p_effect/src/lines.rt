@@ -111,16 +111,12 @@ pub fn is_same_queue(p: Queue, q: Queue) -> bool
 }
 
 /// Those of these items that stand in the queue.
-pub fn standing_in(
-    _alloc: Global,
-    items: List<Envelope>,
-    queue: Queue,
-) -> Result<List<Envelope>, AllocError>
-    ensures { IfOk result (λ kept. kept ≡ filter (stands_in_of queue) items) }
+pub fn standing_in(items: List<Envelope>, queue: Queue) -> List<Envelope>
+    ensures { result ≡ filter (stands_in_of queue) items }
 {
     let mut kept = items.into_inner();
     kept.retain(|item| is_same_queue(queue, item.queue));
-    Ok(List::new(kept))
+    List::new(kept)
 }
 
 /// What stands in the queue.
@@ -128,7 +124,7 @@ pub fn standing_in(
 pub fn line(alloc: Global, log: &[Entry], queue: Queue) -> Result<List<Envelope>, AllocError>
     ensures { IfOk result (λ items. items ≡ line_of log.now queue) }
 {
-    Ok(standing_in(alloc, live(alloc, log)?, queue)?)
+    Ok(standing_in(live(alloc, log)?, queue))
 }
 
 /// How many items stand in the queue.
@@ -147,16 +143,12 @@ fn stays(item: &Envelope, gone: (u64, u64)) -> bool
 }
 
 /// Those of these items that do not go by the name.
-pub fn staying(
-    _alloc: Global,
-    items: List<Envelope>,
-    gone: (u64, u64),
-) -> Result<List<Envelope>, AllocError>
-    ensures { IfOk result (λ kept. kept ≡ filter (stays_of (gone ∷ [])) items) }
+pub fn staying(items: List<Envelope>, gone: (u64, u64)) -> List<Envelope>
+    ensures { result ≡ filter (stays_of (gone ∷ [])) items }
 {
     let mut kept = items.into_inner();
     kept.retain(|item| stays(item, gone));
-    Ok(List::new(kept))
+    List::new(kept)
 }
 
 /// How many of these items stand in the queue.

@@ -37,7 +37,6 @@ fn put_peers(
 
 // The list that a channel holds is overwritten: its end, and the items that are left.
 fn end_peers(
-    alloc: Global,
     ends: &mut List<End>,
     items: List<Envelope>,
     queue: Queue,
@@ -48,7 +47,7 @@ fn end_peers(
     match first_in(items.as_slice(), queue) {
         Some(name) => {
             ends.push(End::Item(name.0, name.1))?;
-            Ok(staying(alloc, items, name)?)
+            Ok(staying(items, name))
         }
         None => Ok(items),
     }
@@ -70,7 +69,7 @@ fn end_all_peers(
             node,
             channel: *channel,
         };
-        left = end_peers(alloc, &mut ends, left, queue)?;
+        left = end_peers(&mut ends, left, queue)?;
     }
     Ok(ends)
 }
@@ -367,7 +366,7 @@ fn live_without(
 ) -> Result<List<Envelope>, AllocError>
     ensures { IfOk result (λ items. items ≡ filter (stays (name ∷ [])) (live_of log.now)) }
 {
-    Ok(staying(alloc, live(alloc, log)?, name)?)
+    Ok(staying(live(alloc, log)?, name))
 }
 
 // The oldest of the items that wait for the router.
