@@ -99,7 +99,7 @@ fn tell_ready(
     ensures { OnOk result (messenger.new ≡ record messenger.old { binding = in_mailbox (λ q. appended q (message.Ready key relay conn)) messenger.old.binding }) }
 {
     let Some(mailbox) = messenger.mailbox() else {
-        return Err(AllocError);
+        unreachable!()
     };
     match mailbox.ready(key, relay, conn) {
         Ok(_) => Ok(()),
@@ -119,7 +119,7 @@ fn hand_frame(
     ensures after { OnOk result (messenger.new ≡ record messenger.old { binding = in_mailbox (λ q. with_content q (message.Content whom encoded priority)) messenger.old.binding }) }
 {
     let Some(mailbox) = messenger.mailbox() else {
-        return Err(AllocError);
+        unreachable!()
     };
     mailbox.content(whom, encoded, priority)
 }
