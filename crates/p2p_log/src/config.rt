@@ -4,7 +4,7 @@ use p2p_base::Key;
 /// What a node is made of.
 ///
 /// Ports `lookup::Config` of commonware-p2p, as far as the acts that are built read it.
-#[derive(Clone, Copy, Debug)]
+#[derive(Clone, Copy, Debug, PartialEq, Eq)]
 pub struct Config {
     /// The key by which the node is known.
     pub public_key: Key,

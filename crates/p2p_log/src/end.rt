@@ -1,7 +1,7 @@
 //! How items and copies end.
 
 /// Why a copy was dropped.
-#[derive(Clone, Copy, Debug)]
+#[derive(Clone, Copy, Debug, PartialEq, Eq)]
 pub enum Cause {
     /// It was sent on a node that had not started.
     Unbound,
@@ -14,7 +14,7 @@ pub enum Cause {
 }
 
 /// What became of a copy.
-#[derive(Clone, Copy, Debug)]
+#[derive(Clone, Copy, Debug, PartialEq, Eq)]
 pub enum Outcome {
     /// Its reader took it.
     Delivered,
@@ -23,7 +23,7 @@ pub enum Outcome {
 }
 
 /// An end that an entry makes.
-#[derive(Clone, Copy, Debug)]
+#[derive(Clone, Copy, Debug, PartialEq, Eq)]
 pub enum End {
     /// The item of this name left its queue untaken.
     Item(u64, u64),

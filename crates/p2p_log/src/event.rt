@@ -6,7 +6,7 @@ use p2p_base::{Key, List};
 use std::alloc::{AllocError, Global};
 
 /// What may be sent on a channel: `burst` messages at once to one key, and one more each `period` nanoseconds.
-#[derive(Clone, Copy, Debug)]
+#[derive(Clone, Copy, Debug, PartialEq, Eq)]
 pub struct Rate {
     pub burst: u32,
     pub period: u64,

@@ -5,7 +5,7 @@ ghost use Rattle.p2p_log.specs.QueueCode.{kind_of, owner_of, detail_of};
 use std::cmp::Ordering;
 
 /// A direction of a link: `Out` is written by the end that dialed, `In` by the end that listened.
-#[derive(Clone, Copy, Debug)]
+#[derive(Clone, Copy, Debug, PartialEq, Eq)]
 pub enum Side {
     /// From the dialing end.
     Out,

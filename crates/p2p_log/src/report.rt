@@ -11,7 +11,7 @@ pub struct Report {
 }
 
 /// Where a copy is, or what became of it at which entry.
-#[derive(Clone, Copy, Debug)]
+#[derive(Clone, Copy, Debug, PartialEq, Eq)]
 pub enum Fate {
     /// It stands in this queue.
     Waiting(Queue),

@@ -15,7 +15,7 @@ pub struct Row {
 }
 
 /// A node's half of a connection: the key of its peer, and the direction of the link in which it writes.
-#[derive(Clone, Copy, Debug)]
+#[derive(Clone, Copy, Debug, PartialEq, Eq)]
 pub struct Half {
     pub peer: Key,
     pub writes: Side,

@@ -17,12 +17,12 @@ use Rattle.p2p_log.specs.Lines.{line, live, ended_item}
 use Rattle.p2p_log.specs.Facts.{channels, capacity_in, is_up}
 use Rattle.p2p_log.specs.Frames.{frame_of}
 use Rattle.p2p_log.specs.Effect.{only, start_row, oldest_read, recv_row, sent_row, send_row, router_capacity, keys_of_recipients}
-use Rattle.p2p_board.specs.declared.board.Board.{Board}
-use Rattle.p2p_board.specs.Board.{held}
-use Rattle.p2p_board.specs.Stands.{is_boards, Holds, Builds}
-use Rattle.p2p_board.proofs.Building.{ended_item-copies}
-use Rattle.p2p_board.proofs.Posted.{AreRouters, Builds-routers}
-use Rattle.p2p_routers.specs.Names.{is_routers}
+use Rattle.p2p_net_queues.specs.declared.board.Board.{Board}
+use Rattle.p2p_net_queues.specs.Board.{held}
+use Rattle.p2p_net_queues.specs.Stands.{is_boards, Holds, Builds}
+use Rattle.p2p_net_queues.proofs.Building.{ended_item-copies}
+use Rattle.p2p_net_queues.proofs.Posted.{AreRouters, Builds-routers}
+use Rattle.p2p_net_router.specs.Names.{is_routers}
 use Rattle.p2p_net.specs.Tells.{joined_row}
 
 -- what a board that stands for a log holds is the line

@@ -22,16 +22,16 @@ use Rattle.p2p_log.specs.Effect.{entry_of, batch, batch_size_at, begin_row, writ
 use Rattle.p2p_log.specs.QueueCode.{same_queue}
 use Rattle.p2p_log.proofs.Names.{AreApart-live_from}
 use Rattle.p2p_log.proofs.Queues.{same_queue-sym}
-use Rattle.p2p_board.proofs.Queues.{is_boards-apart}
-use Rattle.p2p_routers.specs.Batches.{batch_of, named, AreKept}
-use Rattle.p2p_routers.specs.Names.{is_routers}
-use Rattle.p2p_routers.specs.Stands.{StandsFor, IsBeside, AreAway}
-use Rattle.p2p_routers.specs.declared.router.Router.{Router}
-use Rattle.p2p_routers.proofs.Aside.{same_queue-other, stands_begun}
-use Rattle.p2p_routers.proofs.Batches.{batch_beside}
-use Rattle.p2p_halves.specs.Batches.{IsBatch}
-use Rattle.p2p_halves.proofs.Writing.{map-named}
-use Rattle.p2p_halves.specs.Answered.{is_answered}
+use Rattle.p2p_net_queues.proofs.Queues.{is_boards-apart}
+use Rattle.p2p_net_router.specs.Batches.{batch_of, named, AreKept}
+use Rattle.p2p_net_router.specs.Names.{is_routers}
+use Rattle.p2p_net_router.specs.Stands.{StandsFor, IsBeside, AreAway}
+use Rattle.p2p_net_router.specs.declared.router.Router.{Router}
+use Rattle.p2p_net_router.proofs.Aside.{same_queue-other, stands_begun}
+use Rattle.p2p_net_router.proofs.Batches.{batch_beside}
+use Rattle.p2p_net_halves.specs.Batches.{IsBatch}
+use Rattle.p2p_net_halves.proofs.Writing.{map-named}
+use Rattle.p2p_net_halves.specs.Answered.{is_answered}
 use Rattle.p2p_net.specs.declared.node.Node.{Node}
 use Rattle.p2p_net.specs.Stands.{FactsStand, RouterStands, NodeStands}
 use Rattle.p2p_net.proofs.Keeps.{FactsStand-rerouted}

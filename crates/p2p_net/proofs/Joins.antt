@@ -26,11 +26,11 @@ use Rattle.p2p_log.specs.declared.event.Event.{Event}
 use Rattle.p2p_log.specs.declared.row.Row.{Row}
 use Rattle.p2p_log.specs.Effect.{may_join, mailbox_size_at, entry_of}
 use Rattle.p2p_log.proofs.Queues.{same_queue-sym}
-use Rattle.p2p_routers.specs.Holds.{IsStranger}
-use Rattle.p2p_routers.specs.Names.{is_routers}
-use Rattle.p2p_routers.specs.Stands.{StandsFor, IsBeside, IsReadied}
-use Rattle.p2p_routers.specs.declared.router.Router.{Router}
-use Rattle.p2p_routers.proofs.Aside.{same_queue-other}
+use Rattle.p2p_net_router.specs.Holds.{IsStranger}
+use Rattle.p2p_net_router.specs.Names.{is_routers}
+use Rattle.p2p_net_router.specs.Stands.{StandsFor, IsBeside, IsReadied}
+use Rattle.p2p_net_router.specs.declared.router.Router.{Router}
+use Rattle.p2p_net_router.proofs.Aside.{same_queue-other}
 use Rattle.p2p_net.specs.Stands.{FactsStand, RouterStands, NodeStands, NodesStand}
 use Rattle.p2p_net.specs.Tells.{TellsOf, IsWelcome, joined_row}
 use Rattle.p2p_net.proofs.Routers.{IsMade, IsStranger-apart, HearsOfJoins-told, IsBeside-act, RouterStands-idle}

@@ -13,8 +13,8 @@ use Rattle.p2p_log.specs.Facts.{events_of, starts, has_started, registers_at, re
 use Rattle.p2p_log.specs.Valid.{joins_node, names_join}
 use Rattle.p2p_log.proofs.Facts.{events_of-append, has_started-append, registered-append, half_at-append, is_running-append, is_joined-append}
 use Rattle.p2p_log.proofs.Places.{slice_get-append}
-use Rattle.p2p_routers.specs.Passes.{passes}
-use Rattle.p2p_routers.specs.declared.router.Router.{Router}
+use Rattle.p2p_net_router.specs.Passes.{passes}
+use Rattle.p2p_net_router.specs.declared.router.Router.{Router}
 use Rattle.p2p_net.specs.declared.node.Node.{Node}
 use Rattle.p2p_net.specs.Stands.{FactsStand}
 

@@ -12,8 +12,8 @@ use Rattle.p2p_log.specs.Valid.{last_moment, may_act, is_valid_event}
 use Rattle.p2p_log.proofs.Facts.{events_of-append}
 use Rattle.p2p_log.proofs.Lines.{live-append}
 use Rattle.p2p_log.specs.declared.item.Envelope.{Envelope}
-use Rattle.p2p_board.specs.declared.board.Board.{Board}
-use Rattle.p2p_board.specs.Stands.{Holds, Builds}
+use Rattle.p2p_net_queues.specs.declared.board.Board.{Board}
+use Rattle.p2p_net_queues.specs.Stands.{Holds, Builds}
 use Rattle.p2p_net.specs.declared.node.Node.{Node}
 use Rattle.p2p_net.specs.Stands.{NodesStand}
 use Rattle.p2p_net.specs.World.{PartsStand}

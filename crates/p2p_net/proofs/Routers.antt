@@ -18,12 +18,12 @@ use Rattle.p2p_log.proofs.Facts.{is_joined-append}
 use Rattle.p2p_router.specs.Messenger.{is_bound, is_unbound}
 use Rattle.p2p_router.specs.declared.messenger.Binding.{Binding}
 use Rattle.p2p_router.specs.declared.messenger.Binding.TheVariants.{Unbound, Bound, Closed}
-use Rattle.p2p_routers.specs.Holds.{IsStranger}
-use Rattle.p2p_routers.specs.Passes.{passes}
-use Rattle.p2p_routers.specs.Stands.{StandsFor, HasPlaces, IsBeside}
-use Rattle.p2p_routers.specs.declared.router.Router.{Router}
-use Rattle.p2p_routers.proofs.Aside.{stands_idle}
-use Rattle.p2p_routers.proofs.Passing.{stands_passed}
+use Rattle.p2p_net_router.specs.Holds.{IsStranger}
+use Rattle.p2p_net_router.specs.Passes.{passes}
+use Rattle.p2p_net_router.specs.Stands.{StandsFor, HasPlaces, IsBeside}
+use Rattle.p2p_net_router.specs.declared.router.Router.{Router}
+use Rattle.p2p_net_router.proofs.Aside.{stands_idle}
+use Rattle.p2p_net_router.proofs.Passing.{stands_passed}
 use Rattle.p2p_net.specs.Stands.{HearsOfJoins, RouterStands}
 use Rattle.p2p_net.proofs.Keys.{key_at-distinct}
 use Rattle.p2p_net.proofs.Takes.{taken-none}

@@ -15,12 +15,12 @@ use Rattle.p2p_log.specs.Effect.{mailbox_size_at}
 use Rattle.p2p_log.specs.Valid.{fits, fits_usize, has_key, is_valid_config, config_fault_from, config_fault}
 use Rattle.p2p_log.proofs.Places.{slice_get-append}
 use Rattle.p2p_log.specs.declared.item.Envelope.{Envelope}
-use Rattle.p2p_board.specs.declared.board.Board.{Board}
-use Rattle.p2p_board.specs.Board.{held}
-use Rattle.p2p_board.specs.Stands.{Holds}
+use Rattle.p2p_net_queues.specs.declared.board.Board.{Board}
+use Rattle.p2p_net_queues.specs.Board.{held}
+use Rattle.p2p_net_queues.specs.Stands.{Holds}
 use Rattle.p2p_log.specs.declared.queue.Queue.{Queue}
 use Rattle.p2p_net.specs.declared.node.Node.{Node}
-use Rattle.p2p_routers.specs.Stands.{StandsFor}
+use Rattle.p2p_net_router.specs.Stands.{StandsFor}
 use Rattle.p2p_net.specs.Stands.{FactsStand, NodeStands}
 
 -- what an index past the end gives

@@ -10,8 +10,8 @@ use Rattle.p2p_log.specs.declared.entry.Entry.{Entry}
 use Rattle.p2p_log.specs.Facts.{events_of, has_started, registered, sum_capacities, capacity_in, half_at, key_at, is_running, is_joined}
 use Rattle.p2p_log.specs.Effect.{mailbox_size_at}
 use Rattle.p2p_log.specs.Valid.{config_fault, names_join}
-use Rattle.p2p_routers.specs.Stands.{StandsFor}
-use Rattle.p2p_routers.specs.declared.router.Router.{Router}
+use Rattle.p2p_net_router.specs.Stands.{StandsFor}
+use Rattle.p2p_net_router.specs.declared.router.Router.{Router}
 use Rattle.p2p_net.specs.declared.node.Node.{Node}
 
 -- what a node knows beside its router, against the log

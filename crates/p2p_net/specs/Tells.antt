@@ -11,7 +11,7 @@ use Rattle.p2p_log.specs.declared.row.Row.{Row}
 use Rattle.p2p_log.specs.Facts.{half_of, joins, key_at, is_joined}
 use Rattle.p2p_log.specs.Effect.{mailbox_size_at}
 use Rattle.p2p_log.specs.Valid.{config_fault, joins_node}
-use Rattle.p2p_routers.specs.Stands.{IsReadied}
+use Rattle.p2p_net_router.specs.Stands.{IsReadied}
 
 -- the entry, the next of the log, is a join of a and b that names the node n, and gives it this half and this partner, or none
 pub record TellsOf (configs : List Config) (log : List Entry) (e : Entry) (n a b entry : ℕ) (half : Option Half) (partner : ℕ) : Type 0 where

@@ -6,8 +6,8 @@ use Rattle.p2p_log.specs.Lines.{live}
 use Rattle.p2p_log.specs.Facts.{events_of}
 use Rattle.p2p_log.specs.Valid.{last_moment}
 use Rattle.p2p_log.specs.declared.item.Envelope.{Envelope}
-use Rattle.p2p_board.specs.declared.board.Board.{Board}
-use Rattle.p2p_board.specs.Stands.{Holds}
+use Rattle.p2p_net_queues.specs.declared.board.Board.{Board}
+use Rattle.p2p_net_queues.specs.Stands.{Holds}
 use Rattle.p2p_net.specs.declared.node.Node.{Node}
 use Rattle.p2p_net.specs.Stands.{NodesStand}
 

@@ -5,10 +5,10 @@ ghost use Rattle.std.specs.BTreeMap as tree;
 ghost use Rattle.std.specs.BTreeSet as sorted;
 ghost use Rattle.p2p_log.specs.Facts.{channels, capacity_in};
 ghost use Rattle.p2p_router.specs.Messenger.{is_unbound};
-ghost use Rattle.p2p_routers.specs.Stands.{StandsFor, IsRegistration};
+ghost use Rattle.p2p_net_router.specs.Stands.{StandsFor, IsRegistration};
 
 use p2p_log::Half;
-use p2p_routers::Router;
+use p2p_net_router::Router;
 use std::alloc::{AllocError, Global};
 use std::collections::{BTreeMap, BTreeSet};
 

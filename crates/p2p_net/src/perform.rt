@@ -6,7 +6,7 @@ ghost use Rattle.p2p_log.specs.Lines.{live};
 ghost use Rattle.p2p_log.specs.Facts.{events_of};
 ghost use Rattle.p2p_log.specs.Effect.{entry_of, row as row_of};
 ghost use Rattle.p2p_log.specs.Valid.{may_act as may_act_of};
-ghost use Rattle.p2p_board.specs.Stands.{Holds, Builds};
+ghost use Rattle.p2p_net_queues.specs.Stands.{Holds, Builds};
 ghost use Rattle.p2p_net.specs.Stands.{NodesStand};
 
 use crate::acts::connecting::{recv_step, send_step};
@@ -18,8 +18,8 @@ use crate::acts::starting::start;
 use crate::node::Node;
 use crate::valid::{capacity_of, limit_of};
 use bytes::Bytes;
-use p2p_board::Board;
 use p2p_log::{Act, Config, Envelope, Rate, Recipients, Row};
+use p2p_net_queues::Board;
 use std::alloc::{AllocError, Global};
 
 /// Registers a channel that may be registered.

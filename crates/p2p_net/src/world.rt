@@ -15,8 +15,8 @@ use crate::node::Node;
 use crate::perform::perform;
 use crate::valid::{is_valid, mailbox_of};
 use p2p_base::List;
-use p2p_board::Board;
 use p2p_log::{Config, Entry, Envelope, Event, Report, Row};
+use p2p_net_queues::Board;
 use std::alloc::{AllocError, Global};
 use std::marker::Model;
 

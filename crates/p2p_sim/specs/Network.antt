@@ -6,17 +6,17 @@ use Rattle.p2p_log.specs.declared.event.Event.{Event}
 use Rattle.p2p_log.specs.declared.entry.Entry.{Entry}
 use Rattle.p2p_log.specs.Valid.{config_fault, event_fault}
 use Rattle.p2p_log.specs.Lawful.{IsLawful}
-use Rattle.p2p_ledger.specs.OneEnd.{EachHasOneEnd, NothingElseEnds}
-use Rattle.p2p_ledger.specs.Delivered.{EachIsDelivery}
-use Rattle.p2p_ledger.specs.Order.{AreDeliveredInOrder, EachWentOver, HaveOneConnection}
-use Rattle.p2p_ledger.specs.Causes.{EachDropShowsItsCause}
-use Rattle.p2p_ledger.specs.Fates.{EachHasFate, WaitingIsTrue, DroppedIsTrue, DeliveredIsTrue}
-use Rattle.p2p_script.specs.Form.{script_of}
-use Rattle.p2p_script.specs.FirstForm.{is_first_form}
-use Rattle.p2p_report.specs.ReportText.{report_text}
+use Rattle.p2p_log_laws.specs.OneEnd.{EachHasOneEnd, NothingElseEnds}
+use Rattle.p2p_log_laws.specs.Delivered.{EachIsDelivery}
+use Rattle.p2p_log_laws.specs.Order.{AreDeliveredInOrder, EachWentOver, HaveOneConnection}
+use Rattle.p2p_log_laws.specs.Causes.{EachDropShowsItsCause}
+use Rattle.p2p_log_laws.specs.Fates.{EachHasFate, WaitingIsTrue, DroppedIsTrue, DeliveredIsTrue}
+use Rattle.p2p_sim_script.specs.Form.{script_of}
+use Rattle.p2p_sim_script.specs.FirstForm.{is_first_form}
+use Rattle.p2p_sim_report.specs.ReportText.{report_text}
 use Rattle.p2p_net.specs.World.{WorldView}
-use Rattle.p2p_command.specs.declared.program.Refusal.{Refusal}
-use Rattle.p2p_command.specs.declared.program.Refusal.TheVariants as refusal
+use Rattle.p2p_sim_command.specs.declared.program.Refusal.{Refusal}
+use Rattle.p2p_sim_command.specs.declared.program.Refusal.TheVariants as refusal
 
 -- all configurations are valid, and all events
 abbrev pub is_valid : List Config → List Event → Bool

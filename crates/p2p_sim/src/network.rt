@@ -6,20 +6,20 @@ ghost use Rattle.p2p_log.specs.declared.config.Config.{Config as OneConfig};
 ghost use Rattle.p2p_log.specs.declared.event.Event.{Event as OneEvent};
 ghost use Rattle.p2p_log.specs.declared.entry.Entry.{Entry};
 ghost use Rattle.p2p_log.specs.Lawful.{IsLawful};
-ghost use Rattle.p2p_script.specs.Form.{script_of};
-ghost use Rattle.p2p_script.specs.FirstForm.{is_first_form as is_form};
+ghost use Rattle.p2p_sim_script.specs.Form.{script_of};
+ghost use Rattle.p2p_sim_script.specs.FirstForm.{is_first_form as is_form};
 ghost use Rattle.p2p_sim.specs.Network.{is_valid, refusal_of as refusal_of_tree, HasRunScript, IsAccounted};
-ghost use Rattle.p2p_command.specs.declared.program.RunError.TheVariants as run_error;
+ghost use Rattle.p2p_sim_command.specs.declared.program.RunError.TheVariants as run_error;
 
 use p2p_base::List;
-use p2p_command::{Program, Refusal, RunError};
-use p2p_ledger::{
+use p2p_log::{Config, Event};
+use p2p_log_laws::{
     delivered_in_order, each_drop_shows_its_cause, fates_are_true, one_end, only_sent_is_delivered,
 };
-use p2p_log::{Config, Event};
 use p2p_net::{RunError as WorldError, World};
-use p2p_report::write_report;
-use p2p_script::{ScriptError, is_first_form, read_script};
+use p2p_sim_command::{Program, Refusal, RunError};
+use p2p_sim_report::write_report;
+use p2p_sim_script::{ScriptError, is_first_form, read_script};
 use serde_json::Value;
 use std::alloc::Global;
 

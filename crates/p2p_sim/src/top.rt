@@ -3,19 +3,19 @@ ghost use Rattle.std.specs.Prelude.{◌≡◌, ℕ, ◌+◌, ◌≤◌, ◌↔�
 ghost use Rattle.std.specs.Option.{option_map};
 ghost use Rattle.serde_json.specs.Data.{Data};
 ghost use Rattle.p2p_runtime.specs.Streams.{Rose};
-ghost use Rattle.p2p_command.specs.Input.{Takes, json_of};
-ghost use Rattle.p2p_command.specs.Judged.{judged, status_due};
-ghost use Rattle.p2p_command.specs.Outcomes.{IsRefusal, IsSilent, HasRefused, HasStopped};
+ghost use Rattle.p2p_sim_command.specs.Input.{Takes, json_of};
+ghost use Rattle.p2p_sim_command.specs.Judged.{judged, status_due};
+ghost use Rattle.p2p_sim_command.specs.Outcomes.{IsRefusal, IsSilent, HasRefused, HasStopped};
 ghost use Rattle.p2p_net.specs.World.{WorldView};
 ghost use Rattle.p2p_sim.specs.Network.{refusal_of, RunsTree};
-ghost use Rattle.p2p_command.specs.Words.{IsRunCommand};
-ghost use Rattle.p2p_command.specs.declared.program.Refusal.TheVariants as refusal;
-ghost use Rattle.p2p_command.specs.declared.status.Status.TheVariants as status;
+ghost use Rattle.p2p_sim_command.specs.Words.{IsRunCommand};
+ghost use Rattle.p2p_sim_command.specs.declared.program.Refusal.TheVariants as refusal;
+ghost use Rattle.p2p_sim_command.specs.declared.status.Status.TheVariants as status;
 
 use crate::network::Network;
-use p2p_command::{LIMIT, Status, sim_with};
 use p2p_net::World;
 use p2p_runtime::{Sink, Source};
+use p2p_sim_command::{LIMIT, Status, sim_with};
 use std::alloc::Global;
 
 /// Does the command that the words name. `run` reads the source to its end, runs what it read, writes the report and

@@ -4,12 +4,12 @@ use Rattle.std.proofs.lemmas.Bool.Decides.{nat_tests}
 use Rattle.std.specs.Prelude.{nat_lt}
 use Rattle.std.specs.declared.cmp.Ordering.{Ordering}
 use Rattle.p2p_address.specs.declared.peer.Address.{Address}
-use Rattle.p2p_facts.specs.declared.call.Call.{Call}
-use Rattle.p2p_facts.specs.declared.call.Call.TheVariants as call
-use Rattle.p2p_facts.specs.Rules.{Rules}
-use Rattle.p2p_facts.specs.Keeping.{all_connect_by}
-use Rattle.p2p_oracle.specs.declared.message.Message.{Message}
-use Rattle.p2p_oracle.specs.declared.message.Message.TheVariants as message
+use Rattle.p2p_tracker_calls.specs.declared.call.Call.{Call}
+use Rattle.p2p_tracker_calls.specs.declared.call.Call.TheVariants as call
+use Rattle.p2p_tracker_calls.specs.Rules.{Rules}
+use Rattle.p2p_tracker_calls.specs.Keeping.{all_connect_by}
+use Rattle.p2p_tracker_mailbox.specs.declared.message.Message.{Message}
+use Rattle.p2p_tracker_mailbox.specs.declared.message.Message.TheVariants as message
 use Rattle.p2p_tracker.specs.Serving.{overwritten, calls_after, calls_by}
 use Rattle.p2p_tracker.specs.declared.stepped.Stepped.{Stepped}
 use Rattle.p2p_tracker.specs.declared.stepped.Stepped.TheVariants as stepped

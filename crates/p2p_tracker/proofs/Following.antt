@@ -8,22 +8,22 @@ use Rattle.std.specs.Map.{lookup}
 use Rattle.std.specs.BTreeMap.{is_at}
 use Rattle.std.specs.declared.cmp.Ordering.{Ordering}
 use Rattle.p2p_address.specs.declared.peer.Address.{Address}
-use Rattle.p2p_facts.specs.declared.call.Call.{Call}
-use Rattle.p2p_facts.specs.declared.call.Call.TheVariants as call
-use Rattle.p2p_facts.specs.Rules.{Rules}
-use Rattle.p2p_facts.specs.Sets.{is_above, is_among, accepted_sets, is_tracked, primary_sets, secondary_sets}
-use Rattle.p2p_facts.specs.Grants.{Grant, is_held}
-use Rattle.p2p_facts.specs.Blocks.{is_local, is_blocked}
-use Rattle.p2p_facts.specs.Kills.{is_killed}
-use Rattle.p2p_facts.specs.Lives.{address_of, last_grant, is_stale, is_connected, is_eligible, accepts, connects, is_overwritten}
-use Rattle.p2p_facts.specs.Keeping.{is_kept, ends_connection}
-use Rattle.p2p_facts.proofs.KeptCalls.{kept-after}
-use Rattle.p2p_directory.specs.Recorded.{is_reserved_in, is_stale_in, differs_in}
-use Rattle.p2p_directory.specs.Stands.{Kept, StandsFor, record_of}
-use Rattle.p2p_directory.proofs.Steps.{peer, own}
-use Rattle.p2p_directory.proofs.Written.{lookup_same}
-use Rattle.p2p_directory.proofs.Asked.{stale-kept, overwritten-kept}
-use Rattle.p2p_directory.proofs.Standing.{is_eligible-kept}
+use Rattle.p2p_tracker_calls.specs.declared.call.Call.{Call}
+use Rattle.p2p_tracker_calls.specs.declared.call.Call.TheVariants as call
+use Rattle.p2p_tracker_calls.specs.Rules.{Rules}
+use Rattle.p2p_tracker_calls.specs.Sets.{is_above, is_among, accepted_sets, is_tracked, primary_sets, secondary_sets}
+use Rattle.p2p_tracker_calls.specs.Grants.{Grant, is_held}
+use Rattle.p2p_tracker_calls.specs.Blocks.{is_local, is_blocked}
+use Rattle.p2p_tracker_calls.specs.Kills.{is_killed}
+use Rattle.p2p_tracker_calls.specs.Lives.{address_of, last_grant, is_stale, is_connected, is_eligible, accepts, connects, is_overwritten}
+use Rattle.p2p_tracker_calls.specs.Keeping.{is_kept, ends_connection}
+use Rattle.p2p_tracker_calls.proofs.KeptCalls.{kept-after}
+use Rattle.p2p_tracker_directory.specs.Recorded.{is_reserved_in, is_stale_in, differs_in}
+use Rattle.p2p_tracker_directory.specs.Stands.{Kept, StandsFor, record_of}
+use Rattle.p2p_tracker_directory.proofs.Steps.{peer, own}
+use Rattle.p2p_tracker_directory.proofs.Written.{lookup_same}
+use Rattle.p2p_tracker_directory.proofs.Asked.{stale-kept, overwritten-kept}
+use Rattle.p2p_tracker_directory.proofs.Standing.{is_eligible-kept}
 use Rattle.p2p_tracker.specs.Following.{Follows}
 use Rattle.p2p_tracker.specs.Serving.{IsEligible}
 use Rattle.p2p_tracker.proofs.Standing.{eligible-same}

@@ -6,7 +6,7 @@ use Rattle.std.specs.Map.{lookup, remove_entry}
 use Rattle.std.specs.BTreeMap.{is_at}
 use Rattle.std.specs.declared.cmp.Ordering.{Ordering}
 use Rattle.p2p_flow.specs.declared.update.PeerSetUpdate.{PeerSetUpdate}
-use Rattle.p2p_oracle.specs.Desk.{Desk, with_update, with_set, set_of}
+use Rattle.p2p_tracker_mailbox.specs.Desk.{Desk, with_update, with_set, set_of}
 use Rattle.p2p_tracker.specs.Telling.{updates_put, with_updates, sets_put, with_sets, kill_put, kills_put, without_keys}
 use Rattle.p2p_tracker.specs.declared.stepped.Put.{Put}
 use Rattle.p2p_tracker.specs.declared.stepped.Put.TheVariants as puts

@@ -5,20 +5,20 @@ use Rattle.std.specs.Option.{option_map}
 use Rattle.std.specs.Cmp.{IsTotalOrder}
 use Rattle.std.specs.BTreeMap.{is_at}
 use Rattle.std.specs.declared.cmp.Ordering.{Ordering}
-use Rattle.p2p_facts.specs.declared.call.Call.{Call}
-use Rattle.p2p_facts.specs.declared.call.Call.TheVariants as call
+use Rattle.p2p_tracker_calls.specs.declared.call.Call.{Call}
+use Rattle.p2p_tracker_calls.specs.declared.call.Call.TheVariants as call
 use Rattle.p2p_address.specs.declared.ip.IpAddr.{IpAddr}
-use Rattle.p2p_facts.specs.Rules.{Rules}
-use Rattle.p2p_facts.specs.Allows.{allows_dial, allows_listen}
-use Rattle.p2p_facts.specs.Sets.{accepted_sets, kept_sets, is_tracked, primary_sets, secondary_sets}
-use Rattle.p2p_facts.specs.Grants.{is_held}
-use Rattle.p2p_facts.specs.Blocks.{is_local, lasts_at, block_of}
-use Rattle.p2p_facts.specs.Lives.{is_alive, address_of, last_grant, is_stale, is_connected, is_eligible, accepts}
-use Rattle.p2p_directory.specs.Recorded.{is_eligible_in}
-use Rattle.p2p_directory.specs.Stands.{Kept, StandsFor, record_of}
-use Rattle.p2p_directory.proofs.Steps.{peer, own, record_of-unblock, addressed-connect}
-use Rattle.p2p_directory.proofs.Reading.{eligible-record}
-use Rattle.p2p_directory.proofs.Written.{lookup_same}
+use Rattle.p2p_tracker_calls.specs.Rules.{Rules}
+use Rattle.p2p_tracker_calls.specs.Allows.{allows_dial, allows_listen}
+use Rattle.p2p_tracker_calls.specs.Sets.{accepted_sets, kept_sets, is_tracked, primary_sets, secondary_sets}
+use Rattle.p2p_tracker_calls.specs.Grants.{is_held}
+use Rattle.p2p_tracker_calls.specs.Blocks.{is_local, lasts_at, block_of}
+use Rattle.p2p_tracker_calls.specs.Lives.{is_alive, address_of, last_grant, is_stale, is_connected, is_eligible, accepts}
+use Rattle.p2p_tracker_directory.specs.Recorded.{is_eligible_in}
+use Rattle.p2p_tracker_directory.specs.Stands.{Kept, StandsFor, record_of}
+use Rattle.p2p_tracker_directory.proofs.Steps.{peer, own, record_of-unblock, addressed-connect}
+use Rattle.p2p_tracker_directory.proofs.Reading.{eligible-record}
+use Rattle.p2p_tracker_directory.proofs.Written.{lookup_same}
 
 held_by_eligible : (a b stale : Bool) → (a ≡ true → b ≡ true) → (a && (b && not stale)) ≡ (a && not stale)
 held_by_eligible true true stale h = refl

@@ -2,13 +2,13 @@
 use Rattle.std.proofs.Common.{◌≡◌, ℕ, true, List, [], ◌∷◌, Option, Some, None, refl}
 use Rattle.std.specs.declared.cmp.Ordering.{Ordering}
 use Rattle.p2p_address.specs.declared.peer.Address.{Address}
-use Rattle.p2p_facts.specs.declared.call.Call.{Call}
-use Rattle.p2p_facts.specs.declared.call.Call.TheVariants as call
-use Rattle.p2p_facts.specs.Rules.{Rules}
-use Rattle.p2p_facts.specs.Turns.{grants_none_held}
-use Rattle.p2p_facts.proofs.Alternating.{grants_none_held-dial, grants_none_held-listen}
-use Rattle.p2p_oracle.specs.declared.message.Message.{Message}
-use Rattle.p2p_oracle.specs.declared.message.Message.TheVariants as message
+use Rattle.p2p_tracker_calls.specs.declared.call.Call.{Call}
+use Rattle.p2p_tracker_calls.specs.declared.call.Call.TheVariants as call
+use Rattle.p2p_tracker_calls.specs.Rules.{Rules}
+use Rattle.p2p_tracker_calls.specs.Turns.{grants_none_held}
+use Rattle.p2p_tracker_calls.proofs.Alternating.{grants_none_held-dial, grants_none_held-listen}
+use Rattle.p2p_tracker_mailbox.specs.declared.message.Message.{Message}
+use Rattle.p2p_tracker_mailbox.specs.declared.message.Message.TheVariants as message
 use Rattle.p2p_tracker.specs.Serving.{overwritten, calls_after, calls_by}
 use Rattle.p2p_tracker.specs.declared.stepped.Stepped.{Stepped}
 use Rattle.p2p_tracker.specs.declared.stepped.Stepped.TheVariants as stepped

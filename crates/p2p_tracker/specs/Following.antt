@@ -3,11 +3,11 @@ use Rattle.std.specs.Prelude.{◌≡◌, ℕ, true, false, is_some, List}
 use Rattle.std.specs.Map.{lookup}
 use Rattle.std.specs.BTreeMap.{is_at}
 use Rattle.std.specs.declared.cmp.Ordering.{Ordering}
-use Rattle.p2p_facts.specs.declared.call.Call.{Call}
-use Rattle.p2p_facts.specs.Grants.{is_held}
-use Rattle.p2p_facts.specs.Blocks.{is_local}
-use Rattle.p2p_facts.specs.Keeping.{is_kept}
-use Rattle.p2p_directory.specs.Stands.{Kept, StandsFor}
+use Rattle.p2p_tracker_calls.specs.declared.call.Call.{Call}
+use Rattle.p2p_tracker_calls.specs.Grants.{is_held}
+use Rattle.p2p_tracker_calls.specs.Blocks.{is_local}
+use Rattle.p2p_tracker_calls.specs.Keeping.{is_kept}
+use Rattle.p2p_tracker_directory.specs.Stands.{Kept, StandsFor}
 
 -- the directory stands for the calls, a connection is kept for exactly the keys of which the calls keep one, and each of these keys is
 -- held and another's

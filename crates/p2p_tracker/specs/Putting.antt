@@ -9,21 +9,21 @@ use Rattle.p2p_address.specs.Addresses.{ingress_of}
 use Rattle.p2p_address.specs.declared.ip.IpAddr.{IpAddr}
 use Rattle.p2p_address.specs.declared.peer.Address.{Address}
 use Rattle.p2p_address.specs.declared.peer.Ingress.{Ingress}
-use Rattle.p2p_facts.specs.declared.call.Call.{Call}
-use Rattle.p2p_facts.specs.declared.call.Call.TheVariants as call
-use Rattle.p2p_facts.specs.Rules.{Rules}
-use Rattle.p2p_facts.specs.Sets.{is_above, is_among, accepted_sets, kept_sets, latest_index}
-use Rattle.p2p_facts.specs.Blocks.{is_blocked}
-use Rattle.p2p_facts.specs.Kills.{is_killed}
-use Rattle.p2p_facts.specs.Lives.{address_of, accepts, is_overwritten}
-use Rattle.p2p_facts.specs.Allows.{is_acceptable, allows_dial, allows_listen}
-use Rattle.p2p_facts.specs.Lists.{is_dialable}
-use Rattle.p2p_directory.specs.declared.directory.dials.Dialable.{Dialable}
-use Rattle.p2p_oracle.specs.Desk.{Desk}
-use Rattle.p2p_oracle.specs.declared.message.Message.{Message}
-use Rattle.p2p_oracle.specs.declared.message.Message.TheVariants as message
-use Rattle.p2p_oracle.specs.declared.metadata.Metadata.{Metadata}
-use Rattle.p2p_oracle.specs.declared.metadata.Metadata.TheVariants as side
+use Rattle.p2p_tracker_calls.specs.declared.call.Call.{Call}
+use Rattle.p2p_tracker_calls.specs.declared.call.Call.TheVariants as call
+use Rattle.p2p_tracker_calls.specs.Rules.{Rules}
+use Rattle.p2p_tracker_calls.specs.Sets.{is_above, is_among, accepted_sets, kept_sets, latest_index}
+use Rattle.p2p_tracker_calls.specs.Blocks.{is_blocked}
+use Rattle.p2p_tracker_calls.specs.Kills.{is_killed}
+use Rattle.p2p_tracker_calls.specs.Lives.{address_of, accepts, is_overwritten}
+use Rattle.p2p_tracker_calls.specs.Allows.{is_acceptable, allows_dial, allows_listen}
+use Rattle.p2p_tracker_calls.specs.Lists.{is_dialable}
+use Rattle.p2p_tracker_directory.specs.declared.directory.dials.Dialable.{Dialable}
+use Rattle.p2p_tracker_mailbox.specs.Desk.{Desk}
+use Rattle.p2p_tracker_mailbox.specs.declared.message.Message.{Message}
+use Rattle.p2p_tracker_mailbox.specs.declared.message.Message.TheVariants as message
+use Rattle.p2p_tracker_mailbox.specs.declared.metadata.Metadata.{Metadata}
+use Rattle.p2p_tracker_mailbox.specs.declared.metadata.Metadata.TheVariants as side
 use Rattle.p2p_tracker.specs.Telling.{kill_put, kills_put, updates_put, sets_put, has_any}
 use Rattle.p2p_tracker.specs.declared.stepped.Put.{Put}
 use Rattle.p2p_tracker.specs.declared.stepped.Put.TheVariants as puts

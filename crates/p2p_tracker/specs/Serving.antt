@@ -5,17 +5,17 @@ use Rattle.std.specs.BTreeMap.{is_at}
 use Rattle.std.specs.declared.cmp.Ordering.{Ordering}
 use Rattle.p2p_base.specs.Queue.{Queue, without_oldest}
 use Rattle.p2p_address.specs.declared.peer.Address.{Address}
-use Rattle.p2p_facts.specs.declared.call.Call.{Call}
-use Rattle.p2p_facts.specs.declared.call.Call.TheVariants as call
-use Rattle.p2p_facts.specs.Rules.{Rules}
-use Rattle.p2p_facts.specs.Allows.{allows_dial, allows_listen}
-use Rattle.p2p_facts.specs.Blocks.{is_over, block_of}
-use Rattle.p2p_facts.specs.Lives.{is_eligible}
-use Rattle.p2p_oracle.specs.Reserved.{peer_of}
-use Rattle.p2p_oracle.specs.declared.message.Message.{Message}
-use Rattle.p2p_oracle.specs.declared.message.Message.TheVariants as message
-use Rattle.p2p_directory.specs.Recorded.{is_reserved_in, is_held_or_unknown}
-use Rattle.p2p_directory.specs.Stands.{Kept, StandsFor}
+use Rattle.p2p_tracker_calls.specs.declared.call.Call.{Call}
+use Rattle.p2p_tracker_calls.specs.declared.call.Call.TheVariants as call
+use Rattle.p2p_tracker_calls.specs.Rules.{Rules}
+use Rattle.p2p_tracker_calls.specs.Allows.{allows_dial, allows_listen}
+use Rattle.p2p_tracker_calls.specs.Blocks.{is_over, block_of}
+use Rattle.p2p_tracker_calls.specs.Lives.{is_eligible}
+use Rattle.p2p_tracker_mailbox.specs.Reserved.{peer_of}
+use Rattle.p2p_tracker_mailbox.specs.declared.message.Message.{Message}
+use Rattle.p2p_tracker_mailbox.specs.declared.message.Message.TheVariants as message
+use Rattle.p2p_tracker_directory.specs.Recorded.{is_reserved_in, is_held_or_unknown}
+use Rattle.p2p_tracker_directory.specs.Stands.{Kept, StandsFor}
 use Rattle.p2p_tracker.specs.declared.stepped.Stepped.{Stepped}
 use Rattle.p2p_tracker.specs.declared.stepped.Stepped.TheVariants as stepped
 

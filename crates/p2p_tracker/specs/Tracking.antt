@@ -1,7 +1,7 @@
 -- A tracker as contracts see it.
 use Rattle.std.specs.Prelude.{ℕ, ◌/◌, Bool, false, List, []}
 use Rattle.p2p_runtime.specs.Draws.{seeded, drawn}
-use Rattle.p2p_directory.specs.Stands.{Kept}
+use Rattle.p2p_tracker_directory.specs.Stands.{Kept}
 
 -- its directory, the nanoseconds between two grants of a peer, the subscriptions to peer sets and those to the blocked keys, in order,
 -- the connection that is kept for each key, and whether it has failed

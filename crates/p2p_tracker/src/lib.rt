@@ -9,8 +9,8 @@ mod stepped;
 
 pub use actor::Actor;
 pub use config::Config;
-pub use p2p_directory::{
+pub use p2p_tracker_directory::{
     Address, DialStatus, Dialable, Directory, Record, Reservation, ReserveResult, Status,
 };
-pub use p2p_oracle::{Mailbox, Message, Metadata, Oracle};
+pub use p2p_tracker_mailbox::{Mailbox, Message, Metadata, Oracle};
 pub use stepped::{Put, Stepped};

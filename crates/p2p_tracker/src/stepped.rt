@@ -1,7 +1,7 @@
 //! `Stepped`, what a step of the tracker answers.
 use p2p_address::{Ingress, IpAddr};
 use p2p_base::{List, PublicKey, Set};
-use p2p_directory::{Dialable, Reservation};
+use p2p_tracker_directory::{Dialable, Reservation};
 
 /// What a step of the tracker put, with the queue into which it goes.
 #[derive(Drop)]

@@ -1,6 +1,15 @@
-//! The tests of the tracker's actor, through its public names alone. They stand apart so that the gate proves `p2p_tracker`
-//! once.
+//! The tests of the tracker's crates, through their public names alone. They stand together so that the gate proves each of
+//! those crates once.
+//!
+//! Of `p2p_tracker_mailbox` are `oracle` and `tracking`, of `p2p_tracker_directory` is `directory`, and of `p2p_tracker` is
+//! `tracker`.
 #![tactic(auto)]
 
 #[cfg(test)]
+mod directory;
+#[cfg(test)]
+mod oracle;
+#[cfg(test)]
 mod tracker;
+#[cfg(test)]
+mod tracking;

@@ -1,6 +1,6 @@
 //! Steps of a new tracker, with what they put worked out by hand.
 ghost use Rattle.std.specs.Prelude.{◌≡◌, IfOk};
-ghost use Rattle.p2p_oracle.specs.Desk.{new_desk};
+ghost use Rattle.p2p_tracker_mailbox.specs.Desk.{new_desk};
 
 use p2p_address::{Address, IpAddr, SocketAddr};
 use p2p_base::{Key, List, Map, PublicKey, SetError};

@@ -5,7 +5,7 @@ ghost use Rattle.p2p_log.specs.declared.event.Event.{Event};
 ghost use Rattle.p2p_log.specs.Lines.{live};
 ghost use Rattle.p2p_log.specs.Facts.{key_at};
 ghost use Rattle.p2p_log.specs.Effect.{entry_of, join_row, may_join, only as only_reply, row as row_of};
-ghost use Rattle.p2p_board.specs.Stands.{Holds, Builds};
+ghost use Rattle.p2p_net_queues.specs.Stands.{Holds, Builds};
 ghost use Rattle.p2p_log.specs.declared.config.Config.{Config};
 ghost use Rattle.p2p_net.specs.Stands.{NodeStands, NodesStand};
 ghost use Rattle.p2p_router.specs.Messenger.{is_bound};
@@ -15,9 +15,9 @@ ghost use Rattle.p2p_net.specs.Tells.{TellsOf, IsWelcome, joined_row};
 use crate::node::Node;
 use crate::valid::mailbox_of;
 use p2p_base::Key;
-use p2p_board::Board;
-use p2p_board::draft::only;
 use p2p_log::{Act, Config, Envelope, Half, Item, Queue, Reply, Row, Side};
+use p2p_net_queues::Board;
+use p2p_net_queues::draft::only;
 use std::alloc::{AllocError, Global};
 
 /// Whether two nodes may be joined: both run, they are two, and were not joined before.

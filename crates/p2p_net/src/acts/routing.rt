@@ -4,13 +4,13 @@ ghost use Rattle.p2p_log.specs.declared.entry.Entry.{Entry};
 ghost use Rattle.p2p_log.specs.declared.event.Event.{Event};
 ghost use Rattle.p2p_log.specs.Lines.{live};
 ghost use Rattle.p2p_log.specs.Effect.{entry_of, router_row, row as row_of};
-ghost use Rattle.p2p_board.specs.Stands.{Holds, Builds};
+ghost use Rattle.p2p_net_queues.specs.Stands.{Holds, Builds};
 ghost use Rattle.p2p_net.specs.Stands.{NodeStands, NodesStand};
 
 use crate::node::Node;
-use p2p_board::draft::only;
-use p2p_board::{Board, post};
 use p2p_log::{Act, Config, Envelope, Reply, Row};
+use p2p_net_queues::draft::only;
+use p2p_net_queues::{Board, post};
 use std::alloc::{AllocError, Global};
 
 /// The router of a node takes one step, and what it puts for its connections stands on the board.

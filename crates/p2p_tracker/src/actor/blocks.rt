@@ -1,14 +1,14 @@
 //! Blocks: one more, those that have ended, and who is told of them.
-ghost use Rattle.p2p_oracle.specs.declared.message.Message.TheVariants as message;
-ghost use Rattle.p2p_oracle.specs.Desk.{set_of};
+ghost use Rattle.p2p_tracker_mailbox.specs.declared.message.Message.TheVariants as message;
+ghost use Rattle.p2p_tracker_mailbox.specs.Desk.{set_of};
 ghost use Rattle.p2p_tracker.specs.Putting.{IsPut, IsEnded};
 ghost use Rattle.p2p_tracker.specs.declared.stepped.Put.TheVariants as puts;
 ghost use Rattle.p2p_tracker.specs.Following.{Follows};
 ghost use Rattle.p2p_tracker.specs.Telling.{ChangesSets};
 ghost use Rattle.std.specs.Prelude.{◌≡◌, List, [], ◌∷◌, true, false, IfOk, OnOk};
-ghost use Rattle.p2p_facts.specs.declared.call.Call.{Call};
-ghost use Rattle.p2p_facts.specs.declared.call.Call.TheVariants as call;
-ghost use Rattle.p2p_directory.specs.Stands.{StandsFor};
+ghost use Rattle.p2p_tracker_calls.specs.declared.call.Call.{Call};
+ghost use Rattle.p2p_tracker_calls.specs.declared.call.Call.TheVariants as call;
+ghost use Rattle.p2p_tracker_directory.specs.Stands.{StandsFor};
 
 use super::Actor;
 use super::kills::kill;

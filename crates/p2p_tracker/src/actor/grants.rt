@@ -3,15 +3,15 @@ ghost use Rattle.p2p_tracker.specs.declared.stepped.Put.TheVariants as puts;
 ghost use Rattle.p2p_tracker.specs.Putting.{IsDialAnswer, IsListenAnswer};
 ghost use Rattle.p2p_tracker.specs.Following.{Follows};
 ghost use Rattle.std.specs.Prelude.{◌≡◌, cond, List, Some, None, [], ◌∷◌, true, false, IfOk, OnOk};
-ghost use Rattle.p2p_facts.specs.declared.call.Call.{Call};
-ghost use Rattle.p2p_facts.specs.declared.call.Call.TheVariants as call;
-ghost use Rattle.p2p_directory.specs.Stands.{StandsFor};
+ghost use Rattle.p2p_tracker_calls.specs.declared.call.Call.{Call};
+ghost use Rattle.p2p_tracker_calls.specs.declared.call.Call.TheVariants as call;
+ghost use Rattle.p2p_tracker_directory.specs.Stands.{StandsFor};
 ghost use Rattle.std.specs.Map.{lookup};
 ghost use Rattle.std.specs.BTreeMap.{is_at};
-ghost use Rattle.p2p_facts.specs.Lives.{accepts};
-ghost use Rattle.p2p_facts.specs.Allows.{allows_dial, allows_listen};
-ghost use Rattle.p2p_directory.specs.Recorded.{is_reserved_in, is_held_or_unknown};
-ghost use Rattle.p2p_oracle.specs.Reserved.{peer_of};
+ghost use Rattle.p2p_tracker_calls.specs.Lives.{accepts};
+ghost use Rattle.p2p_tracker_calls.specs.Allows.{allows_dial, allows_listen};
+ghost use Rattle.p2p_tracker_directory.specs.Recorded.{is_reserved_in, is_held_or_unknown};
+ghost use Rattle.p2p_tracker_mailbox.specs.Reserved.{peer_of};
 ghost use Rattle.p2p_tracker.specs.Tracking.{jitter_of};
 ghost use Rattle.p2p_tracker.specs.Serving.{IsEligible};
 
@@ -20,8 +20,8 @@ use super::kills::{forget, keep};
 use crate::{Metadata, Put};
 use p2p_address::IpAddr;
 use p2p_base::{List, PublicKey};
-use p2p_directory::Directory;
 use p2p_runtime::Draws;
+use p2p_tracker_directory::Directory;
 use std::alloc::AllocError;
 
 impl<C: PublicKey> Actor<C> {

@@ -1,6 +1,6 @@
 //! Connections that have to end.
 ghost use Rattle.std.specs.Prelude.{◌≡◌, ◌++◌, cond, Some, None, OnOk};
-ghost use Rattle.p2p_facts.specs.Sets.{is_among};
+ghost use Rattle.p2p_tracker_calls.specs.Sets.{is_among};
 ghost use Rattle.std.specs.Map.{lookup, remove_entry};
 ghost use Rattle.std.specs.BTreeMap.{is_at};
 ghost use Rattle.p2p_tracker.specs.Telling.{kill_put, kills_put, without_keys};

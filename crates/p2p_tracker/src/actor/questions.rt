@@ -1,11 +1,11 @@
 //! Questions that change nothing, and subscriptions to peer sets.
 ghost use Rattle.p2p_tracker.specs.Putting.{IsDialableAnswer};
-ghost use Rattle.p2p_facts.specs.Allows.{is_acceptable};
-ghost use Rattle.p2p_facts.specs.Sets.{kept_sets, latest_index};
-ghost use Rattle.p2p_facts.specs.declared.call.Call.{Call};
-ghost use Rattle.p2p_directory.specs.Stands.{StandsFor};
+ghost use Rattle.p2p_tracker_calls.specs.Allows.{is_acceptable};
+ghost use Rattle.p2p_tracker_calls.specs.Sets.{kept_sets, latest_index};
+ghost use Rattle.p2p_tracker_calls.specs.declared.call.Call.{Call};
+ghost use Rattle.p2p_tracker_directory.specs.Stands.{StandsFor};
 ghost use Rattle.p2p_tracker.specs.declared.stepped.Put.TheVariants as puts;
-ghost use Rattle.p2p_oracle.specs.Desk.{answered_at};
+ghost use Rattle.p2p_tracker_mailbox.specs.Desk.{answered_at};
 ghost use Rattle.p2p_tracker.specs.Telling.{ChangesUpdates};
 ghost use Rattle.std.specs.Prelude.{◌≡◌, cond, is_some, List, [], ◌∷◌, IfOk};
 

@@ -1,8 +1,8 @@
 //! Peer sets and addresses that are handed in.
-ghost use Rattle.p2p_oracle.specs.declared.message.Message.TheVariants as message;
+ghost use Rattle.p2p_tracker_mailbox.specs.declared.message.Message.TheVariants as message;
 ghost use Rattle.std.specs.Map.{lookup, remove_entry};
 ghost use Rattle.std.specs.BTreeMap.{is_at};
-ghost use Rattle.p2p_facts.specs.Lives.{is_overwritten};
+ghost use Rattle.p2p_tracker_calls.specs.Lives.{is_overwritten};
 ghost use Rattle.p2p_tracker.specs.Putting.{IsPut, IsReaddressed, overwritten_keys};
 ghost use Rattle.p2p_address.specs.declared.ip.IpAddr.{IpAddr};
 ghost use Rattle.p2p_tracker.specs.Telling.{has_any, kill_put, kills_put, updates_put};
@@ -10,10 +10,10 @@ ghost use Rattle.p2p_tracker.specs.declared.stepped.Put.TheVariants as puts;
 ghost use Rattle.p2p_tracker.specs.Following.{Follows};
 ghost use Rattle.p2p_tracker.specs.Telling.{ChangesUpdates};
 ghost use Rattle.std.specs.Prelude.{◌≡◌, List, [], ◌∷◌, ◌++◌, cond, true, false, is_some, IfOk, OnOk};
-ghost use Rattle.p2p_facts.specs.Sets.{kept_sets, latest_index};
-ghost use Rattle.p2p_facts.specs.declared.call.Call.{Call};
-ghost use Rattle.p2p_facts.specs.declared.call.Call.TheVariants as call;
-ghost use Rattle.p2p_directory.specs.Stands.{StandsFor};
+ghost use Rattle.p2p_tracker_calls.specs.Sets.{kept_sets, latest_index};
+ghost use Rattle.p2p_tracker_calls.specs.declared.call.Call.{Call};
+ghost use Rattle.p2p_tracker_calls.specs.declared.call.Call.TheVariants as call;
+ghost use Rattle.p2p_tracker_directory.specs.Stands.{StandsFor};
 ghost use Rattle.p2p_tracker.specs.Serving.{overwritten};
 
 use super::Actor;
@@ -22,8 +22,8 @@ use super::telling::tell_all;
 use crate::{Mailbox, Put};
 use p2p_address::Address;
 use p2p_base::{List, Map, PublicKey};
-use p2p_directory::Directory;
 use p2p_flow::AddressableTrackedPeers;
+use p2p_tracker_directory::Directory;
 use std::alloc::AllocError;
 use std::collections::BTreeMap;
 

@@ -1,6 +1,6 @@
 //! How subscriptions are told.
 ghost use Rattle.std.specs.Prelude.{◌≡◌, [], ◌∷◌, ◌++◌, OnOk};
-ghost use Rattle.p2p_oracle.specs.Desk.{with_update, with_set, set_of};
+ghost use Rattle.p2p_tracker_mailbox.specs.Desk.{with_update, with_set, set_of};
 ghost use Rattle.p2p_tracker.specs.Telling.{with_updates, updates_put, with_sets, sets_put, ChangesUpdates, ChangesSets};
 ghost use Rattle.p2p_tracker.specs.declared.stepped.Put.TheVariants as puts;
 

@@ -3,7 +3,7 @@ use Rattle.p2p_log.specs.Lines.{live}
 use Rattle.p2p_log.specs.Facts.{events_of}
 use Rattle.p2p_log.specs.Effect.{row, entry_of}
 use Rattle.p2p_log.specs.Valid.{is_valid_event}
-use Rattle.p2p_board.specs.Stands.{Holds}
+use Rattle.p2p_net_queues.specs.Stands.{Holds}
 use Rattle.p2p_net.specs.Stands.{NodesStand}
 use Rattle.p2p_net.specs.World.{PartsStand}
 use Rattle.p2p_net.proofs.Records.{valid_act, entry_of-effect, PartsStand-append}

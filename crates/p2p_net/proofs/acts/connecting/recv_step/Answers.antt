@@ -1,6 +1,6 @@
 use Rattle.std.proofs.Common.{arith}
 use Rattle.p2p_log.specs.declared.entry.Reply.TheVariants as reply
-use Rattle.p2p_board.proofs.Building.{Builds-only}
+use Rattle.p2p_net_queues.proofs.Building.{Builds-only}
 use Rattle.p2p_net.proofs.Nodes.{NodeStands-at, found}
 use Rattle.p2p_net.proofs.acts.connecting.recv_step.Goals as goal
 

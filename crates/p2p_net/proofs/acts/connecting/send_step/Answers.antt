@@ -4,7 +4,7 @@ use Rattle.p2p_log.specs.declared.event.Act.TheVariants as act
 use Rattle.p2p_log.specs.declared.entry.Reply.TheVariants as reply
 use Rattle.p2p_log.specs.declared.row.Row.{Row}
 use Rattle.p2p_log.specs.Effect.{entry_of}
-use Rattle.p2p_board.proofs.Building.{Builds-only}
+use Rattle.p2p_net_queues.proofs.Building.{Builds-only}
 use Rattle.p2p_net.proofs.Nodes.{NodeStands-at, NodesStand-set, NodesStand-kept_as, found}
 use Rattle.p2p_net.proofs.Conns.{NodeStands-unsent}
 use Rattle.p2p_net.proofs.acts.connecting.send_step.Goals as goal

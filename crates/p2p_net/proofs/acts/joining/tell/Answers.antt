@@ -1,6 +1,6 @@
 use Rattle.std.proofs.Common.{ap, ◌∙◌}
 use Rattle.p2p_net.specs.declared.node.Node.{Node}
-use Rattle.p2p_routers.specs.declared.router.Router.{Router}
+use Rattle.p2p_net_router.specs.declared.router.Router.{Router}
 use Rattle.p2p_net.proofs.Joins.{NodeStands-welcomed}
 use Rattle.p2p_net.proofs.Keeps.{FactsStand-rerouted}
 use Rattle.p2p_net.proofs.Tells.{told_half}

@@ -5,7 +5,7 @@ use Rattle.p2p_log.specs.declared.entry.Reply.TheVariants as reply
 use Rattle.p2p_log.specs.declared.row.Row.{Row}
 use Rattle.p2p_log.specs.Facts.{channels, capacity_in}
 use Rattle.p2p_log.specs.Effect.{entry_of}
-use Rattle.p2p_board.proofs.Building.{Builds-only}
+use Rattle.p2p_net_queues.proofs.Building.{Builds-only}
 use Rattle.p2p_net.proofs.Nodes.{NodeStands-at, NodesStand-set, found}
 use Rattle.p2p_net.proofs.Changes.{FactsStand-register}
 use Rattle.p2p_net.proofs.Routers.{RouterStands-moved, is_unbound-before}

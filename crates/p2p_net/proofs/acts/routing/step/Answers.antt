@@ -6,10 +6,10 @@ use Rattle.p2p_log.specs.declared.row.Row.{Row}
 use Rattle.p2p_log.specs.Lines.{line, placed, stands_in}
 use Rattle.p2p_log.specs.Effect.{entry_of, route_oldest}
 use Rattle.std.specs.Prelude.{filter}
-use Rattle.p2p_board.specs.Board.{held}
-use Rattle.p2p_board.proofs.Building.{Builds-only}
-use Rattle.p2p_board.proofs.Posted.{Builds-posted}
-use Rattle.p2p_routers.specs.declared.router.Router.{Router}
+use Rattle.p2p_net_queues.specs.Board.{held}
+use Rattle.p2p_net_queues.proofs.Building.{Builds-only}
+use Rattle.p2p_net_queues.proofs.Posted.{Builds-posted}
+use Rattle.p2p_net_router.specs.declared.router.Router.{Router}
 use Rattle.p2p_net.proofs.Calls.{is_boards-other}
 use Rattle.p2p_net.proofs.Keeps.{FactsStand-kept, FactsStand-rerouted}
 use Rattle.p2p_net.proofs.Routers.{IsBeside-idle, RouterStands-idle, RouterStands-moved}

@@ -2,7 +2,7 @@ use Rattle.std.proofs.Common.{sym, ◌∙◌, rules}
 use Rattle.std.specs.BTreeMap as tree
 use Rattle.std.specs.Ordering.{nat_cmp}
 use Rattle.p2p_log.specs.declared.entry.Reply.TheVariants as reply
-use Rattle.p2p_board.proofs.Building.{Builds-only}
+use Rattle.p2p_net_queues.proofs.Building.{Builds-only}
 use Rattle.p2p_net.proofs.Nodes.{found}
 use Rattle.p2p_net.proofs.Calls.{recv_registered}
 use Rattle.p2p_net.proofs.acts.sending.recv.Goals as goal

@@ -5,8 +5,8 @@ use Rattle.p2p_log.specs.declared.event.Act.TheVariants as act
 use Rattle.p2p_log.specs.declared.entry.Reply.TheVariants as reply
 use Rattle.p2p_log.specs.declared.row.Row.{Row}
 use Rattle.p2p_log.specs.Effect.{entry_of}
-use Rattle.p2p_board.proofs.Building.{Builds-only}
-use Rattle.p2p_routers.specs.declared.router.Router.{Router}
+use Rattle.p2p_net_queues.proofs.Building.{Builds-only}
+use Rattle.p2p_net_router.specs.declared.router.Router.{Router}
 use Rattle.p2p_net.proofs.Calls.{send_registered, Builds-sent}
 use Rattle.p2p_net.proofs.Keeps.{FactsStand-kept, FactsStand-rerouted}
 use Rattle.p2p_net.proofs.Routers.{IsBeside-act, RouterStands-idle, RouterStands-moved}

@@ -1,8 +1,8 @@
 use Rattle.p2p_tracker.specs.declared.stepped.Put.TheVariants as puts
 use Rattle.p2p_tracker.specs.declared.stepped.Put.{Put}
-use Rattle.p2p_facts.specs.Allows.{is_acceptable}
+use Rattle.p2p_tracker_calls.specs.Allows.{is_acceptable}
 use Rattle.std.proofs.Common.{◌≡◌, Bool, List, [], ◌∷◌, ap, ◌∙◌, sym, subst}
-use Rattle.p2p_directory.specs.Stands.{StandsFor}
+use Rattle.p2p_tracker_directory.specs.Stands.{StandsFor}
 use Rattle.p2p_tracker.specs.Tracking.{Tracking}
 use Rattle.p2p_tracker.proofs.actor.Actor.acceptable.Goals as goal
 

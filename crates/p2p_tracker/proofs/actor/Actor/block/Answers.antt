@@ -3,7 +3,7 @@ use Rattle.p2p_tracker.specs.Telling.{kill_put}
 use Rattle.std.specs.BTreeMap.{is_at}
 use Rattle.std.specs.Map.{lookup}
 use Rattle.std.proofs.Common.{sym, ap, subst, ◌≡◌, ◌++◌, List, ◌∙◌}
-use Rattle.p2p_directory.specs.Stands.{Kept, StandsFor}
+use Rattle.p2p_tracker_directory.specs.Stands.{Kept, StandsFor}
 use Rattle.p2p_tracker.specs.Following.{Follows}
 use Rattle.p2p_tracker.specs.Tracking.{Tracking}
 use Rattle.p2p_tracker.proofs.Following.{follows-block}

@@ -1,11 +1,11 @@
 use Rattle.p2p_tracker.specs.declared.stepped.Put.TheVariants as puts
 use Rattle.p2p_tracker.specs.declared.stepped.Put.{Put}
-use Rattle.p2p_facts.specs.Lives.{accepts}
+use Rattle.p2p_tracker_calls.specs.Lives.{accepts}
 use Rattle.std.proofs.Common.{◌≡◌, true, false, refl, sym, ap, ◌∙◌, subst, cond, List, [], ◌∷◌, Some}
 use Rattle.std.specs.Map.{lookup}
 use Rattle.std.specs.BTreeMap.{is_at}
-use Rattle.p2p_directory.specs.Recorded.{is_reserved_in}
-use Rattle.p2p_directory.specs.Stands.{Kept, StandsFor}
+use Rattle.p2p_tracker_directory.specs.Recorded.{is_reserved_in}
+use Rattle.p2p_tracker_directory.specs.Stands.{Kept, StandsFor}
 use Rattle.p2p_tracker.specs.Following.{Follows}
 use Rattle.p2p_tracker.specs.Serving.{IsEligible}
 use Rattle.p2p_tracker.specs.Tracking.{Tracking}

@@ -1,16 +1,16 @@
 use Rattle.p2p_tracker.proofs.Putting.{some-told}
 use Rattle.p2p_tracker.specs.Putting.{IsDialAnswer}
-use Rattle.p2p_facts.specs.Lives.{address_of}
-use Rattle.p2p_facts.specs.declared.call.Call.{Call}
-use Rattle.p2p_oracle.specs.declared.metadata.Metadata.{Metadata}
+use Rattle.p2p_tracker_calls.specs.Lives.{address_of}
+use Rattle.p2p_tracker_calls.specs.declared.call.Call.{Call}
+use Rattle.p2p_tracker_mailbox.specs.declared.metadata.Metadata.{Metadata}
 use Rattle.p2p_address.specs.declared.peer.Ingress.{Ingress}
 use Rattle.p2p_address.specs.Addresses.{ingress_of}
 use Rattle.std.specs.Option.{option_map}
-use Rattle.p2p_directory.specs.Stands.{StandsFor}
+use Rattle.p2p_tracker_directory.specs.Stands.{StandsFor}
 use Rattle.std.proofs.Common.{◌≡◌, sym, ap, subst, Some, List}
 use Rattle.std.specs.Prelude.{is_some}
 use Rattle.p2p_tracker.specs.Tracking.{Tracking, jitter_of}
-use Rattle.p2p_facts.specs.Allows.{allows_dial}
+use Rattle.p2p_tracker_calls.specs.Allows.{allows_dial}
 use Rattle.p2p_tracker.specs.Following.{Follows}
 use Rattle.p2p_tracker.proofs.Following.{follows-dial}
 use Rattle.p2p_tracker.proofs.Standing.{dial-served}

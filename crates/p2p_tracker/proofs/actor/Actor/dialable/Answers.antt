@@ -1,6 +1,6 @@
 use Rattle.p2p_tracker.specs.Putting.{IsDialableAnswer}
 use Rattle.std.proofs.Common.{sym, subst}
-use Rattle.p2p_directory.specs.Stands.{StandsFor}
+use Rattle.p2p_tracker_directory.specs.Stands.{StandsFor}
 use Rattle.p2p_tracker.specs.Tracking.{Tracking}
 use Rattle.p2p_tracker.proofs.actor.Actor.dialable.Goals as goal
 

@@ -1,5 +1,5 @@
 use Rattle.std.proofs.Common.{List, ◌∷◌, [], ◌++◌, sym, ap, ◌∙◌, subst}
-use Rattle.p2p_directory.specs.Stands.{StandsFor}
+use Rattle.p2p_tracker_directory.specs.Stands.{StandsFor}
 use Rattle.p2p_tracker.specs.Putting.{IsEnded}
 use Rattle.p2p_tracker.specs.Telling.{sets_put}
 use Rattle.p2p_tracker.specs.Tracking.{Tracking}

@@ -1,9 +1,9 @@
 use Rattle.p2p_tracker.specs.Putting.{IsListenAnswer}
-use Rattle.p2p_directory.specs.Stands.{StandsFor}
+use Rattle.p2p_tracker_directory.specs.Stands.{StandsFor}
 use Rattle.std.proofs.Common.{◌≡◌, sym, ap, subst}
 use Rattle.std.specs.Prelude.{is_some}
 use Rattle.p2p_tracker.specs.Tracking.{Tracking, jitter_of}
-use Rattle.p2p_facts.specs.Allows.{allows_listen}
+use Rattle.p2p_tracker_calls.specs.Allows.{allows_listen}
 use Rattle.p2p_tracker.specs.Following.{Follows}
 use Rattle.p2p_tracker.proofs.Following.{follows-listen}
 use Rattle.p2p_tracker.proofs.Standing.{listen-served}

@@ -5,11 +5,11 @@ use Rattle.p2p_tracker.specs.Putting.{IsRegistered}
 use Rattle.std.proofs.lemmas.Bool.{false≢true}
 use Rattle.std.proofs.Common.{◌≡◌, cond, List, Option, sym, ap, ◌∙◌, subst, ◌++◌, ◌∷◌, []}
 use Rattle.std.specs.Prelude.{is_some, IfSome}
-use Rattle.p2p_facts.specs.Kills.{is_killed}
-use Rattle.p2p_facts.specs.Sets.{is_among, kept_sets, latest_index}
-use Rattle.p2p_facts.specs.declared.call.Call.{Call}
-use Rattle.p2p_facts.specs.declared.call.Call.TheVariants as call
-use Rattle.p2p_directory.specs.Stands.{Kept, StandsFor}
+use Rattle.p2p_tracker_calls.specs.Kills.{is_killed}
+use Rattle.p2p_tracker_calls.specs.Sets.{is_among, kept_sets, latest_index}
+use Rattle.p2p_tracker_calls.specs.declared.call.Call.{Call}
+use Rattle.p2p_tracker_calls.specs.declared.call.Call.TheVariants as call
+use Rattle.p2p_tracker_directory.specs.Stands.{Kept, StandsFor}
 use Rattle.p2p_tracker.specs.Following.{Follows}
 use Rattle.p2p_tracker.specs.Tracking.{Tracking}
 use Rattle.p2p_tracker.proofs.Following.{follows-refused, follows-track}

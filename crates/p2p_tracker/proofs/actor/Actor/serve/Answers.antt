@@ -1,8 +1,8 @@
 use Rattle.std.proofs.Common.{List, refl, sym, subst}
 use Rattle.std.specs.Prelude.{Result, Ok, Err, IfOk, OnOk}
-use Rattle.p2p_facts.specs.declared.call.Call.{Call}
-use Rattle.p2p_oracle.specs.declared.message.Message.{Message}
-use Rattle.p2p_directory.specs.Stands.{StandsFor}
+use Rattle.p2p_tracker_calls.specs.declared.call.Call.{Call}
+use Rattle.p2p_tracker_mailbox.specs.declared.message.Message.{Message}
+use Rattle.p2p_tracker_directory.specs.Stands.{StandsFor}
 use Rattle.p2p_tracker.specs.Following.{Follows}
 use Rattle.p2p_tracker.specs.Tracking.{jitter_of}
 use Rattle.p2p_tracker.specs.Putting.{IsPut}

@@ -1,10 +1,10 @@
 use Rattle.std.proofs.Common.{◌≡◌, true, sym, ◌∙◌, subst}
-use Rattle.p2p_facts.proofs.Eligible.{is_eligible-is_kept, not_stale-is_kept}
-use Rattle.p2p_oracle.specs.Desk.{next_message}
-use Rattle.p2p_directory.specs.Stands.{StandsFor}
+use Rattle.p2p_tracker_calls.proofs.Eligible.{is_eligible-is_kept, not_stale-is_kept}
+use Rattle.p2p_tracker_mailbox.specs.Desk.{next_message}
+use Rattle.p2p_tracker_directory.specs.Stands.{StandsFor}
 use Rattle.p2p_tracker.specs.Following.{Follows}
 use Rattle.p2p_tracker.specs.Putting.{IsPutBy}
-use Rattle.p2p_facts.specs.Blocks.{is_over, block_of}
+use Rattle.p2p_tracker_calls.specs.Blocks.{is_over, block_of}
 use Rattle.p2p_tracker.specs.Serving.{IsQuiet, calls_by}
 use Rattle.p2p_tracker.specs.Tracking.{Tracking, jitter_of}
 use Rattle.p2p_tracker.proofs.Connecting.{come-by}

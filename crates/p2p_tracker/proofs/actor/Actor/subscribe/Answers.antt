@@ -1,6 +1,6 @@
 use Rattle.std.proofs.Common.{◌≡◌, List, [], ◌∷◌, ◌++◌, cond, ◌∙◌, subst}
 use Rattle.std.specs.Prelude.{is_some}
-use Rattle.p2p_facts.specs.Sets.{kept_sets, latest_index}
+use Rattle.p2p_tracker_calls.specs.Sets.{kept_sets, latest_index}
 use Rattle.p2p_tracker.specs.declared.stepped.Put.{Put}
 use Rattle.p2p_tracker.specs.declared.stepped.Put.TheVariants as puts
 use Rattle.p2p_tracker.proofs.actor.Actor.subscribe.Goals as goal

@@ -1,13 +1,13 @@
 use Rattle.std.proofs.Common.{◌≡◌, true, List, ◌∷◌, Option, Some, sym, ap, ◌∙◌, subst}
 use Rattle.std.specs.Prelude.{IfSome}
-use Rattle.p2p_facts.specs.Blocks.{is_over, block_of}
-use Rattle.p2p_facts.specs.declared.call.Call.{Call}
-use Rattle.p2p_facts.specs.declared.call.Call.TheVariants as call
-use Rattle.p2p_facts.specs.Rules.{Rules}
-use Rattle.p2p_oracle.specs.Desk.{Desk, next_message}
-use Rattle.p2p_directory.specs.Stands.{Kept, StandsFor}
+use Rattle.p2p_tracker_calls.specs.Blocks.{is_over, block_of}
+use Rattle.p2p_tracker_calls.specs.declared.call.Call.{Call}
+use Rattle.p2p_tracker_calls.specs.declared.call.Call.TheVariants as call
+use Rattle.p2p_tracker_calls.specs.Rules.{Rules}
+use Rattle.p2p_tracker_mailbox.specs.Desk.{Desk, next_message}
+use Rattle.p2p_tracker_directory.specs.Stands.{Kept, StandsFor}
 use Rattle.p2p_tracker.specs.Following.{Follows}
-use Rattle.p2p_oracle.specs.declared.message.Message.{Message}
+use Rattle.p2p_tracker_mailbox.specs.declared.message.Message.{Message}
 use Rattle.p2p_tracker.specs.Putting.{IsEnded, IsPut, IsPutBy}
 use Rattle.p2p_tracker.specs.Serving.{IsQuiet, IsQuietIn, MayTake}
 use Rattle.p2p_tracker.specs.declared.stepped.Stepped.TheVariants as stepped

@@ -1,5 +1,5 @@
 use Rattle.std.proofs.Common.{not, ◌&&◌, sym, ap, ◌∙◌}
-use Rattle.p2p_facts.specs.Lives.{is_stale}
+use Rattle.p2p_tracker_calls.specs.Lives.{is_stale}
 use Rattle.p2p_tracker.proofs.Standing.{stands-barred, stands-moment}
 use Rattle.p2p_tracker.proofs.actor.grants.accept.Goals as goal
 

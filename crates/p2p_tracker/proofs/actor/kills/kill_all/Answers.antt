@@ -2,7 +2,7 @@ use Rattle.std.proofs.Common.{◌≤◌, length, cond, None, ap, ◌∙◌, arit
 use Rattle.std.proofs.lemmas.List.{take_all}
 use Rattle.std.specs.Map.{lookup}
 use Rattle.std.specs.BTreeMap.{is_at}
-use Rattle.p2p_facts.specs.Sets.{is_among}
+use Rattle.p2p_tracker_calls.specs.Sets.{is_among}
 use Rattle.p2p_tracker.proofs.Following.{taken-more}
 use Rattle.p2p_tracker.proofs.Putting.{kills-next, without-next}
 use Rattle.p2p_tracker.proofs.actor.kills.kill_all.Goals as goal

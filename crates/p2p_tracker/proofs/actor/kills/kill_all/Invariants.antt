@@ -1,7 +1,7 @@
 use Rattle.std.proofs.Common.{◌≡◌, ◌++◌, cond, drop, take, None}
 use Rattle.std.specs.Map.{lookup}
 use Rattle.std.specs.BTreeMap.{is_at}
-use Rattle.p2p_facts.specs.Sets.{is_among}
+use Rattle.p2p_tracker_calls.specs.Sets.{is_among}
 use Rattle.p2p_tracker.specs.Telling.{kills_put, without_keys}
 use Rattle.p2p_tracker.proofs.actor.kills.kill_all.Given as goal
 

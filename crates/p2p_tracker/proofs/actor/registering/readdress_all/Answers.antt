@@ -2,11 +2,11 @@ use Rattle.std.proofs.Common.{◌≡◌, ◌+◌, ◌<◌, ◌≤◌, ◌||◌, 
 use Rattle.std.proofs.lemmas.List.{take_all, at_drop_all}
 use Rattle.std.specs.Map.{keys_of, values_of}
 use Rattle.p2p_address.specs.declared.peer.Address.{Address}
-use Rattle.p2p_facts.specs.declared.call.Call.{Call}
-use Rattle.p2p_directory.specs.Stands.{StandsFor}
+use Rattle.p2p_tracker_calls.specs.declared.call.Call.{Call}
+use Rattle.p2p_tracker_directory.specs.Stands.{StandsFor}
 use Rattle.p2p_tracker.specs.Following.{Follows}
-use Rattle.p2p_facts.specs.Rules.{Rules}
-use Rattle.p2p_facts.specs.Lives.{is_overwritten}
+use Rattle.p2p_tracker_calls.specs.Rules.{Rules}
+use Rattle.p2p_tracker_calls.specs.Lives.{is_overwritten}
 use Rattle.p2p_tracker.specs.Putting.{overwritten_keys}
 use Rattle.p2p_tracker.specs.Telling.{has_any, kills_put}
 use Rattle.p2p_tracker.specs.Serving.{overwritten}

@@ -1,8 +1,0 @@
-use Rattle.std.proofs.Common.{ap, ◌∙◌}
-use Rattle.std.specs.Prelude.{is_some}
-use Rattle.std.specs.BTreeMap.{is_at}
-use Rattle.p2p_directory.proofs.Newcomers.{is_some-position}
-use Rattle.p2p_directory.proofs.directory.sets.has.Goals as goal
-
-pub returns : goal.returns
-returns g c = c.is_some.ensures ∙ (ap is_some c.position.ensures ∙ is_some-position (is_at (g.C.Ord.cmp c.args.key.now)) c.args.keys.now)

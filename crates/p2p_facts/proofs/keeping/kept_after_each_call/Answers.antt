@@ -1,5 +1,0 @@
-use Rattle.p2p_facts.proofs.KeptCalls.{kept-after}
-use Rattle.p2p_facts.proofs.keeping.kept_after_each_call.Goals as goal
-
-pub returns : goal.returns
-returns g c = kept-after g.P.Ord.cmp

@@ -1,5 +1,0 @@
-use Rattle.p2p_ledger.proofs.Drops.{each_shown}
-use Rattle.p2p_ledger.proofs.causes.each_drop_shows_its_cause.Goals as goal
-
-pub returns : goal.returns
-returns c = each_shown

@@ -1,6 +1,0 @@
-use Rattle.p2p_ledger.proofs.FrameLaw.{frames_give}
-use Rattle.p2p_ledger.proofs.Ledger.{each_delivered}
-use Rattle.p2p_ledger.proofs.delivery.only_sent_is_delivered.Goals as goal
-
-pub returns : goal.returns
-returns c = λ configs script log lawful. each_delivered configs frames_give script log lawful

@@ -1,5 +1,0 @@
-use Rattle.p2p_ledger.proofs.Ordering.{delivered_order, each_went_over, one_connection}
-use Rattle.p2p_ledger.proofs.order.delivered_in_order.Goals as goal
-
-pub returns : goal.returns
-returns c = record { order = delivered_order; connection = each_went_over; one_connection = one_connection }

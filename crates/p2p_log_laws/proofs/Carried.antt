@@ -1,0 +1,88 @@
+-- The copies that items carry, in order.
+use Rattle.std.proofs.Common.{◌≡◌, ℕ, ◌+◌, Bool, true, false, cond, List, [], ◌∷◌, ◌++◌, Some, None, inl, inr, refl, ap, sym, subst, ◌∙◌, append-nil}
+use Rattle.std.specs.Prelude.{filter, flat_map}
+use Rattle.std.specs.List.{AllByRecursion as Each}
+use Rattle.p2p_base.specs.declared.key.Key.{Key}
+use Rattle.p2p_log.specs.declared.queue.Queue.{Queue}
+use Rattle.p2p_log.specs.declared.queue.Queue.TheVariants as queue
+use Rattle.p2p_log.specs.declared.item.Item.{Item}
+use Rattle.p2p_log.specs.declared.item.Item.TheVariants as item
+use Rattle.p2p_log.specs.declared.item.Envelope.{Envelope}
+use Rattle.p2p_log.specs.Effect.{relay_queue}
+use Rattle.p2p_log_laws.proofs.Fitting.{is_bare}
+use Rattle.p2p_log_laws.proofs.Spreads.{AreFrames}
+use Rattle.p2p_log_laws.proofs.Sublists.{IsSublist, IsSublist-nil, IsSublist-refl}
+
+-- the copies of a send, from this place on
+abbrev pub copies_from : ℕ → ℕ → List Key → List (ℕ × ℕ)
+copies_from send p [] = []
+copies_from send p (k ∷ ks) = (send, p) ∷ copies_from send (p + 1) ks
+
+abbrev pub copies_of : Item → List (ℕ × ℕ)
+copies_of (item.Content c frame priority send to) = copies_from send 0 to
+copies_of (item.Frame (Some copy) frame) = copy ∷ []
+copies_of (item.Message bytes copy from) = copy ∷ []
+copies_of _ = []
+
+-- what items in queues carry
+abbrev pub carried : List Envelope → List (ℕ × ℕ)
+carried xs = flat_map (λ x. copies_of x.item) xs
+
+-- what puts carry
+abbrev pub put_copies : List (Queue × Item) → List (ℕ × ℕ)
+put_copies xs = flat_map (λ x. copies_of x.1) xs
+
+-- whether a queue is a router's mailbox
+abbrev pub is_mailbox : Queue → Bool
+is_mailbox (queue.Router n) = true
+is_mailbox _ = false
+
+pub relay_away : (priority : Bool) (n conn : ℕ) → is_mailbox (relay_queue priority n conn) ≡ false
+relay_away true n conn = refl
+relay_away false n conn = refl
+
+pub copies_of-bare : (i : Item) → is_bare i ≡ true → copies_of i ≡ []
+copies_of-bare (item.Subscribe c) h = refl
+copies_of-bare (item.Ready conn key) h = refl
+copies_of-bare (item.Content c frame priority send to) h = absurd (cc)
+copies_of-bare (item.Peers keys) h = refl
+copies_of-bare item.Answer h = refl
+copies_of-bare (item.Frame (Some other) frame) h = absurd (cc)
+copies_of-bare (item.Frame None frame) h = refl
+copies_of-bare (item.Message bytes other from) h = absurd (cc)
+
+-- puts that carry no copy
+put_none : (p : Queue × Item → Bool) (puts : List (Queue × Item)) → Each (λ x. is_bare x.1 ≡ true) puts → put_copies (filter p puts) ≡ []
+put_none p [] h = refl
+put_none p (x ∷ puts) h =
+    elim (p x) as (λ b. put_copies (cond b (x ∷ filter p puts) (filter p puts)) ≡ []) [
+      | true ↦ ap (λ l. l ++ put_copies (filter p puts)) (copies_of-bare x.1 h.0) ∙ put_none p puts h.1
+      | false ↦ put_none p puts h.1
+    ]
+
+pub IsSublist-bare : (p : Queue × Item → Bool) (puts : List (Queue × Item)) (ys : List (ℕ × ℕ)) → Each (λ x. is_bare x.1 ≡ true) puts → IsSublist (put_copies (filter p puts)) ys
+IsSublist-bare p puts ys h = subst (λ l. IsSublist l ys) (sym (put_none p puts h)) (IsSublist-nil ys)
+
+-- one put
+pub IsSublist-put : (p : Queue × Item → Bool) (x : Queue × Item) → IsSublist (put_copies (filter p (x ∷ []))) (copies_of x.1)
+IsSublist-put p x =
+    elim (p x) as (λ b. IsSublist (put_copies (cond b (x ∷ []) [])) (copies_of x.1)) [
+      | true ↦ subst (λ l. IsSublist l (copies_of x.1)) (sym (append-nil (copies_of x.1))) (IsSublist-refl (copies_of x.1))
+      | false ↦ IsSublist-nil (copies_of x.1)
+    ]
+
+-- the frames of a spread
+pub IsSublist-frames : (p : Queue × Item → Bool) (send place : ℕ) (frame : List ℕ) (ks : List Key) (puts : List (Queue × Item)) → AreFrames send place frame ks puts
+    → IsSublist (put_copies (filter p puts)) (copies_from send place ks)
+IsSublist-frames p send place frame [] puts h = subst (λ (l : List (Queue × Item)). put_copies (filter p l) ≡ []) (sym h) refl
+IsSublist-frames p send place frame (k ∷ ks) puts h = elim h [
+  | inl none ↦ inl (IsSublist-frames p send (place + 1) frame ks puts none)
+  | inr some ↦
+      let x : Queue × Item = (some.0, item.Frame (Some (send, place)) frame) in
+      let rest : List (Queue × Item) = some.1 in
+      subst (λ (l : List (Queue × Item)). IsSublist (put_copies (filter p l)) (copies_from send place (k ∷ ks))) (sym some.2)
+      (elim (p x) as (λ b. IsSublist (put_copies (cond b (x ∷ filter p rest) (filter p rest))) (copies_from send place (k ∷ ks))) [
+        | true ↦ inr (put_copies (filter p rest), refl, IsSublist-frames p send (place + 1) frame ks rest some.3)
+        | false ↦ inl (IsSublist-frames p send (place + 1) frame ks rest some.3)
+      ])
+]

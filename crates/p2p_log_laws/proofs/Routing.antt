@@ -1,0 +1,161 @@
+-- A router's connection to a key is one whose peer has the key.
+use Rattle.std.proofs.Common.{◌≡◌, ℕ, Bool, true, false, cond, List, [], ◌∷◌, ◌++◌, map, Some, Ordering, Less, Equal, Greater, refl, ap, sym, subst, ◌∙◌, arith, eqb-true}
+use Rattle.std.specs.Prelude.{◌==◌, flat_map, filter}
+use Rattle.std.specs.List.{AllByRecursion as Each}
+use Rattle.std.specs.BTreeMap.{insert_entry}
+use Rattle.std.specs.Map.{lookup}
+use Rattle.std.specs.Ordering.{nat_cmp, match_ordering}
+use Rattle.std.proofs.lemmas.Bool.Decides.{nat_tests}
+use Rattle.p2p_base.specs.declared.key.Key.{Key}
+use Rattle.p2p_log.specs.declared.config.Config.{Config}
+use Rattle.p2p_log.specs.declared.queue.Queue.{Queue}
+use Rattle.p2p_log.specs.declared.queue.Queue.TheVariants as queue
+use Rattle.p2p_log.specs.declared.item.Item.{Item}
+use Rattle.p2p_log.specs.declared.item.Item.TheVariants as item
+use Rattle.p2p_log.specs.declared.item.Envelope.{Envelope}
+use Rattle.p2p_log.specs.declared.entry.Entry.{Entry}
+use Rattle.p2p_log.specs.declared.event.Event.{Event}
+use Rattle.p2p_log.specs.declared.event.Act.{Act}
+use Rattle.p2p_log.specs.declared.event.Act.TheVariants as act
+use Rattle.p2p_log.specs.declared.row.Half.{Half}
+use Rattle.p2p_log.specs.declared.row.Row.{Row}
+use Rattle.p2p_log.specs.Lines.{name_of, stands_in, live, line}
+use Rattle.p2p_log.specs.Facts.{half_at, steps_router, item_named, taken, routed_by, routed, history_from, with_route, routes_after, routes, route_to}
+use Rattle.p2p_log.specs.Effect.{entry_of}
+use Rattle.p2p_log.proofs.Facts.{routes-append}
+use Rattle.p2p_log.proofs.Queues.{same_queue-refl}
+use Rattle.p2p_log.proofs.Recorded.{AreRecorded, AreRecorded-line}
+use Rattle.p2p_log_laws.proofs.Each.{Each-has, Each-from_has, Each-map, Each-weaker}
+use Rattle.p2p_log_laws.proofs.Shape.{Shape}
+use Rattle.p2p_log_laws.proofs.Telling.{Tells, StandTells, half_at-longer}
+use Rattle.p2p_log_laws.proofs.Weights.{Each-taken}
+
+-- the connection is the node's, with a peer of this key
+abbrev pub RouteHolds : List Config → List Entry → ℕ → ℕ × ℕ → Type 0
+RouteHolds configs log n r = (half : Half) × (half_at configs log n r.1 ≡ Some half) × (half.peer.0 ≡ r.0)
+
+abbrev pub RoutesHold : List Config → List Entry → Type 0
+RoutesHold configs log = (n : ℕ) → Each (RouteHolds configs log n) (routes log n)
+
+same_number : (x y : ℕ) → nat_cmp x y ≡ Equal → x ≡ y
+same_number x y h = grind (arith, nat_tests)
+
+-- ---- a map of routes
+
+module _ (P : ℕ × ℕ → Type 0) where
+  insert_by : (k v : ℕ) (e : ℕ × ℕ) (es : List (ℕ × ℕ)) (o : Ordering) → nat_cmp k e.0 ≡ o → P (k, v) → P e → Each P es → Each P (insert_entry nat_cmp es k v)
+      → Each P (match_ordering o ((k, v) ∷ e ∷ es) ((e.0, v) ∷ es) (e ∷ insert_entry nat_cmp es k v))
+  insert_by k v e es Less c p h t r = (p, (h, t))
+  insert_by k v e es Equal c p h t r = (subst (λ j. P (j, v)) (same_number k e.0 c) p, t)
+  insert_by k v e es Greater c p h t r = (h, r)
+
+  Each-insert_entry : (k v : ℕ) (es : List (ℕ × ℕ)) → P (k, v) → Each P es → Each P (insert_entry nat_cmp es k v)
+  Each-insert_entry k v [] p h = (p, tt)
+  Each-insert_entry k v (e ∷ es) p h = insert_by k v e es (nat_cmp k e.0) refl p h.0 h.1 (Each-insert_entry k v es p h.1)
+
+  found_by : (test : ℕ → Bool) (e : ℕ × ℕ) (es : List (ℕ × ℕ)) (v : ℕ) (b : Bool) → test e.0 ≡ b → P e
+      → (lookup test es ≡ Some v → (k : ℕ) × (test k ≡ true) × P (k, v)) → cond b (Some e.1) (lookup test es) ≡ Some v → (k : ℕ) × (test k ≡ true) × P (k, v)
+  found_by test e es v true t p more h = let same : e.1 ≡ v = cc in (e.0, t, subst (λ w. P (e.0, w)) same p)
+  found_by test e es v false t p more h = more h
+
+  -- what is looked up has what each entry has
+  Each-lookup : (test : ℕ → Bool) (es : List (ℕ × ℕ)) (v : ℕ) → Each P es → lookup test es ≡ Some v → (k : ℕ) × (test k ≡ true) × P (k, v)
+  Each-lookup test [] v h e = absurd (cc)
+  Each-lookup test (d ∷ es) v h e = found_by test d es v (test d.0) refl h.0 (λ l. Each-lookup test es v h.1 l) e
+
+-- the connection that a router has to a key is one whose peer has it
+pub route_peer : (configs : List Config) (log : List Entry) (n : ℕ) (key : Key) (conn : ℕ) → RoutesHold configs log → route_to (routes log n) key ≡ Some conn
+    → (half : Half) × (half_at configs log n conn ≡ Some half) × (half.peer ≡ key)
+route_peer configs log n key conn holds h =
+    let found = Each-lookup (RouteHolds configs log n) (λ k. key.0 == k) (routes log n) conn (holds n) h in
+    let half : Half = found.2.0 in
+    let same : key.0 ≡ found.0 = eqb-true key.0 found.0 found.1 in
+    let to_key : ℕ → Key = λ k. record { 0 = k } in
+    (half, found.2.1, ap to_key (found.2.2 ∙ sym same))
+
+-- ---- one more entry
+
+module _ (configs : List Config) (log : List Entry) (n : ℕ) where
+  with_one : (rs : List (ℕ × ℕ)) (i : Item) → Each (RouteHolds configs log n) rs → Tells configs log i (queue.Router n) → Each (RouteHolds configs log n) (with_route rs i)
+  with_one rs (item.Subscribe c) h t = h
+  with_one rs (item.Ready conn key) h t = Each-insert_entry (RouteHolds configs log n) key.0 conn rs (t.0, t.1, ap (λ k. k.0) t.2) h
+  with_one rs (item.Content c frame priority send to) h t = h
+  with_one rs (item.Peers keys) h t = h
+  with_one rs item.Answer h t = h
+  with_one rs (item.Frame copy frame) h t = h
+  with_one rs (item.Message bytes copy from) h t = h
+
+  with_all : (rs : List (ℕ × ℕ)) (xs : List Item) → Each (RouteHolds configs log n) rs → Each (λ i. Tells configs log i (queue.Router n)) xs
+      → Each (RouteHolds configs log n) (routes_after rs xs)
+  with_all rs [] h t = h
+  with_all rs (x ∷ xs) h t = with_all (with_route rs x) xs (with_one rs x h t.0) t.1
+
+-- ---- what is taken, by its name
+
+recorded_each : (log : List Entry) (xs : List Envelope) → AreRecorded log xs → Each (λ x. item_named log (name_of x) ≡ x.item ∷ []) xs
+recorded_each log [] h = tt
+recorded_each log (x ∷ xs) h = (h.0, recorded_each log xs h.1)
+
+-- what each line has, all that stand in queues have
+each_line : (P : Envelope → Type 0) (xs : List Envelope) → ((q : Queue) → Each P (filter (stands_in q) xs)) → Each P xs
+each_line P [] h = tt
+each_line P (x ∷ xs) h =
+    (head (stands_in x.queue x) (same_queue-refl x.queue) (h x.queue), each_line P xs (λ q. tail q (stands_in q x) (h q)))
+  where
+    head : (b : Bool) → b ≡ true → Each P (cond b (x ∷ filter (stands_in x.queue) xs) (filter (stands_in x.queue) xs)) → P x
+    head true e k = k.0
+    head false e k = absurd (cc)
+
+    tail : (q : Queue) (b : Bool) → Each P (cond b (x ∷ filter (stands_in q) xs) (filter (stands_in q) xs)) → Each P (filter (stands_in q) xs)
+    tail q true k = k.1
+    tail q false k = k
+
+pub recorded_live : (log : List Entry) → Each (λ x. item_named log (name_of x) ≡ x.item ∷ []) (live log)
+unfolding line
+recorded_live log =
+    each_line (λ x. item_named log (name_of x) ≡ x.item ∷ []) (live log) (λ q. recorded_each log (line log q) (AreRecorded-line log q))
+
+named_items : (log : List Entry) (xs : List Envelope) → Each (λ x. item_named log (name_of x) ≡ x.item ∷ []) xs
+    → flat_map (item_named log) (map name_of xs) ≡ map (λ x. x.item) xs
+named_items log [] h = refl
+named_items log (x ∷ xs) h = ap (λ l. l ++ flat_map (item_named log) (map name_of xs)) h.0 ∙ ap (λ r. x.item ∷ r) (named_items log xs h.1)
+
+steps_is : (n : ℕ) (a : Act) → steps_router n a ≡ true → a ≡ act.Router n
+steps_is n (act.Register c m rate) h = absurd (cc)
+steps_is n (act.Start m) h = absurd (cc)
+steps_is n (act.Join a b) h = absurd (cc)
+steps_is n (act.Send bytes c m priority to) h = absurd (cc)
+steps_is n (act.Router m) h = ap (λ k. act.Router k) (eqb-true m n h)
+steps_is n (act.SendStep conn m) h = absurd (cc)
+steps_is n (act.RecvStep conn m) h = absurd (cc)
+steps_is n (act.Recv c m) h = absurd (cc)
+
+module _ (configs : List Config) (log : List Entry) (ev : Event) (r : Row) (shape : Shape configs log ev.act r) (tell : Each (StandTells configs log) (live log)) where
+  taken_items : taken log (entry_of ev r) ≡ map (λ x. x.item) shape.taken
+  unfolding taken
+  taken_items =
+      ap (λ ns. flat_map (item_named log) ns) shape.names
+      ∙ named_items log shape.taken (Each-taken (λ x. item_named log (name_of x) ≡ x.item ∷ []) (live log) shape.taken (recorded_live log) shape.stood)
+
+  routed_cases : (n : ℕ) (b : Bool) → steps_router n ev.act ≡ b → Each (λ i. Tells configs log i (queue.Router n)) (cond b (taken log (entry_of ev r)) [])
+  routed_cases n true h =
+      let all : Each (StandTells configs log) shape.taken = Each-taken (StandTells configs log) (live log) shape.taken tell shape.stood in
+      let own : Each (λ x. x.queue ≡ queue.Router n) shape.taken = shape.own n (steps_is n ev.act h) in
+      subst (Each (λ i. Tells configs log i (queue.Router n))) (sym taken_items)
+      (Each-map (λ i. Tells configs log i (queue.Router n)) (λ x. x.item) shape.taken
+      (Each-from_has (λ x. Tells configs log x.item (queue.Router n)) shape.taken (λ x has.
+      subst (Tells configs log x.item) (Each-has (λ y. y.queue ≡ queue.Router n) shape.taken x own has)
+      (Each-has (StandTells configs log) shape.taken x all has))))
+  routed_cases n false h = tt
+
+  pub routes_kept : RoutesHold configs log → RoutesHold configs (log ++ entry_of ev r ∷ [])
+  routes_kept holds n =
+      subst (Each (RouteHolds configs (log ++ entry_of ev r ∷ []) n)) (sym (routes-append log (entry_of ev r) n))
+      (Each-weaker (RouteHolds configs log n) (RouteHolds configs (log ++ entry_of ev r ∷ []) n)
+      (λ x h. (h.0, half_at-longer configs log (entry_of ev r ∷ []) n x.1 h.0 h.1, h.2))
+      (routes_after (routes log n) (routed_by n log (entry_of ev r)))
+      (with_all configs log n (routes log n) (routed_by n log (entry_of ev r)) (holds n) (routed_cases n (steps_router n ev.act) refl)))
+
+pub routes_none : (configs : List Config) → RoutesHold configs []
+unfolding routes routed history_from
+routes_none configs n = tt

@@ -1,0 +1,126 @@
+-- What the log shows of the cause for which a copy was dropped.
+use Rattle.std.specs.Prelude.{◌≡◌, ℕ, ◌+◌, ◌<◌, ◌≤◌, Bool, false, ◌==◌, ◌&&◌, nat_lt, List, [], ◌∷◌, length, take, count_by, Some, None, slice_get}
+use Rattle.p2p_base.specs.declared.key.Key.{Key}
+use Rattle.p2p_log.specs.declared.config.Config.{Config}
+use Rattle.p2p_log.specs.declared.queue.Queue.{Queue}
+use Rattle.p2p_log.specs.declared.queue.Queue.TheVariants as queue
+use Rattle.p2p_log.specs.declared.item.Item.{Item}
+use Rattle.p2p_log.specs.declared.item.Item.TheVariants as item
+use Rattle.p2p_log.specs.declared.item.Envelope.{Envelope}
+use Rattle.p2p_log.specs.declared.end.End.TheVariants as end
+use Rattle.p2p_log.specs.declared.end.Outcome.TheVariants as outcome
+use Rattle.p2p_log.specs.declared.end.Cause.{Cause}
+use Rattle.p2p_log.specs.declared.end.Cause.TheVariants as cause
+use Rattle.p2p_log.specs.declared.entry.Entry.{Entry}
+use Rattle.p2p_log.specs.declared.event.Act.TheVariants as act
+use Rattle.p2p_log.specs.declared.event.Recipients.{Recipients}
+use Rattle.p2p_log.specs.declared.row.Half.{Half}
+use Rattle.p2p_log.specs.Lines.{name_of, line}
+use Rattle.p2p_log.specs.Copies.{accepted, accepted_by}
+use Rattle.p2p_log.specs.Facts.{is_up, channels, capacity_in, key_at, routes, route_to, half_at}
+use Rattle.p2p_log.specs.Effect.{goes_to, relay_queue, mailbox_size_at, other_side}
+use Rattle.p2p_log_laws.specs.Delivered.{IsCopyOf}
+
+-- ---- unbound
+
+-- the entry is the copy's send, at a node that had not started
+pub record IsUnbound (before : List Entry) (e : Entry) (copy : ℕ × ℕ) : Type 0 where
+  pub bytes : List ℕ
+  pub channel : ℕ
+  pub node : ℕ
+  pub priority : Bool
+  pub to : Recipients
+  pub sends : e.event.act ≡ act.Send bytes channel node priority to
+  pub here : copy.0 ≡ length before
+  pub has_copy : copy.1 < length (accepted_by e.event.act e.reply)
+  pub not_started : is_up before node ≡ false
+
+-- ---- no connection
+
+-- the entry is a step of the node's router, which takes the message of the copy's send, the oldest in its mailbox; the
+-- copy is for this key
+pub record IsRouted (before : List Entry) (e : Entry) (copy : ℕ × ℕ) (node : ℕ) (priority : Bool) (key : Key) : Type 0 where
+  pub steps : e.event.act ≡ act.Router node
+  pub oldest : Envelope
+  pub later : List Envelope
+  pub stood : line before (queue.Router node) ≡ oldest ∷ later
+  pub takes : e.takes ≡ name_of oldest ∷ []
+  pub channel : ℕ
+  pub frame : List ℕ
+  pub to : List Key
+  pub is : oldest.item ≡ item.Content channel frame priority copy.0 to
+  pub recipients : accepted before copy.0 ≡ to
+  pub for_key : slice_get to copy.1 ≡ Some key
+
+-- the router has no connection to the copy's key
+pub record HasNoConnection (before : List Entry) (e : Entry) (copy : ℕ × ℕ) : Type 0 where
+  pub node : ℕ
+  pub priority : Bool
+  pub key : Key
+  pub routed : IsRouted before e copy node priority key
+  pub not_connected : route_to (routes before node) key ≡ None
+
+-- ---- relay full
+
+-- whether an item is a frame of a copy of the same send, with a lower place
+abbrev pub is_lower : ℕ × ℕ → Item → Bool
+is_lower copy (item.Frame (Some other) frame) = (other.0 == copy.0) && nat_lt other.1 copy.1
+is_lower copy _ = false
+
+abbrev pub enters_before : Queue → ℕ × ℕ → Queue × Item → Bool
+enters_before q copy x = goes_to q x && is_lower copy x.1
+
+-- how many frames the queue holds when the copy's turn comes: those that stood there, and those that the entry put there
+-- for the send's copies with lower places
+abbrev pub held_before : List Entry → Entry → Queue → ℕ × ℕ → ℕ
+held_before before e q copy = length (line before q) + count_by (enters_before q copy) e.puts
+
+-- the queue of the connection to the copy's key, by the message's priority, then holds its size
+pub record RelayIsFull (configs : List Config) (before : List Entry) (e : Entry) (copy : ℕ × ℕ) : Type 0 where
+  pub node : ℕ
+  pub priority : Bool
+  pub key : Key
+  pub routed : IsRouted before e copy node priority key
+  pub conn : ℕ
+  pub connected : route_to (routes before node) key ≡ Some conn
+  pub full : mailbox_size_at configs node ≤ held_before before e (relay_queue priority node conn) copy
+
+-- ---- mailbox full
+
+-- the entry is a step of a receiving half, which takes the copy's frame, the oldest in its link; the copy is for this
+-- node, and the queue of the channel on which it was sent holds its capacity
+pub record MailboxIsFull (configs : List Config) (before : List Entry) (e : Entry) (copy : ℕ × ℕ) : Type 0 where
+  pub conn : ℕ
+  pub node : ℕ
+  pub steps : e.event.act ≡ act.RecvStep conn node
+  pub half : Half
+  pub at : half_at configs before node conn ≡ Some half
+  pub oldest : Envelope
+  pub later : List Envelope
+  pub stood : line before (queue.Link conn (other_side half.writes)) ≡ oldest ∷ later
+  pub takes : e.takes ≡ name_of oldest ∷ []
+  pub frame : List ℕ
+  pub is : oldest.item ≡ item.Frame (Some copy) frame
+  pub sender : ℕ
+  pub channel : ℕ
+  pub bytes : List ℕ
+  pub sent : IsCopyOf before copy sender channel bytes (key_at configs node)
+  pub capacity : ℕ
+  pub registered : capacity_in (channels configs before node) channel ≡ Some capacity
+  pub full : capacity ≤ length (line before (queue.Channel node channel))
+
+-- ---- all causes
+
+-- what an entry that drops the copy for this cause shows, given the entries before it
+abbrev pub Shows : List Config → List Entry → Entry → ℕ × ℕ → Cause → Type 0
+Shows configs before e copy cause.Unbound = IsUnbound before e copy
+Shows configs before e copy cause.NoConnection = HasNoConnection before e copy
+Shows configs before e copy cause.RelayFull = RelayIsFull configs before e copy
+Shows configs before e copy cause.MailboxFull = MailboxIsFull configs before e copy
+
+-- each entry that drops a copy shows the cause
+abbrev pub EachDropShowsItsCause : List Config → List Entry → Type 0
+EachDropShowsItsCause configs log =
+    (n : ℕ) (e : Entry) (i : ℕ) (copy : ℕ × ℕ) (c : Cause)
+    → slice_get log n ≡ Some e → slice_get e.ends i ≡ Some (end.Copy copy.0 copy.1 (outcome.Dropped c))
+    → Shows configs (take n log) e copy c

@@ -1,0 +1,68 @@
+-- A router of which a batch of frames was taken stands for the log with the entry that took it.
+use Rattle.std.proofs.Common.{◌≡◌, ℕ, true, List, [], ◌∷◌, ◌++◌, ap, sym, subst, ◌∙◌}
+use Rattle.std.specs.Prelude.{filter, flat_map, map}
+use Rattle.std.proofs.lemmas.Simd.{map-map}
+use Rattle.p2p_log.specs.declared.config.Config.{Config}
+use Rattle.p2p_log.specs.declared.entry.Entry.{Entry}
+use Rattle.p2p_log.specs.declared.queue.Queue.{Queue}
+use Rattle.p2p_log.specs.declared.item.Item.{Item}
+use Rattle.p2p_log.specs.declared.item.Envelope.{Envelope}
+use Rattle.p2p_log.specs.Lines.{name_of, ended_item, goes, stays, live, stands_in}
+use Rattle.p2p_log.specs.Effect.{mailbox_size_at}
+use Rattle.p2p_log.specs.Apart.{AreApart}
+use Rattle.p2p_log.proofs.Names.{AreApart-live_from}
+use Rattle.p2p_router.specs.Messenger.{is_bound}
+use Rattle.p2p_net_router.specs.Names.{is_routers, label, bare_item}
+use Rattle.p2p_net_router.specs.Batches.{named, batch_of, AreKept}
+use Rattle.p2p_net_router.specs.Holds.{Holds}
+use Rattle.p2p_net_router.specs.Stands.{StandsFor, HasPlaces, IsBeside, AreAway}
+use Rattle.p2p_net_router.specs.declared.router.Router.{Router}
+use Rattle.p2p_net_router.proofs.Beside.{moved_to, stands_moved}
+use Rattle.p2p_net_router.proofs.Aside.{line_after, takes_alone}
+
+-- a kept router is the old one with other parts
+moved_to-kept : (old new : Router) → AreKept old new → moved_to old new.messenger new.actor new.peers new.names ≡ new
+moved_to-kept old new kept = sym (ap (λ k. record new { number = k }) kept.number ∙ ap (λ c. record new { number = old.number; channels = c }) kept.channels)
+
+names_taken : (batch : List Envelope) (taken : List ((ℕ × ℕ) × Item)) → taken ≡ map named batch → map (λ (t : (ℕ × ℕ) × Item). t.0) taken ≡ map name_of batch
+names_taken batch taken is = ap (map (λ (t : (ℕ × ℕ) × Item). t.0)) is ∙ map-map (λ (t : (ℕ × ℕ) × Item). t.0) named batch
+
+batched :
+    (configs : List Config) (log : List Entry) (e : Entry) (old new : Router) (batch : List Envelope) (taken : List ((ℕ × ℕ) × Item))
+    → StandsFor configs log old → IsBeside configs log e old.number → AreKept old new → taken ≡ map named batch
+    → Holds (mailbox_size_at configs old.number) new (filter (stays (map name_of batch)) (live log))
+    → e.takes ≡ map (λ (t : (ℕ × ℕ) × Item). t.0) taken → e.ends ≡ [] → ((q : Queue) → is_routers old.number q ≡ true → AreAway q e.puts)
+    → StandsFor configs (log ++ e ∷ []) new
+batched configs log e old new batch taken s b kept is holds takes ends away =
+    let n = old.number in
+    let size = mailbox_size_at configs n in
+    let moved = moved_to old new.messenger new.actor new.peers new.names in
+    let same = moved_to-kept old new kept in
+    let h : Holds size moved (filter (stays (map name_of batch)) (live log)) = subst (λ r. Holds size r (filter (stays (map name_of batch)) (live log))) (sym same) holds in
+    let gone : goes e ≡ map name_of batch = takes_alone e (map name_of batch) (takes ∙ names_taken batch taken is) (ap (flat_map ended_item) ends) in
+    let lines : (q : Queue) → is_routers n q ≡ true → filter (stands_in q) (live (log ++ e ∷ [])) ≡ filter (stands_in q) (filter (stays (map name_of batch)) (live log)) =
+    λ q own. line_after log e (map name_of batch) q gone (away q own)
+    in
+    subst (StandsFor configs (log ++ e ∷ [])) same
+    (stands_moved configs log e old new.messenger new.actor new.peers new.names s b kept.routes kept.subscriptions
+    (ap (λ m. is_bound m.binding) kept.messenger) (λ k places. subst (λ m. HasPlaces k m.binding) (sym kept.messenger) places)
+    (record {
+      sound = h.sound;
+      names = λ q own. h.names q own ∙ ap (map label) (sym (lines q own));
+      each = λ q own. h.each q own ∙ ap (map bare_item) (sym (lines q own));
+    }))
+
+-- the clauses of a batch say that the router stands for the log
+pub stands_batched :
+    (configs : List Config) (log : List Entry) (e : Entry) (old new : Router) (conn size : ℕ) (taken : List ((ℕ × ℕ) × Item))
+    → AreKept old new
+    → ((places : ℕ) (items : List Envelope) → Holds places old items → AreApart items → taken ≡ map named (batch_of old.number conn size items))
+    → ((places : ℕ) (items : List Envelope) → Holds places old items → AreApart items → Holds places new (filter (stays (map name_of (batch_of old.number conn size items))) items))
+    → StandsFor configs log old → IsBeside configs log e old.number
+    → e.takes ≡ map (λ (t : (ℕ × ℕ) × Item). t.0) taken → e.ends ≡ [] → ((q : Queue) → is_routers old.number q ≡ true → AreAway q e.puts)
+    → StandsFor configs (log ++ e ∷ []) new
+stands_batched configs log e old new conn size taken kept is holds s b takes ends away =
+    let places = mailbox_size_at configs old.number in
+    let apart = AreApart-live_from 0 log in
+    batched configs log e old new (batch_of old.number conn size (live log)) taken s b kept
+    (is places (live log) s.holds apart) (holds places (live log) s.holds apart) takes ends away

@@ -1,0 +1,55 @@
+-- The router after an entry that neither its step nor a registration made stands for the log with that entry.
+use Rattle.std.proofs.Common.{◌≡◌, ℕ, ◌+◌, false, cond, List, [], ◌∷◌, ◌++◌, length, ap, sym, subst, ◌∙◌, append-nil}
+use Rattle.std.specs.Prelude.{filter, flat_map, map, ◌||◌}
+use Rattle.p2p_base.specs.declared.key.Key.{Key}
+use Rattle.p2p_router.specs.Messenger.{Desk, is_bound}
+use Rattle.p2p_log.specs.declared.config.Config.{Config}
+use Rattle.p2p_log.specs.declared.entry.Entry.{Entry}
+use Rattle.p2p_log.specs.declared.event.Event.{Event}
+use Rattle.p2p_log.specs.declared.event.Act.{Act}
+use Rattle.p2p_log.specs.declared.row.Row.{Row}
+use Rattle.p2p_log.specs.Lines.{stays, placed, live}
+use Rattle.p2p_log.specs.Facts.{events_of, starts, has_started, is_up, registers_at, registered, channels, taken, steps_router, routed_by, subscriber_of, subscribers, routes_after, routes, sum_capacities}
+use Rattle.p2p_log.specs.Effect.{entry_of, mailbox_size_at, router_capacity}
+use Rattle.p2p_log.proofs.Facts.{events_of-append, has_started-append, registered-append, subscribers-append, routes-append}
+use Rattle.p2p_log.proofs.Lines.{live-append}
+use Rattle.p2p_net_queues.specs.declared.board.Board.{Board}
+use Rattle.p2p_net_queues.specs.Stands.{row_goes}
+use Rattle.p2p_net_router.specs.Holds.{Holds, after}
+use Rattle.p2p_net_router.specs.Stands.{StandsFor, HasPlaces}
+use Rattle.p2p_net_router.specs.declared.router.Router.{Router}
+use Rattle.p2p_net_router.specs.declared.name.Name.{Name}
+
+-- the same channels, with another mailbox and other names
+abbrev pub rebound : Router → Desk Key → Board Name → Router
+rebound r desk names = record r { messenger = desk; names = names }
+
+channels_same : (configs : List Config) (log : List Entry) (e : Entry) (n : ℕ) → registers_at configs n e.event.act ≡ [] → channels configs (log ++ e ∷ []) n ≡ channels configs log n
+channels_same configs log e n none =
+    ap (λ v. registered configs v n) (events_of-append log e)
+    ∙ (registered-append configs (events_of log) e.event n
+    ∙ (ap (λ l. registered configs (events_of log) n ++ l) none ∙ append-nil (registered configs (events_of log) n)))
+
+pub stands_kept :
+    (configs : List Config) (log : List Entry) (entry : ℕ) (event : Event) (a : Act) (r : Router) (desk : Desk Key) (names : Board Name) (row : Row)
+    → StandsFor configs log r → length log ≡ entry → event.act ≡ a → steps_router r.number a ≡ false → registers_at configs r.number a ≡ []
+    → Holds (mailbox_size_at configs r.number) (rebound r desk names) (after entry row (live log))
+    → is_bound desk.binding ≡ (is_up log r.number || starts r.number a)
+    → HasPlaces (router_capacity configs log r.number) desk.binding
+    → StandsFor configs (log ++ entry_of event row ∷ []) (rebound r desk names)
+stands_kept configs log entry event a r desk names row s at is other none h up places =
+    let n = r.number in
+    let e = entry_of event row in
+    let took : routed_by n log e ≡ [] = ap (λ x. cond (steps_router n x) (taken log e) []) is ∙ ap (λ b. cond b (taken log e) []) other in
+    let same = channels_same configs log e n (ap (registers_at configs n) is ∙ none) in
+    record {
+      holds = subst (Holds (mailbox_size_at configs n) (rebound r desk names))
+          (ap (λ k. filter (stays (row_goes row)) (live log) ++ placed k 0 row.puts) (sym at) ∙ sym (live-append log e)) h;
+      routes_are = s.routes_are ∙ sym (routes-append log e n ∙ ap (routes_after (routes log n)) took);
+      told = s.told ∙ sym (subscribers-append log e n ∙ (ap (λ l. subscribers log n ++ flat_map subscriber_of l) took ∙ append-nil (subscribers log n)));
+      registered = s.registered ∙ ap (map (λ (c : ℕ × ℕ). c.0)) (sym same);
+      bound = up
+          ∙ (ap (λ x. has_started (events_of log) n || starts n x) (sym is)
+          ∙ (sym (has_started-append (events_of log) e.event n) ∙ ap (λ v. has_started v n) (sym (events_of-append log e))));
+      places = subst (λ k. HasPlaces k desk.binding) (ap (λ l. mailbox_size_at configs n + sum_capacities l) (sym same)) places;
+    }

@@ -1,0 +1,25 @@
+-- A batch of the frames that wait for a connection.
+use Rattle.std.specs.Prelude.{◌≡◌, ℕ, List, ◌++◌, take, filter}
+use Rattle.p2p_log.specs.declared.queue.Queue.TheVariants as queue
+use Rattle.p2p_log.specs.declared.item.Item.{Item}
+use Rattle.p2p_log.specs.declared.item.Envelope.{Envelope}
+use Rattle.p2p_log.specs.Lines.{name_of, stands_in}
+use Rattle.p2p_net_router.specs.Holds.{routes_in}
+use Rattle.p2p_net_router.specs.declared.router.Router.{Router}
+
+-- an item with its name
+abbrev pub named : Envelope → (ℕ × ℕ) × Item
+named x = (name_of x, x.item)
+
+-- high before low, as many as a batch has
+abbrev pub batch_of : ℕ → ℕ → ℕ → List Envelope → List Envelope
+batch_of n conn size items = take size (filter (stands_in (queue.High n conn)) items ++ filter (stands_in (queue.Low n conn)) items)
+
+-- of a router the relays and the names alone changed, and no connection
+pub record AreKept (old new : Router) : Type 0 where
+  pub number : new.number ≡ old.number
+  pub messenger : new.messenger ≡ old.messenger
+  pub channels : new.channels ≡ old.channels
+  pub peers : new.peers ≡ old.peers
+  pub subscriptions : new.actor.subscriptions ≡ old.actor.subscriptions
+  pub routes : routes_in new.actor.links ≡ routes_in old.actor.links

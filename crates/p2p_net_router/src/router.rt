@@ -1,0 +1,109 @@
+//! `Router`, the router of one node.
+ghost use Rattle.std.specs.Prelude.{◌≡◌, ◌==◌, ◌≤◌, ◌<◌, ◌^◌, ℕ, ◌++◌, ◌∷◌, [], length, nat_le, slice_get, filter, map, IfOk, OnOk, IsTrue, Some, None, true, false, if◌then◌else◌};
+ghost use Rattle.std.specs.Ordering.{nat_cmp, is_eq};
+ghost use Rattle.std.specs.BTreeMap.{get};
+ghost use Rattle.p2p_log.specs.Frames.{frame_of};
+ghost use Rattle.p2p_log.specs.Facts.{channels, capacity_in};
+ghost use Rattle.p2p_log.specs.Lines.{line, live};
+ghost use Rattle.p2p_log.specs.Effect.{entry_of, relay_queue, route_oldest, router_capacity, sent_row, start_row};
+ghost use Rattle.p2p_log.specs.Apart.{AreApart};
+ghost use Rattle.p2p_net_queues.specs.Board.{held};
+ghost use Rattle.p2p_router.specs.Messenger.{is_unbound, is_bound, subscribed, new_desk};
+ghost use Rattle.p2p_router.specs.Routes.{new_routes};
+ghost use Rattle.p2p_net_router.specs.Holds.{Adds};
+ghost use Rattle.p2p_net_router.specs.Names.{is_routers};
+ghost use Rattle.p2p_net_router.specs.Stands.{StandsFor, IsRegistration};
+
+use crate::Name;
+use crate::step::note_step;
+use p2p_base::Key;
+use p2p_flow::Connected;
+use p2p_log::{Act, Queue, Row};
+use p2p_net_queues::Board;
+use p2p_router::{Actor, Messenger};
+use std::alloc::{AllocError, Global};
+use std::collections::BTreeMap;
+
+/// The router of one node: its messenger and its actor, and the names of what stands in their queues.
+#[derive(Drop)]
+pub struct Router {
+    /// The node's number.
+    pub number: u64,
+    /// The mailbox, and the newest list of peers for each subscription.
+    pub messenger: Messenger<Key>,
+    /// The connected peers with their relays.
+    pub actor: Actor<Key>,
+    /// The channel of each subscription.
+    pub channels: Vec<u64>,
+    /// The peer of each connection that the router was told of.
+    pub peers: BTreeMap<u64, Key>,
+    /// The names of what stands in its queues.
+    pub names: Board<Name>,
+}
+
+/// A router without a mailbox, which holds nothing.
+fn empty(alloc: Global, number: u64) -> Router
+    ensures number { result.number ≡ number }
+    ensures messenger { result.messenger ≡ new_desk }
+    ensures actor { result.actor ≡ new_routes }
+    ensures channels { result.channels.items ≡ [] }
+    ensures peers { (conn : ℕ) → get nat_cmp result.peers conn ≡ None }
+    ensures names { (q : _) → held result.names q ≡ [] }
+{
+    Router {
+        number,
+        messenger: Messenger::unbound(alloc),
+        actor: Actor::without_peers(alloc),
+        channels: Vec::new(alloc),
+        peers: BTreeMap::new(alloc),
+        names: Board::new(alloc),
+    }
+}
+
+impl Router {
+    /// A router without a mailbox, which holds nothing.
+    pub fn new(alloc: Global, number: u64) -> Router
+        ensures number { result.number ≡ number }
+        ensures messenger { result.messenger ≡ new_desk }
+        ensures peers { (conn : ℕ) → get nat_cmp result.peers conn ≡ None }
+        ensures stands { (configs : _) → StandsFor configs [] result }
+    {
+        empty(alloc, number)
+    }
+
+    /// A channel wants the lists of connected peers.
+    pub fn subscribe(&mut self, alloc: Global, channel: u64) -> Result<(), AllocError>
+        ensures messenger { OnOk result (self.new.messenger ≡ subscribed self.old.messenger) }
+        ensures channels { OnOk result (self.new.channels.items ≡ self.old.channels.items ++ channel ∷ []) }
+        ensures rest { OnOk result (self.new ≡ record self.old { messenger = self.new.messenger; channels = self.new.channels }) }
+        ensures stands { OnOk result ((configs : _) (log : _) (e : _) → StandsFor configs log self.old → IsTrue (is_unbound self.old.messenger.binding)
+            → IsRegistration e self.old.number channel → capacity_in (channels configs log self.old.number) channel ≡ None → StandsFor configs (log ++ e ∷ []) self.new) }
+    {
+        self.channels.push(channel)?;
+        let _ = self.messenger.subscribe(alloc)?;
+        Ok(())
+    }
+
+    /// Takes the oldest message of the mailbox, and does what it says.
+    ///
+    /// What is put for a connection, the router's answer, the caller puts: the row has it.
+    pub fn step(&mut self, alloc: Global, entry: u64) -> Result<Row, AllocError>
+        ensures row { IfOk result (λ row. (configs : _) (log : _) → StandsFor configs log self.old
+            → row ≡ route_oldest configs log self.old.number (line log (Queue.Router self.old.number))) }
+        ensures others { IfOk result (λ row. (configs : _) (log : _) (q : _) → StandsFor configs log self.old → is_routers self.old.number q ≡ false
+            → Adds entry row (live log) q) }
+        ensures stands { IfOk result (λ row. (configs : _) (log : _) (event : _) → StandsFor configs log self.old → length log ≡ entry
+            → event.act ≡ Act.Router self.old.number → StandsFor configs (log ++ entry_of event row ∷ []) self.new) }
+        ensures rest { OnOk result (self.new ≡ record self.old { messenger = self.new.messenger; actor = self.new.actor; names = self.new.names }) }
+    {
+        let stepped = self.actor.step(&mut self.messenger)?;
+        note_step(
+            alloc,
+            &mut self.names,
+            entry,
+            self.number,
+            self.channels.as_slice(),
+            &stepped,
+        )
+    }
+}

@@ -1,7 +1,0 @@
-use Rattle.std.proofs.Common.{◌∙◌}
-use Rattle.p2p_report.specs.Found.{value_of}
-use Rattle.p2p_report.proofs.found.at.Goals as goal
-
-pub returns : goal.returns
-unfolding value_of
-returns g c = c.copied.ensures ∙ c.get.ensures.value

@@ -1,9 +1,0 @@
--- What is left, written at the end of what stands, gives what the whole log gives.
-use Rattle.std.proofs.Common.{◌≡◌, drop}
-use Rattle.std.specs.String.{string_bytes}
-use Rattle.p2p_report.specs.ReportText.{all_copies_onto}
-use Rattle.p2p_report.proofs.report.put_all_copies.Given as goal
-
-abbrev pub invariant-loop-n : goal.invariant-loop-n
-invariant-loop-n l =
-    all_copies_onto l.report.log (string_bytes l.out) l.n (drop l.n l.log) ≡ all_copies_onto l.report.log (string_bytes l.fn.out) 0 l.report.log

@@ -1,6 +1,0 @@
-use Rattle.std.proofs.Common.{ap, ◌∙◌}
-use Rattle.p2p_log.specs.Effect.{only}
-use Rattle.p2p_routers.proofs.step.note_step.Goals as goal
-
-pub returns : goal.returns
-returns c = c.in_ok-note_answer.ensures (c.only-row.ensures ∙ ap only c.reply_of.ensures)

@@ -1,0 +1,49 @@
+-- The text of an item, and of a put: a queue and an item.
+use Rattle.std.specs.Prelude.{ℕ, Bool, List, ◌++◌, codes, Option, Some, None}
+use Rattle.p2p_base.specs.declared.key.Key.{Key}
+use Rattle.p2p_log.specs.declared.queue.Queue.{Queue}
+use Rattle.p2p_log.specs.declared.item.Item.{Item}
+use Rattle.p2p_log.specs.declared.item.Item.TheVariants as item
+use Rattle.p2p_sim_report.specs.Text.{number_onto, flag_onto, key_onto, hex_onto, name_onto, list_onto}
+use Rattle.p2p_sim_report.specs.QueueText.{queue_onto}
+
+abbrev pub subscribe_onto : List ℕ → ℕ → List ℕ
+subscribe_onto out c = number_onto (out ++ codes "{\"subscribe\":") c ++ codes "}"
+
+abbrev pub ready_onto : List ℕ → ℕ → Key → List ℕ
+ready_onto out conn k = key_onto (number_onto (out ++ codes "{\"ready\":{\"conn\":") conn ++ codes ",\"key\":") k ++ codes "}}"
+
+-- a content up to the value of its `send`
+abbrev pub content_start_onto : List ℕ → ℕ → List ℕ → Bool → List ℕ
+content_start_onto out c frame priority =
+    flag_onto (hex_onto (number_onto (out ++ codes "{\"content\":{\"channel\":") c ++ codes ",\"frame\":") frame ++ codes ",\"priority\":") priority
+    ++ codes ",\"send\":"
+
+abbrev pub content_onto : List ℕ → ℕ → List ℕ → Bool → ℕ → List Key → List ℕ
+content_onto out c frame priority send to =
+    list_onto key_onto (number_onto (content_start_onto out c frame priority) send ++ codes ",\"to\":") to ++ codes "}}"
+
+-- the name of a copy, if there is one
+abbrev pub copy_onto : List ℕ → Option (ℕ × ℕ) → List ℕ
+copy_onto out None = out ++ codes "null"
+copy_onto out (Some name) = name_onto out name
+
+abbrev pub frame_onto : List ℕ → Option (ℕ × ℕ) → List ℕ → List ℕ
+frame_onto out copy frame = hex_onto (copy_onto (out ++ codes "{\"copy\":") copy ++ codes ",\"frame\":") frame ++ codes "}"
+
+abbrev pub message_onto : List ℕ → List ℕ → ℕ × ℕ → Key → List ℕ
+message_onto out bytes copy from =
+    key_onto (name_onto (hex_onto (out ++ codes "{\"bytes\":") bytes ++ codes ",\"copy\":") copy ++ codes ",\"from\":") from ++ codes "}"
+
+abbrev pub item_onto : List ℕ → Item → List ℕ
+item_onto out (item.Subscribe c) = subscribe_onto out c
+item_onto out (item.Ready conn k) = ready_onto out conn k
+item_onto out (item.Content c frame priority send to) = content_onto out c frame priority send to
+item_onto out (item.Peers keys) = list_onto key_onto out keys
+item_onto out item.Answer = out ++ codes "true"
+item_onto out (item.Frame copy frame) = frame_onto out copy frame
+item_onto out (item.Message bytes copy from) = message_onto out bytes copy from
+
+-- a put: [queue,item]
+abbrev pub put_onto : List ℕ → Queue × Item → List ℕ
+put_onto out x = item_onto (queue_onto (out ++ codes "[") x.0 ++ codes ",") x.1 ++ codes "]"

@@ -1,0 +1,30 @@
+-- The text of a queue's name: its kind and its numbers, with colons between, in quotes.
+use Rattle.std.specs.Prelude.{ℕ, List, ◌++◌, codes}
+use Rattle.p2p_log.specs.declared.queue.Side.{Side}
+use Rattle.p2p_log.specs.declared.queue.Side.TheVariants as side
+use Rattle.p2p_log.specs.declared.queue.Queue.{Queue}
+use Rattle.p2p_log.specs.declared.queue.Queue.TheVariants as queue
+use Rattle.p2p_sim_report.specs.Text.{number_onto}
+
+-- the two numbers of a queue, and the quote after them
+abbrev pub numbers_onto : List ℕ → ℕ → ℕ → List ℕ
+numbers_onto out a b = number_onto (number_onto out a ++ codes ":") b ++ codes "\""
+
+abbrev pub side_onto : List ℕ → Side → List ℕ
+side_onto out side.Out = out ++ codes "out"
+side_onto out side.In = out ++ codes "in"
+
+abbrev pub router_onto : List ℕ → ℕ → List ℕ
+router_onto out n = number_onto (out ++ codes "\"router:") n ++ codes "\""
+
+abbrev pub link_onto : List ℕ → ℕ → Side → List ℕ
+link_onto out e s = side_onto (number_onto (out ++ codes "\"link:") e ++ codes ":") s ++ codes "\""
+
+abbrev pub queue_onto : List ℕ → Queue → List ℕ
+queue_onto out (queue.Router n) = router_onto out n
+queue_onto out (queue.Peers n c) = numbers_onto (out ++ codes "\"peers:") n c
+queue_onto out (queue.Ready n e) = numbers_onto (out ++ codes "\"ready:") n e
+queue_onto out (queue.High n e) = numbers_onto (out ++ codes "\"high:") n e
+queue_onto out (queue.Low n e) = numbers_onto (out ++ codes "\"low:") n e
+queue_onto out (queue.Link e s) = link_onto out e s
+queue_onto out (queue.Channel n c) = numbers_onto (out ++ codes "\"channel:") n c

@@ -1,0 +1,64 @@
+//! The text of a queue's name.
+ghost use Rattle.std.specs.Prelude.{◌≡◌, ◌++◌, OnOk};
+ghost use Rattle.std.specs.String.{string_bytes};
+ghost use Rattle.p2p_sim_report.specs.QueueText.{numbers_onto, side_onto, router_onto, link_onto};
+
+use crate::text::{ToText, put, put_number};
+use p2p_log::{Queue, Side};
+use std::alloc::AllocError;
+
+fn put_side(out: &mut String, side: Side) -> Result<(), AllocError>
+    ensures { OnOk result (string_bytes out.new ≡ side_onto (string_bytes out.old) side) }
+{
+    match side {
+        Side::Out => put(out, "out"),
+        Side::In => put(out, "in"),
+    }
+}
+
+fn put_link(out: &mut String, link: u64, side: Side) -> Result<(), AllocError>
+    ensures { OnOk result (string_bytes out.new ≡ link_onto (string_bytes out.old) link side) }
+{
+    put(out, "\"link:")?;
+    put_number(out, link)?;
+    put(out, ":")?;
+    put_side(out, side)?;
+    put(out, "\"")
+}
+
+// A queue of two numbers, of which `start` is the quote, the kind and the colon.
+fn put_numbers(out: &mut String, start: &str, a: u64, b: u64) -> Result<(), AllocError>
+    ensures { OnOk result (string_bytes out.new ≡ numbers_onto (string_bytes out.old ++ start.now) a b) }
+{
+    put(out, start)?;
+    put_number(out, a)?;
+    put(out, ":")?;
+    put_number(out, b)?;
+    put(out, "\"")
+}
+
+fn put_router(out: &mut String, node: u64) -> Result<(), AllocError>
+    ensures { OnOk result (string_bytes out.new ≡ router_onto (string_bytes out.old) node) }
+{
+    put(out, "\"router:")?;
+    put_number(out, node)?;
+    put(out, "\"")
+}
+
+impl ToText for Queue {
+    ghost use Rattle.p2p_sim_report.specs.QueueText.{queue_onto};
+
+    ghost onto = { queue_onto };
+
+    fn write_onto(&self, out: &mut String) -> Result<(), AllocError> {
+        match *self {
+            Queue::Router(node) => put_router(out, node),
+            Queue::Peers { node, channel } => put_numbers(out, "\"peers:", node, channel),
+            Queue::Ready { node, conn } => put_numbers(out, "\"ready:", node, conn),
+            Queue::High { node, conn } => put_numbers(out, "\"high:", node, conn),
+            Queue::Low { node, conn } => put_numbers(out, "\"low:", node, conn),
+            Queue::Link { link, side } => put_link(out, link, side),
+            Queue::Channel { node, channel } => put_numbers(out, "\"channel:", node, channel),
+        }
+    }
+}

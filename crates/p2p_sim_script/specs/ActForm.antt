@@ -1,0 +1,88 @@
+-- The form of each act: beside the names that every event has, an event has exactly the names of its act.
+use Prim.Native.String.{String as Name}
+use Rattle.std.specs.Prelude.{ℕ, Bool, List, [], ◌∷◌, codes, bytes_eq, Option, Some, None, if◌then◌else◌}
+use Rattle.serde_json.specs.Data.{Data}
+use Rattle.serde_json.specs.Find.{as_str, as_bool}
+use Rattle.p2p_log.specs.declared.event.Act.{Act}
+use Rattle.p2p_log.specs.declared.event.Act.TheVariants as act
+use Rattle.p2p_sim_script.specs.Tree.{◌>>=◌, ◌>>◌, field, only, whole}
+use Rattle.p2p_sim_script.specs.Parts.{bytes_of, rate_of, recipients_of}
+
+abbrev pub has : List Name → Data → Bool
+has names d = only ("at" ∷ "seed" ∷ "do" ∷ names) d
+
+abbrev pub register_of : Data → Option Act
+register_of d = do
+  has ("channel" ∷ "node" ∷ "quota" ∷ []) d
+  channel ← field "channel" whole d
+  node ← field "node" whole d
+  quota ← field "quota" rate_of d
+  Some (act.Register channel node quota)
+
+abbrev pub start_of : Data → Option Act
+start_of d = do
+  has ("node" ∷ []) d
+  node ← field "node" whole d
+  Some (act.Start node)
+
+abbrev pub join_of : Data → Option Act
+join_of d = do
+  has ("a" ∷ "b" ∷ []) d
+  a ← field "a" whole d
+  b ← field "b" whole d
+  Some (act.Join a b)
+
+abbrev pub send_of : Data → Option Act
+send_of d = do
+  has ("bytes" ∷ "channel" ∷ "node" ∷ "priority" ∷ "to" ∷ []) d
+  bytes ← field "bytes" bytes_of d
+  channel ← field "channel" whole d
+  node ← field "node" whole d
+  priority ← field "priority" as_bool d
+  to ← field "to" recipients_of d
+  Some (act.Send bytes channel node priority to)
+
+abbrev pub router_of : Data → Option Act
+router_of d = do
+  has ("node" ∷ []) d
+  node ← field "node" whole d
+  Some (act.Router node)
+
+abbrev pub send_step_of : Data → Option Act
+send_step_of d = do
+  has ("conn" ∷ "node" ∷ []) d
+  conn ← field "conn" whole d
+  node ← field "node" whole d
+  Some (act.SendStep conn node)
+
+abbrev pub recv_step_of : Data → Option Act
+recv_step_of d = do
+  has ("conn" ∷ "node" ∷ []) d
+  conn ← field "conn" whole d
+  node ← field "node" whole d
+  Some (act.RecvStep conn node)
+
+abbrev pub recv_of : Data → Option Act
+recv_of d = do
+  has ("channel" ∷ "node" ∷ []) d
+  channel ← field "channel" whole d
+  node ← field "node" whole d
+  Some (act.Recv channel node)
+
+-- the act that this word asks for
+abbrev pub act_named : List ℕ → Data → Option Act
+act_named word d =
+    if bytes_eq word (codes "register") then register_of d
+    else if bytes_eq word (codes "start") then start_of d
+    else if bytes_eq word (codes "join") then join_of d
+    else if bytes_eq word (codes "send") then send_of d
+    else if bytes_eq word (codes "router") then router_of d
+    else if bytes_eq word (codes "send_step") then send_step_of d
+    else if bytes_eq word (codes "recv_step") then recv_step_of d
+    else if bytes_eq word (codes "recv") then recv_of d
+    else None
+
+abbrev pub act_of : Data → Option Act
+act_of d = do
+  word ← field "do" as_str d
+  act_named word d

@@ -1,0 +1,140 @@
+//! The acts, each by its own names.
+ghost use Rattle.std.specs.Prelude.{◌≡◌};
+ghost use Rattle.serde_json.specs.View.{view};
+ghost use Rattle.p2p_sim_script.specs.Gives.{Gives};
+ghost use Rattle.p2p_sim_script.specs.ActForm.{act_named, act_of, join_of, recv_of, recv_step_of, register_of, router_of, send_of, send_step_of, start_of};
+
+use crate::error::ScriptError;
+use crate::parts::read_rate;
+use crate::tree::{field, only, whole};
+use p2p_log::Act;
+use serde_json::Value;
+use std::alloc::Global;
+
+fn read_register(tree: &Value) -> Option<Act>
+    ensures { result ≡ register_of (view tree.now) }
+{
+    if !only(tree, &["at", "seed", "do", "channel", "node", "quota"]) {
+        return None;
+    }
+    let channel = whole(tree, "channel")?;
+    let node = whole(tree, "node")?;
+    let quota = read_rate(tree.get("quota")?)?;
+    Some(Act::Register {
+        channel,
+        node,
+        quota,
+    })
+}
+
+fn read_start(tree: &Value) -> Option<Act>
+    ensures { result ≡ start_of (view tree.now) }
+{
+    if !only(tree, &["at", "seed", "do", "node"]) {
+        return None;
+    }
+    let node = whole(tree, "node")?;
+    Some(Act::Start { node })
+}
+
+fn read_join(tree: &Value) -> Option<Act>
+    ensures { result ≡ join_of (view tree.now) }
+{
+    if !only(tree, &["at", "seed", "do", "a", "b"]) {
+        return None;
+    }
+    let a = whole(tree, "a")?;
+    let b = whole(tree, "b")?;
+    Some(Act::Join { a, b })
+}
+
+fn read_router(tree: &Value) -> Option<Act>
+    ensures { result ≡ router_of (view tree.now) }
+{
+    if !only(tree, &["at", "seed", "do", "node"]) {
+        return None;
+    }
+    let node = whole(tree, "node")?;
+    Some(Act::Router { node })
+}
+
+fn read_send_step(tree: &Value) -> Option<Act>
+    ensures { result ≡ send_step_of (view tree.now) }
+{
+    if !only(tree, &["at", "seed", "do", "conn", "node"]) {
+        return None;
+    }
+    let conn = whole(tree, "conn")?;
+    let node = whole(tree, "node")?;
+    Some(Act::SendStep { conn, node })
+}
+
+fn read_recv_step(tree: &Value) -> Option<Act>
+    ensures { result ≡ recv_step_of (view tree.now) }
+{
+    if !only(tree, &["at", "seed", "do", "conn", "node"]) {
+        return None;
+    }
+    let conn = whole(tree, "conn")?;
+    let node = whole(tree, "node")?;
+    Some(Act::RecvStep { conn, node })
+}
+
+fn read_recv(tree: &Value) -> Option<Act>
+    ensures { result ≡ recv_of (view tree.now) }
+{
+    if !only(tree, &["at", "seed", "do", "channel", "node"]) {
+        return None;
+    }
+    let channel = whole(tree, "channel")?;
+    let node = whole(tree, "node")?;
+    Some(Act::Recv { channel, node })
+}
+
+fn read_send(alloc: Global, tree: &Value) -> Result<Act, ScriptError>
+    ensures { Gives result (send_of (view tree.now)) }
+{
+    if !only(
+        tree,
+        &[
+            "at", "seed", "do", "bytes", "channel", "node", "priority", "to",
+        ],
+    ) {
+        return Err(ScriptError::NotScript);
+    }
+    Ok(Act::Send {
+        bytes: field(alloc, tree, "bytes")?,
+        channel: field(alloc, tree, "channel")?,
+        node: field(alloc, tree, "node")?,
+        priority: field(alloc, tree, "priority")?,
+        to: field(alloc, tree, "to")?,
+    })
+}
+
+fn read_named(alloc: Global, word: &str, tree: &Value) -> Result<Act, ScriptError>
+    ensures { Gives result (act_named word.now (view tree.now)) }
+{
+    let act = match word {
+        "register" => read_register(tree),
+        "start" => read_start(tree),
+        "join" => read_join(tree),
+        "send" => return read_send(alloc, tree),
+        "router" => read_router(tree),
+        "send_step" => read_send_step(tree),
+        "recv_step" => read_recv_step(tree),
+        "recv" => read_recv(tree),
+        _ => None,
+    };
+    act.ok_or(ScriptError::NotScript)
+}
+
+/// The act that an event asks for, by its word `do`.
+pub(crate) fn read_act(alloc: Global, tree: &Value) -> Result<Act, ScriptError>
+    ensures { Gives result (act_of (view tree.now)) }
+{
+    let word = tree
+        .get("do")
+        .and_then(Value::as_str)
+        .ok_or(ScriptError::NotScript)?;
+    read_named(alloc, word, tree)
+}

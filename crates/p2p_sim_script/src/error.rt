@@ -1,0 +1,33 @@
+//! Why a tree gives no script.
+ghost use Rattle.std.specs.Prelude.{◌≡◌};
+ghost use Rattle.p2p_sim_script.specs.declared.error.ScriptError.TheVariants.{Memory};
+
+use std::alloc::{AllocError, AllocFailed};
+use thiserror::Error;
+
+/// Why a tree gives no script.
+#[derive(Clone, Copy, Debug, Drop, Error)]
+pub enum ScriptError {
+    /// The tree hasn't the form of a script.
+    #[error("not a script")]
+    NotScript,
+    /// There was no memory for what the script says.
+    #[error("out of memory")]
+    Memory,
+}
+
+impl From<AllocError> for ScriptError {
+    ghost from_gives = { λ _ e. e ≡ Memory };
+
+    fn from(_error: AllocError) -> ScriptError {
+        ScriptError::Memory
+    }
+}
+
+impl<T: Drop> From<AllocFailed<T>> for ScriptError {
+    ghost from_gives = { λ _ e. e ≡ Memory };
+
+    fn from(_error: AllocFailed<T>) -> ScriptError {
+        ScriptError::Memory
+    }
+}

@@ -1,0 +1,125 @@
+//! The scripts of the first form.
+ghost use Rattle.std.specs.Prelude.{◌≡◌, ℕ, ◌||◌, length, IfOk, OnOk};
+ghost use Rattle.std.specs.List.{list_all};
+ghost use Rattle.p2p_sim_script.specs.FirstForm as form;
+ghost use Rattle.p2p_sim_script.specs.Pairs.{has};
+
+use crate::pairs::{add, is_in};
+use bytes::Bytes;
+use p2p_log::{Act, Config, Event, Recipients};
+use std::alloc::{AllocError, Global};
+use std::collections::BTreeSet;
+
+/// Whether the script is one of the first form: it sends no more messages than the least burst that it registers, each
+/// to one key, without priority, no longer than any node takes and on a channel that each node registers, before or
+/// after; and every event is earlier than five seconds.
+///
+/// Takes time in proportion to the length of the script, and for each message to the count of nodes, but for the
+/// logarithm of the count of registered channels. `AllocError` comes where there was no memory for those.
+pub fn is_first_form(
+    alloc: Global,
+    configs: &[Config],
+    script: &[Event],
+) -> Result<bool, AllocError>
+    ensures { IfOk result (λ b. b ≡ form.is_first_form configs.now script.now) }
+{
+    let registered = registered_pairs(alloc, script)?;
+    Ok(all_fit(configs, send_count(script), &registered, script))
+}
+
+fn send_count(script: &[Event]) -> usize
+    ensures { result ≡ form.send_count script.now }
+{
+    script.iter().filter(|event| sends(&event.act)).count()
+}
+
+fn sends(act: &Act) -> bool
+    ensures { result ≡ form.sends act.now }
+{
+    matches!(act, Act::Send { .. })
+}
+
+// Each channel with each node at which the script registers it.
+fn registered_pairs(alloc: Global, script: &[Event]) -> Result<BTreeSet<(u64, u64)>, AllocError>
+    ensures { IfOk result (λ pairs. (channel node : ℕ) → has pairs channel node ≡ form.is_registered script.now channel node) }
+{
+    let mut pairs = BTreeSet::new(alloc);
+    for event in script {
+        note_register(&mut pairs, &event.act)?;
+    }
+    Ok(pairs)
+}
+
+fn note_register(pairs: &mut BTreeSet<(u64, u64)>, act: &Act) -> Result<(), AllocError>
+    ensures { OnOk result ((channel node : ℕ) → has pairs.new channel node ≡ (form.registers channel node act.now || has pairs.old channel node)) }
+{
+    match act {
+        Act::Register { channel, node, .. } => Ok(add(pairs, *channel, *node)?),
+        _ => Ok(()),
+    }
+}
+
+fn all_fit(
+    configs: &[Config],
+    count: usize,
+    registered: &BTreeSet<(u64, u64)>,
+    script: &[Event],
+) -> bool
+    ensures { result ≡ list_all (form.event_fits configs.now count (has registered.now)) script.now }
+{
+    script
+        .iter()
+        .all(|event| event_fits(configs, count, registered, event))
+}
+
+fn event_fits(
+    configs: &[Config],
+    count: usize,
+    registered: &BTreeSet<(u64, u64)>,
+    event: &Event,
+) -> bool
+    ensures { result ≡ form.event_fits configs.now count (has registered.now) event.now }
+{
+    event.at < 5_000_000_000 && act_fits(configs, count, registered, &event.act)
+}
+
+fn act_fits(configs: &[Config], count: usize, registered: &BTreeSet<(u64, u64)>, act: &Act) -> bool
+    ensures { result ≡ form.act_fits configs.now count (has registered.now) act.now }
+{
+    match act {
+        Act::Register { quota, .. } => count <= quota.burst as usize,
+        Act::Send {
+            bytes,
+            channel,
+            priority,
+            to,
+            ..
+        } => {
+            is_one(to)
+                && !*priority
+                && is_short(configs, bytes)
+                && is_on_each(registered, configs.len() as u64, *channel)
+        }
+        _ => true,
+    }
+}
+
+fn is_one(to: &Recipients) -> bool
+    ensures { result ≡ form.is_one to.now }
+{
+    matches!(to, Recipients::One(_))
+}
+
+fn is_short(configs: &[Config], bytes: &Bytes) -> bool
+    ensures { result ≡ form.is_short configs.now bytes.now }
+{
+    configs
+        .iter()
+        .all(|config| bytes.len() <= config.max_message_size as usize)
+}
+
+fn is_on_each(registered: &BTreeSet<(u64, u64)>, nodes: u64, channel: u64) -> bool
+    ensures { result ≡ form.is_on_each (has registered.now) nodes channel }
+{
+    (0..nodes).all(|node| is_in(registered, channel, node))
+}

@@ -1,0 +1,113 @@
+//! Whom to dial, and when to ask for that again.
+ghost use Rattle.std.specs.Prelude.{◌≡◌, IfOk};
+ghost use Rattle.std.specs.List.{filter};
+ghost use Rattle.std.specs.List.Sorted.{IsStrictlySortedBy};
+ghost use Rattle.std.specs.Map.{keys_of, lookup};
+ghost use Rattle.std.specs.BTreeMap.{is_at};
+ghost use Rattle.p2p_tracker_directory.specs.Listed.{outlook, is_now, moment_of, earlier, earliest};
+
+use crate::directory::Config;
+use crate::{DialStatus, Record};
+use p2p_base::{PrioritySet, PublicKey};
+use std::alloc::{AllocError, Global};
+use std::collections::BTreeMap;
+
+/// Whom a directory lists for a dial.
+///
+/// Ports `Dialable` of commonware-p2p's lookup tracker.
+#[derive(Drop)]
+pub struct Dialable<P> {
+    /// The peers, in key order.
+    pub peers: Vec<P>,
+    /// The moment, in nanoseconds, at which more peers may be listed. `None` where time alone adds none.
+    pub next_query_at: Option<u128>,
+}
+
+// Whether a peer with this block is to be dialed.
+fn outlook(known: &Record, block: Option<u128>, cfg: &Config, now: u64) -> DialStatus
+    ensures { result ≡ outlook known.now block now cfg.now.allow_private_ips cfg.now.allow_dns }
+{
+    let Some(end) = block else {
+        return known.dialable(now, cfg.allow_private_ips, cfg.allow_dns);
+    };
+    if u128::from(now) >= end {
+        return known.dialable(now, cfg.allow_private_ips, cfg.allow_dns);
+    }
+    if known.is_blockable() {
+        return DialStatus::After(end);
+    }
+    DialStatus::Unavailable
+}
+
+fn is_now(status: DialStatus) -> bool
+    ensures { result ≡ is_now status }
+{
+    match status {
+        DialStatus::Now => true,
+        DialStatus::After(_) => false,
+        DialStatus::Unavailable => false,
+    }
+}
+
+fn moment_of(status: DialStatus) -> Option<u128>
+    ensures { result ≡ moment_of status }
+{
+    match status {
+        DialStatus::Now => None,
+        DialStatus::After(moment) => Some(moment),
+        DialStatus::Unavailable => None,
+    }
+}
+
+// The lesser of two moments, or the one that there is.
+fn earlier(one: Option<u128>, other: Option<u128>) -> Option<u128>
+    ensures { result ≡ earlier one other }
+{
+    let Some(first) = one else {
+        return other;
+    };
+    let Some(second) = other else {
+        return Some(first);
+    };
+    if second < first {
+        return Some(second);
+    }
+    Some(first)
+}
+
+// The peers to be dialed now.
+pub(super) fn dialable_peers<C: PublicKey>(
+    alloc: Global,
+    records: &BTreeMap<C, Record>,
+    blocks: &PrioritySet<C>,
+    cfg: &Config,
+    now: u64,
+) -> Result<Vec<C>, AllocError>
+    ensures peers { IfOk result (λ v. v.items ≡ keys_of (filter
+        (λ e. is_now (outlook e.1 (lookup (is_at (C.cmp e.0)) blocks.now) now cfg.now.allow_private_ips cfg.now.allow_dns)) records.now.entries)) }
+    ensures ordered { IsStrictlySortedBy C.cmp (keys_of records.now.entries) }
+{
+    let mut peers = Vec::new(alloc);
+    for (peer, known) in records {
+        if is_now(outlook(known, blocks.get(peer), cfg, now)) {
+            peers.push(*peer)?;
+        }
+    }
+    Ok(peers)
+}
+
+// The first moment at which a peer may be dialed that may not be now.
+pub(super) fn next_query<C: PublicKey>(
+    records: &BTreeMap<C, Record>,
+    blocks: &PrioritySet<C>,
+    cfg: &Config,
+    now: u64,
+) -> Option<u128>
+    ensures { result ≡ earliest (λ e. moment_of (outlook e.1 (lookup (is_at (C.cmp e.0)) blocks.now) now cfg.now.allow_private_ips cfg.now.allow_dns)) records.now.entries }
+{
+    let mut next = None;
+    for (peer, known) in records {
+        next = earlier(next, moment_of(outlook(known, blocks.get(peer), cfg, now)));
+    }
+    next
+}

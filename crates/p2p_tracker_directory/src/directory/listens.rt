@@ -1,0 +1,59 @@
+//! Where peers come from.
+ghost use Rattle.std.specs.Prelude.{◌≡◌, IfOk, filter_map};
+ghost use Rattle.std.specs.List.Sorted.{IsStrictlySortedBy};
+ghost use Rattle.std.specs.Map.{keys_of, lookup};
+ghost use Rattle.std.specs.BTreeMap.{is_at};
+ghost use Rattle.p2p_tracker_calls.specs.Blocks.{lasts_at};
+ghost use Rattle.p2p_tracker_directory.specs.Listed.{heard};
+
+use crate::Record;
+use p2p_address::{IpAddr, is_global};
+use p2p_base::{PrioritySet, PublicKey};
+use std::alloc::{AllocError, Global};
+use std::collections::BTreeMap;
+
+// Whether a block ends after `now`.
+fn lasts(block: Option<u128>, now: u64) -> bool
+    ensures { result ≡ lasts_at block now }
+{
+    match block {
+        Some(end) => u128::from(now) < end,
+        None => false,
+    }
+}
+
+// The IP address that a peer may come from, which is global or `private` ones are allowed.
+fn heard(known: &Record, is_blocked: bool, private: bool) -> Option<IpAddr>
+    ensures { result ≡ heard known.now is_blocked private }
+{
+    if is_blocked || !known.eligible() {
+        return None;
+    }
+    let Some(address) = known.egress_ip() else {
+        return None;
+    };
+    if private || is_global(&address) {
+        return Some(address);
+    }
+    None
+}
+
+// The IP addresses that peers may come from, in the order of their keys.
+pub(super) fn addresses<C: PublicKey>(
+    alloc: Global,
+    records: &BTreeMap<C, Record>,
+    blocks: &PrioritySet<C>,
+    private: bool,
+    now: u64,
+) -> Result<Vec<IpAddr>, AllocError>
+    ensures addresses { IfOk result (λ v. v.items ≡ filter_map (λ e. heard e.1 (lasts_at (lookup (is_at (C.cmp e.0)) blocks.now) now) private) records.now.entries) }
+    ensures ordered { IsStrictlySortedBy C.cmp (keys_of records.now.entries) }
+{
+    let mut found = Vec::new(alloc);
+    for (peer, known) in records {
+        if let Some(address) = heard(known, lasts(blocks.get(peer), now), private) {
+            found.push(address)?;
+        }
+    }
+    Ok(found)
+}

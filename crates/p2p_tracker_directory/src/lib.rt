@@ -1,0 +1,11 @@
+//! The directory of the tracker: which peers may connect, and who holds the right to.
+#![tactic(auto)]
+
+pub mod directory;
+pub mod record;
+pub mod reservation;
+
+pub use directory::{Config, Dialable, Directory};
+pub use p2p_tracker_mailbox::Metadata;
+pub use record::{Address, DialStatus, Record, ReserveResult, Status};
+pub use reservation::Reservation;
