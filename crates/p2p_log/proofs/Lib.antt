@@ -1,9 +1,6 @@
-pub mod Facts
 pub mod Filters
-pub mod Lawful
 pub mod Lines
 pub mod Names
 pub mod Places
 pub mod Queues
-pub mod Recorded
 pub mod Waiting

@@ -1,7 +1,6 @@
 -- The copies of accepted sends: whom they are for, what carries them, and what ends them.
 use Rattle.std.specs.Prelude.{◌≡◌, ℕ, ◌+◌, Bool, true, false, ◌==◌, ◌&&◌, nat_lt, cond, List, [], ◌∷◌, ◌++◌, length, flat_map, count_by, Option, Some, None, slice_get}
 use Rattle.p2p_base.specs.declared.key.Key.{Key}
-use Rattle.p2p_log.specs.declared.config.Config.{Config}
 use Rattle.p2p_log.specs.declared.item.Item.{Item}
 use Rattle.p2p_log.specs.declared.item.Item.TheVariants as item
 use Rattle.p2p_log.specs.declared.item.Envelope.{Envelope}
@@ -13,8 +12,14 @@ use Rattle.p2p_log.specs.declared.entry.Reply.{Reply}
 use Rattle.p2p_log.specs.declared.entry.Reply.TheVariants as reply
 use Rattle.p2p_log.specs.declared.event.Act.{Act}
 use Rattle.p2p_log.specs.declared.event.Act.TheVariants as act
+use Rattle.p2p_log.specs.declared.event.Recipients.{Recipients}
+use Rattle.p2p_log.specs.declared.event.Recipients.TheVariants as recipients
 use Rattle.p2p_log.specs.Lines.{same_name, live}
-use Rattle.p2p_log.specs.Facts.{key_at}
+
+-- whom a message is for, in order
+abbrev pub keys_of_recipients : Recipients → List Key
+keys_of_recipients (recipients.One k) = k ∷ []
+keys_of_recipients (recipients.Some ks) = ks
 
 abbrev pub accepted_by : Act → Reply → List Key
 accepted_by (act.Send bytes c n priority to) (reply.Sent keys) = keys

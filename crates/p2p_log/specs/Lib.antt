@@ -1,11 +1,6 @@
 pub mod Apart
 pub mod Copies
-pub mod Effect
-pub mod Facts
 pub mod Fates
-pub mod Frames
-pub mod Lawful
 pub mod Lines
 pub mod QueueCode
 pub mod QueueOrder
-pub mod Valid

@@ -77,7 +77,7 @@ pub struct Event {
 }
 
 impl Recipients {
-    ghost use Rattle.p2p_log.specs.Effect.{keys_of_recipients};
+    ghost use Rattle.p2p_log.specs.Copies.{keys_of_recipients};
 
     /// Equal recipients.
     pub fn try_clone(&self, alloc: Global) -> Result<Recipients, AllocError>

@@ -1,5 +1,5 @@
-//! The log of a network: what was asked of it, what came of it, and, in `specs/`, the definitions that say which log
-//! is lawful. It uses no actor.
+//! The log of a network: what was asked of it and what came of it, as plain data. In `specs/` are the definitions of what
+//! stands in a queue, of the copies of a send and of their fates. It uses no actor, and knows no rule of which log is lawful.
 #![tactic(auto)]
 
 pub mod config;
@@ -10,7 +10,6 @@ pub mod fate;
 pub mod item;
 pub mod queue;
 pub mod report;
-pub mod row;
 
 pub use config::Config;
 pub use end::{Cause, End, Outcome};
@@ -19,4 +18,3 @@ pub use event::{Act, Event, Rate, Recipients};
 pub use item::{Envelope, Item};
 pub use queue::{Queue, Side};
 pub use report::{Fate, Report};
-pub use row::{Half, Row};

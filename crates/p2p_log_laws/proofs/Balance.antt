@@ -12,8 +12,8 @@ use Rattle.p2p_log.specs.declared.entry.Entry.{Entry}
 use Rattle.p2p_log.specs.declared.event.Event.{Event}
 use Rattle.p2p_log.specs.Lines.{name_of, ended_item, goes, stays, live, live_from, placed}
 use Rattle.p2p_log.specs.Copies.{accepted, accepted_by, carries, carries_copy, carriers, ends_copy, ends_of, times_ended}
-use Rattle.p2p_log.specs.declared.row.Row.{Row}
-use Rattle.p2p_log.specs.Effect.{entry_of}
+use Rattle.p2p_log_rules.specs.declared.row.Row.{Row}
+use Rattle.p2p_log_rules.specs.Effect.{entry_of}
 use Rattle.p2p_log.proofs.Lines.{live-append, filter_stays-append}
 use Rattle.p2p_log.proofs.Names.{AreApart-live_from}
 use Rattle.p2p_log_laws.specs.OneEnd.{EachEndsOnce}

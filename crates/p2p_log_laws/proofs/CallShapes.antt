@@ -21,12 +21,12 @@ use Rattle.p2p_log.specs.declared.entry.Reply.TheVariants as reply
 use Rattle.p2p_log.specs.declared.event.Act.TheVariants as act
 use Rattle.p2p_log.specs.declared.event.Rate.{Rate}
 use Rattle.p2p_log.specs.declared.event.Recipients.{Recipients}
-use Rattle.p2p_log.specs.declared.row.Row.{Row}
+use Rattle.p2p_log_rules.specs.declared.row.Row.{Row}
 use Rattle.p2p_log.specs.Lines.{name_of, same_name, line}
-use Rattle.p2p_log.specs.Facts.{is_up, channels, capacity_in, capacity_for, key_at, half_of, is_joined}
-use Rattle.p2p_log.specs.Frames.{frame_of}
-use Rattle.p2p_log.specs.Copies.{carries, carries_copy, ends_copy}
-use Rattle.p2p_log.specs.Effect
+use Rattle.p2p_log_rules.specs.Facts.{is_up, channels, capacity_in, capacity_for, key_at, half_of, is_joined}
+use Rattle.p2p_log_rules.specs.Frames.{frame_of}
+use Rattle.p2p_log.specs.Copies.{carries, carries_copy, ends_copy, keys_of_recipients}
+use Rattle.p2p_log_rules.specs.Effect
 use Rattle.p2p_log_laws.proofs.Carried.{IsSublist-put}
 use Rattle.p2p_log_laws.proofs.Each.{Each-always, Each-map}
 use Rattle.p2p_log_laws.proofs.Fitting.{Fits, is_bare, is_item_end}
@@ -126,9 +126,9 @@ copies_end_no_item send p (k ∷ ks) o = (refl, copies_end_no_item send (p + 1) 
 
 sent_shape : (configs : List Config) (log : List Entry) (bytes : List ℕ) (c n : ℕ) (priority : Bool) (to : Recipients) (up full : Bool)
     → Shape configs log (act.Send bytes c n priority to)
-    (Effect.sent_row up full n (length log) c priority (frame_of c bytes) (Effect.keys_of_recipients to))
+    (Effect.sent_row up full n (length log) c priority (frame_of c bytes) (keys_of_recipients to))
 sent_shape configs log bytes c n priority to false full =
-    let keys = Effect.keys_of_recipients to in
+    let keys = keys_of_recipients to in
     let ends = Effect.copies_end (length log) 0 keys (outcome.Dropped cause.Unbound) in
     record {
       taken = [];
@@ -149,7 +149,7 @@ sent_shape configs log bytes c n priority to false full =
     }
 sent_shape configs log bytes c n priority to true true = still configs log (act.Send bytes c n priority to) (reply.Sent []) refl refl
 sent_shape configs log bytes c n priority to true false =
-    let keys = Effect.keys_of_recipients to in
+    let keys = keys_of_recipients to in
     let put : Queue × Item = (queue.Router n, item.Content c (frame_of c bytes) priority (length log) keys) in
     record {
       taken = [];
@@ -173,7 +173,7 @@ send_shape configs log bytes c n priority to =
     let full : Bool = nat_le (Effect.router_capacity configs log n) (length (line log (queue.Router n))) in
     elim (capacity_in (channels configs log n) c) as (λ o. Shape configs log (act.Send bytes c n priority to) (elim o [
       | None ↦ Effect.only reply.Gone
-      | Some _ ↦ Effect.sent_row (is_up log n) full n (length log) c priority (frame_of c bytes) (Effect.keys_of_recipients to)
+      | Some _ ↦ Effect.sent_row (is_up log n) full n (length log) c priority (frame_of c bytes) (keys_of_recipients to)
     ])) [
       | None ↦ still configs log (act.Send bytes c n priority to) reply.Gone refl refl
       | Some _ ↦ sent_shape configs log bytes c n priority to (is_up log n) full

@@ -8,7 +8,7 @@ use Rattle.p2p_log.specs.declared.queue.Queue.TheVariants as queue
 use Rattle.p2p_log.specs.declared.item.Item.{Item}
 use Rattle.p2p_log.specs.declared.item.Item.TheVariants as item
 use Rattle.p2p_log.specs.declared.item.Envelope.{Envelope}
-use Rattle.p2p_log.specs.Effect.{relay_queue}
+use Rattle.p2p_log_rules.specs.Effect.{relay_queue}
 use Rattle.p2p_log_laws.proofs.Fitting.{is_bare}
 use Rattle.p2p_log_laws.proofs.Spreads.{AreFrames}
 use Rattle.p2p_log_laws.proofs.Sublists.{IsSublist, IsSublist-nil, IsSublist-refl}

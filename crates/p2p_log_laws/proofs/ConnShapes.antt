@@ -16,12 +16,12 @@ use Rattle.p2p_log.specs.declared.end.Cause.TheVariants as cause
 use Rattle.p2p_log.specs.declared.entry.Entry.{Entry}
 use Rattle.p2p_log.specs.declared.entry.Reply.TheVariants as reply
 use Rattle.p2p_log.specs.declared.event.Act.TheVariants as act
-use Rattle.p2p_log.specs.declared.row.Half.{Half}
+use Rattle.p2p_log_rules.specs.declared.row.Half.{Half}
 use Rattle.p2p_log.specs.Lines.{name_of, same_name, stays, stands_in, live, line}
-use Rattle.p2p_log.specs.Facts.{channels, capacity_in, half_at, is_running}
-use Rattle.p2p_log.specs.Frames.{message_in}
+use Rattle.p2p_log_rules.specs.Facts.{channels, capacity_in, half_at, is_running}
+use Rattle.p2p_log_rules.specs.Frames.{message_in}
 use Rattle.p2p_log.specs.Copies.{carries, carries_copy}
-use Rattle.p2p_log.specs.Effect
+use Rattle.p2p_log_rules.specs.Effect
 use Rattle.p2p_log_laws.proofs.Carried.{copies_of}
 use Rattle.p2p_log_laws.proofs.Each.{Each-has, Each-from_has, Each-append, Each-map, Each-weaker}
 use Rattle.p2p_log_laws.proofs.Fitting.{Fits, StandsFit, fits, is_bare}

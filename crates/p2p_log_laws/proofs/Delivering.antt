@@ -16,9 +16,9 @@ use Rattle.p2p_log.specs.declared.entry.Reply.TheVariants as reply
 use Rattle.p2p_log.specs.declared.event.Event.{Event}
 use Rattle.p2p_log.specs.declared.event.Act.{Act}
 use Rattle.p2p_log.specs.declared.event.Act.TheVariants as act
-use Rattle.p2p_log.specs.declared.row.Row.{Row}
+use Rattle.p2p_log_rules.specs.declared.row.Row.{Row}
 use Rattle.p2p_log.specs.Lines.{stands_in}
-use Rattle.p2p_log.specs.Effect.{entry_of}
+use Rattle.p2p_log_rules.specs.Effect.{entry_of}
 use Rattle.p2p_log.proofs.Queues.{same_queue-refl}
 use Rattle.p2p_log_laws.proofs.Carried.{copies_of, carried}
 use Rattle.p2p_log_laws.proofs.Each.{Has, Has-after}

@@ -19,15 +19,15 @@ use Rattle.p2p_log.specs.declared.event.Event.{Event}
 use Rattle.p2p_log.specs.declared.event.Act.{Act}
 use Rattle.p2p_log.specs.declared.event.Act.TheVariants as act
 use Rattle.p2p_log.specs.declared.event.Recipients.{Recipients}
-use Rattle.p2p_log.specs.declared.row.Half.{Half}
-use Rattle.p2p_log.specs.declared.row.Row.{Row}
-use Rattle.p2p_log.specs.Lawful.{IsLawful}
+use Rattle.p2p_log_rules.specs.declared.row.Half.{Half}
+use Rattle.p2p_log_rules.specs.declared.row.Row.{Row}
+use Rattle.p2p_log_rules.specs.Lawful.{IsLawful}
 use Rattle.p2p_log.specs.Lines.{name_of, stays, stands_in, live, line}
-use Rattle.p2p_log.specs.Copies.{accepted, accepted_by}
-use Rattle.p2p_log.specs.Facts.{is_up, channels, capacity_in, key_at, half_at, is_running, routes, subscribers}
-use Rattle.p2p_log.specs.Frames.{frame_of, message_in}
-use Rattle.p2p_log.specs.Effect
-use Rattle.p2p_log.specs.Effect.{entry_of, effect, row, relay_queue, other_side}
+use Rattle.p2p_log.specs.Copies.{accepted, accepted_by, keys_of_recipients}
+use Rattle.p2p_log_rules.specs.Facts.{is_up, channels, capacity_in, key_at, half_at, is_running, routes, subscribers}
+use Rattle.p2p_log_rules.specs.Frames.{frame_of, message_in}
+use Rattle.p2p_log_rules.specs.Effect
+use Rattle.p2p_log_rules.specs.Effect.{entry_of, effect, row, relay_queue, other_side}
 use Rattle.p2p_log.proofs.Names.{AreApart-live_from, filter_stays-first}
 use Rattle.p2p_log_laws.specs.Causes.{IsRouted, Shows, EachDropShowsItsCause, enters_before}
 use Rattle.p2p_log_laws.proofs.Each.{Has-get, Each-has, Each-weaker}
@@ -112,9 +112,9 @@ module _ (configs : List Config) (log : List Entry) (ev : Event) (tell : Each (S
       longer p l m all e h = omega arith
 
   sent_shows : (bytes : List ℕ) (c n : ℕ) (priority : Bool) (to : Recipients) (up full : Bool) → ev.act ≡ act.Send bytes c n priority to → is_up log n ≡ up
-      → RowShows (Effect.sent_row up full n (length log) c priority (frame_of c bytes) (Effect.keys_of_recipients to))
+      → RowShows (Effect.sent_row up full n (length log) c priority (frame_of c bytes) (keys_of_recipients to))
   sent_shows bytes c n priority to false full sends down =
-      let keys = Effect.keys_of_recipients to in
+      let keys = keys_of_recipients to in
       let e : Entry = entry_of ev (Effect.sent_row false full n (length log) c priority (frame_of c bytes) keys) in
       let all : keys ≡ accepted_by ev.act (reply.Sent keys) = sym (ap (λ a. accepted_by a (reply.Sent keys)) sends) in
       unbound_each e bytes c n priority to sends down 0 keys (none (length keys) ∙ ap (λ (ks : List Key). length ks) all)
@@ -129,7 +129,7 @@ module _ (configs : List Config) (log : List Entry) (ev : Event) (tell : Each (S
       let full : Bool = nat_le (Effect.router_capacity configs log n) (length (line log (queue.Router n))) in
       elim (capacity_in (channels configs log n) c) as (λ o. RowShows (elim o [
         | None ↦ Effect.only reply.Gone
-        | Some _ ↦ Effect.sent_row (is_up log n) full n (length log) c priority (frame_of c bytes) (Effect.keys_of_recipients to)
+        | Some _ ↦ Effect.sent_row (is_up log n) full n (length log) c priority (frame_of c bytes) (keys_of_recipients to)
       ])) [
         | None ↦ tt
         | Some _ ↦ sent_shows bytes c n priority to (is_up log n) full sends refl

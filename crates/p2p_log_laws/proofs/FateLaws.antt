@@ -17,7 +17,7 @@ use Rattle.p2p_log.specs.declared.entry.Entry.{Entry}
 use Rattle.p2p_log.specs.declared.event.Event.{Event}
 use Rattle.p2p_log.specs.declared.report.Fate.{Fate}
 use Rattle.p2p_log.specs.declared.report.Fate.TheVariants as fate
-use Rattle.p2p_log.specs.Lawful.{IsLawful}
+use Rattle.p2p_log_rules.specs.Lawful.{IsLawful}
 use Rattle.p2p_log.specs.Lines.{name_of, same_name, stands_in, live, line}
 use Rattle.p2p_log.specs.Copies.{accepted, carries, carries_copy, carriers, times_ended}
 use Rattle.p2p_log.specs.Fates.{ended_from, queue_named, queue_read, takes_at, fate_ended, fate_waiting, fate_of}

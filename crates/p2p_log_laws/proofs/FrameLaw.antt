@@ -9,7 +9,7 @@ use Rattle.p2p_wire.specs.declared.frame.Message.TheVariants as message
 use Rattle.p2p_wire.specs.Varint.{spelling, varint_at, u64_at, u32_at, with_low, ◌>>=◌}
 use Rattle.p2p_wire.specs.Frame.{frame, decode_frame, message_of}
 use Rattle.p2p_wire.proofs.Spellings.{spelling-small, spelling-large, bound-suc, digit_below, reads_spelling}
-use Rattle.p2p_log.specs.Frames.{data_in}
+use Rattle.p2p_log_rules.specs.Frames.{data_in}
 use Rattle.p2p_log_laws.proofs.Truth.{FramesGive}
 
 abbrev Fails : {A : Type 0} → Result A CodecError → Type 0

@@ -15,12 +15,12 @@ use Rattle.p2p_log.specs.declared.entry.Reply.TheVariants as reply
 use Rattle.p2p_log.specs.declared.event.Event.{Event}
 use Rattle.p2p_log.specs.declared.event.Act.{Act}
 use Rattle.p2p_log.specs.declared.event.Act.TheVariants as act
-use Rattle.p2p_log.specs.declared.row.Half.{Half}
-use Rattle.p2p_log.specs.declared.row.Row.{Row}
-use Rattle.p2p_log.specs.Lawful.{IsLawful}
-use Rattle.p2p_log.specs.Facts.{is_up, key_at, half_of, half_in, half_at, joins, is_joined}
-use Rattle.p2p_log.specs.Effect
-use Rattle.p2p_log.specs.Effect.{effect, row, may_join, other_side}
+use Rattle.p2p_log_rules.specs.declared.row.Half.{Half}
+use Rattle.p2p_log_rules.specs.declared.row.Row.{Row}
+use Rattle.p2p_log_rules.specs.Lawful.{IsLawful}
+use Rattle.p2p_log_rules.specs.Facts.{is_up, key_at, half_of, half_in, half_at, joins, is_joined}
+use Rattle.p2p_log_rules.specs.Effect
+use Rattle.p2p_log_rules.specs.Effect.{effect, row, may_join, other_side}
 use Rattle.p2p_log_laws.proofs.Prefixes.{entry_due}
 use Rattle.p2p_log_laws.proofs.Truth.{half_is}
 

@@ -16,11 +16,11 @@ use Rattle.p2p_log.specs.declared.entry.Entry.{Entry}
 use Rattle.p2p_log.specs.declared.entry.Reply.{Reply}
 use Rattle.p2p_log.specs.declared.event.Act.{Act}
 use Rattle.p2p_log.specs.declared.event.Act.TheVariants as act
-use Rattle.p2p_log.specs.declared.row.Half.{Half}
+use Rattle.p2p_log_rules.specs.declared.row.Half.{Half}
 use Rattle.p2p_log.specs.Lines.{stands_in}
-use Rattle.p2p_log.specs.Facts.{half_at}
-use Rattle.p2p_log.specs.Frames.{message_in}
-use Rattle.p2p_log.specs.Effect.{goes_to, relay_queue, other_side}
+use Rattle.p2p_log_rules.specs.Facts.{half_at}
+use Rattle.p2p_log_rules.specs.Frames.{message_in}
+use Rattle.p2p_log_rules.specs.Effect.{goes_to, relay_queue, other_side}
 use Rattle.p2p_log.proofs.Queues.{same_queue-refl}
 use Rattle.p2p_log_laws.specs.Delivered.{IsCopyOf}
 use Rattle.p2p_log_laws.proofs.Carried.{copies_of, is_mailbox, relay_away, copies_of-bare}

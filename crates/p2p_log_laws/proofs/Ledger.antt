@@ -6,19 +6,19 @@ use Rattle.std.proofs.lemmas.Bool.Decides.{nat_tests}
 use Rattle.p2p_log.specs.declared.config.Config.{Config}
 use Rattle.p2p_log.specs.declared.event.Event.{Event}
 use Rattle.p2p_log.specs.declared.entry.Entry.{Entry}
-use Rattle.p2p_log.specs.Lawful.{IsLawful}
+use Rattle.p2p_log_rules.specs.Lawful.{IsLawful}
 use Rattle.p2p_log.specs.Lines.{live}
 use Rattle.p2p_log.specs.Copies.{accepted, carries, carriers}
-use Rattle.p2p_log.specs.Effect.{effect, row}
+use Rattle.p2p_log_rules.specs.Effect.{effect, row}
 use Rattle.p2p_log.specs.declared.queue.Queue.TheVariants as queue
 use Rattle.p2p_log.specs.declared.item.Item.TheVariants as item
 use Rattle.p2p_log.specs.declared.end.End.{End}
 use Rattle.p2p_log.specs.declared.entry.Reply.TheVariants as reply
 use Rattle.p2p_log.specs.declared.event.Act.{Act}
 use Rattle.p2p_log.specs.declared.event.Act.TheVariants as act
-use Rattle.p2p_log.specs.declared.row.Row.{Row}
+use Rattle.p2p_log_rules.specs.declared.row.Row.{Row}
 use Rattle.p2p_base.specs.declared.key.Key.{Key}
-use Rattle.p2p_log.specs.Facts.{key_at}
+use Rattle.p2p_log_rules.specs.Facts.{key_at}
 use Rattle.p2p_log_laws.specs.OneEnd.{EachEndsOnce}
 use Rattle.p2p_log_laws.specs.Delivered.{IsDelivery, EachIsDelivery}
 use Rattle.p2p_log_laws.proofs.Each.{Each-has}

@@ -13,9 +13,9 @@ use Rattle.p2p_log.specs.declared.entry.Entry.{Entry}
 use Rattle.p2p_log.specs.declared.event.Event.{Event}
 use Rattle.p2p_log.specs.declared.event.Act.TheVariants as act
 use Rattle.p2p_log.specs.declared.event.Recipients.{Recipients}
-use Rattle.p2p_log.specs.declared.row.Row.{Row}
+use Rattle.p2p_log_rules.specs.declared.row.Row.{Row}
 use Rattle.p2p_log.specs.Lines.{goes, stays, placed, live}
-use Rattle.p2p_log.specs.Effect.{entry_of, relay_queue}
+use Rattle.p2p_log_rules.specs.Effect.{entry_of, relay_queue}
 use Rattle.p2p_log.proofs.Lines.{live-append}
 use Rattle.p2p_log_laws.proofs.Each.{Each-has, Each-append, Each-filter, Each-weaker}
 use Rattle.p2p_log_laws.proofs.Fitting.{Each-placed}

@@ -13,12 +13,12 @@ use Rattle.p2p_log.specs.declared.end.Outcome.TheVariants as outcome
 use Rattle.p2p_log.specs.declared.entry.Entry.{Entry}
 use Rattle.p2p_log.specs.declared.event.Event.{Event}
 use Rattle.p2p_log.specs.declared.event.Act.TheVariants as act
-use Rattle.p2p_log.specs.declared.row.Half.{Half}
-use Rattle.p2p_log.specs.declared.row.Row.{Row}
-use Rattle.p2p_log.specs.Lawful.{IsLawful}
+use Rattle.p2p_log_rules.specs.declared.row.Half.{Half}
+use Rattle.p2p_log_rules.specs.declared.row.Row.{Row}
+use Rattle.p2p_log_rules.specs.Lawful.{IsLawful}
 use Rattle.p2p_log.specs.Lines.{live}
-use Rattle.p2p_log.specs.Facts.{half_at, key_at}
-use Rattle.p2p_log.specs.Effect.{effect, row, entry_of, relay_queue, other_side}
+use Rattle.p2p_log_rules.specs.Facts.{half_at, key_at}
+use Rattle.p2p_log_rules.specs.Effect.{effect, row, entry_of, relay_queue, other_side}
 use Rattle.p2p_log.proofs.Places.{slice_get-seam}
 use Rattle.p2p_log_laws.specs.Order.{is_before, IsDelivered, WentOver, AreDeliveredInOrder, EachWentOver, HaveOneConnection}
 use Rattle.p2p_log_laws.proofs.Balance.{live-none}

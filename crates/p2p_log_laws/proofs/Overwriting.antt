@@ -10,7 +10,7 @@ use Rattle.p2p_log.specs.declared.item.Envelope.{Envelope}
 use Rattle.p2p_log.specs.declared.end.End.{End}
 use Rattle.p2p_log.specs.declared.entry.Entry.{Entry}
 use Rattle.p2p_log.specs.Lines.{name_of, same_name, ended_item, stays, stands_in, live}
-use Rattle.p2p_log.specs.Effect.{overwritten, peers_ends}
+use Rattle.p2p_log_rules.specs.Effect.{overwritten, peers_ends}
 use Rattle.p2p_log.specs.Apart.{NoneNamed, AreApart}
 use Rattle.p2p_log.proofs.Names.{AreApart-live_from, same_name-sym}
 use Rattle.p2p_log_laws.proofs.Each.{Has, Each-has, Each-from_has, Each-filter, Each-append}

@@ -11,10 +11,10 @@ use Rattle.p2p_log.specs.declared.queue.Queue.TheVariants as queue
 use Rattle.p2p_log.specs.declared.queue.Side.{Side}
 use Rattle.p2p_log.specs.declared.entry.Entry.{Entry}
 use Rattle.p2p_log.specs.declared.event.Event.{Event}
-use Rattle.p2p_log.specs.declared.row.Row.{Row}
+use Rattle.p2p_log_rules.specs.declared.row.Row.{Row}
 use Rattle.p2p_log.specs.Lines.{goes, stays, stands_in, live}
 use Rattle.p2p_log.specs.Copies.{accepted_by}
-use Rattle.p2p_log.specs.Effect.{entry_of, relay_queue}
+use Rattle.p2p_log_rules.specs.Effect.{entry_of, relay_queue}
 use Rattle.p2p_log_laws.specs.Order.{is_before}
 use Rattle.p2p_log_laws.proofs.Balance.{live-none}
 use Rattle.p2p_log_laws.proofs.Carried.{copies_from, carried}

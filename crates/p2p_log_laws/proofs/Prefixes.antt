@@ -5,8 +5,8 @@ use Rattle.std.proofs.lemmas.List.{take_all}
 use Rattle.p2p_log.specs.declared.config.Config.{Config}
 use Rattle.p2p_log.specs.declared.event.Event.{Event}
 use Rattle.p2p_log.specs.declared.entry.Entry.{Entry}
-use Rattle.p2p_log.specs.Lawful.{IsLawful}
-use Rattle.p2p_log.specs.Effect.{effect}
+use Rattle.p2p_log_rules.specs.Lawful.{IsLawful}
+use Rattle.p2p_log_rules.specs.Effect.{effect}
 
 -- one element more, or none
 take_next : {X : Type 0} (xs : List X) (n : ℕ) (x : X) → slice_get xs n ≡ Some x → take (suc n) xs ≡ take n xs ++ x ∷ []

@@ -15,9 +15,9 @@ use Rattle.p2p_log.specs.declared.entry.Entry.{Entry}
 use Rattle.p2p_log.specs.declared.entry.Reply.TheVariants as reply
 use Rattle.p2p_log.specs.declared.event.Act.TheVariants as act
 use Rattle.p2p_log.specs.Lines.{name_of, stays, live, line}
-use Rattle.p2p_log.specs.Facts.{is_up, subscribers, routes, with_route, keys_in}
+use Rattle.p2p_log_rules.specs.Facts.{is_up, subscribers, routes, with_route, keys_in}
 use Rattle.p2p_log.specs.Copies.{carries, carries_copy}
-use Rattle.p2p_log.specs.Effect
+use Rattle.p2p_log_rules.specs.Effect
 use Rattle.p2p_log_laws.proofs.Carried.{copies_of, put_copies, is_mailbox, relay_away, IsSublist-bare, IsSublist-frames}
 use Rattle.p2p_log_laws.proofs.Each.{Has, Each-has, Each-from_has, Each-always, Each-filter, Each-map, Each-weaker}
 use Rattle.p2p_log_laws.proofs.Fitting.{Fits, StandsFit, fits, is_bare, is_item_end}

@@ -17,14 +17,14 @@ use Rattle.p2p_log.specs.declared.entry.Entry.{Entry}
 use Rattle.p2p_log.specs.declared.event.Event.{Event}
 use Rattle.p2p_log.specs.declared.event.Act.{Act}
 use Rattle.p2p_log.specs.declared.event.Act.TheVariants as act
-use Rattle.p2p_log.specs.declared.row.Half.{Half}
-use Rattle.p2p_log.specs.declared.row.Row.{Row}
+use Rattle.p2p_log_rules.specs.declared.row.Half.{Half}
+use Rattle.p2p_log_rules.specs.declared.row.Row.{Row}
 use Rattle.p2p_log.specs.Lines.{name_of, stands_in, live, line}
-use Rattle.p2p_log.specs.Facts.{half_at, steps_router, item_named, taken, routed_by, routed, history_from, with_route, routes_after, routes, route_to}
-use Rattle.p2p_log.specs.Effect.{entry_of}
-use Rattle.p2p_log.proofs.Facts.{routes-append}
+use Rattle.p2p_log_rules.specs.Facts.{half_at, steps_router, item_named, taken, routed_by, routed, history_from, with_route, routes_after, routes, route_to}
+use Rattle.p2p_log_rules.specs.Effect.{entry_of}
+use Rattle.p2p_log_rules.proofs.Facts.{routes-append}
 use Rattle.p2p_log.proofs.Queues.{same_queue-refl}
-use Rattle.p2p_log.proofs.Recorded.{AreRecorded, AreRecorded-line}
+use Rattle.p2p_log_rules.proofs.Recorded.{AreRecorded, AreRecorded-line}
 use Rattle.p2p_log_laws.proofs.Each.{Each-has, Each-from_has, Each-map, Each-weaker}
 use Rattle.p2p_log_laws.proofs.Shape.{Shape}
 use Rattle.p2p_log_laws.proofs.Telling.{Tells, StandTells, half_at-longer}

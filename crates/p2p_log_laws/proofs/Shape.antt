@@ -20,13 +20,13 @@ use Rattle.p2p_log.specs.declared.entry.Reply.TheVariants as reply
 use Rattle.p2p_log.specs.declared.event.Act.{Act}
 use Rattle.p2p_log.specs.declared.event.Act.TheVariants as act
 use Rattle.p2p_log.specs.declared.event.Recipients.{Recipients}
-use Rattle.p2p_log.specs.declared.row.Half.{Half}
+use Rattle.p2p_log_rules.specs.declared.row.Half.{Half}
 use Rattle.p2p_log.specs.Lines.{name_of, ended_item, stays, stands_in, live, line}
 use Rattle.p2p_log.specs.Copies.{accepted_by, carries, carries_copy, ends_copy}
-use Rattle.p2p_log.specs.declared.row.Row.{Row}
-use Rattle.p2p_log.specs.Effect.{only, relay_queue, other_side, goes_to}
-use Rattle.p2p_log.specs.Facts.{half_of, half_at, routes, route_to}
-use Rattle.p2p_log.specs.Frames.{frame_of, message_in}
+use Rattle.p2p_log_rules.specs.declared.row.Row.{Row}
+use Rattle.p2p_log_rules.specs.Effect.{only, relay_queue, other_side, goes_to}
+use Rattle.p2p_log_rules.specs.Facts.{half_of, half_at, routes, route_to}
+use Rattle.p2p_log_rules.specs.Frames.{frame_of, message_in}
 use Rattle.p2p_log_laws.proofs.Carried.{copies_from, copies_of, put_copies, is_mailbox, IsSublist-bare, IsSublist-put}
 use Rattle.p2p_log_laws.proofs.Each.{Has, Each-always, Each-weaker}
 use Rattle.p2p_log_laws.proofs.Fitting.{Fits, is_bare, is_item_end, bare_carries_none, ends_copy-none, ended_item-none, count_by-none}

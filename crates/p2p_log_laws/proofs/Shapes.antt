@@ -6,7 +6,7 @@ use Rattle.p2p_log.specs.declared.entry.Entry.{Entry}
 use Rattle.p2p_log.specs.declared.event.Act.{Act}
 use Rattle.p2p_log.specs.declared.event.Act.TheVariants as act
 use Rattle.p2p_log.specs.Lines.{live}
-use Rattle.p2p_log.specs.Effect.{row}
+use Rattle.p2p_log_rules.specs.Effect.{row}
 use Rattle.p2p_log_laws.proofs.CallShapes.{register_shape, start_shape, join_shape, send_shape, recv_shape}
 use Rattle.p2p_log_laws.proofs.ConnShapes.{send_step_shape, recv_step_shape}
 use Rattle.p2p_log_laws.proofs.Fitting.{StandsFit}

@@ -15,8 +15,8 @@ use Rattle.p2p_log.specs.declared.end.End.TheVariants as end
 use Rattle.p2p_log.specs.declared.end.Outcome.TheVariants as outcome
 use Rattle.p2p_log.specs.declared.end.Cause.TheVariants as cause
 use Rattle.p2p_log.specs.Lines.{stands_in}
-use Rattle.p2p_log.specs.Facts.{route_to}
-use Rattle.p2p_log.specs.Effect.{Spread, spread, spread_to, goes_to, relay_queue}
+use Rattle.p2p_log_rules.specs.Facts.{route_to}
+use Rattle.p2p_log_rules.specs.Effect.{Spread, spread, spread_to, goes_to, relay_queue}
 use Rattle.p2p_log.proofs.Places.{slice_get-seam}
 use Rattle.p2p_log_laws.specs.Causes.{is_lower, enters_before}
 use Rattle.p2p_log_laws.proofs.Each.{Each-append, Each-weaker}

@@ -10,8 +10,8 @@ use Rattle.p2p_log.specs.declared.end.End.TheVariants as end
 use Rattle.p2p_log.specs.declared.end.Outcome.TheVariants as outcome
 use Rattle.p2p_log.specs.declared.end.Cause.TheVariants as cause
 use Rattle.p2p_log.specs.Lines.{stands_in}
-use Rattle.p2p_log.specs.Facts.{route_to}
-use Rattle.p2p_log.specs.Effect.{Spread, spread, spread_to, goes_to, relay_queue}
+use Rattle.p2p_log_rules.specs.Facts.{route_to}
+use Rattle.p2p_log_rules.specs.Effect.{Spread, spread, spread_to, goes_to, relay_queue}
 
 -- for each of so many recipients from this place on, nothing or a frame of its copy
 abbrev pub AreFrames : ℕ → ℕ → List ℕ → List Key → List (Queue × Item) → Type 0

@@ -14,11 +14,11 @@ use Rattle.p2p_log.specs.declared.entry.Entry.{Entry}
 use Rattle.p2p_log.specs.declared.entry.Reply.{Reply}
 use Rattle.p2p_log.specs.declared.event.Event.{Event}
 use Rattle.p2p_log.specs.declared.event.Act.{Act}
-use Rattle.p2p_log.specs.declared.row.Row.{Row}
+use Rattle.p2p_log_rules.specs.declared.row.Row.{Row}
 use Rattle.p2p_log.specs.QueueCode.{same_queue}
 use Rattle.p2p_log.specs.Lines.{name_of, ended_item, goes, stays, stands_in, live, placed}
 use Rattle.p2p_log.specs.Copies.{accepted_by}
-use Rattle.p2p_log.specs.Effect.{entry_of, goes_to}
+use Rattle.p2p_log_rules.specs.Effect.{entry_of, goes_to}
 use Rattle.p2p_log.proofs.Filters.{filter-swap}
 use Rattle.p2p_log.proofs.Lines.{live-append, filter_stays-append}
 use Rattle.p2p_log.proofs.Names.{AreApart-live_from}

@@ -12,10 +12,10 @@ use Rattle.p2p_log.specs.declared.entry.Entry.{Entry}
 use Rattle.p2p_log.specs.declared.entry.Reply.TheVariants as reply
 use Rattle.p2p_log.specs.declared.event.Act.TheVariants as act
 use Rattle.p2p_log.specs.declared.event.Recipients.{Recipients}
-use Rattle.p2p_log.specs.declared.row.Half.{Half}
+use Rattle.p2p_log_rules.specs.declared.row.Half.{Half}
 use Rattle.p2p_log.specs.Copies.{accepted, accepted_by}
-use Rattle.p2p_log.specs.Facts.{key_at, half_at, half_in}
-use Rattle.p2p_log.specs.Frames.{frame_of}
+use Rattle.p2p_log_rules.specs.Facts.{key_at, half_at, half_in}
+use Rattle.p2p_log_rules.specs.Frames.{frame_of}
 use Rattle.p2p_log_laws.specs.Delivered.{IsCopyOf}
 use Rattle.p2p_log_laws.specs.Order.{WentOver}
 

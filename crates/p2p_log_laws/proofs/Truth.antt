@@ -16,12 +16,12 @@ use Rattle.p2p_log.specs.declared.entry.Reply.TheVariants as reply
 use Rattle.p2p_log.specs.declared.event.Event.{Event}
 use Rattle.p2p_log.specs.declared.event.Act.{Act}
 use Rattle.p2p_log.specs.declared.event.Act.TheVariants as act
-use Rattle.p2p_log.specs.declared.row.Half.{Half}
-use Rattle.p2p_log.specs.declared.row.Row.{Row}
+use Rattle.p2p_log_rules.specs.declared.row.Half.{Half}
+use Rattle.p2p_log_rules.specs.declared.row.Row.{Row}
 use Rattle.p2p_log.specs.Lines.{goes, stays, placed, live}
-use Rattle.p2p_log.specs.Facts.{key_at, half_of, half_in, half_at}
-use Rattle.p2p_log.specs.Frames.{frame_of, message_in}
-use Rattle.p2p_log.specs.Effect.{entry_of, relay_queue, other_side}
+use Rattle.p2p_log_rules.specs.Facts.{key_at, half_of, half_in, half_at}
+use Rattle.p2p_log_rules.specs.Frames.{frame_of, message_in}
+use Rattle.p2p_log_rules.specs.Effect.{entry_of, relay_queue, other_side}
 use Rattle.p2p_log.proofs.Lines.{live-append}
 use Rattle.p2p_log.proofs.Places.{slice_get-seam}
 use Rattle.p2p_log_laws.specs.Delivered.{IsCopyOf}

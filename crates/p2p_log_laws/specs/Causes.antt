@@ -14,11 +14,11 @@ use Rattle.p2p_log.specs.declared.end.Cause.TheVariants as cause
 use Rattle.p2p_log.specs.declared.entry.Entry.{Entry}
 use Rattle.p2p_log.specs.declared.event.Act.TheVariants as act
 use Rattle.p2p_log.specs.declared.event.Recipients.{Recipients}
-use Rattle.p2p_log.specs.declared.row.Half.{Half}
+use Rattle.p2p_log_rules.specs.declared.row.Half.{Half}
 use Rattle.p2p_log.specs.Lines.{name_of, line}
 use Rattle.p2p_log.specs.Copies.{accepted, accepted_by}
-use Rattle.p2p_log.specs.Facts.{is_up, channels, capacity_in, key_at, routes, route_to, half_at}
-use Rattle.p2p_log.specs.Effect.{goes_to, relay_queue, mailbox_size_at, other_side}
+use Rattle.p2p_log_rules.specs.Facts.{is_up, channels, capacity_in, key_at, routes, route_to, half_at}
+use Rattle.p2p_log_rules.specs.Effect.{goes_to, relay_queue, mailbox_size_at, other_side}
 use Rattle.p2p_log_laws.specs.Delivered.{IsCopyOf}
 
 -- ---- unbound

@@ -10,7 +10,7 @@ use Rattle.p2p_log.specs.declared.entry.Reply.TheVariants as reply
 use Rattle.p2p_log.specs.declared.event.Act.TheVariants as act
 use Rattle.p2p_log.specs.declared.event.Recipients.{Recipients}
 use Rattle.p2p_log.specs.Copies.{accepted}
-use Rattle.p2p_log.specs.Facts.{key_at}
+use Rattle.p2p_log_rules.specs.Facts.{key_at}
 
 -- the copy is of an accepted send: of these bytes, on this channel of this node, and for this key
 pub record IsCopyOf (log : List Entry) (copy : ℕ × ℕ) (node channel : ℕ) (bytes : List ℕ) (key : Key) : Type 0 where

@@ -8,9 +8,9 @@ use Rattle.p2p_log.specs.declared.end.Outcome.TheVariants as outcome
 use Rattle.p2p_log.specs.declared.entry.Entry.{Entry}
 use Rattle.p2p_log.specs.declared.event.Act.TheVariants as act
 use Rattle.p2p_log.specs.declared.event.Recipients.{Recipients}
-use Rattle.p2p_log.specs.declared.row.Half.{Half}
-use Rattle.p2p_log.specs.Facts.{half_at}
-use Rattle.p2p_log.specs.Effect.{other_side}
+use Rattle.p2p_log_rules.specs.declared.row.Half.{Half}
+use Rattle.p2p_log_rules.specs.Facts.{half_at}
+use Rattle.p2p_log_rules.specs.Effect.{other_side}
 
 -- copies are accepted in order of their names: by send, and by place among the copies of one send
 abbrev pub is_before : ℕ × ℕ → ℕ × ℕ → Bool

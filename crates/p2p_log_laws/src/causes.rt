@@ -3,7 +3,7 @@ ghost use Rattle.std.specs.Prelude.{List};
 ghost use Rattle.p2p_log.specs.declared.config.Config.{Config};
 ghost use Rattle.p2p_log.specs.declared.event.Event.{Event};
 ghost use Rattle.p2p_log.specs.declared.entry.Entry.{Entry};
-ghost use Rattle.p2p_log.specs.Lawful.{IsLawful};
+ghost use Rattle.p2p_log_rules.specs.Lawful.{IsLawful};
 ghost use Rattle.p2p_log_laws.specs.Causes.{EachDropShowsItsCause};
 
 /// States that each entry that drops a copy shows the cause there: the sending node had not started; the router had no

@@ -3,7 +3,7 @@ ghost use Rattle.std.specs.Prelude.{List};
 ghost use Rattle.p2p_log.specs.declared.config.Config.{Config};
 ghost use Rattle.p2p_log.specs.declared.event.Event.{Event};
 ghost use Rattle.p2p_log.specs.declared.entry.Entry.{Entry};
-ghost use Rattle.p2p_log.specs.Lawful.{IsLawful};
+ghost use Rattle.p2p_log_rules.specs.Lawful.{IsLawful};
 ghost use Rattle.p2p_log_laws.specs.Order.{AreDeliveredInOrder, EachWentOver, HaveOneConnection};
 
 /// States that of two copies that one node sent to another on one channel with one priority, and that were delivered,

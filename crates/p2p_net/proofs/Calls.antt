@@ -10,13 +10,14 @@ use Rattle.p2p_log.specs.declared.item.Envelope.{Envelope}
 use Rattle.p2p_log.specs.declared.entry.Entry.{Entry}
 use Rattle.p2p_log.specs.declared.entry.Reply.TheVariants as reply
 use Rattle.p2p_log.specs.declared.event.Recipients.{Recipients}
-use Rattle.p2p_log.specs.declared.row.Row.{Row}
+use Rattle.p2p_log_rules.specs.declared.row.Row.{Row}
 use Rattle.p2p_log.specs.declared.end.Cause.TheVariants as cause
 use Rattle.p2p_log.specs.declared.end.Outcome.TheVariants as outcome
 use Rattle.p2p_log.specs.Lines.{line, live, ended_item}
-use Rattle.p2p_log.specs.Facts.{channels, capacity_in, is_up}
-use Rattle.p2p_log.specs.Frames.{frame_of}
-use Rattle.p2p_log.specs.Effect.{only, start_row, oldest_read, recv_row, sent_row, send_row, router_capacity, keys_of_recipients}
+use Rattle.p2p_log_rules.specs.Facts.{channels, capacity_in, is_up}
+use Rattle.p2p_log_rules.specs.Frames.{frame_of}
+use Rattle.p2p_log_rules.specs.Effect.{only, start_row, oldest_read, recv_row, sent_row, send_row, router_capacity}
+use Rattle.p2p_log.specs.Copies.{keys_of_recipients}
 use Rattle.p2p_net_queues.specs.declared.board.Board.{Board}
 use Rattle.p2p_net_queues.specs.Board.{held}
 use Rattle.p2p_net_queues.specs.Stands.{is_boards, Holds, Builds}

@@ -13,9 +13,9 @@ use Rattle.p2p_log.specs.declared.event.Rate.{Rate}
 use Rattle.p2p_log.specs.declared.event.Act.{Act}
 use Rattle.p2p_log.specs.declared.event.Act.TheVariants as act
 use Rattle.p2p_log.specs.declared.entry.Entry.{Entry}
-use Rattle.p2p_log.specs.Effect.{mailbox_size_at}
-use Rattle.p2p_log.specs.Facts.{starts, registers_at, capacity_for, taken, steps_sender, is_answer, capacity_in, sum_capacities, half_of, answers_by, joins}
-use Rattle.p2p_log.specs.Valid.{joins_node}
+use Rattle.p2p_log_rules.specs.Effect.{mailbox_size_at}
+use Rattle.p2p_log_rules.specs.Facts.{starts, registers_at, capacity_for, taken, steps_sender, is_answer, capacity_in, sum_capacities, half_of, answers_by, joins}
+use Rattle.p2p_log_rules.specs.Valid.{joins_node}
 use Rattle.p2p_net.specs.declared.node.Node.{Node}
 use Rattle.p2p_net.specs.Stands.{FactsStand}
 use Rattle.p2p_net.proofs.Moves.{FactsStand-moved}

@@ -14,11 +14,11 @@ use Rattle.p2p_log.specs.declared.entry.Entry.{Entry}
 use Rattle.p2p_log.specs.declared.event.Act.TheVariants as act
 use Rattle.p2p_log.specs.declared.event.Event.{Event}
 use Rattle.p2p_log.specs.declared.queue.Side.{Side}
-use Rattle.p2p_log.specs.declared.row.Half.{Half}
-use Rattle.p2p_log.specs.declared.row.Row.{Row}
+use Rattle.p2p_log_rules.specs.declared.row.Half.{Half}
+use Rattle.p2p_log_rules.specs.declared.row.Row.{Row}
 use Rattle.p2p_log.specs.Lines.{name_of, line, live}
-use Rattle.p2p_log.specs.Facts.{taken, is_answer, is_running}
-use Rattle.p2p_log.specs.Effect.{entry_of, batch, batch_size_at, begin_row, write_row}
+use Rattle.p2p_log_rules.specs.Facts.{taken, is_answer, is_running}
+use Rattle.p2p_log_rules.specs.Effect.{entry_of, batch, batch_size_at, begin_row, write_row}
 use Rattle.p2p_log.specs.QueueCode.{same_queue}
 use Rattle.p2p_log.proofs.Names.{AreApart-live_from}
 use Rattle.p2p_log.proofs.Queues.{same_queue-sym}

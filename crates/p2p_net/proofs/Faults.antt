@@ -8,7 +8,7 @@ use Rattle.std.proofs.lemmas.Bool.Decides.{nat_tests}
 use Rattle.std.proofs.lemmas.List.Folds.{list_any-append}
 use Rattle.p2p_log.specs.declared.config.Config.{Config}
 use Rattle.p2p_log.specs.declared.event.Event.{Event}
-use Rattle.p2p_log.specs.Valid.{fits, has_key, is_valid_config, config_fault_from, is_valid_event, event_fault_from}
+use Rattle.p2p_log_rules.specs.Valid.{fits, has_key, is_valid_config, config_fault_from, is_valid_event, event_fault_from}
 
 pub drop-step : {X : Type 0} (xs : List X) (i : ℕ) (x : X) → slice_get xs i ≡ Some x → drop i xs ≡ x ∷ drop (suc i) xs
 drop-step [] i x h = cc

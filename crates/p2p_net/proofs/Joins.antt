@@ -13,18 +13,18 @@ use Rattle.std.specs.BTreeMap as tree
 use Rattle.std.specs.List.{list_any}
 use Rattle.std.specs.Ordering.{nat_cmp, is_eq}
 use Rattle.std.proofs.lemmas.Bool.{and_parts, not-true}
-use Rattle.p2p_log.specs.declared.row.Half.{Half}
+use Rattle.p2p_log_rules.specs.declared.row.Half.{Half}
 use Rattle.p2p_log.specs.declared.queue.Side.TheVariants as side
-use Rattle.p2p_log.specs.Facts.{half_of, key_at, joins, is_joined, is_up}
-use Rattle.p2p_log.specs.Valid.{joins_node}
+use Rattle.p2p_log_rules.specs.Facts.{half_of, key_at, joins, is_joined, is_up}
+use Rattle.p2p_log_rules.specs.Valid.{joins_node}
 use Rattle.p2p_net.specs.declared.node.Node.{Node}
 use Rattle.p2p_log.specs.declared.item.Item.TheVariants as item
 use Rattle.p2p_log.specs.declared.queue.Queue.{Queue}
 use Rattle.p2p_log.specs.declared.queue.Queue.TheVariants as queue
 use Rattle.p2p_log.specs.QueueCode.{same_queue}
 use Rattle.p2p_log.specs.declared.event.Event.{Event}
-use Rattle.p2p_log.specs.declared.row.Row.{Row}
-use Rattle.p2p_log.specs.Effect.{may_join, mailbox_size_at, entry_of}
+use Rattle.p2p_log_rules.specs.declared.row.Row.{Row}
+use Rattle.p2p_log_rules.specs.Effect.{may_join, mailbox_size_at, entry_of}
 use Rattle.p2p_log.proofs.Queues.{same_queue-sym}
 use Rattle.p2p_net_router.specs.Holds.{IsStranger}
 use Rattle.p2p_net_router.specs.Names.{is_routers}

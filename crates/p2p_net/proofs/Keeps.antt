@@ -9,9 +9,9 @@ use Rattle.p2p_log.specs.declared.event.Event.{Event}
 use Rattle.p2p_log.specs.declared.event.Act.{Act}
 use Rattle.p2p_log.specs.declared.event.Act.TheVariants as act
 use Rattle.p2p_log.specs.declared.entry.Entry.{Entry}
-use Rattle.p2p_log.specs.Facts.{events_of, starts, has_started, registers_at, registered, capacity_in, sum_capacities, half_of, half_in, half_at, answers_by, is_running, joins, is_joined}
-use Rattle.p2p_log.specs.Valid.{joins_node, names_join}
-use Rattle.p2p_log.proofs.Facts.{events_of-append, has_started-append, registered-append, half_at-append, is_running-append, is_joined-append}
+use Rattle.p2p_log_rules.specs.Facts.{events_of, starts, has_started, registers_at, registered, capacity_in, sum_capacities, half_of, half_in, half_at, answers_by, is_running, joins, is_joined}
+use Rattle.p2p_log_rules.specs.Valid.{joins_node, names_join}
+use Rattle.p2p_log_rules.proofs.Facts.{events_of-append, has_started-append, registered-append, half_at-append, is_running-append, is_joined-append}
 use Rattle.p2p_log.proofs.Places.{slice_get-append}
 use Rattle.p2p_net_router.specs.Passes.{passes}
 use Rattle.p2p_net_router.specs.declared.router.Router.{Router}

@@ -7,8 +7,8 @@ use Rattle.std.proofs.lemmas.Bool.Decides.{nat_tests}
 use Rattle.std.proofs.lemmas.List.Folds.{list_any-append}
 use Rattle.p2p_base.specs.declared.key.Key.{Key}
 use Rattle.p2p_log.specs.declared.config.Config.{Config}
-use Rattle.p2p_log.specs.Facts.{key_at}
-use Rattle.p2p_log.specs.Valid.{fits, has_key, is_valid_config, config_fault_from, config_fault}
+use Rattle.p2p_log_rules.specs.Facts.{key_at}
+use Rattle.p2p_log_rules.specs.Valid.{fits, has_key, is_valid_config, config_fault_from, config_fault}
 
 none_there : (b : Bool) (rest : Option ℕ) (k : ℕ) → cond b rest (Some k) ≡ None → b ≡ true × rest ≡ None
 none_there true rest k h = (refl, h)

@@ -8,10 +8,10 @@ use Rattle.std.specs.Ordering.{nat_cmp}
 use Rattle.std.proofs.lemmas.List.{length-map}
 use Rattle.p2p_log.specs.declared.config.Config.{Config}
 use Rattle.p2p_log.specs.declared.entry.Entry.{Entry}
-use Rattle.p2p_log.specs.Effect.{mailbox_size_at}
-use Rattle.p2p_log.specs.Facts.{events_of, starts, registers_at, registered, capacity_in, sum_capacities, half_of, answers_by, joins}
-use Rattle.p2p_log.specs.Valid.{joins_node, names_join}
-use Rattle.p2p_log.proofs.Facts.{half_at-append, is_running-append, is_joined-append}
+use Rattle.p2p_log_rules.specs.Effect.{mailbox_size_at}
+use Rattle.p2p_log_rules.specs.Facts.{events_of, starts, registers_at, registered, capacity_in, sum_capacities, half_of, answers_by, joins}
+use Rattle.p2p_log_rules.specs.Valid.{joins_node, names_join}
+use Rattle.p2p_log_rules.proofs.Facts.{half_at-append, is_running-append, is_joined-append}
 use Rattle.p2p_net.specs.declared.node.Node.{Node}
 use Rattle.p2p_net.specs.Stands.{FactsStand}
 use Rattle.p2p_net.proofs.Keeps.{started-more, registered-more, names-more}

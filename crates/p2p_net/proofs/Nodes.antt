@@ -8,7 +8,7 @@ use Rattle.p2p_log.specs.declared.config.Config.{Config}
 use Rattle.p2p_log.specs.declared.event.Act.{Act}
 use Rattle.p2p_log.specs.declared.entry.Entry.{Entry}
 use Rattle.p2p_net.specs.declared.node.Node.{Node}
-use Rattle.p2p_log.specs.Valid.{config_fault}
+use Rattle.p2p_log_rules.specs.Valid.{config_fault}
 use Rattle.p2p_net_router.specs.Passes.{passes}
 use Rattle.p2p_net.specs.Stands.{NodeStands, NodesStand}
 use Rattle.p2p_net.proofs.Keeps.{FactsStand-kept, spares-passes}

@@ -5,11 +5,11 @@ use Rattle.std.specs.Prelude.{true, nat_le}
 use Rattle.p2p_log.specs.declared.config.Config.{Config}
 use Rattle.p2p_log.specs.declared.event.Event.{Event}
 use Rattle.p2p_log.specs.declared.entry.Entry.{Entry}
-use Rattle.p2p_log.specs.declared.row.Row.{Row}
-use Rattle.p2p_log.specs.Facts.{events_of}
-use Rattle.p2p_log.specs.Effect.{row, entry_of, effect}
-use Rattle.p2p_log.specs.Valid.{last_moment, may_act, is_valid_event}
-use Rattle.p2p_log.proofs.Facts.{events_of-append}
+use Rattle.p2p_log_rules.specs.declared.row.Row.{Row}
+use Rattle.p2p_log_rules.specs.Facts.{events_of}
+use Rattle.p2p_log_rules.specs.Effect.{row, entry_of, effect}
+use Rattle.p2p_log_rules.specs.Valid.{last_moment, may_act, is_valid_event}
+use Rattle.p2p_log_rules.proofs.Facts.{events_of-append}
 use Rattle.p2p_log.proofs.Lines.{live-append}
 use Rattle.p2p_log.specs.declared.item.Envelope.{Envelope}
 use Rattle.p2p_net_queues.specs.declared.board.Board.{Board}

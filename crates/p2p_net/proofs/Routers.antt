@@ -11,10 +11,10 @@ use Rattle.p2p_log.specs.declared.config.Config.{Config}
 use Rattle.p2p_log.specs.declared.entry.Entry.{Entry}
 use Rattle.p2p_log.specs.declared.event.Act.{Act}
 use Rattle.p2p_log.specs.declared.event.Act.TheVariants as act
-use Rattle.p2p_log.specs.Facts.{key_at, starts, registers_at, steps_router, taken, joins, is_joined, is_up}
-use Rattle.p2p_log.specs.Effect.{entry_of, row}
-use Rattle.p2p_log.specs.Valid.{config_fault}
-use Rattle.p2p_log.proofs.Facts.{is_joined-append}
+use Rattle.p2p_log_rules.specs.Facts.{key_at, starts, registers_at, steps_router, taken, joins, is_joined, is_up}
+use Rattle.p2p_log_rules.specs.Effect.{entry_of, row}
+use Rattle.p2p_log_rules.specs.Valid.{config_fault}
+use Rattle.p2p_log_rules.proofs.Facts.{is_joined-append}
 use Rattle.p2p_router.specs.Messenger.{is_bound, is_unbound}
 use Rattle.p2p_router.specs.declared.messenger.Binding.{Binding}
 use Rattle.p2p_router.specs.declared.messenger.Binding.TheVariants.{Unbound, Bound, Closed}

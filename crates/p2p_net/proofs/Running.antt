@@ -4,12 +4,12 @@ use Rattle.std.specs.Prelude.{slice_get}
 use Rattle.p2p_log.specs.declared.config.Config.{Config}
 use Rattle.p2p_log.specs.declared.event.Event.{Event}
 use Rattle.p2p_log.specs.declared.entry.Entry.{Entry}
-use Rattle.p2p_log.specs.Facts.{events_of}
-use Rattle.p2p_log.specs.Effect.{effect}
-use Rattle.p2p_log.specs.Lawful.{IsLawful}
-use Rattle.p2p_log.specs.Valid.{config_fault, event_fault, event_fault_from, is_valid_event}
-use Rattle.p2p_log.proofs.Facts.{events_of-append}
-use Rattle.p2p_log.proofs.Lawful.{IsLawful-nil, IsLawful-append, IsLawful-unique}
+use Rattle.p2p_log_rules.specs.Facts.{events_of}
+use Rattle.p2p_log_rules.specs.Effect.{effect}
+use Rattle.p2p_log_rules.specs.Lawful.{IsLawful}
+use Rattle.p2p_log_rules.specs.Valid.{config_fault, event_fault, event_fault_from, is_valid_event}
+use Rattle.p2p_log_rules.proofs.Facts.{events_of-append}
+use Rattle.p2p_log_rules.proofs.Lawful.{IsLawful-nil, IsLawful-append, IsLawful-unique}
 use Rattle.p2p_net.specs.declared.error.RunError.{RunError}
 use Rattle.p2p_net.specs.declared.error.RunError.TheVariants as error
 use Rattle.p2p_net.specs.World.{WorldView, with_entry}

@@ -10,10 +10,10 @@ use Rattle.p2p_log.specs.declared.event.Act.TheVariants as act
 use Rattle.p2p_log.specs.declared.entry.Entry.{Entry}
 use Rattle.p2p_log.specs.declared.entry.Reply.{Reply}
 use Rattle.p2p_log.specs.declared.entry.Reply.TheVariants as reply
-use Rattle.p2p_log.specs.declared.row.Half.{Half}
+use Rattle.p2p_log_rules.specs.declared.row.Half.{Half}
 use Rattle.p2p_log.specs.declared.queue.Side.TheVariants as side
-use Rattle.p2p_log.specs.Facts.{starts, registers_at, capacity_for, taken, steps_sender, is_answer, half_of, key_at, joins}
-use Rattle.p2p_log.specs.Valid.{joins_node}
+use Rattle.p2p_log_rules.specs.Facts.{starts, registers_at, capacity_for, taken, steps_sender, is_answer, half_of, key_at, joins}
+use Rattle.p2p_log_rules.specs.Valid.{joins_node}
 use Rattle.p2p_net.proofs.Keeps.{Leaves, spares}
 
 -- a join of two other nodes

@@ -10,9 +10,9 @@ use Rattle.std.proofs.lemmas.Bool.{and_parts}
 use Rattle.std.proofs.lemmas.Bool.Decides.{nat_tests}
 use Rattle.p2p_log.specs.declared.config.Config.{Config}
 use Rattle.p2p_log.specs.Lines.{live, live_from}
-use Rattle.p2p_log.specs.Facts.{has_started, registered, history_from, half_at, is_running, is_joined}
-use Rattle.p2p_log.specs.Effect.{mailbox_size_at}
-use Rattle.p2p_log.specs.Valid.{fits, fits_usize, has_key, is_valid_config, config_fault_from, config_fault}
+use Rattle.p2p_log_rules.specs.Facts.{has_started, registered, history_from, half_at, is_running, is_joined}
+use Rattle.p2p_log_rules.specs.Effect.{mailbox_size_at}
+use Rattle.p2p_log_rules.specs.Valid.{fits, fits_usize, has_key, is_valid_config, config_fault_from, config_fault}
 use Rattle.p2p_log.proofs.Places.{slice_get-append}
 use Rattle.p2p_log.specs.declared.item.Envelope.{Envelope}
 use Rattle.p2p_net_queues.specs.declared.board.Board.{Board}

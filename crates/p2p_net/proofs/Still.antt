@@ -10,9 +10,9 @@ use Rattle.std.proofs.lemmas.Option.{slice_get_past}
 use Rattle.std.proofs.lemmas.List.{length-map}
 use Rattle.p2p_log.specs.declared.config.Config.{Config}
 use Rattle.p2p_log.specs.declared.entry.Entry.{Entry}
-use Rattle.p2p_log.specs.declared.row.Half.{Half}
-use Rattle.p2p_log.specs.Facts.{events_of, capacity_in, sum_capacities, half_in, half_at}
-use Rattle.p2p_log.specs.Valid.{joins_node, names_join}
+use Rattle.p2p_log_rules.specs.declared.row.Half.{Half}
+use Rattle.p2p_log_rules.specs.Facts.{events_of, capacity_in, sum_capacities, half_in, half_at}
+use Rattle.p2p_log_rules.specs.Valid.{joins_node, names_join}
 use Rattle.p2p_net.specs.declared.node.Node.{Node}
 use Rattle.p2p_net.specs.Stands.{FactsStand}
 

@@ -7,11 +7,11 @@ use Rattle.p2p_log.specs.declared.queue.Queue.TheVariants as queue
 use Rattle.p2p_log.specs.declared.item.Envelope.{Envelope}
 use Rattle.p2p_log.specs.declared.entry.Entry.{Entry}
 use Rattle.p2p_log.specs.declared.entry.Reply.TheVariants as reply
-use Rattle.p2p_log.specs.declared.row.Row.{Row}
+use Rattle.p2p_log_rules.specs.declared.row.Row.{Row}
 use Rattle.p2p_log.specs.Lines.{name_of, line}
-use Rattle.p2p_log.specs.Facts.{item_named, taken, is_up}
-use Rattle.p2p_log.specs.Effect.{only, route_oldest, router_row}
-use Rattle.p2p_log.proofs.Recorded.{item_named-first}
+use Rattle.p2p_log_rules.specs.Facts.{item_named, taken, is_up}
+use Rattle.p2p_log_rules.specs.Effect.{only, route_oldest, router_row}
+use Rattle.p2p_log_rules.proofs.Recorded.{item_named-first}
 
 -- an entry that takes the first item of a queue
 pub taken-first : (log : List Entry) (e : Entry) (q : Queue) (x : Envelope) (rest : List Envelope) → line log q ≡ x ∷ rest → e.takes ≡ name_of x ∷ [] → taken log e ≡ x.item ∷ []

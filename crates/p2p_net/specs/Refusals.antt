@@ -2,8 +2,8 @@
 use Rattle.std.specs.Prelude.{◌≡◌, true, false, List, length, Some, None}
 use Rattle.p2p_log.specs.declared.config.Config.{Config}
 use Rattle.p2p_log.specs.declared.event.Event.{Event}
-use Rattle.p2p_log.specs.Facts.{events_of}
-use Rattle.p2p_log.specs.Valid.{config_fault, event_fault, is_valid_event}
+use Rattle.p2p_log_rules.specs.Facts.{events_of}
+use Rattle.p2p_log_rules.specs.Valid.{config_fault, event_fault, is_valid_event}
 use Rattle.p2p_net.specs.declared.error.RunError.{RunError}
 use Rattle.p2p_net.specs.declared.error.RunError.TheVariants as error
 use Rattle.p2p_net.specs.World.{WorldView}

@@ -7,9 +7,9 @@ use Rattle.std.specs.BTreeSet as sorted
 use Rattle.p2p_base.specs.declared.key.Key.{Key}
 use Rattle.p2p_log.specs.declared.config.Config.{Config}
 use Rattle.p2p_log.specs.declared.entry.Entry.{Entry}
-use Rattle.p2p_log.specs.Facts.{events_of, has_started, registered, sum_capacities, capacity_in, half_at, key_at, is_running, is_joined}
-use Rattle.p2p_log.specs.Effect.{mailbox_size_at}
-use Rattle.p2p_log.specs.Valid.{config_fault, names_join}
+use Rattle.p2p_log_rules.specs.Facts.{events_of, has_started, registered, sum_capacities, capacity_in, half_at, key_at, is_running, is_joined}
+use Rattle.p2p_log_rules.specs.Effect.{mailbox_size_at}
+use Rattle.p2p_log_rules.specs.Valid.{config_fault, names_join}
 use Rattle.p2p_net_router.specs.Stands.{StandsFor}
 use Rattle.p2p_net_router.specs.declared.router.Router.{Router}
 use Rattle.p2p_net.specs.declared.node.Node.{Node}

@@ -6,11 +6,11 @@ use Rattle.p2p_log.specs.declared.event.Act.TheVariants as act
 use Rattle.p2p_log.specs.declared.entry.Reply.TheVariants as reply
 use Rattle.p2p_log.specs.declared.queue.Queue.TheVariants as queue
 use Rattle.p2p_log.specs.declared.item.Item.TheVariants as item
-use Rattle.p2p_log.specs.declared.row.Half.{Half}
-use Rattle.p2p_log.specs.declared.row.Row.{Row}
-use Rattle.p2p_log.specs.Facts.{half_of, joins, key_at, is_joined}
-use Rattle.p2p_log.specs.Effect.{mailbox_size_at}
-use Rattle.p2p_log.specs.Valid.{config_fault, joins_node}
+use Rattle.p2p_log_rules.specs.declared.row.Half.{Half}
+use Rattle.p2p_log_rules.specs.declared.row.Row.{Row}
+use Rattle.p2p_log_rules.specs.Facts.{half_of, joins, key_at, is_joined}
+use Rattle.p2p_log_rules.specs.Effect.{mailbox_size_at}
+use Rattle.p2p_log_rules.specs.Valid.{config_fault, joins_node}
 use Rattle.p2p_net_router.specs.Stands.{IsReadied}
 
 -- the entry, the next of the log, is a join of a and b that names the node n, and gives it this half and this partner, or none

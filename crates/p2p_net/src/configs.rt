@@ -1,6 +1,6 @@
 //! Whether configurations may be asked for.
 ghost use Rattle.std.specs.Prelude.{◌≡◌, ℕ, ◌*◌, ◌<◌, ◌^◌, IfOk, true};
-ghost use Rattle.p2p_log.specs.Valid.{fits as fits_of, config_fault as fault_of};
+ghost use Rattle.p2p_log_rules.specs.Valid.{fits as fits_of, config_fault as fault_of};
 
 use p2p_log::Config;
 use std::alloc::{AllocError, Global};

@@ -3,11 +3,11 @@ ghost use Rattle.std.specs.Prelude.{◌≡◌, ℕ, ◌+◌, ◌^◌, ◌<◌, �
 ghost use Rattle.std.specs.Ordering.{nat_cmp, is_eq};
 ghost use Rattle.std.specs.BTreeMap as tree;
 ghost use Rattle.std.specs.BTreeSet as sorted;
-ghost use Rattle.p2p_log.specs.Facts.{channels, capacity_in};
+ghost use Rattle.p2p_log_rules.specs.Facts.{channels, capacity_in};
 ghost use Rattle.p2p_router.specs.Messenger.{is_unbound};
 ghost use Rattle.p2p_net_router.specs.Stands.{StandsFor, IsRegistration};
 
-use p2p_log::Half;
+use p2p_log_rules::Half;
 use p2p_net_router::Router;
 use std::alloc::{AllocError, Global};
 use std::collections::{BTreeMap, BTreeSet};

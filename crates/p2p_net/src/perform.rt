@@ -3,9 +3,9 @@ ghost use Rattle.std.specs.Prelude.{◌≡◌, ℕ, ◌<◌, ◌++◌, ◌∷◌
 ghost use Rattle.p2p_log.specs.declared.entry.Entry.{Entry};
 ghost use Rattle.p2p_log.specs.declared.event.Event.{Event};
 ghost use Rattle.p2p_log.specs.Lines.{live};
-ghost use Rattle.p2p_log.specs.Facts.{events_of};
-ghost use Rattle.p2p_log.specs.Effect.{entry_of, row as row_of};
-ghost use Rattle.p2p_log.specs.Valid.{may_act as may_act_of};
+ghost use Rattle.p2p_log_rules.specs.Facts.{events_of};
+ghost use Rattle.p2p_log_rules.specs.Effect.{entry_of, row as row_of};
+ghost use Rattle.p2p_log_rules.specs.Valid.{may_act as may_act_of};
 ghost use Rattle.p2p_net_queues.specs.Stands.{Holds, Builds};
 ghost use Rattle.p2p_net.specs.Stands.{NodesStand};
 
@@ -18,7 +18,8 @@ use crate::acts::starting::start;
 use crate::node::Node;
 use crate::valid::{capacity_of, limit_of};
 use bytes::Bytes;
-use p2p_log::{Act, Config, Envelope, Rate, Recipients, Row};
+use p2p_log::{Act, Config, Envelope, Rate, Recipients};
+use p2p_log_rules::Row;
 use p2p_net_queues::Board;
 use std::alloc::{AllocError, Global};
 

@@ -2,9 +2,9 @@
 ghost use Rattle.std.specs.Prelude.{◌≡◌, ℕ, ◌+◌, ◌<◌, ◌^◌, List, length, slice_get};
 ghost use Rattle.p2p_log.specs.declared.entry.Entry.{Entry};
 ghost use Rattle.std.specs.Prelude.{not};
-ghost use Rattle.p2p_log.specs.Facts.{events_of, capacity_for, has_started};
-ghost use Rattle.p2p_log.specs.Effect.{mailbox_size_at, limit_at};
-ghost use Rattle.p2p_log.specs.Valid.{may_act as may_act_of, may_register as may_register_of, names_join, last_moment, is_valid_event};
+ghost use Rattle.p2p_log_rules.specs.Facts.{events_of, capacity_for, has_started};
+ghost use Rattle.p2p_log_rules.specs.Effect.{mailbox_size_at, limit_at};
+ghost use Rattle.p2p_log_rules.specs.Valid.{may_act as may_act_of, may_register as may_register_of, names_join, last_moment, is_valid_event};
 ghost use Rattle.p2p_net.specs.Stands.{NodesStand};
 
 use crate::node::Node;
@@ -98,7 +98,7 @@ fn may_act(configs: &[Config], nodes: &[Node], act: &Act) -> bool
 }
 
 /// Whether an event may be asked for, the moment of the last one being `last`.
-#[tactic(auto, unfolding(p2p_log::specs::Valid::is_valid_event))]
+#[tactic(auto, unfolding(p2p_log_rules::specs::Valid::is_valid_event))]
 pub fn is_valid(configs: &[Config], nodes: &[Node], last: u64, event: &Event) -> bool
     ghost log: { List Entry }
     requires nodes { NodesStand configs.now log nodes.now }

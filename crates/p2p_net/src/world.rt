@@ -1,10 +1,10 @@
 //! The world: all nodes, with the log of what was asked of them and what came of it.
 ghost use Rattle.std.specs.Prelude.{◌≡◌, ℕ, ◌+◌, ◌<◌, ◌++◌, ◌∷◌, [], List, length, IfOk, OnOk, OnErr, IfErr, true, false, Some, None};
 ghost use Rattle.p2p_log.specs.declared.entry.Entry.{Entry};
-ghost use Rattle.p2p_log.specs.Facts.{events_of};
-ghost use Rattle.p2p_log.specs.Effect.{effect};
-ghost use Rattle.p2p_log.specs.Lawful.{IsLawful};
-ghost use Rattle.p2p_log.specs.Valid.{config_fault as config_fault_of, event_fault, is_valid_event, last_moment};
+ghost use Rattle.p2p_log_rules.specs.Facts.{events_of};
+ghost use Rattle.p2p_log_rules.specs.Effect.{effect};
+ghost use Rattle.p2p_log_rules.specs.Lawful.{IsLawful};
+ghost use Rattle.p2p_log_rules.specs.Valid.{config_fault as config_fault_of, event_fault, is_valid_event, last_moment};
 ghost use Rattle.p2p_net.specs.Stands.{NodeStands, NodesStand};
 ghost use Rattle.p2p_net.specs.World.{with_entry, PartsStand};
 ghost use Rattle.p2p_net.specs.Refusals.{StartRefused, ApplyRefused, RunRefused};
@@ -15,7 +15,8 @@ use crate::node::Node;
 use crate::perform::perform;
 use crate::valid::{is_valid, mailbox_of};
 use p2p_base::List;
-use p2p_log::{Config, Entry, Envelope, Event, Report, Row};
+use p2p_log::{Config, Entry, Envelope, Event, Report};
+use p2p_log_rules::Row;
 use p2p_net_queues::Board;
 use std::alloc::{AllocError, Global};
 use std::marker::Model;

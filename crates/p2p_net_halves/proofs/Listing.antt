@@ -1,10 +1,10 @@
 -- The row of a step that took one item.
 use Rattle.std.proofs.Common.{◌≡◌, ◌++◌, ap, ◌∙◌, Option, Some}
 use Rattle.p2p_log.specs.declared.entry.Reply.TheVariants as reply
-use Rattle.p2p_log.specs.declared.row.Row.{Row}
+use Rattle.p2p_log_rules.specs.declared.row.Row.{Row}
 use Rattle.p2p_log.specs.declared.item.Envelope.{Envelope}
 use Rattle.p2p_log.specs.Lines.{name_of}
-use Rattle.p2p_log.specs.Effect.{only}
+use Rattle.p2p_log_rules.specs.Effect.{only}
 use Rattle.p2p_net_queues.specs.Stands.{names_in}
 use Rattle.p2p_net_queues.specs.Rows.{taken_row}
 

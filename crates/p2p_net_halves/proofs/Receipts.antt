@@ -10,11 +10,11 @@ use Rattle.p2p_log.specs.declared.item.Item.TheVariants as item
 use Rattle.p2p_log.specs.declared.item.Envelope.{Envelope}
 use Rattle.p2p_log.specs.declared.entry.Entry.{Entry}
 use Rattle.p2p_log.specs.declared.entry.Reply.TheVariants as reply
-use Rattle.p2p_log.specs.declared.row.Row.{Row}
+use Rattle.p2p_log_rules.specs.declared.row.Row.{Row}
 use Rattle.p2p_log.specs.Lines.{line, live, name_of}
-use Rattle.p2p_log.specs.Facts.{channels, capacity_in}
-use Rattle.p2p_log.specs.Frames.{message_in}
-use Rattle.p2p_log.specs.Effect.{only, deliver_row, message_row, frame_row, limit_at, receive_row}
+use Rattle.p2p_log_rules.specs.Facts.{channels, capacity_in}
+use Rattle.p2p_log_rules.specs.Frames.{message_in}
+use Rattle.p2p_log_rules.specs.Effect.{only, deliver_row, message_row, frame_row, limit_at, receive_row}
 use Rattle.p2p_net_queues.specs.declared.board.Board.{Board}
 use Rattle.p2p_net_queues.specs.Board.{held}
 use Rattle.p2p_net_queues.specs.Stands.{is_boards, Holds, names_in}

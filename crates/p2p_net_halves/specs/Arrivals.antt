@@ -8,8 +8,8 @@ use Rattle.p2p_log.specs.declared.item.Envelope.{Envelope}
 use Rattle.p2p_log.specs.declared.end.End.TheVariants as end
 use Rattle.p2p_log.specs.declared.end.Outcome.TheVariants as outcome
 use Rattle.p2p_log.specs.declared.end.Cause.TheVariants as cause
-use Rattle.p2p_log.specs.declared.row.Row.{Row}
-use Rattle.p2p_log.specs.Frames.{message_in}
+use Rattle.p2p_log_rules.specs.declared.row.Row.{Row}
+use Rattle.p2p_log_rules.specs.Frames.{message_in}
 use Rattle.p2p_net_halves.specs.declared.arrival.Arrived.{Arrived}
 
 -- a copy with its channel and its message

@@ -1,6 +1,6 @@
 //! The message that arrives in a frame.
 ghost use Rattle.std.specs.Prelude.{◌≡◌, ℕ, IfOk};
-ghost use Rattle.p2p_log.specs.Frames.{data_in};
+ghost use Rattle.p2p_log_rules.specs.Frames.{data_in};
 ghost use Rattle.p2p_net_halves.specs.Arrivals.{arrival_of, arrival_in};
 
 use bytes::Bytes;

@@ -3,15 +3,16 @@ ghost use Rattle.std.specs.Prelude.{◌≡◌, ℕ, ◌++◌, ◌∷◌, [], len
 ghost use Rattle.std.specs.Ordering.{nat_cmp};
 ghost use Rattle.std.specs.BTreeMap.{get};
 ghost use Rattle.p2p_log.specs.Lines.{live, line};
-ghost use Rattle.p2p_log.specs.Facts.{channels, capacity_in};
-ghost use Rattle.p2p_log.specs.Effect.{limit_at, receive_row};
+ghost use Rattle.p2p_log_rules.specs.Facts.{channels, capacity_in};
+ghost use Rattle.p2p_log_rules.specs.Effect.{limit_at, receive_row};
 ghost use Rattle.p2p_net_queues.specs.Board.{held};
 ghost use Rattle.p2p_net_queues.specs.Stands.{Holds, Builds};
 ghost use Rattle.p2p_net_halves.specs.Arrivals.{first_arrival, delivered};
 
 use crate::arrival::{Arrived, open};
 use p2p_base::Key;
-use p2p_log::{Cause, End, Envelope, Item, Outcome, Queue, Reply, Row, Side};
+use p2p_log::{Cause, End, Envelope, Item, Outcome, Queue, Reply, Side};
+use p2p_log_rules::Row;
 use p2p_net_queues::board::Board;
 use p2p_net_queues::draft::{only, put, take};
 use std::alloc::{AllocError, Global};

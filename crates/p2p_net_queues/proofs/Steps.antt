@@ -3,7 +3,7 @@ use Rattle.std.proofs.Common.{◌≡◌, ℕ, zero, suc, ◌+◌, ◌<◌, List,
 use Rattle.p2p_base.specs.declared.key.Key.{Key}
 use Rattle.p2p_log.specs.declared.end.End.TheVariants as end
 use Rattle.p2p_log.specs.declared.end.Outcome.{Outcome}
-use Rattle.p2p_log.specs.Effect.{copies_end}
+use Rattle.p2p_log_rules.specs.Effect.{copies_end}
 
 pub copies_end-drop :
     (send p i : ℕ) (to : List Key) (o : Outcome) → i < length to

@@ -2,13 +2,14 @@
 ghost use Rattle.std.specs.Prelude.{◌≡◌, ℕ, ◌++◌, ◌∷◌, [], true, false, length, map, flat_map, slice_get, OnOk, IfOk};
 ghost use Rattle.p2p_log.specs.Lines.{name_of, ended_item};
 ghost use Rattle.p2p_log.specs.QueueCode.{same_queue};
-ghost use Rattle.p2p_log.specs.Effect.{only as only_reply};
+ghost use Rattle.p2p_log_rules.specs.Effect.{only as only_reply};
 ghost use Rattle.p2p_net_queues.specs.Board.{held};
 ghost use Rattle.p2p_net_queues.specs.Stands.{is_boards, Builds, names_in};
 
 use crate::board::Board;
 use p2p_base::List;
-use p2p_log::{Envelope, Item, Queue, Reply, Row};
+use p2p_log::{Envelope, Item, Queue, Reply};
+use p2p_log_rules::Row;
 use std::alloc::{AllocError, Global};
 
 /// A row that moves nothing yet.

@@ -1,6 +1,6 @@
 //! The ends of the copies of a send.
 ghost use Rattle.std.specs.Prelude.{◌≡◌, IfOk};
-ghost use Rattle.p2p_log.specs.Effect.{copies_end};
+ghost use Rattle.p2p_log_rules.specs.Effect.{copies_end};
 
 use p2p_base::{Key, List};
 use p2p_log::{End, Outcome};

@@ -2,14 +2,15 @@
 ghost use Rattle.std.specs.Prelude.{◌≡◌, ℕ, ◌++◌, ◌∷◌, [], false, length, IfOk, OnOk};
 ghost use Rattle.p2p_log.specs.QueueCode.{same_queue};
 ghost use Rattle.p2p_log.specs.Lines.{live};
-ghost use Rattle.p2p_log.specs.Effect.{oldest_read};
+ghost use Rattle.p2p_log_rules.specs.Effect.{oldest_read};
 ghost use Rattle.p2p_net_queues.specs.Board.{held};
 ghost use Rattle.p2p_net_queues.specs.Stands.{Holds, Builds};
 ghost use Rattle.p2p_net_queues.specs.Rows.{is_message as message_test, with_message};
 
 use crate::board::Board;
 use crate::draft::{only, take};
-use p2p_log::{End, Envelope, Item, Outcome, Queue, Reply, Row};
+use p2p_log::{End, Envelope, Item, Outcome, Queue, Reply};
+use p2p_log_rules::Row;
 use std::alloc::{AllocError, Global};
 
 /// Whether an item is a message for a reader.

@@ -12,7 +12,7 @@ use Rattle.p2p_log.specs.declared.item.Item.{Item}
 use Rattle.p2p_log.specs.declared.item.Envelope.{Envelope}
 use Rattle.p2p_log.specs.QueueCode.{kind_of, owner_of, detail_of, same_queue}
 use Rattle.p2p_log.specs.Lines.{name_of, ended_item, goes, stays, live, stands_in, line}
-use Rattle.p2p_log.specs.Effect.{begin_row}
+use Rattle.p2p_log_rules.specs.Effect.{begin_row}
 use Rattle.p2p_log.specs.Apart.{AreApart}
 use Rattle.p2p_log.proofs.Lines.{live-append, filter_stays-nil}
 use Rattle.p2p_log.proofs.Names.{AreApart-live_from}

@@ -8,7 +8,7 @@ use Rattle.p2p_log.specs.declared.queue.Queue.{Queue}
 use Rattle.p2p_log.specs.declared.item.Item.{Item}
 use Rattle.p2p_log.specs.declared.item.Envelope.{Envelope}
 use Rattle.p2p_log.specs.Lines.{name_of, ended_item, goes, stays, live, stands_in}
-use Rattle.p2p_log.specs.Effect.{mailbox_size_at}
+use Rattle.p2p_log_rules.specs.Effect.{mailbox_size_at}
 use Rattle.p2p_log.specs.Apart.{AreApart}
 use Rattle.p2p_log.proofs.Names.{AreApart-live_from}
 use Rattle.p2p_router.specs.Messenger.{is_bound}

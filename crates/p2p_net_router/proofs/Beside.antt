@@ -15,9 +15,9 @@ use Rattle.p2p_log.specs.declared.queue.Queue.{Queue}
 use Rattle.p2p_log.specs.declared.queue.Queue.TheVariants as queue
 use Rattle.p2p_log.specs.QueueCode.{same_queue}
 use Rattle.p2p_log.specs.Lines.{name_of, ended_item, stays, placed, live, stands_in}
-use Rattle.p2p_log.specs.Facts.{events_of, has_started, registered, channels, subscriber_of, subscribers, routes_after, routes, sum_capacities}
-use Rattle.p2p_log.specs.Effect.{mailbox_size_at, router_capacity}
-use Rattle.p2p_log.proofs.Facts.{events_of-append, has_started-append, registered-append, subscribers-append, routes-append}
+use Rattle.p2p_log_rules.specs.Facts.{events_of, has_started, registered, channels, subscriber_of, subscribers, routes_after, routes, sum_capacities}
+use Rattle.p2p_log_rules.specs.Effect.{mailbox_size_at, router_capacity}
+use Rattle.p2p_log_rules.proofs.Facts.{events_of-append, has_started-append, registered-append, subscribers-append, routes-append}
 use Rattle.p2p_log.proofs.Lines.{live-append, filter_stays-nil}
 use Rattle.p2p_log.specs.Apart.{AreApart}
 use Rattle.p2p_log.proofs.Names.{filter_stays-first}

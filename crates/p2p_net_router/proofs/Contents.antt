@@ -27,11 +27,11 @@ use Rattle.p2p_log.specs.declared.item.Item.{Item}
 use Rattle.p2p_log.specs.declared.item.Item.TheVariants as item
 use Rattle.p2p_log.specs.declared.item.Envelope.{Envelope}
 use Rattle.p2p_log.specs.declared.entry.Entry.{Entry}
-use Rattle.p2p_log.specs.declared.row.Row.{Row}
+use Rattle.p2p_log_rules.specs.declared.row.Row.{Row}
 use Rattle.p2p_log.specs.QueueCode.{same_queue}
 use Rattle.p2p_log.specs.Lines.{name_of, ended_item, stays, placed, live, stands_in}
-use Rattle.p2p_log.specs.Facts.{subscriber_of, subscribers, with_route, routes}
-use Rattle.p2p_log.specs.Effect.{mailbox_size_at, route_row, Spread, goes_to, relay_queue, spread, row_of_spread}
+use Rattle.p2p_log_rules.specs.Facts.{subscriber_of, subscribers, with_route, routes}
+use Rattle.p2p_log_rules.specs.Effect.{mailbox_size_at, route_row, Spread, goes_to, relay_queue, spread, row_of_spread}
 use Rattle.p2p_log.specs.Apart.{AreApart}
 use Rattle.p2p_log.proofs.Names.{AreApart-live_from, filter_stays-first}
 use Rattle.p2p_net_queues.specs.declared.board.Board.{Board}

@@ -24,8 +24,8 @@ use Rattle.p2p_log.specs.declared.item.Envelope.{Envelope}
 use Rattle.p2p_log.specs.declared.end.Cause.TheVariants as cause
 use Rattle.p2p_log.specs.QueueCode.{same_queue}
 use Rattle.p2p_log.specs.Lines.{stands_in}
-use Rattle.p2p_log.specs.Facts.{route_to}
-use Rattle.p2p_log.specs.Effect.{Spread, goes_to, relay_queue, spread_one, spread_to, spread}
+use Rattle.p2p_log_rules.specs.Facts.{route_to}
+use Rattle.p2p_log_rules.specs.Effect.{Spread, goes_to, relay_queue, spread_one, spread_to, spread}
 use Rattle.p2p_net_router.specs.Names.{bare}
 use Rattle.p2p_net_router.specs.Items.{key_cmp, link_with, link_to, frames_in, frame_item, frames_of}
 use Rattle.p2p_net_router.specs.Sound.{IsOpen, IsLinked}

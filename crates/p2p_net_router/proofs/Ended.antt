@@ -9,7 +9,7 @@ use Rattle.p2p_log.specs.declared.queue.Queue.TheVariants as queue
 use Rattle.p2p_log.specs.declared.item.Envelope.{Envelope}
 use Rattle.p2p_log.specs.QueueCode.{same_queue}
 use Rattle.p2p_log.specs.Lines.{name_of, ended_item, stays, stands_in}
-use Rattle.p2p_log.specs.Effect.{overwritten, peers_ends}
+use Rattle.p2p_log_rules.specs.Effect.{overwritten, peers_ends}
 use Rattle.p2p_log.proofs.Filters.{filter-same}
 use Rattle.p2p_log.proofs.Lines.{filter_stays-append, filter_stays-nil}
 use Rattle.p2p_log.proofs.Queues.{same_queue-sym, same_queue-congr}

@@ -7,11 +7,11 @@ use Rattle.p2p_log.specs.declared.config.Config.{Config}
 use Rattle.p2p_log.specs.declared.entry.Entry.{Entry}
 use Rattle.p2p_log.specs.declared.event.Event.{Event}
 use Rattle.p2p_log.specs.declared.event.Act.{Act}
-use Rattle.p2p_log.specs.declared.row.Row.{Row}
+use Rattle.p2p_log_rules.specs.declared.row.Row.{Row}
 use Rattle.p2p_log.specs.Lines.{stays, placed, live}
-use Rattle.p2p_log.specs.Facts.{events_of, starts, has_started, is_up, registers_at, registered, channels, taken, steps_router, routed_by, subscriber_of, subscribers, routes_after, routes, sum_capacities}
-use Rattle.p2p_log.specs.Effect.{entry_of, mailbox_size_at, router_capacity}
-use Rattle.p2p_log.proofs.Facts.{events_of-append, has_started-append, registered-append, subscribers-append, routes-append}
+use Rattle.p2p_log_rules.specs.Facts.{events_of, starts, has_started, is_up, registers_at, registered, channels, taken, steps_router, routed_by, subscriber_of, subscribers, routes_after, routes, sum_capacities}
+use Rattle.p2p_log_rules.specs.Effect.{entry_of, mailbox_size_at, router_capacity}
+use Rattle.p2p_log_rules.proofs.Facts.{events_of-append, has_started-append, registered-append, subscribers-append, routes-append}
 use Rattle.p2p_log.proofs.Lines.{live-append}
 use Rattle.p2p_net_queues.specs.declared.board.Board.{Board}
 use Rattle.p2p_net_queues.specs.Stands.{row_goes}

@@ -10,7 +10,7 @@ use Rattle.std.proofs.lemmas.Bool.Decides.{nat_tests}
 use Rattle.p2p_base.specs.declared.key.Key.{Key}
 use Rattle.p2p_router.specs.declared.link.Link.{Link}
 use Rattle.p2p_router.specs.Routing.{link_of, with_link}
-use Rattle.p2p_log.specs.Facts.{route_to, keys_in}
+use Rattle.p2p_log_rules.specs.Facts.{route_to, keys_in}
 use Rattle.p2p_net_router.specs.Items.{key_cmp}
 use Rattle.p2p_net_router.specs.Holds.{routes_in}
 use Rattle.p2p_net_router.proofs.Rings.{two_choices}

@@ -9,10 +9,10 @@ use Rattle.p2p_log.specs.declared.queue.Side.TheVariants as side
 use Rattle.p2p_log.specs.declared.item.Item.{Item}
 use Rattle.p2p_log.specs.declared.item.Envelope.{Envelope}
 use Rattle.p2p_log.specs.declared.entry.Reply.TheVariants as reply
-use Rattle.p2p_log.specs.declared.row.Row.{Row}
+use Rattle.p2p_log_rules.specs.declared.row.Row.{Row}
 use Rattle.p2p_log.specs.QueueCode.{same_queue}
 use Rattle.p2p_log.specs.Lines.{name_of, ended_item, stays, placed, stands_in}
-use Rattle.p2p_log.specs.Effect.{only, peers_ends, Spread}
+use Rattle.p2p_log_rules.specs.Effect.{only, peers_ends, Spread}
 use Rattle.p2p_log.proofs.Lines.{filter_stays-nil}
 use Rattle.p2p_log.specs.Apart.{AreApart}
 use Rattle.p2p_net_queues.specs.Rows.{taken_row}

@@ -5,7 +5,7 @@ use Rattle.std.proofs.lemmas.Grind.{flat_map-append}
 use Rattle.p2p_log.specs.declared.queue.Queue.TheVariants as queue
 use Rattle.p2p_log.specs.declared.item.Envelope.{Envelope}
 use Rattle.p2p_log.specs.Lines.{ended_item, stays, stands_in}
-use Rattle.p2p_log.specs.Effect.{overwritten, peers_ends}
+use Rattle.p2p_log_rules.specs.Effect.{overwritten, peers_ends}
 use Rattle.p2p_log.proofs.Lines.{filter_stays-append, filter_stays-nil}
 
 pub peers_ends-append :

@@ -21,10 +21,10 @@ use Rattle.p2p_log.specs.declared.end.End.TheVariants as end
 use Rattle.p2p_log.specs.declared.end.Outcome.{Outcome}
 use Rattle.p2p_log.specs.declared.end.Outcome.TheVariants as outcome
 use Rattle.p2p_log.specs.declared.end.Cause.TheVariants as cause
-use Rattle.p2p_log.specs.declared.row.Row.{Row}
+use Rattle.p2p_log_rules.specs.declared.row.Row.{Row}
 use Rattle.p2p_log.specs.Lines.{name_of, ended_item, stays, live, stands_in, line}
-use Rattle.p2p_log.specs.Facts.{is_up, channels, capacity_in, starts, capacity_for, registers_at, taken, steps_router, subscribers, routes, route_to, half_at, is_running}
-use Rattle.p2p_log.specs.Effect.{only, start_row, may_join, join_row, copies_end, sent_row, read_row, oldest_read, peers_put, peers_ends, overwritten, relay_queue, goes_to, Spread, spread_one, spread_to, spread, route_row, route_oldest, begin_row, write_row, batch_size_at, batch, deliver_row, message_row, frame_row, receive_row, row, entry_of}
+use Rattle.p2p_log_rules.specs.Facts.{is_up, channels, capacity_in, starts, capacity_for, registers_at, taken, steps_router, subscribers, routes, route_to, half_at, is_running}
+use Rattle.p2p_log_rules.specs.Effect.{only, start_row, may_join, join_row, copies_end, sent_row, read_row, oldest_read, peers_put, peers_ends, overwritten, relay_queue, goes_to, Spread, spread_one, spread_to, spread, route_row, route_oldest, begin_row, write_row, batch_size_at, batch, deliver_row, message_row, frame_row, receive_row, row, entry_of}
 use Rattle.p2p_log.specs.Apart.{AreApart}
 use Rattle.p2p_log.proofs.Lines.{filter_stays-append}
 use Rattle.p2p_log.proofs.Names.{AreApart-filter, AreApart-live_from}

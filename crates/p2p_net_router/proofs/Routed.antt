@@ -21,13 +21,13 @@ use Rattle.p2p_log.specs.declared.entry.Entry.{Entry}
 use Rattle.p2p_log.specs.declared.entry.Reply.TheVariants as reply
 use Rattle.p2p_log.specs.declared.event.Event.{Event}
 use Rattle.p2p_log.specs.declared.event.Act.TheVariants as act
-use Rattle.p2p_log.specs.declared.row.Row.{Row}
+use Rattle.p2p_log_rules.specs.declared.row.Row.{Row}
 use Rattle.p2p_log.specs.Lines.{name_of, stays, placed, live, line, stands_in}
-use Rattle.p2p_log.specs.Facts.{events_of, starts, has_started, registers_at, registered, channels, item_named, taken, steps_router, routed_by, subscriber_of, subscribers, with_route, routes_after, routes, sum_capacities}
-use Rattle.p2p_log.specs.Effect.{only, entry_of, mailbox_size_at, router_capacity, route_row, route_oldest}
-use Rattle.p2p_log.proofs.Facts.{events_of-append, has_started-append, registered-append, subscribers-append, routes-append}
+use Rattle.p2p_log_rules.specs.Facts.{events_of, starts, has_started, registers_at, registered, channels, item_named, taken, steps_router, routed_by, subscriber_of, subscribers, with_route, routes_after, routes, sum_capacities}
+use Rattle.p2p_log_rules.specs.Effect.{only, entry_of, mailbox_size_at, router_capacity, route_row, route_oldest}
+use Rattle.p2p_log_rules.proofs.Facts.{events_of-append, has_started-append, registered-append, subscribers-append, routes-append}
 use Rattle.p2p_log.proofs.Lines.{live-append, filter_stays-nil}
-use Rattle.p2p_log.proofs.Recorded.{item_named-first}
+use Rattle.p2p_log_rules.proofs.Recorded.{item_named-first}
 use Rattle.p2p_net_queues.specs.declared.board.Board.{Board}
 use Rattle.p2p_net_queues.specs.Stands.{row_goes}
 use Rattle.p2p_net_router.specs.Names.{is_routers}

@@ -31,11 +31,11 @@ use Rattle.p2p_log.specs.declared.queue.Queue.TheVariants as queue
 use Rattle.p2p_log.specs.declared.item.Item.{Item}
 use Rattle.p2p_log.specs.declared.item.Item.TheVariants as item
 use Rattle.p2p_log.specs.declared.item.Envelope.{Envelope}
-use Rattle.p2p_log.specs.declared.row.Row.{Row}
+use Rattle.p2p_log_rules.specs.declared.row.Row.{Row}
 use Rattle.p2p_log.specs.Lines.{ended_item, stays, placed, live, line, stands_in}
-use Rattle.p2p_log.specs.Facts.{is_up}
-use Rattle.p2p_log.specs.Frames.{frame_of}
-use Rattle.p2p_log.specs.Effect.{only, entry_of, copies_end, sent_row, mailbox_size_at, router_capacity}
+use Rattle.p2p_log_rules.specs.Facts.{is_up}
+use Rattle.p2p_log_rules.specs.Frames.{frame_of}
+use Rattle.p2p_log_rules.specs.Effect.{only, entry_of, copies_end, sent_row, mailbox_size_at, router_capacity}
 use Rattle.p2p_log.proofs.Lines.{filter_stays-nil}
 use Rattle.p2p_net_queues.specs.declared.board.Board.{Board}
 use Rattle.p2p_net_queues.specs.Board.{held}

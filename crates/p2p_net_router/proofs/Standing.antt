@@ -12,10 +12,10 @@ use Rattle.p2p_log.specs.declared.queue.Queue.TheVariants as queue
 use Rattle.p2p_log.specs.declared.item.Item.{Item}
 use Rattle.p2p_log.specs.declared.item.Item.TheVariants as item
 use Rattle.p2p_log.specs.declared.item.Envelope.{Envelope}
-use Rattle.p2p_log.specs.declared.row.Row.{Row}
+use Rattle.p2p_log_rules.specs.declared.row.Row.{Row}
 use Rattle.p2p_log.specs.QueueCode.{same_queue}
 use Rattle.p2p_log.specs.Lines.{ended_item, stays, placed, stands_in}
-use Rattle.p2p_log.specs.Effect.{peers_put, peers_ends}
+use Rattle.p2p_log_rules.specs.Effect.{peers_put, peers_ends}
 use Rattle.p2p_log.proofs.Queues.{same_queue-sym}
 use Rattle.p2p_log.specs.Apart.{AreApart}
 use Rattle.p2p_log.proofs.Names.{filter_stays-first}

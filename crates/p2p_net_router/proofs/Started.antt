@@ -24,11 +24,11 @@ use Rattle.p2p_log.specs.declared.queue.Side.TheVariants as side
 use Rattle.p2p_log.specs.declared.item.Item.{Item}
 use Rattle.p2p_log.specs.declared.item.Item.TheVariants as item
 use Rattle.p2p_log.specs.declared.item.Envelope.{Envelope}
-use Rattle.p2p_log.specs.declared.row.Row.{Row}
+use Rattle.p2p_log_rules.specs.declared.row.Row.{Row}
 use Rattle.p2p_log.specs.QueueCode.{same_queue}
 use Rattle.p2p_log.specs.Lines.{placed, live, stands_in}
-use Rattle.p2p_log.specs.Facts.{channels, is_up}
-use Rattle.p2p_log.specs.Effect.{only, entry_of, goes_to, start_row, mailbox_size_at, router_capacity}
+use Rattle.p2p_log_rules.specs.Facts.{channels, is_up}
+use Rattle.p2p_log_rules.specs.Effect.{only, entry_of, goes_to, start_row, mailbox_size_at, router_capacity}
 use Rattle.p2p_log.proofs.Lines.{filter_stays-nil}
 use Rattle.p2p_net_queues.specs.declared.board.Board.{Board}
 use Rattle.p2p_net_router.specs.Names.{Agrees, bare_item}

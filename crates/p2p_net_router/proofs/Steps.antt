@@ -24,12 +24,12 @@ use Rattle.p2p_log.specs.declared.item.Item.TheVariants as item
 use Rattle.p2p_log.specs.declared.item.Envelope.{Envelope}
 use Rattle.p2p_log.specs.declared.entry.Entry.{Entry}
 use Rattle.p2p_log.specs.declared.entry.Reply.TheVariants as reply
-use Rattle.p2p_log.specs.declared.row.Row.{Row}
+use Rattle.p2p_log_rules.specs.declared.row.Row.{Row}
 use Rattle.p2p_log.specs.declared.event.Event.{Event}
 use Rattle.p2p_log.specs.declared.event.Act.TheVariants as act
 use Rattle.p2p_log.specs.Lines.{name_of, stays, live, line, stands_in}
-use Rattle.p2p_log.specs.Facts.{subscriber_of, subscribers, with_route, routes, keys_in}
-use Rattle.p2p_log.specs.Effect.{only, entry_of, mailbox_size_at, route_row}
+use Rattle.p2p_log_rules.specs.Facts.{subscriber_of, subscribers, with_route, routes, keys_in}
+use Rattle.p2p_log_rules.specs.Effect.{only, entry_of, mailbox_size_at, route_row}
 use Rattle.p2p_log.proofs.Names.{AreApart-live_from}
 use Rattle.p2p_net_queues.specs.declared.board.Board.{Board}
 use Rattle.p2p_net_queues.specs.Board.{held}

@@ -20,9 +20,9 @@ use Rattle.p2p_log.specs.declared.queue.Queue.TheVariants as queue
 use Rattle.p2p_log.specs.declared.queue.Side.TheVariants as side
 use Rattle.p2p_log.specs.declared.item.Item.TheVariants as item
 use Rattle.p2p_log.specs.Lines.{live_from, live, ended_item, stays, placed}
-use Rattle.p2p_log.specs.Facts.{events_of, starts, has_started, capacity_for, registers_at, registered, channels, capacity_in, taken, steps_router, routed_by, routed, history_from, subscriber_of, subscribers, routes_after, routes}
-use Rattle.p2p_log.specs.Effect.{mailbox_size_at, router_capacity}
-use Rattle.p2p_log.proofs.Facts.{events_of-append, has_started-append, registered-append, subscribers-append, routes-append}
+use Rattle.p2p_log_rules.specs.Facts.{events_of, starts, has_started, capacity_for, registers_at, registered, channels, capacity_in, taken, steps_router, routed_by, routed, history_from, subscriber_of, subscribers, routes_after, routes}
+use Rattle.p2p_log_rules.specs.Effect.{mailbox_size_at, router_capacity}
+use Rattle.p2p_log_rules.proofs.Facts.{events_of-append, has_started-append, registered-append, subscribers-append, routes-append}
 use Rattle.p2p_log.proofs.Lines.{live-append, filter_stays-nil}
 use Rattle.p2p_net_queues.specs.Board.{held}
 use Rattle.p2p_net_router.specs.Items.{key_cmp, lists_in, message_item, messages_in, frame_item, frames_in, link_to, items_of, channel_of}

@@ -21,7 +21,7 @@ use Rattle.p2p_log.specs.declared.item.Item.TheVariants as item
 use Rattle.p2p_log.specs.declared.item.Envelope.{Envelope}
 use Rattle.p2p_log.specs.QueueCode.{same_queue}
 use Rattle.p2p_log.specs.Lines.{name_of, stays, stands_in}
-use Rattle.p2p_log.specs.Effect.{relay_queue}
+use Rattle.p2p_log_rules.specs.Effect.{relay_queue}
 use Rattle.p2p_log.proofs.Lines.{filter_stays-nil}
 use Rattle.p2p_log.specs.Apart.{AreApart}
 use Rattle.p2p_net_queues.specs.declared.board.Board.{Board}

@@ -6,7 +6,7 @@ use Rattle.p2p_log.specs.declared.end.End.TheVariants as end
 use Rattle.p2p_log.specs.declared.end.Outcome.TheVariants as outcome
 use Rattle.p2p_log.specs.declared.end.Cause.{Cause}
 use Rattle.p2p_log.specs.declared.end.Cause.TheVariants as cause
-use Rattle.p2p_log.specs.Effect.{Spread, relay_queue}
+use Rattle.p2p_log_rules.specs.Effect.{Spread, relay_queue}
 use Rattle.p2p_router.specs.declared.stepped.Routed.{Routed}
 use Rattle.p2p_router.specs.declared.stepped.Routed.TheVariants as routed
 

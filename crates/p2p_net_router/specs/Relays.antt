@@ -1,6 +1,6 @@
 -- A copy's way to its relay, as a row records it.
-use Rattle.p2p_log.specs.declared.row.Row.{Row}
-use Rattle.p2p_log.specs.Effect.{Spread}
+use Rattle.p2p_log_rules.specs.declared.row.Row.{Row}
+use Rattle.p2p_log_rules.specs.Effect.{Spread}
 
 -- what a row puts and ends
 abbrev pub spread_of : Row → Spread

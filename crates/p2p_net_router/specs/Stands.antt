@@ -16,8 +16,8 @@ use Rattle.p2p_net_router.specs.Names.{is_routers}
 use Rattle.p2p_log.specs.declared.event.Rate.{Rate}
 use Rattle.p2p_log.specs.declared.event.Act.TheVariants as act
 use Rattle.p2p_log.specs.Lines.{live}
-use Rattle.p2p_log.specs.Facts.{channels, is_up, registers_at, starts, routed_by, routes, subscribers}
-use Rattle.p2p_log.specs.Effect.{mailbox_size_at, router_capacity}
+use Rattle.p2p_log_rules.specs.Facts.{channels, is_up, registers_at, starts, routed_by, routes, subscribers}
+use Rattle.p2p_log_rules.specs.Effect.{mailbox_size_at, router_capacity}
 use Rattle.p2p_net_router.specs.Holds.{Holds, routes_in, channels_told}
 use Rattle.p2p_net_router.specs.declared.router.Router.{Router}
 

@@ -1,7 +1,7 @@
 //! A batch of frames of one connection.
 ghost use Rattle.std.specs.Prelude.{◌≡◌, ◌≤◌, ◌+◌, ◌++◌, ◌∷◌, [], true, length, map, take as first_of, filter, IfOk, OnOk};
 ghost use Rattle.p2p_log.specs.Lines.{name_of, stays, stands_in};
-ghost use Rattle.p2p_log.specs.Effect.{relay_queue};
+ghost use Rattle.p2p_log_rules.specs.Effect.{relay_queue};
 ghost use Rattle.p2p_log.specs.Apart.{AreApart};
 ghost use Rattle.p2p_net_router.specs.Batches.{named, batch_of, AreKept};
 ghost use Rattle.p2p_net_router.specs.Holds.{Holds};

@@ -1,6 +1,6 @@
 //! The copies that the router put into relays, or dropped.
 ghost use Rattle.std.specs.Prelude.{◌≡◌, ℕ, OnOk};
-ghost use Rattle.p2p_log.specs.Effect.{relay_queue};
+ghost use Rattle.p2p_log_rules.specs.Effect.{relay_queue};
 ghost use Rattle.p2p_net_router.specs.Relays.{spread_of, with_spread};
 ghost use Rattle.p2p_net_router.specs.Building.{NamesBuild};
 ghost use Rattle.p2p_net_router.specs.Copies.{copy_spread, copies_spread};
@@ -9,7 +9,8 @@ use crate::Name;
 use crate::names::note;
 use bytes::Bytes;
 use p2p_base::Key;
-use p2p_log::{Cause, End, Item, Outcome, Queue, Row};
+use p2p_log::{Cause, End, Item, Outcome, Queue};
+use p2p_log_rules::Row;
 use p2p_net_queues::Board;
 use p2p_router::Routed;
 use std::alloc::{AllocError, Global};

@@ -2,7 +2,7 @@
 ghost use Rattle.std.specs.Prelude.{◌≡◌, ℕ, ◌++◌, ◌∷◌, [], drop, filter, flat_map, map, OnOk, IfOk, if◌then◌else◌};
 ghost use Rattle.p2p_log.specs.QueueCode.{same_queue};
 ghost use Rattle.p2p_log.specs.Lines.{stays, ended_item};
-ghost use Rattle.p2p_log.specs.Effect.{peers_put, peers_ends};
+ghost use Rattle.p2p_log_rules.specs.Effect.{peers_put, peers_ends};
 ghost use Rattle.p2p_log.specs.Apart.{AreApart};
 ghost use Rattle.p2p_net_queues.specs.Board.{held};
 ghost use Rattle.p2p_net_router.specs.Names.{Agrees, label, ends_of};
@@ -12,7 +12,8 @@ ghost use Rattle.p2p_net_router.specs.Building.{NamesBuild};
 use crate::Name;
 use crate::names::note;
 use p2p_base::{Key, List};
-use p2p_log::{End, Item, Queue, Row};
+use p2p_log::{End, Item, Queue};
+use p2p_log_rules::Row;
 use p2p_net_queues::Board;
 use std::alloc::{AllocError, Global};
 

@@ -6,7 +6,8 @@ ghost use Rattle.p2p_net_router.specs.Names.{tag_of, takes_of};
 ghost use Rattle.p2p_net_router.specs.Building.{NamesBuild};
 
 use crate::Name;
-use p2p_log::{Item, Queue, Row};
+use p2p_log::{Item, Queue};
+use p2p_log_rules::Row;
 use p2p_net_queues::Board;
 use std::alloc::{AllocError, Global};
 

@@ -2,7 +2,7 @@
 ghost use Rattle.std.specs.Prelude.{◌≡◌, ℕ, ◌++◌, ◌∷◌, [], map, OnOk, IfOk};
 ghost use Rattle.p2p_log.specs.Lines.{name_of};
 ghost use Rattle.p2p_log.specs.Apart.{AreApart};
-ghost use Rattle.p2p_log.specs.Effect.{only as only_reply};
+ghost use Rattle.p2p_log_rules.specs.Effect.{only as only_reply};
 ghost use Rattle.p2p_net_queues.specs.Board.{held};
 ghost use Rattle.p2p_net_queues.specs.Rows.{taken_row};
 ghost use Rattle.p2p_net_router.specs.Relays.{spread_of, with_spread};
@@ -20,7 +20,8 @@ use crate::lists::{channels_of, end_lists, note_lists};
 use crate::names::take;
 use bytes::Bytes;
 use p2p_base::Key;
-use p2p_log::{Item, Queue, Reply, Row};
+use p2p_log::{Item, Queue, Reply};
+use p2p_log_rules::Row;
 use p2p_net_queues::Board;
 use p2p_net_queues::draft::only;
 use p2p_router::{Routed, Stepped, Told};

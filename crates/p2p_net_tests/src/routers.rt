@@ -4,7 +4,8 @@ ghost use Rattle.p2p_router.specs.Messenger.{is_unbound};
 
 use bytes::Bytes;
 use p2p_base::{Key, List};
-use p2p_log::{Item, Row};
+use p2p_log::Item;
+use p2p_log_rules::Row;
 use p2p_net_router::Router;
 use std::alloc::Global;
 use std::test::Fail;

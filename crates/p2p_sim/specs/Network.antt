@@ -4,8 +4,8 @@ use Rattle.serde_json.specs.Data.{Data}
 use Rattle.p2p_log.specs.declared.config.Config.{Config}
 use Rattle.p2p_log.specs.declared.event.Event.{Event}
 use Rattle.p2p_log.specs.declared.entry.Entry.{Entry}
-use Rattle.p2p_log.specs.Valid.{config_fault, event_fault}
-use Rattle.p2p_log.specs.Lawful.{IsLawful}
+use Rattle.p2p_log_rules.specs.Valid.{config_fault, event_fault}
+use Rattle.p2p_log_rules.specs.Lawful.{IsLawful}
 use Rattle.p2p_log_laws.specs.OneEnd.{EachHasOneEnd, NothingElseEnds}
 use Rattle.p2p_log_laws.specs.Delivered.{EachIsDelivery}
 use Rattle.p2p_log_laws.specs.Order.{AreDeliveredInOrder, EachWentOver, HaveOneConnection}

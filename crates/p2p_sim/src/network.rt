@@ -5,7 +5,7 @@ ghost use Rattle.serde_json.specs.View.{view};
 ghost use Rattle.p2p_log.specs.declared.config.Config.{Config as OneConfig};
 ghost use Rattle.p2p_log.specs.declared.event.Event.{Event as OneEvent};
 ghost use Rattle.p2p_log.specs.declared.entry.Entry.{Entry};
-ghost use Rattle.p2p_log.specs.Lawful.{IsLawful};
+ghost use Rattle.p2p_log_rules.specs.Lawful.{IsLawful};
 ghost use Rattle.p2p_sim_script.specs.Form.{script_of};
 ghost use Rattle.p2p_sim_script.specs.FirstForm.{is_first_form as is_form};
 ghost use Rattle.p2p_sim.specs.Network.{is_valid, refusal_of as refusal_of_tree, HasRunScript, IsAccounted};

@@ -10,6 +10,8 @@ mod command;
 #[cfg(test)]
 mod reports;
 #[cfg(test)]
+mod rows;
+#[cfg(test)]
 mod runs;
 #[cfg(test)]
 mod scripts;

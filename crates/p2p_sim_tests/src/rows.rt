@@ -73,23 +73,17 @@ pub const SUBSCRIPTION_REPORT: &[&str] = &[
     r#"{"copies":1,"entries":3}"#,
 ];
 
-// A connection that holds one message of each priority, and is sent two of one.
+// A connection that holds one message, and is sent two.
 pub const RELAY: &str = r#"{"configs":[
     {"key":1,"preset":"local","max_peers_per_set":2,"max_message_size":1024,"mailbox_size":1},
     {"key":2,"preset":"local","max_peers_per_set":2,"max_message_size":1024,"mailbox_size":1}],
 "script":[
     {"channel":7,"node":0,"quota":{"burst":9,"period":1},"at":0,"do":"register"},
-    {"channel":7,"node":1,"quota":{"burst":1,"period":1000000000},"at":0,"do":"register"},
+    {"channel":7,"node":1,"quota":{"burst":9,"period":1},"at":0,"do":"register"},
     {"node":0,"at":0,"do":"start"},
     {"node":1,"at":0,"do":"start"},
     {"a":0,"b":1,"at":0,"do":"join"},
     {"node":0,"at":0,"do":"router"},
-    {"node":0,"at":0,"do":"router"},
-    {"node":0,"conn":4,"at":0,"do":"send_step"},
-    {"node":1,"at":0,"do":"router"},
-    {"node":1,"at":0,"do":"router"},
-    {"node":1,"conn":4,"at":0,"do":"send_step"},
-    {"node":0,"channel":7,"bytes":"7b","priority":true,"to":{"one":2},"at":0,"do":"send"},
     {"node":0,"at":0,"do":"router"},
     {"node":0,"conn":4,"at":0,"do":"send_step"},
     {"node":0,"channel":7,"bytes":"01","priority":false,"to":{"one":2},"at":0,"do":"send"},
@@ -99,46 +93,18 @@ pub const RELAY: &str = r#"{"configs":[
 
 pub const RELAY_REPORT: &[&str] = &[
     r#"{"end":[],"n":0,"put":[],"reply":{"capacity":72},"take":[]}"#,
-    r#"{"end":[],"n":1,"put":[],"reply":{"capacity":8},"take":[]}"#,
+    r#"{"end":[],"n":1,"put":[],"reply":{"capacity":72},"take":[]}"#,
     r#"{"end":[],"n":2,"put":[["router:0",{"subscribe":7}]],"reply":"ok","take":[]}"#,
     r#"{"end":[],"n":3,"put":[["router:1",{"subscribe":7}]],"reply":"ok","take":[]}"#,
     r#"{"end":[],"n":4,"put":[["router:0",{"ready":{"conn":4,"key":2}}],["router:1",{"ready":{"conn":4,"key":1}}]],"reply":"ok","take":[]}"#,
     r#"{"end":[],"n":5,"put":[["peers:0:7",[]]],"reply":"ok","take":[[2,0]]}"#,
     r#"{"end":[["item",5,0]],"n":6,"put":[["ready:0:4",true],["peers:0:7",[2]]],"reply":"ok","take":[[4,0]]}"#,
     r#"{"end":[],"n":7,"put":[],"reply":"ok","take":[[6,0]]}"#,
-    r#"{"end":[],"n":8,"put":[["peers:1:7",[]]],"reply":"ok","take":[[3,0]]}"#,
-    r#"{"end":[["item",8,0]],"n":9,"put":[["ready:1:4",true],["peers:1:7",[1]]],"reply":"ok","take":[[4,1]]}"#,
-    r#"{"end":[],"n":10,"put":[],"reply":"ok","take":[[9,0]]}"#,
-    r#"{"end":[],"n":11,"put":[["router:0",{"content":{"channel":7,"frame":"0007017b","priority":true,"send":11,"to":[2]}}]],"reply":{"sent":[2]},"take":[]}"#,
-    r#"{"end":[],"n":12,"put":[["high:0:4",{"copy":[11,0],"frame":"0007017b"}]],"reply":"ok","take":[[11,0]]}"#,
-    r#"{"end":[],"n":13,"put":[["link:4:out",{"copy":[11,0],"frame":"0007017b"}]],"reply":"ok","take":[[12,0]]}"#,
-    r#"{"end":[],"n":14,"put":[["router:0",{"content":{"channel":7,"frame":"00070101","priority":false,"send":14,"to":[2]}}]],"reply":{"sent":[2]},"take":[]}"#,
-    r#"{"end":[],"n":15,"put":[["low:0:4",{"copy":[14,0],"frame":"00070101"}]],"reply":"ok","take":[[14,0]]}"#,
-    r#"{"end":[],"n":16,"put":[["router:0",{"content":{"channel":7,"frame":"00070102","priority":false,"send":16,"to":[2]}}]],"reply":{"sent":[2]},"take":[]}"#,
-    r#"{"end":[["copy",16,0,"relay_full"]],"n":17,"put":[],"reply":"ok","take":[[16,0]]}"#,
-    r#"{"copy":[11,0],"fate":["waiting","link:4:out"]}"#,
-    r#"{"copy":[14,0],"fate":["waiting","low:0:4"]}"#,
-    r#"{"copy":[16,0],"fate":["dropped","relay_full",17]}"#,
-    r#"{"copies":3,"entries":18}"#,
+    r#"{"end":[],"n":8,"put":[["router:0",{"content":{"channel":7,"frame":"00070101","priority":false,"send":8,"to":[2]}}]],"reply":{"sent":[2]},"take":[]}"#,
+    r#"{"end":[],"n":9,"put":[["low:0:4",{"copy":[8,0],"frame":"00070101"}]],"reply":"ok","take":[[8,0]]}"#,
+    r#"{"end":[],"n":10,"put":[["router:0",{"content":{"channel":7,"frame":"00070102","priority":false,"send":10,"to":[2]}}]],"reply":{"sent":[2]},"take":[]}"#,
+    r#"{"end":[["copy",10,0,"relay_full"]],"n":11,"put":[],"reply":"ok","take":[[10,0]]}"#,
+    r#"{"copy":[8,0],"fate":["waiting","low:0:4"]}"#,
+    r#"{"copy":[10,0],"fate":["dropped","relay_full",11]}"#,
+    r#"{"copies":2,"entries":12}"#,
 ];
-
-// Its first event asks for more than can be counted.
-pub const CAPACITY: &str = r#"{"configs":[
-    {"key":1,"preset":"local","max_peers_per_set":2147483648,"max_message_size":1024,"mailbox_size":4}],
-"script":[
-    {"channel":7,"node":0,"quota":{"burst":4294967295,"period":1},"at":0,"do":"register"}]}"#;
-
-// Its third event registers a channel after the start.
-pub const LATE: &str = r#"{"configs":[
-    {"key":1,"preset":"local","max_peers_per_set":2,"max_message_size":1024,"mailbox_size":4}],
-"script":[
-    {"channel":6,"node":0,"quota":{"burst":1,"period":1000000000},"at":0,"do":"register"},
-    {"node":0,"at":0,"do":"start"},
-    {"channel":7,"node":0,"quota":{"burst":1,"period":1000000000},"at":0,"do":"register"}]}"#;
-
-// Its second event is before the first.
-pub const MOMENTS: &str = r#"{"configs":[
-    {"key":1,"preset":"local","max_peers_per_set":2,"max_message_size":1024,"mailbox_size":4}],
-"script":[
-    {"node":0,"at":5,"do":"start"},
-    {"node":0,"at":4,"do":"router"}]}"#;

@@ -3,14 +3,15 @@ ghost use Rattle.std.specs.Prelude.{◌≡◌, ℕ, ◌<◌, ◌++◌, ◌∷◌
 ghost use Rattle.p2p_log.specs.declared.entry.Entry.{Entry};
 ghost use Rattle.p2p_log.specs.declared.event.Event.{Event};
 ghost use Rattle.p2p_log.specs.Lines.{line, live};
-ghost use Rattle.p2p_log.specs.Facts.{half_at, is_running};
-ghost use Rattle.p2p_log.specs.Effect.{entry_of, only as only_reply, batch_size_at, batch, begin_row, write_row, receive_row, other_side as other_side_of, send_step_row, recv_step_row, row as row_of};
+ghost use Rattle.p2p_log_rules.specs.Facts.{half_at, is_running};
+ghost use Rattle.p2p_log_rules.specs.Effect.{entry_of, only as only_reply, batch_size_at, batch, begin_row, write_row, receive_row, other_side as other_side_of, send_step_row, recv_step_row, row as row_of};
 ghost use Rattle.p2p_net_queues.specs.Stands.{Holds, Builds};
 ghost use Rattle.p2p_net.specs.Stands.{NodeStands, NodesStand};
 
 use crate::node::Node;
 use crate::valid::limit_of;
-use p2p_log::{Act, Config, Envelope, Half, Queue, Reply, Row, Side};
+use p2p_log::{Act, Config, Envelope, Queue, Reply, Side};
+use p2p_log_rules::{Half, Row};
 use p2p_net_halves::{begin, receive, write_batch};
 use p2p_net_queues::Board;
 use p2p_net_queues::draft::only;

@@ -3,19 +3,20 @@ ghost use Rattle.std.specs.Prelude.{◌≡◌, ◌==◌, ℕ, ◌<◌, ◌≤◌
 ghost use Rattle.p2p_log.specs.declared.entry.Entry.{Entry};
 ghost use Rattle.p2p_log.specs.declared.event.Event.{Event};
 ghost use Rattle.p2p_log.specs.Lines.{live};
-ghost use Rattle.p2p_log.specs.Facts.{key_at};
-ghost use Rattle.p2p_log.specs.Effect.{entry_of, join_row, may_join, only as only_reply, row as row_of};
+ghost use Rattle.p2p_log_rules.specs.Facts.{key_at};
+ghost use Rattle.p2p_log_rules.specs.Effect.{entry_of, join_row, may_join, only as only_reply, row as row_of};
 ghost use Rattle.p2p_net_queues.specs.Stands.{Holds, Builds};
 ghost use Rattle.p2p_log.specs.declared.config.Config.{Config};
 ghost use Rattle.p2p_net.specs.Stands.{NodeStands, NodesStand};
 ghost use Rattle.p2p_router.specs.Messenger.{is_bound};
-ghost use Rattle.p2p_log.specs.declared.row.Row.{Row};
+ghost use Rattle.p2p_log_rules.specs.declared.row.Row.{Row};
 ghost use Rattle.p2p_net.specs.Tells.{TellsOf, IsWelcome, joined_row};
 
 use crate::node::Node;
 use crate::valid::mailbox_of;
 use p2p_base::Key;
-use p2p_log::{Act, Config, Envelope, Half, Item, Queue, Reply, Row, Side};
+use p2p_log::{Act, Config, Envelope, Item, Queue, Reply, Side};
+use p2p_log_rules::{Half, Row};
 use p2p_net_queues::Board;
 use p2p_net_queues::draft::only;
 use std::alloc::{AllocError, Global};

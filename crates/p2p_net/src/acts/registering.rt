@@ -3,14 +3,15 @@ ghost use Rattle.std.specs.Prelude.{◌≡◌, ℕ, ◌+◌, ◌<◌, ◌^◌, �
 ghost use Rattle.p2p_log.specs.declared.entry.Entry.{Entry};
 ghost use Rattle.p2p_log.specs.declared.event.Event.{Event};
 ghost use Rattle.p2p_log.specs.Lines.{live};
-ghost use Rattle.p2p_log.specs.Facts.{capacity_in, capacity_for, is_up};
-ghost use Rattle.p2p_log.specs.Effect.{entry_of, register_row, row as row_of, mailbox_size_at};
+ghost use Rattle.p2p_log_rules.specs.Facts.{capacity_in, capacity_for, is_up};
+ghost use Rattle.p2p_log_rules.specs.Effect.{entry_of, register_row, row as row_of, mailbox_size_at};
 ghost use Rattle.p2p_net_queues.specs.Stands.{Holds, Builds};
 ghost use Rattle.p2p_net.specs.Stands.{NodesStand};
 ghost use Rattle.p2p_net.specs.declared.node.Node.{Node};
 
 use crate::node::Node;
-use p2p_log::{Act, Config, Envelope, Rate, Reply, Row};
+use p2p_log::{Act, Config, Envelope, Rate, Reply};
+use p2p_log_rules::Row;
 use p2p_net_queues::Board;
 use p2p_net_queues::draft::only;
 use std::alloc::{AllocError, Global};

@@ -3,12 +3,13 @@ ghost use Rattle.std.specs.Prelude.{◌≡◌, ℕ, ◌<◌, ◌++◌, ◌∷◌
 ghost use Rattle.p2p_log.specs.declared.entry.Entry.{Entry};
 ghost use Rattle.p2p_log.specs.declared.event.Event.{Event};
 ghost use Rattle.p2p_log.specs.Lines.{live};
-ghost use Rattle.p2p_log.specs.Effect.{entry_of, router_row, row as row_of};
+ghost use Rattle.p2p_log_rules.specs.Effect.{entry_of, router_row, row as row_of};
 ghost use Rattle.p2p_net_queues.specs.Stands.{Holds, Builds};
 ghost use Rattle.p2p_net.specs.Stands.{NodeStands, NodesStand};
 
 use crate::node::Node;
-use p2p_log::{Act, Config, Envelope, Reply, Row};
+use p2p_log::{Act, Config, Envelope, Reply};
+use p2p_log_rules::Row;
 use p2p_net_queues::draft::only;
 use p2p_net_queues::{Board, post};
 use std::alloc::{AllocError, Global};

@@ -3,13 +3,14 @@ ghost use Rattle.std.specs.Prelude.{◌≡◌, ◌==◌, ℕ, ◌<◌, ◌≤◌
 ghost use Rattle.p2p_log.specs.declared.entry.Entry.{Entry};
 ghost use Rattle.p2p_log.specs.declared.event.Event.{Event};
 ghost use Rattle.p2p_log.specs.Lines.{live};
-ghost use Rattle.p2p_log.specs.Effect.{entry_of, send_row, recv_row, row as row_of};
+ghost use Rattle.p2p_log_rules.specs.Effect.{entry_of, send_row, recv_row, row as row_of};
 ghost use Rattle.p2p_net_queues.specs.Stands.{Holds, Builds};
 ghost use Rattle.p2p_net.specs.Stands.{NodeStands, NodesStand};
 
 use crate::node::Node;
 use bytes::Bytes;
-use p2p_log::{Act, Config, Envelope, Recipients, Reply, Row};
+use p2p_log::{Act, Config, Envelope, Recipients, Reply};
+use p2p_log_rules::Row;
 use p2p_net_queues::draft::only;
 use p2p_net_queues::{Board, read_message};
 use std::alloc::{AllocError, Global};

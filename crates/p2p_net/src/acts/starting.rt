@@ -3,15 +3,16 @@ ghost use Rattle.std.specs.Prelude.{◌≡◌, ℕ, ◌<◌, ◌++◌, ◌∷◌
 ghost use Rattle.p2p_log.specs.declared.entry.Entry.{Entry};
 ghost use Rattle.p2p_log.specs.declared.event.Event.{Event};
 ghost use Rattle.p2p_log.specs.Lines.{live};
-ghost use Rattle.p2p_log.specs.Facts.{is_up};
-ghost use Rattle.p2p_log.specs.Effect.{entry_of, start_row, row as row_of};
-ghost use Rattle.p2p_log.specs.Valid.{config_fault as config_fault_of};
+ghost use Rattle.p2p_log_rules.specs.Facts.{is_up};
+ghost use Rattle.p2p_log_rules.specs.Effect.{entry_of, start_row, row as row_of};
+ghost use Rattle.p2p_log_rules.specs.Valid.{config_fault as config_fault_of};
 ghost use Rattle.p2p_net_queues.specs.Stands.{Holds, Builds};
 ghost use Rattle.p2p_net.specs.Stands.{NodeStands, NodesStand};
 
 use crate::node::Node;
 use crate::valid::mailbox_of;
-use p2p_log::{Act, Config, Envelope, Row};
+use p2p_log::{Act, Config, Envelope};
+use p2p_log_rules::Row;
 use p2p_net_queues::Board;
 use std::alloc::{AllocError, Global};
 

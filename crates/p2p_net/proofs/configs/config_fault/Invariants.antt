@@ -2,7 +2,7 @@ use Rattle.std.proofs.Common.{◌≡◌, ℕ, take, drop, []}
 use Rattle.std.specs.BTreeSet as sorted
 use Rattle.std.specs.Ordering.{nat_cmp}
 use Rattle.std.specs.List.{list_any}
-use Rattle.p2p_log.specs.Valid.{has_key, config_fault_from}
+use Rattle.p2p_log_rules.specs.Valid.{has_key, config_fault_from}
 use Rattle.p2p_net.proofs.configs.config_fault.Given as goal
 
 abbrev pub invariant-loop-i : goal.invariant-loop-i

@@ -1,5 +1,5 @@
 use Rattle.std.proofs.Common.{subst, ◌∙◌, ◌++◌, ◌∷◌, []}
-use Rattle.p2p_log.specs.Effect.{entry_of}
+use Rattle.p2p_log_rules.specs.Effect.{entry_of}
 use Rattle.p2p_net.specs.Stands.{NodesStand}
 use Rattle.p2p_net.proofs.perform.perform.Goals as goal
 

@@ -1,5 +1,5 @@
 use Rattle.std.proofs.Common.{refl, ap}
-use Rattle.p2p_log.specs.Effect.{row, entry_of}
+use Rattle.p2p_log_rules.specs.Effect.{row, entry_of}
 use Rattle.p2p_log.specs.declared.event.Act.TheVariants as act
 use Rattle.p2p_net.proofs.Nodes.{NodesStand-kept}
 use Rattle.p2p_net.proofs.perform.perform_recv_step.Goals as goal

@@ -1,4 +1,4 @@
-use Rattle.p2p_log.specs.Effect.{row}
+use Rattle.p2p_log_rules.specs.Effect.{row}
 use Rattle.p2p_net.proofs.perform.perform_register.Goals as goal
 
 pub returns-clause-row : goal.returns-clause-row

@@ -1,8 +1,8 @@
 use Rattle.std.proofs.Common.{◌≡◌, refl, ap, sym, subst, ◌∙◌, ◌++◌, ◌∷◌, [], length, true}
 use Rattle.p2p_log.specs.Lines.{live}
-use Rattle.p2p_log.specs.Facts.{events_of}
-use Rattle.p2p_log.specs.Effect.{row, entry_of}
-use Rattle.p2p_log.specs.Valid.{is_valid_event}
+use Rattle.p2p_log_rules.specs.Facts.{events_of}
+use Rattle.p2p_log_rules.specs.Effect.{row, entry_of}
+use Rattle.p2p_log_rules.specs.Valid.{is_valid_event}
 use Rattle.p2p_net_queues.specs.Stands.{Holds}
 use Rattle.p2p_net.specs.Stands.{NodesStand}
 use Rattle.p2p_net.specs.World.{PartsStand}

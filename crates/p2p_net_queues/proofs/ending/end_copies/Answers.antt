@@ -1,6 +1,6 @@
 use Rattle.std.proofs.Common.{◌+◌, ap, sym, ◌∙◌, ◌++◌, ◌∷◌, [], append_assoc, drop, add-one}
 use Rattle.p2p_log.specs.declared.end.End.TheVariants as end
-use Rattle.p2p_log.specs.Effect.{copies_end}
+use Rattle.p2p_log_rules.specs.Effect.{copies_end}
 use Rattle.p2p_net_queues.proofs.Steps.{copies_end-drop}
 use Rattle.p2p_net_queues.proofs.ending.end_copies.Goals as goal
 

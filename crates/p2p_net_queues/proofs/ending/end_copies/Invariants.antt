@@ -1,5 +1,5 @@
 use Rattle.std.proofs.Common.{◌≡◌, ◌++◌, drop}
-use Rattle.p2p_log.specs.Effect.{copies_end}
+use Rattle.p2p_log_rules.specs.Effect.{copies_end}
 use Rattle.p2p_net_queues.proofs.ending.end_copies.Given as goal
 
 abbrev pub invariant-loop-place : goal.invariant-loop-place

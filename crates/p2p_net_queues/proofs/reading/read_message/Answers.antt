@@ -1,5 +1,5 @@
 use Rattle.std.proofs.Common.{refl, ap, ◌∙◌}
-use Rattle.p2p_log.specs.declared.row.Row.{Row}
+use Rattle.p2p_log_rules.specs.declared.row.Row.{Row}
 use Rattle.p2p_net_queues.specs.Stands.{Builds}
 use Rattle.p2p_net_queues.proofs.Building.{Builds-only, Builds-is, Builds-with_message}
 use Rattle.p2p_net_queues.proofs.reading.read_message.Goals as goal

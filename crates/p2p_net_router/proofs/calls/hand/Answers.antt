@@ -1,7 +1,7 @@
 use Rattle.std.proofs.Common.{◌≡◌, List, true, false, Some, ap, sym, ◌∙◌, rules}
 use Rattle.p2p_base.specs.declared.key.Key.{Key}
 use Rattle.p2p_wire.specs.declared.encoded.EncodedData.{EncodedData}
-use Rattle.p2p_log.specs.Frames.{frame_of}
+use Rattle.p2p_log_rules.specs.Frames.{frame_of}
 use Rattle.p2p_flow.specs.declared.plain.Recipients.TheVariants as recipients
 use Rattle.p2p_router.specs.Mailbox.{with_content}
 use Rattle.p2p_router.specs.Messenger.{in_mailbox}

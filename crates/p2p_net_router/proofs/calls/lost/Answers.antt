@@ -3,7 +3,7 @@ use Rattle.p2p_log.specs.declared.end.End.{End}
 use Rattle.p2p_log.specs.declared.end.Cause.TheVariants as cause
 use Rattle.p2p_log.specs.declared.end.Outcome.TheVariants as outcome
 use Rattle.p2p_log.specs.declared.entry.Reply.TheVariants as reply
-use Rattle.p2p_log.specs.Effect.{only, copies_end}
+use Rattle.p2p_log_rules.specs.Effect.{only, copies_end}
 use Rattle.p2p_net_router.proofs.calls.lost.Goals as goal
 
 pub returns : goal.returns

@@ -1,7 +1,7 @@
 use Rattle.std.proofs.Common.{◌++◌, ◌∷◌, [], ap, sym, subst, ◌∙◌}
 use Rattle.p2p_log.specs.declared.entry.Reply.TheVariants as reply
-use Rattle.p2p_log.specs.declared.row.Row.{Row}
-use Rattle.p2p_log.specs.Effect.{only}
+use Rattle.p2p_log_rules.specs.declared.row.Row.{Row}
+use Rattle.p2p_log_rules.specs.Effect.{only}
 use Rattle.p2p_net_router.specs.Building.{NamesBuild}
 use Rattle.p2p_net_router.proofs.Sent.{sent_item}
 use Rattle.p2p_net_router.proofs.calls.note_sent.Goals as goal

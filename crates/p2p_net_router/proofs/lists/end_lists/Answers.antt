@@ -2,7 +2,7 @@ use Rattle.std.proofs.Common.{◌≡◌, ℕ, ◌+◌, ◌++◌, ◌∷◌, [], 
 use Rattle.std.specs.Prelude.{filter, flat_map}
 use Rattle.std.proofs.lemmas.List.{take_more, take_all}
 use Rattle.p2p_log.specs.Lines.{stays, ended_item}
-use Rattle.p2p_log.specs.Effect.{peers_ends}
+use Rattle.p2p_log_rules.specs.Effect.{peers_ends}
 use Rattle.p2p_log.proofs.Lines.{filter_stays-nil}
 use Rattle.p2p_net_queues.specs.Board.{held}
 use Rattle.p2p_net_router.specs.Names.{Agrees, label}

@@ -2,7 +2,7 @@ use Rattle.std.proofs.Common.{◌≡◌, ◌++◌, List, take}
 use Rattle.std.specs.Prelude.{filter, flat_map}
 use Rattle.p2p_log.specs.declared.item.Envelope.{Envelope}
 use Rattle.p2p_log.specs.Lines.{stays, ended_item}
-use Rattle.p2p_log.specs.Effect.{peers_ends}
+use Rattle.p2p_log_rules.specs.Effect.{peers_ends}
 use Rattle.p2p_log.specs.Apart.{AreApart}
 use Rattle.p2p_net_queues.specs.Board.{held}
 use Rattle.p2p_net_router.specs.Names.{Agrees, label}

@@ -1,7 +1,7 @@
 use Rattle.std.proofs.Common.{[], ◌∷◌, ◌++◌, get_or, ap, ◌∙◌}
 use Rattle.p2p_log.specs.declared.item.Item.TheVariants as item
 use Rattle.p2p_log.specs.declared.queue.Queue.TheVariants as queue
-use Rattle.p2p_log.specs.Effect.{peers_put}
+use Rattle.p2p_log_rules.specs.Effect.{peers_put}
 use Rattle.p2p_net_router.proofs.Building.{puts_more, puts_all}
 use Rattle.p2p_net_router.proofs.lists.note_lists.Goals as goal
 

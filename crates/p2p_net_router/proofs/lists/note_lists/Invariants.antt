@@ -1,7 +1,7 @@
 use Rattle.std.proofs.Common.{◌≡◌, ℕ, ◌++◌, List, take}
 use Rattle.std.specs.Prelude.{map}
 use Rattle.p2p_log.specs.declared.item.Envelope.{Envelope}
-use Rattle.p2p_log.specs.Effect.{peers_put}
+use Rattle.p2p_log_rules.specs.Effect.{peers_put}
 use Rattle.p2p_net_router.specs.Building.{NamesBuild}
 use Rattle.p2p_net_router.proofs.lists.note_lists.Given as goal
 

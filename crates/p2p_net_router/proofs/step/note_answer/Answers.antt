@@ -2,9 +2,9 @@ use Rattle.std.proofs.Common.{◌≡◌, [], refl, ap, sym, subst, ◌∙◌, ap
 use Rattle.std.specs.Prelude.{filter}
 use Rattle.p2p_base.specs.declared.key.Key.{Key}
 use Rattle.p2p_log.specs.declared.entry.Reply.TheVariants as reply
-use Rattle.p2p_log.specs.declared.row.Row.{Row}
+use Rattle.p2p_log_rules.specs.declared.row.Row.{Row}
 use Rattle.p2p_log.specs.Lines.{name_of, stays}
-use Rattle.p2p_log.specs.Effect.{only}
+use Rattle.p2p_log_rules.specs.Effect.{only}
 use Rattle.p2p_log.proofs.Lines.{filter_stays-nil}
 use Rattle.p2p_net_queues.specs.Board.{held}
 use Rattle.p2p_net_queues.specs.Rows.{taken_row}

@@ -1,5 +1,5 @@
 use Rattle.std.proofs.Common.{ap}
-use Rattle.p2p_log.specs.declared.row.Row.{Row}
+use Rattle.p2p_log_rules.specs.declared.row.Row.{Row}
 use Rattle.p2p_net_router.specs.Names.{tag_of}
 use Rattle.p2p_net_router.specs.Oldest.{without, send_of}
 use Rattle.p2p_net_router.proofs.Telling.{row_taken, row_copied, names_copied, NamesBuild-start}

@@ -1,5 +1,5 @@
 use Rattle.std.proofs.Common.{ap, ◌∙◌}
-use Rattle.p2p_log.specs.Effect.{only}
+use Rattle.p2p_log_rules.specs.Effect.{only}
 use Rattle.p2p_net_router.proofs.step.note_step.Goals as goal
 
 pub returns : goal.returns

@@ -1,6 +1,6 @@
 use Rattle.std.proofs.Common.{ap}
 use Rattle.std.specs.Prelude.{map}
-use Rattle.p2p_log.specs.declared.row.Row.{Row}
+use Rattle.p2p_log_rules.specs.declared.row.Row.{Row}
 use Rattle.p2p_net_router.specs.Items.{channel_of}
 use Rattle.p2p_net_router.specs.Oldest.{without}
 use Rattle.p2p_net_router.specs.Stepped.{answers_put}

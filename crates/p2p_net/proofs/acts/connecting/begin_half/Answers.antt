@@ -2,7 +2,7 @@ use Rattle.std.proofs.Common.{true, cond, [], ◌∷◌, ◌++◌, ap, sym, refl
 use Rattle.std.specs.BTreeSet as sorted
 use Rattle.std.specs.Ordering.{nat_cmp, is_eq}
 use Rattle.p2p_log.specs.declared.queue.Queue.TheVariants as queue
-use Rattle.p2p_log.specs.Effect.{begin_row, entry_of}
+use Rattle.p2p_log_rules.specs.Effect.{begin_row, entry_of}
 use Rattle.p2p_net_halves.specs.Answered.{is_answered}
 use Rattle.p2p_net.specs.declared.node.Node.{Node}
 use Rattle.p2p_net.specs.Stands.{NodeStands}

@@ -1,7 +1,7 @@
 use Rattle.std.proofs.Common.{ap, ◌∙◌}
 use Rattle.p2p_log.specs.declared.queue.Queue.TheVariants as queue
 use Rattle.p2p_log.specs.Lines.{line}
-use Rattle.p2p_log.specs.Effect.{receive_row}
+use Rattle.p2p_log_rules.specs.Effect.{receive_row}
 use Rattle.p2p_net.proofs.acts.connecting.receive_half.Goals as goal
 
 pub returns-clause-row : goal.returns-clause-row

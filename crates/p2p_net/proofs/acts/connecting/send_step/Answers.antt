@@ -2,8 +2,8 @@ use Rattle.std.proofs.Common.{ap, arith}
 use Rattle.std.specs.Prelude.{not}
 use Rattle.p2p_log.specs.declared.event.Act.TheVariants as act
 use Rattle.p2p_log.specs.declared.entry.Reply.TheVariants as reply
-use Rattle.p2p_log.specs.declared.row.Row.{Row}
-use Rattle.p2p_log.specs.Effect.{entry_of}
+use Rattle.p2p_log_rules.specs.declared.row.Row.{Row}
+use Rattle.p2p_log_rules.specs.Effect.{entry_of}
 use Rattle.p2p_net_queues.proofs.Building.{Builds-only}
 use Rattle.p2p_net.proofs.Nodes.{NodeStands-at, NodesStand-set, NodesStand-kept_as, found}
 use Rattle.p2p_net.proofs.Conns.{NodeStands-unsent}

@@ -1,7 +1,7 @@
 use Rattle.std.proofs.Common.{ap, ◌∙◌}
 use Rattle.p2p_log.specs.declared.queue.Queue.TheVariants as queue
 use Rattle.p2p_log.specs.Lines.{live}
-use Rattle.p2p_log.specs.Effect.{write_row, mailbox_size_at}
+use Rattle.p2p_log_rules.specs.Effect.{write_row, mailbox_size_at}
 use Rattle.p2p_log.proofs.Names.{AreApart-live_from}
 use Rattle.p2p_net_router.specs.Batches.{batch_of}
 use Rattle.p2p_net.proofs.Conns.{batch_now, write_row-batch, NodeStands-wrote, IsBatch-now}

@@ -1,7 +1,7 @@
 use Rattle.std.proofs.Common.{◌++◌, ◌∷◌, [], sym, subst, ◌∙◌}
 use Rattle.p2p_log.specs.declared.entry.Reply.TheVariants as reply
-use Rattle.p2p_log.specs.declared.row.Row.{Row}
-use Rattle.p2p_log.specs.Effect.{entry_of}
+use Rattle.p2p_log_rules.specs.declared.row.Row.{Row}
+use Rattle.p2p_log_rules.specs.Effect.{entry_of}
 use Rattle.p2p_net_queues.proofs.Building.{Builds-only}
 use Rattle.p2p_net.specs.Stands.{NodesStand}
 use Rattle.p2p_net.proofs.Calls.{Builds-joined}

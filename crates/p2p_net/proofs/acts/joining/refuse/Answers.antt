@@ -1,6 +1,6 @@
 use Rattle.std.proofs.Common.{refl, ap, arith}
 use Rattle.std.proofs.lemmas.Bool.Decides.{nat_tests}
-use Rattle.p2p_log.specs.Effect.{only, entry_of}
+use Rattle.p2p_log_rules.specs.Effect.{only, entry_of}
 use Rattle.p2p_log.specs.declared.entry.Reply.TheVariants as reply
 use Rattle.p2p_net.proofs.Nodes.{NodeStands-at, found}
 use Rattle.p2p_net.proofs.Joins.{told_gone, named_first, named_second, NodesStand-set_both, NodesStand-set_one, found_second}

@@ -2,9 +2,9 @@ use Rattle.std.proofs.Common.{ap, sym, ◌∙◌}
 use Rattle.std.specs.Prelude.{not}
 use Rattle.p2p_log.specs.declared.event.Act.TheVariants as act
 use Rattle.p2p_log.specs.declared.entry.Reply.TheVariants as reply
-use Rattle.p2p_log.specs.declared.row.Row.{Row}
-use Rattle.p2p_log.specs.Facts.{channels, capacity_in}
-use Rattle.p2p_log.specs.Effect.{entry_of}
+use Rattle.p2p_log_rules.specs.declared.row.Row.{Row}
+use Rattle.p2p_log_rules.specs.Facts.{channels, capacity_in}
+use Rattle.p2p_log_rules.specs.Effect.{entry_of}
 use Rattle.p2p_net_queues.proofs.Building.{Builds-only}
 use Rattle.p2p_net.proofs.Nodes.{NodeStands-at, NodesStand-set, found}
 use Rattle.p2p_net.proofs.Changes.{FactsStand-register}

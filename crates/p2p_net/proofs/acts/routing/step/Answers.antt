@@ -2,9 +2,9 @@ use Rattle.std.proofs.Common.{◌≡◌, ◌++◌, true, refl, ap, sym, ◌∙�
 use Rattle.p2p_log.specs.declared.event.Act.TheVariants as act
 use Rattle.p2p_log.specs.declared.entry.Reply.TheVariants as reply
 use Rattle.p2p_log.specs.declared.queue.Queue.TheVariants as queue
-use Rattle.p2p_log.specs.declared.row.Row.{Row}
+use Rattle.p2p_log_rules.specs.declared.row.Row.{Row}
 use Rattle.p2p_log.specs.Lines.{line, placed, stands_in}
-use Rattle.p2p_log.specs.Effect.{entry_of, route_oldest}
+use Rattle.p2p_log_rules.specs.Effect.{entry_of, route_oldest}
 use Rattle.std.specs.Prelude.{filter}
 use Rattle.p2p_net_queues.specs.Board.{held}
 use Rattle.p2p_net_queues.proofs.Building.{Builds-only}

@@ -1,7 +1,7 @@
 use Rattle.std.proofs.Common.{ap}
 use Rattle.std.specs.Prelude.{not}
 use Rattle.p2p_log.specs.declared.event.Act.TheVariants as act
-use Rattle.p2p_log.specs.Effect.{entry_of}
+use Rattle.p2p_log_rules.specs.Effect.{entry_of}
 use Rattle.p2p_net.proofs.Nodes.{NodeStands-at, NodesStand-set, found}
 use Rattle.p2p_net.proofs.acts.routing.step_router.Goals as goal
 

@@ -1,6 +1,6 @@
 use Rattle.std.proofs.Common.{◌≡◌, ◌+◌, true, ap, sym, ◌∙◌, arith}
 use Rattle.p2p_log.specs.declared.event.Act.TheVariants as act
-use Rattle.p2p_log.specs.Effect.{entry_of, mailbox_size_at, router_capacity, start_row}
+use Rattle.p2p_log_rules.specs.Effect.{entry_of, mailbox_size_at, router_capacity, start_row}
 use Rattle.p2p_net_router.specs.declared.router.Router.{Router}
 use Rattle.p2p_net.proofs.Changes.{FactsStand-start}
 use Rattle.p2p_net.proofs.Keeps.{FactsStand-rerouted}

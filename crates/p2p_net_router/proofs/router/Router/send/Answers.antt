@@ -1,7 +1,7 @@
 use Rattle.std.proofs.Common.{◌≡◌, [], ◌∷◌, true, false, refl, ap, sym, ◌∙◌, rules}
 use Rattle.p2p_log.specs.declared.entry.Reply.TheVariants as reply
-use Rattle.p2p_log.specs.Frames.{frame_of}
-use Rattle.p2p_log.specs.Effect.{only}
+use Rattle.p2p_log_rules.specs.Frames.{frame_of}
+use Rattle.p2p_log_rules.specs.Effect.{only}
 use Rattle.p2p_flow.specs.declared.plain.Recipients.TheVariants as to
 use Rattle.p2p_router.specs.Messenger.{is_bound, content_answered}
 use Rattle.p2p_net_router.specs.Frames.{refuses}

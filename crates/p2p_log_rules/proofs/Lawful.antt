@@ -7,8 +7,8 @@ use Rattle.std.proofs.Math.Seq.{take-append_seam}
 use Rattle.p2p_log.specs.declared.config.Config.{Config}
 use Rattle.p2p_log.specs.declared.event.Event.{Event}
 use Rattle.p2p_log.specs.declared.entry.Entry.{Entry}
-use Rattle.p2p_log.specs.Effect.{effect}
-use Rattle.p2p_log.specs.Lawful.{IsLawful}
+use Rattle.p2p_log_rules.specs.Effect.{effect}
+use Rattle.p2p_log_rules.specs.Lawful.{IsLawful}
 use Rattle.p2p_log.proofs.Places.{slice_get-append}
 
 pub IsLawful-nil : (configs : List Config) → IsLawful configs [] []

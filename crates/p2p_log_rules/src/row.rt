@@ -1,9 +1,6 @@
 //! What an act comes to.
-use crate::end::End;
-use crate::entry::Reply;
-use crate::item::Item;
-use crate::queue::{Queue, Side};
 use p2p_base::{Key, List};
+use p2p_log::{End, Item, Queue, Reply, Side};
 
 /// What an act comes to: its reply, the names of the items that it takes, what it puts in which queue, and what it ends.
 #[derive(Drop)]

@@ -6,7 +6,7 @@ use Rattle.p2p_log.specs.declared.item.Item.{Item}
 use Rattle.p2p_log.specs.declared.item.Envelope.{Envelope}
 use Rattle.p2p_log.specs.declared.entry.Entry.{Entry}
 use Rattle.p2p_log.specs.Lines.{name_of, placed, goes, stays, live_from, live, stands_in, line}
-use Rattle.p2p_log.specs.Facts.{item_put, item_in, item_named}
+use Rattle.p2p_log_rules.specs.Facts.{item_put, item_in, item_named}
 use Rattle.p2p_log.proofs.Places.{slice_get-seam}
 
 -- the log has these items under their names

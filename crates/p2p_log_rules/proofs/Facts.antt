@@ -9,9 +9,9 @@ use Rattle.p2p_base.specs.declared.key.Key.{Key}
 use Rattle.p2p_log.specs.declared.config.Config.{Config}
 use Rattle.p2p_log.specs.declared.item.Item.{Item}
 use Rattle.p2p_log.specs.declared.event.Event.{Event}
-use Rattle.p2p_log.specs.declared.row.Half.{Half}
+use Rattle.p2p_log_rules.specs.declared.row.Half.{Half}
 use Rattle.p2p_log.specs.declared.entry.Entry.{Entry}
-use Rattle.p2p_log.specs.Facts.{events_of, starts, has_started, registers_at, registered, taken, history_from, history, routed_by, routed, subscriber_of, subscribers, with_route, routes_after, routes, half_of, half_in, half_at, answers_by, is_running, joins, is_joined}
+use Rattle.p2p_log_rules.specs.Facts.{events_of, starts, has_started, registers_at, registered, taken, history_from, history, routed_by, routed, subscriber_of, subscribers, with_route, routes_after, routes, half_of, half_in, half_at, answers_by, is_running, joins, is_joined}
 use Rattle.p2p_log.proofs.Places.{slice_get-append}
 
 or-false : (b : Bool) → (b || false) ≡ b

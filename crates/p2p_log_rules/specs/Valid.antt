@@ -7,8 +7,8 @@ use Rattle.p2p_log.specs.declared.event.Event.{Event}
 use Rattle.p2p_log.specs.declared.event.Rate.{Rate}
 use Rattle.p2p_log.specs.declared.event.Act.{Act}
 use Rattle.p2p_log.specs.declared.event.Act.TheVariants as act
-use Rattle.p2p_log.specs.Facts.{has_started, registered, capacity_for, capacity_in, sum_capacities}
-use Rattle.p2p_log.specs.Effect.{mailbox_size_at, limit_at}
+use Rattle.p2p_log_rules.specs.Facts.{has_started, registered, capacity_for, capacity_in, sum_capacities}
+use Rattle.p2p_log_rules.specs.Effect.{mailbox_size_at, limit_at}
 
 -- ---- configurations
 

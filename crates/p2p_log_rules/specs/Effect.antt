@@ -18,17 +18,17 @@ use Rattle.p2p_log.specs.declared.end.Cause.TheVariants as cause
 use Rattle.p2p_log.specs.declared.entry.Entry.{Entry}
 use Rattle.p2p_log.specs.declared.entry.Reply.{Reply}
 use Rattle.p2p_log.specs.declared.entry.Reply.TheVariants as reply
-use Rattle.p2p_log.specs.declared.row.Row.{Row}
+use Rattle.p2p_log_rules.specs.declared.row.Row.{Row}
 use Rattle.p2p_log.specs.declared.event.Act.{Act}
 use Rattle.p2p_log.specs.declared.event.Act.TheVariants as act
 use Rattle.p2p_log.specs.declared.event.Rate.{Rate}
 use Rattle.p2p_log.specs.declared.event.Recipients.{Recipients}
-use Rattle.p2p_log.specs.declared.event.Recipients.TheVariants as recipients
 use Rattle.p2p_log.specs.declared.event.Event.{Event}
 use Rattle.p2p_log.specs.QueueCode.{same_queue}
 use Rattle.p2p_log.specs.Lines.{line, live, name_of, stands_in, stays, ended_item}
-use Rattle.p2p_log.specs.Facts.{is_up, channels, capacity_in, capacity_for, sum_capacities, subscribers, routes, with_route, keys_in, route_to, key_at, half_at, is_running, is_joined}
-use Rattle.p2p_log.specs.Frames.{frame_of, message_in}
+use Rattle.p2p_log.specs.Copies.{keys_of_recipients}
+use Rattle.p2p_log_rules.specs.Facts.{is_up, channels, capacity_in, capacity_for, sum_capacities, subscribers, routes, with_route, keys_in, route_to, key_at, half_at, is_running, is_joined}
+use Rattle.p2p_log_rules.specs.Frames.{frame_of, message_in}
 
 -- a reply that moves nothing
 abbrev pub only : Reply → Row
@@ -59,10 +59,6 @@ join_row configs log a b =
       ends = [];
     })
     (only reply.Gone)
-
-abbrev pub keys_of_recipients : Recipients → List Key
-keys_of_recipients (recipients.One k) = k ∷ []
-keys_of_recipients (recipients.Some ks) = ks
 
 -- each copy of the send, from this place on, ends so
 abbrev pub copies_end : ℕ → ℕ → List Key → Outcome → List End

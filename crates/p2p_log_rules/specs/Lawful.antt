@@ -3,7 +3,7 @@ use Rattle.std.specs.Prelude.{◌≡◌, ℕ, List, length, take, Some, slice_ge
 use Rattle.p2p_log.specs.declared.config.Config.{Config}
 use Rattle.p2p_log.specs.declared.event.Event.{Event}
 use Rattle.p2p_log.specs.declared.entry.Entry.{Entry}
-use Rattle.p2p_log.specs.Effect.{effect}
+use Rattle.p2p_log_rules.specs.Effect.{effect}
 
 -- a log has one entry for each event, and each is the effect of its event after the entries before it
 pub record IsLawful (configs : List Config) (script : List Event) (log : List Entry) : Type 0 where

@@ -1,0 +1,5 @@
+pub mod Effect
+pub mod Facts
+pub mod Frames
+pub mod Lawful
+pub mod Valid
