@@ -8,6 +8,7 @@ pub mod Each
 pub mod FateLaws
 pub mod FirstEnd
 pub mod Fitting
+pub mod Following
 pub mod FrameLaw
 pub mod Fronts
 pub mod Joins

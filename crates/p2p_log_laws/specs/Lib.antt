@@ -3,3 +3,4 @@ pub mod Delivered
 pub mod Fates
 pub mod OneEnd
 pub mod Order
+pub mod Worked

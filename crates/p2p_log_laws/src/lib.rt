@@ -7,9 +7,11 @@ pub mod delivery;
 pub mod ends;
 pub mod fates;
 pub mod order;
+pub mod worked;
 
 pub use causes::each_drop_shows_its_cause;
 pub use delivery::only_sent_is_delivered;
 pub use ends::one_end;
 pub use fates::fates_are_true;
 pub use order::delivered_in_order;
+pub use worked::worked_rows;
