@@ -2,4 +2,5 @@ pub mod Effect
 pub mod Facts
 pub mod Frames
 pub mod Lawful
+pub mod Reading
 pub mod Valid

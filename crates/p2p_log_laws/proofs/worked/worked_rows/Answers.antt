@@ -3,7 +3,7 @@ use Rattle.std.proofs.Common.{◌≡◌, [], Some, refl}
 use Rattle.p2p_log.specs.declared.end.Cause.TheVariants as cause
 use Rattle.p2p_log.specs.declared.queue.Queue.TheVariants as queue
 use Rattle.p2p_log.specs.declared.report.Fate.TheVariants as fate
-use Rattle.p2p_log.specs.Copies.{accepted}
+use Rattle.p2p_log.specs.Sending.{sending_at}
 use Rattle.p2p_log.specs.Fates.{fate_of}
 use Rattle.p2p_log.specs.Lines.{line, live_from}
 use Rattle.p2p_log_rules.specs.Effect.{effect, row}
@@ -32,15 +32,15 @@ unfolding effect row line live_from has_started registered taken history_from ro
 drop_without_connection_follows = (refl, (refl, (refl, (refl, (refl, tt)))))
 
 delivered : fate_of delivery (5, 0) ≡ Some (fate.Delivered (queue.Channel 1 7) 15)
-unfolding fate_of accepted
+unfolding fate_of sending_at
 delivered = refl
 
 unbound : fate_of drop_before_start (1, 0) ≡ Some (fate.Dropped cause.Unbound 1)
-unfolding fate_of accepted
+unfolding fate_of sending_at
 unbound = refl
 
 not_connected : fate_of drop_without_connection (2, 0) ≡ Some (fate.Dropped cause.NoConnection 4)
-unfolding fate_of accepted
+unfolding fate_of sending_at
 not_connected = refl
 
 pub returns : goal.returns
