@@ -7,6 +7,7 @@ pub mod Coming
 pub mod ConnShapes
 pub mod Delivering
 pub mod Drops
+pub mod Entries
 pub mod FateLaws
 pub mod FirstEnd
 pub mod Fitting
@@ -15,8 +16,10 @@ pub mod Following
 pub mod FrameLaw
 pub mod Joins
 pub mod Leads
+pub mod Leaving
 pub mod Ledger
 pub mod Marks
+pub mod Newest
 pub mod OneLink
 pub mod OneShape
 pub mod Ordering
@@ -37,3 +40,4 @@ pub mod Stages
 pub mod Sublists
 pub mod Telling
 pub mod Truth
+pub mod Turns

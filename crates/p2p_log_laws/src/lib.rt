@@ -6,6 +6,7 @@ pub mod causes;
 pub mod delivery;
 pub mod ends;
 pub mod fates;
+pub mod grants;
 pub mod order;
 pub mod worked;
 
@@ -13,5 +14,6 @@ pub use causes::each_drop_shows_its_cause;
 pub use delivery::only_sent_is_delivered;
 pub use ends::one_end;
 pub use fates::fates_are_true;
+pub use grants::{grants_take_turns, queues_keep_order};
 pub use order::delivered_in_order;
 pub use worked::worked_rows;
