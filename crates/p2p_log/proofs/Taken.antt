@@ -9,18 +9,13 @@ use Rattle.p2p_log.specs.QueueCode.{same_queue}
 use Rattle.p2p_log.specs.Lines.{name_of, same_name, stays, stands_in, lines_in}
 use Rattle.p2p_log.specs.Drained.{drained, each_with, drained_with}
 use Rattle.p2p_log.specs.Apart.{NoneNamed, AreApart}
+use Rattle.p2p_log.specs.Taken.{AreTaken}
 use Rattle.p2p_log.proofs.Each.{Has, Has-of_kept, Each-has, Each-from_has, Each-append, Each-filter, Each-first, Each-weaker}
 use Rattle.p2p_log.proofs.Filters.{filter-same, filter-none}
 use Rattle.p2p_log.proofs.Lines.{filter_stays-append, filter_stays-nil}
 use Rattle.p2p_log.proofs.Names.{AreApart-filter, same_name-refl, same_name-sym, filter_stays-none, filter_stays-first}
 use Rattle.p2p_log.proofs.QueueNames.{Each-in_queue}
 use Rattle.p2p_log.proofs.Queues.{same_queue-congr, same_queue-refl, same_queue-sym}
-
--- each of these is the first of its queue when its turn comes
-abbrev pub AreTaken : List Envelope → List Envelope → Type 0
-AreTaken xs [] = Unit {0}
-AreTaken xs (x ∷ taken) =
-    (rest : List Envelope) × (filter (stands_in x.queue) xs ≡ x ∷ rest) × AreTaken (filter (stays (name_of x ∷ [])) xs) taken
 
 pub none_each : (n : ℕ × ℕ) (xs : List Envelope) → NoneNamed n xs → Each (λ x. same_name (name_of x) n ≡ false) xs
 none_each n [] h = tt

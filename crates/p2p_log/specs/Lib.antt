@@ -6,3 +6,4 @@ pub mod Lines
 pub mod QueueCode
 pub mod QueueOrder
 pub mod Sending
+pub mod Taken

@@ -8,7 +8,6 @@ use Rattle.std.specs.List.{AllByRecursion as Each}
 use Rattle.std.proofs.lemmas.Bool.Decides.{nat_tests}
 use Rattle.std.proofs.lemmas.List.Concat.{flat_map-append}
 use Rattle.std.proofs.lemmas.List.Sums.{sum_by-append}
-use Rattle.p2p_log.specs.declared.config.Config.{Config}
 use Rattle.p2p_log.specs.declared.item.Envelope.{Envelope}
 use Rattle.p2p_log.specs.declared.entry.Entry.{Entry}
 use Rattle.p2p_log.specs.declared.event.Event.{Event}
@@ -21,8 +20,9 @@ use Rattle.p2p_log.proofs.Names.{AreApart-live_from}
 use Rattle.p2p_log_laws.specs.OneEnd.{EachEndsOnce}
 use Rattle.p2p_log.proofs.Each.{Each-append, Each-filter}
 use Rattle.p2p_log_laws.proofs.Fitting.{Fits, StandsFit, count_by-placed, Each-placed}
-use Rattle.p2p_log_rules.proofs.Moves.{Moves, goes_moved}
-use Rattle.p2p_log_laws.proofs.Shape.{Laws, accepts}
+use Rattle.p2p_log_rules.specs.Moves.{Moves}
+use Rattle.p2p_log_rules.proofs.Moves.{goes_moved}
+use Rattle.p2p_log_laws.proofs.Shape.{IsBalanced, accepts}
 use Rattle.p2p_log_laws.proofs.Spreading.{one}
 use Rattle.p2p_log.proofs.Taken.{sum_by-taken}
 
@@ -76,7 +76,7 @@ times_ended_more log e copy =
     ap (λ ds. count_by (ends_copy copy) ds) (flat_map-append (λ d. d.ends) log (e ∷ []) ∙ ap (λ ds. ends_of log ++ ds) (append-nil e.ends))
     ∙ sum_by-append (λ d. cond (ends_copy copy d) 1 0) (ends_of log) e.ends
 
-module _ (configs : List Config) (log : List Entry) (ev : Event) (r : Row) (m : Moves log r) (laws : Laws configs log ev.act r m) where
+module _ (log : List Entry) (ev : Event) (r : Row) (m : Moves log r) where
   -- the copies that what goes carries are those that what is taken and what is ended carries
   pub carried_by_moved : (copy : ℕ × ℕ)
       → count_by (carries copy) (live log) ≡ (count_by (carries copy) m.taken + count_by (carries copy) m.ended) + count_by (carries copy) (filter (stays (goes (entry_of ev r))) (live log))
@@ -93,19 +93,19 @@ module _ (configs : List Config) (log : List Entry) (ev : Event) (r : Row) (m : 
       ∙ (sum_by-append (λ x. one (carries copy x)) (filter (stays (goes (entry_of ev r))) (live log)) (placed (length log) 0 r.puts)
       ∙ ap (λ n. count_by (carries copy) (filter (stays (goes (entry_of ev r))) (live log)) + n) (count_by-placed copy (length log) 0 r.puts))
 
-  pub balance_kept : EachEndsOnce log → EachEndsOnce (log ++ entry_of ev r ∷ [])
-  balance_kept before copy =
+  pub balance_kept : IsBalanced log ev.act r m → EachEndsOnce log → EachEndsOnce (log ++ entry_of ev r ∷ [])
+  balance_kept even before copy =
       let old : carriers log copy + times_ended log copy ≡ one (nat_lt copy.1 (length (accepted log copy.0))) = before copy in
       let taken = carried_by_moved copy in
       let more = carriers_more copy in
       let ended = times_ended_more log (entry_of ev r) copy in
       let keys = accepted_more log (entry_of ev r) copy in
-      let balanced = laws.balanced copy in
+      let balanced = even copy in
       omega (arith, old, taken, more, ended, keys, balanced)
 
-  pub fitting_kept : Each StandsFit (live log) → Each StandsFit (live (log ++ entry_of ev r ∷ []))
-  fitting_kept before =
+  pub fitting_kept : Each Fits r.puts → Each StandsFit (live log) → Each StandsFit (live (log ++ entry_of ev r ∷ []))
+  fitting_kept puts before =
       subst (Each StandsFit) (sym (live-append log (entry_of ev r)))
       (Each-append StandsFit (filter (stays (goes (entry_of ev r))) (live log)) (placed (length log) 0 r.puts)
       (Each-filter StandsFit (stays (goes (entry_of ev r))) (live log) before)
-      (Each-placed Fits (length log) 0 r.puts laws.fitting))
+      (Each-placed Fits (length log) 0 r.puts puts))

@@ -1,6 +1,7 @@
 -- What ends together: items one after another, each with its copies.
 use Rattle.p2p_log_rules.proofs.Touches.{reads, writes}
-use Rattle.p2p_log.proofs.Taken.{AreTaken, Has-taken}
+use Rattle.p2p_log.proofs.Taken.{Has-taken}
+use Rattle.p2p_log.specs.Taken.{AreTaken}
 use Rattle.p2p_log_rules.specs.Reading.{is_read}
 use Rattle.p2p_log.specs.Sending.{keys_sent, sending_of}
 use Rattle.std.proofs.lemmas.Grind.{flat_map-append}
@@ -17,7 +18,8 @@ use Rattle.p2p_log.specs.declared.event.Event.{Event}
 use Rattle.p2p_log.specs.declared.event.Act.{Act}
 use Rattle.p2p_log_rules.specs.declared.row.Row.{Row}
 use Rattle.p2p_log_rules.specs.Effect.{entry_of}
-use Rattle.p2p_log_rules.proofs.Moves.{Moves, all_end-gone}
+use Rattle.p2p_log_rules.specs.Moves.{Moves}
+use Rattle.p2p_log_rules.proofs.Moves.{all_end-gone}
 use Rattle.p2p_log.proofs.Queues.{same_queue-refl}
 use Rattle.p2p_log_laws.specs.Causes.{Shows}
 use Rattle.p2p_log_laws.proofs.Fitting.{Fits, is_bare, bare_carries_none, count_by-none}

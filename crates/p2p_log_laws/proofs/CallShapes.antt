@@ -1,6 +1,5 @@
 -- The shapes of calls: register, start, join, send and receive.
 use Rattle.p2p_log_laws.proofs.OneShape.{spent_shape}
-use Rattle.p2p_log_laws.proofs.Sublists.{IsSublist}
 use Rattle.p2p_log.specs.declared.event.Act.{Act}
 use Rattle.p2p_log_rules.specs.Reading.{reading_of, told, is_read}
 use Rattle.p2p_log.specs.Sending.Sender.{Node}
@@ -37,13 +36,15 @@ use Rattle.p2p_log.specs.Copies.{keys_of_recipients, carries_copy, ends_copy, co
 use Rattle.p2p_log_rules.specs.Effect
 use Rattle.p2p_log_rules.specs.Effect.{entry_of}
 use Rattle.p2p_log.proofs.Each.{Each-always, Each-map}
-use Rattle.p2p_log_rules.proofs.Moves.{Moves, one_taken}
+use Rattle.p2p_log_rules.specs.Moves.{Moves}
+use Rattle.p2p_log_rules.proofs.Moves.{one_taken}
 use Rattle.p2p_log.proofs.Queues.{same_queue-refl}
 use Rattle.p2p_log_rules.proofs.Touches.{reads, writes}
-use Rattle.p2p_log_laws.proofs.Carried.{IsSublist-put, put_copies}
+use Rattle.p2p_log_laws.proofs.Carried.{IsSublist-put}
 use Rattle.p2p_log_laws.proofs.Shape.{Shape, IsQuiet, Moved-nothing, accepts, still, no_moves, bare_laws, quiet_laws, no_delivery, accepts-sent}
 use Rattle.p2p_log_laws.proofs.Showing.{EndShows}
 use Rattle.p2p_log_laws.proofs.Spreading.{from_place, from_first, one, count_by-copies_end}
+use Rattle.p2p_log_laws.specs.Flow.{IsSublist, put_copies}
 
 pub register_shape : (configs : List Config) (log : List Entry) (c n : ℕ) (rate : Rate)
     → Shape configs log (act.Register c n rate) (Effect.register_row configs n rate)

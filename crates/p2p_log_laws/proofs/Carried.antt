@@ -1,24 +1,16 @@
 -- The copies that items carry, in order.
 use Rattle.std.proofs.Common.{◌≡◌, ℕ, ◌+◌, Bool, true, false, cond, List, [], ◌∷◌, ◌++◌, Some, inl, inr, refl, ap, sym, subst, ◌∙◌, append-nil}
-use Rattle.std.specs.Prelude.{filter, flat_map}
+use Rattle.std.specs.Prelude.{filter}
 use Rattle.std.specs.List.{AllByRecursion as Each}
 use Rattle.p2p_base.specs.declared.key.Key.{Key}
 use Rattle.p2p_log.specs.declared.queue.Queue.{Queue}
 use Rattle.p2p_log.specs.declared.item.Item.{Item}
 use Rattle.p2p_log.specs.declared.item.Item.TheVariants as item
-use Rattle.p2p_log.specs.declared.item.Envelope.{Envelope}
 use Rattle.p2p_log.specs.Copies.{copies_of, copies_from}
 use Rattle.p2p_log_laws.proofs.Fitting.{is_bare}
 use Rattle.p2p_log_laws.proofs.Spreads.{AreFrames}
-use Rattle.p2p_log_laws.proofs.Sublists.{IsSublist, IsSublist-nil, IsSublist-refl}
-
--- what items in queues carry
-abbrev pub carried : List Envelope → List (ℕ × ℕ)
-carried xs = flat_map (λ x. copies_of x.item) xs
-
--- what puts carry
-abbrev pub put_copies : List (Queue × Item) → List (ℕ × ℕ)
-put_copies xs = flat_map (λ x. copies_of x.1) xs
+use Rattle.p2p_log_laws.proofs.Sublists.{IsSublist-nil, IsSublist-refl}
+use Rattle.p2p_log_laws.specs.Flow.{IsSublist, put_copies}
 
 pub copies_of-bare : (i : Item) → is_bare i ≡ true → copies_of i ≡ []
 copies_of-bare (item.Content c frame priority send to) h = absurd (cc)

@@ -28,7 +28,8 @@ use Rattle.p2p_log_rules.specs.Effect
 use Rattle.p2p_log.proofs.Each.{Each-has, Each-from_has, Each-append, Each-map, Each-take, Each-weaker}
 use Rattle.p2p_log_rules.proofs.Moves.{batch_stood, one_taken, first_has}
 use Rattle.p2p_log.proofs.QueueNames.{Each-in_queue}
-use Rattle.p2p_log.proofs.Taken.{AreTaken, Each-taken}
+use Rattle.p2p_log.proofs.Taken.{Each-taken}
+use Rattle.p2p_log.specs.Taken.{AreTaken}
 use Rattle.p2p_log_rules.proofs.Touches.{reads, in_half}
 use Rattle.p2p_log_laws.proofs.Fitting.{StandsFit, Fits, fits, is_bare}
 use Rattle.p2p_log_laws.proofs.FrameLaw.{frames_give}

@@ -19,11 +19,11 @@ use Rattle.p2p_log_rules.specs.declared.row.Row.{Row}
 use Rattle.p2p_log.specs.Lines.{stands_in}
 use Rattle.p2p_log_rules.specs.Effect.{entry_of}
 use Rattle.p2p_log.proofs.Queues.{same_queue-refl}
-use Rattle.p2p_log_laws.proofs.Carried.{carried}
 use Rattle.p2p_log.proofs.Each.{Has}
-use Rattle.p2p_log_rules.proofs.Moves.{Moves}
+use Rattle.p2p_log_rules.specs.Moves.{Moves}
 use Rattle.p2p_log_laws.proofs.Shape.{Delivery, Laws}
-use Rattle.p2p_log_laws.proofs.Sublists.{IsSublist, IsSublist-nil, IsSublist-refl, IsSublist-append, IsSublist-after}
+use Rattle.p2p_log_laws.proofs.Sublists.{IsSublist-nil, IsSublist-refl, IsSublist-append, IsSublist-after}
+use Rattle.p2p_log_laws.specs.Flow.{IsSublist, carried}
 
 -- the copy that an end says was delivered
 abbrev pub delivered_copy : End → List (ℕ × ℕ)

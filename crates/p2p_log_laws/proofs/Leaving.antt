@@ -20,7 +20,8 @@ use Rattle.p2p_log.proofs.Lines.{live-append}
 use Rattle.p2p_log.proofs.Names.{same_name-refl}
 use Rattle.p2p_log.proofs.QueueNames.{Each-in_queue}
 use Rattle.p2p_log.proofs.Sending.{get_longer}
-use Rattle.p2p_log_rules.proofs.Moves.{Moves, kept, line-moved}
+use Rattle.p2p_log_rules.specs.Moves.{Moves}
+use Rattle.p2p_log_rules.proofs.Moves.{kept, line-moved}
 use Rattle.p2p_log_laws.specs.Order.{is_before}
 use Rattle.p2p_log_laws.specs.Grants.{Granting, IsAmong, EachIsTurn}
 use Rattle.p2p_log_laws.specs.Leaving.{IsTakenFrom, LeaveInOrder, ArePutAlive, OlderLeaveFirst}

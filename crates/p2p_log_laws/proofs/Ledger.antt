@@ -23,8 +23,9 @@ use Rattle.p2p_log_rules.specs.declared.row.Row.{Row}
 use Rattle.p2p_base.specs.declared.key.Key.{Key}
 use Rattle.p2p_log_rules.specs.Facts.{key_at}
 use Rattle.p2p_log.proofs.Each.{Each-has}
-use Rattle.p2p_log_rules.proofs.Moves.{Moves}
-use Rattle.p2p_log.proofs.Taken.{AreTaken, AreTaken-first, Each-taken}
+use Rattle.p2p_log_rules.specs.Moves.{Moves}
+use Rattle.p2p_log.proofs.Taken.{AreTaken-first, Each-taken}
+use Rattle.p2p_log.specs.Taken.{AreTaken}
 use Rattle.p2p_log_laws.specs.OneEnd.{EachEndsOnce}
 use Rattle.p2p_log_laws.specs.Delivered.{HasKey, IsDelivery, EachIsDelivery}
 use Rattle.p2p_log_rules.specs.Reading.{reading_of, told, is_read}
@@ -78,11 +79,11 @@ Told-more configs before ev told =
     let laws : Laws configs before ev.act r shape.moves = shape.laws told.standing in
     record {
       standing = record {
-        fitting = fitting_kept configs before ev r shape.moves laws told.standing.fitting;
+        fitting = fitting_kept before ev r shape.moves laws.fitting told.standing.fitting;
         tells = tells_kept configs frames_give before ev r shape.moves laws told.standing.tells told.routes;
       };
       routes = routes_kept configs before ev r shape.moves shape.reach told.standing.tells told.routes;
-      balance = balance_kept configs before ev r shape.moves laws told.balance;
+      balance = balance_kept before ev r shape.moves laws.balanced told.balance;
     }
 
 module _ (configs : List Config) (script : List Event) (log : List Entry) (lawful : IsLawful configs script log) where

@@ -7,6 +7,7 @@ pub mod Coming
 pub mod ConnShapes
 pub mod Delivering
 pub mod Drops
+pub mod Emptying
 pub mod Entries
 pub mod FateLaws
 pub mod FirstEnd

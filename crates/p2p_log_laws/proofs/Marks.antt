@@ -19,7 +19,8 @@ use Rattle.p2p_log_rules.specs.Effect.{entry_of, relay_queue}
 use Rattle.p2p_log.proofs.Lines.{live-append}
 use Rattle.p2p_log.proofs.Each.{Each-has, Each-append, Each-filter, Each-weaker}
 use Rattle.p2p_log_laws.proofs.Fitting.{Each-placed}
-use Rattle.p2p_log_rules.proofs.Moves.{Moves, taken_stood}
+use Rattle.p2p_log_rules.specs.Moves.{Moves}
+use Rattle.p2p_log_rules.proofs.Moves.{taken_stood}
 use Rattle.p2p_log_laws.proofs.Shape.{Origin, OfAct, OfItem, IsSpread, is_idle, Laws, Moved-origins}
 use Rattle.p2p_log.proofs.Taken.{Each-taken}
 

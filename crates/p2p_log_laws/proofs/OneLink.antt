@@ -26,14 +26,14 @@ use Rattle.p2p_log_rules.specs.Effect.{entry_of, relay_queue}
 use Rattle.p2p_log.proofs.Lines.{live-append, filter_stays-append}
 use Rattle.p2p_log.proofs.Names.{AreApart-live_from}
 use Rattle.p2p_log_laws.proofs.Balance.{live-none, accepted_more}
-use Rattle.p2p_log_laws.proofs.Carried.{put_copies}
 use Rattle.p2p_log.proofs.Each.{Has, Has-first, Has-after, Each-append, Each-filter, Each-weaker}
 use Rattle.p2p_log_laws.proofs.Fitting.{Each-placed}
 use Rattle.p2p_log_laws.proofs.Shape.{Laws, OfItem, ComesOf, Moved, accepts}
 use Rattle.p2p_log_laws.proofs.Spreading.{one}
-use Rattle.p2p_log_laws.proofs.Sublists.{IsSublist}
-use Rattle.p2p_log_rules.proofs.Moves.{Moves, taken_stood}
+use Rattle.p2p_log_rules.specs.Moves.{Moves}
+use Rattle.p2p_log_rules.proofs.Moves.{taken_stood}
 use Rattle.p2p_log.proofs.Taken.{sum_by-taken}
+use Rattle.p2p_log_laws.specs.Flow.{IsSublist, put_copies}
 
 -- ---- queues before a link's, and those of links
 

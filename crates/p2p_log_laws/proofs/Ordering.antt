@@ -23,7 +23,8 @@ use Rattle.p2p_log_rules.specs.Reading.{reading_of, is_read}
 use Rattle.p2p_log.specs.Sending.{Sender, Sending, sending_at, sending_of}
 use Rattle.p2p_log.specs.Sending.Sender.{Node, Raw}
 use Rattle.p2p_log.proofs.Each.{Has, Has-get, Has-kept, Has-flat_map, Each-has, Each-from_has}
-use Rattle.p2p_log_rules.proofs.Moves.{Moves, taken_stood}
+use Rattle.p2p_log_rules.specs.Moves.{Moves}
+use Rattle.p2p_log_rules.proofs.Moves.{taken_stood}
 use Rattle.p2p_log.proofs.Names.{same_name-refl}
 use Rattle.p2p_log.proofs.QueueNames.{queue_from_same}
 use Rattle.p2p_log.proofs.Queues.{same_queue-refl}

@@ -17,14 +17,13 @@ use Rattle.p2p_log_rules.specs.Facts.{history_from, history}
 use Rattle.p2p_log_rules.proofs.Facts.{history_from-append}
 use Rattle.p2p_log_laws.specs.Order.{is_before}
 use Rattle.p2p_log_laws.proofs.Balance.{live-none}
-use Rattle.p2p_log_laws.proofs.Carried.{carried}
 use Rattle.p2p_log_laws.proofs.Delivering.{delivered_by, delivered_taken}
 use Rattle.p2p_log.proofs.Each.{Each-append, Each-weaker, Each-filter}
-use Rattle.p2p_log_rules.proofs.Moves.{Moves}
+use Rattle.p2p_log_rules.specs.Moves.{Moves}
 use Rattle.p2p_log_laws.proofs.Shape.{Laws}
-use Rattle.p2p_log_laws.proofs.Flow.{stand, stand-none, flows_kept, AreLed, led_flows}
-use Rattle.p2p_log_laws.proofs.Stages.{copies_in}
-use Rattle.p2p_log_laws.proofs.Sublists.{IsSublist, IsSublist-nil, IsSublist-refl, IsSublist-append, IsSublist-filter, IsSublist-filters, IsSublist-each, AreInOrder, IsBefore, Ordered-sublist, Ordered-append, before_later, before_next}
+use Rattle.p2p_log_laws.proofs.Flow.{stand-none, flows_kept, AreLed, led_flows}
+use Rattle.p2p_log_laws.proofs.Sublists.{IsSublist-nil, IsSublist-refl, IsSublist-append, IsSublist-filter, IsSublist-filters, IsSublist-each, AreInOrder, IsBefore, Ordered-sublist, Ordered-append, before_later, before_next}
+use Rattle.p2p_log_laws.specs.Flow.{IsSublist, carried, copies_in, stand}
 
 module _ (configs : List Config) (test : ℕ × ℕ → Bool) (read : Queue) (stages : List Queue) where
   -- the copies that pass the test, of those that an entry delivers from the queue
@@ -70,7 +69,7 @@ module _ (configs : List Config) (test : ℕ × ℕ → Bool) (read : Queue) (st
         let delivery : IsSublist delivers_now (copies_in test read m.taken) =
         IsSublist-filters test (delivered_by configs read log (entry_of ev r)) (carried (filter (stands_in read) m.taken)) (delivered_taken configs log ev r m laws read)
         in
-        let flows = flows_kept test configs log ev r m accepts_now delivers_now (read ∷ stages) (inl (delivery, led_flows test configs log ev r m laws Known known read stages led)) in
+        let flows = flows_kept test log ev r m accepts_now delivers_now (read ∷ stages) (inl (delivery, led_flows test configs log ev r m laws Known known read stages led)) in
         subst (λ (l : List (ℕ × ℕ)). IsSublist (l ++ stand test (read ∷ stages) (live later)) (way log ++ accepts_now)) (sym (history_from-append delivers [] log (entry_of ev r)))
         (subst (λ (l : List (ℕ × ℕ)). IsSublist l (way log ++ accepts_now)) (sym (append_assoc (delivered log) delivers_now (stand test (read ∷ stages) (live later))))
         (subst (IsSublist (delivered log ++ (delivers_now ++ stand test (read ∷ stages) (live later)))) (sym (append_assoc (delivered log) (stand test (read ∷ stages) (live log)) accepts_now))

@@ -23,13 +23,14 @@ use Rattle.p2p_log.specs.Copies.{carries, carries_copy, copies_of}
 use Rattle.p2p_log_rules.specs.Effect
 use Rattle.p2p_log_rules.specs.Effect.{entry_of}
 use Rattle.p2p_log.proofs.Each.{Each-always, Each-filter, Each-map, Each-weaker}
-use Rattle.p2p_log_rules.proofs.Moves.{Moves, one_taken, stands_first, first_has, rings, rings_gone, rings_queues, rings_taken}
+use Rattle.p2p_log_rules.specs.Moves.{Moves}
+use Rattle.p2p_log_rules.proofs.Moves.{one_taken, stands_first, first_has, rings, rings_gone, rings_queues, rings_taken}
 use Rattle.p2p_log.proofs.Names.{AreApart-filter, AreApart-live_from, filter_stays-first}
 use Rattle.p2p_log.proofs.Queues.{same_queue-refl}
 use Rattle.p2p_log.proofs.Taken.{AreTaken-append}
 use Rattle.p2p_log_rules.proofs.Touches.{reads, in_router}
 use Rattle.p2p_log_laws.specs.Causes.{IsRouted, enters_before}
-use Rattle.p2p_log_laws.proofs.Carried.{put_copies, IsSublist-frames}
+use Rattle.p2p_log_laws.proofs.Carried.{IsSublist-frames}
 use Rattle.p2p_log_laws.proofs.Fitting.{Fits, StandsFit, fits, is_bare, is_item_end, ended_item-none}
 use Rattle.p2p_log_laws.proofs.Overwriting.{rings_bare, peers_ends_items}
 use Rattle.p2p_log_laws.proofs.Shape.{Shape, ComesOf, relay_spread, IsQuiet, Moved-all, accepts, still, one_move, first_in, quiet_laws, no_delivery, count_by-single, accepts-none}
@@ -37,7 +38,7 @@ use Rattle.p2p_log_laws.proofs.Showing.{Standing, EndShows, first_tells, send_ac
 use Rattle.p2p_log_laws.proofs.SpreadDrops.{spread_drops}
 use Rattle.p2p_log_laws.proofs.Spreading.{borne-spread, spread_each, borne_by, from_place, from_first, one}
 use Rattle.p2p_log_laws.proofs.Spreads.{Adds, puts-spread}
-use Rattle.p2p_log_laws.proofs.Sublists.{IsSublist}
+use Rattle.p2p_log_laws.specs.Flow.{IsSublist, put_copies}
 
 relay_fits : (priority : Bool) (n conn : ℕ) (copy : Option (ℕ × ℕ)) (frame : List ℕ) → fits (Effect.relay_queue priority n conn) (item.Frame copy frame) ≡ true
 relay_fits true n conn copy frame = refl

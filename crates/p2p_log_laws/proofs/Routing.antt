@@ -26,7 +26,8 @@ use Rattle.p2p_log_rules.proofs.Facts.{routes-append}
 use Rattle.p2p_log.proofs.Queues.{same_queue-refl}
 use Rattle.p2p_log_rules.proofs.Recorded.{AreRecorded, AreRecorded-line}
 use Rattle.p2p_log.proofs.Each.{Each-has, Each-from_has, Each-map, Each-weaker}
-use Rattle.p2p_log_rules.proofs.Moves.{Moves, taken_stood}
+use Rattle.p2p_log_rules.specs.Moves.{Moves}
+use Rattle.p2p_log_rules.proofs.Moves.{taken_stood}
 use Rattle.p2p_log.proofs.QueueNames.{queue_from_same}
 use Rattle.p2p_log_rules.proofs.Touches.{Reach, reads}
 use Rattle.p2p_log_laws.proofs.Telling.{Tells, StandTells, half_at-longer}

@@ -30,13 +30,15 @@ use Rattle.p2p_log.specs.Sending.Sender.{Node, Raw}
 use Rattle.p2p_log_rules.specs.Facts.{key_at, half_of, half_at, routes, route_to}
 use Rattle.p2p_log_rules.specs.Frames.{frame_of, message_in}
 use Rattle.p2p_log.proofs.Each.{Has, Each-append, Each-weaker}
-use Rattle.p2p_log_rules.proofs.Moves.{Moves, one_taken, stands_first}
+use Rattle.p2p_log_rules.specs.Moves.{Moves}
+use Rattle.p2p_log_rules.proofs.Moves.{one_taken, stands_first}
 use Rattle.p2p_log_rules.proofs.Touches.{Reach}
-use Rattle.p2p_log_laws.proofs.Carried.{put_copies, IsSublist-bare, IsSublist-put}
+use Rattle.p2p_log_laws.proofs.Carried.{IsSublist-bare, IsSublist-put}
 use Rattle.p2p_log_laws.proofs.Fitting.{Fits, is_bare, is_item_end, bare_carries_none, ends_copy-none, count_by-none}
 use Rattle.p2p_log_laws.proofs.Showing.{Standing, EndShows, item_shows}
 use Rattle.p2p_log_laws.proofs.Spreading.{borne_by, one}
-use Rattle.p2p_log_laws.proofs.Sublists.{IsSublist, IsSublist-nil}
+use Rattle.p2p_log_laws.proofs.Sublists.{IsSublist-nil}
+use Rattle.p2p_log_laws.specs.Flow.{IsSublist, put_copies}
 
 -- 1 for a copy of the send that this act is, where it is accepted
 abbrev pub accepts : List Entry → Act → Reply → ℕ × ℕ → ℕ
@@ -214,13 +216,17 @@ pub record Delivery (configs : List Config) (log : List Entry) (a : Act) (r : Re
   pub tells : r ≡ told queue read.item
   pub ended : ends ≡ map (λ copy. end.Copy copy.0 copy.1 outcome.Delivered) (copies_of read.item)
 
+-- the copies that it accepts, and those that what it takes and what it ends carries, are those that it puts or ends
+abbrev pub IsBalanced : (log : List Entry) (a : Act) (r : Row) → Moves log r → Type 0
+IsBalanced log a r m =
+    (copy : ℕ × ℕ) → accepts log a r.reply copy + (count_by (carries copy) m.taken + count_by (carries copy) m.ended) ≡ borne_by copy r.puts r.ends
+
 -- what holds of a row, where what is known of all that stands in queues holds
 pub record Laws (configs : List Config) (log : List Entry) (a : Act) (r : Row) (m : Moves log r) : Type 0 where
   -- each put is of its queue's kind
   pub fitting : Each Fits r.puts
   pub moved : Moved configs log a r.reply m.taken r.puts
-  -- the copies that it accepts, and those that what it takes and what it ends carries, are those that it puts or ends
-  pub balanced : (copy : ℕ × ℕ) → accepts log a r.reply copy + (count_by (carries copy) m.taken + count_by (carries copy) m.ended) ≡ borne_by copy r.puts r.ends
+  pub balanced : IsBalanced log a r m
   -- each end of a copy shows its cause
   pub causes : (ev : Event) → ev.act ≡ a → Each (EndShows configs log (entry_of ev r)) r.ends
   pub delivers : is_read r.reply ≡ true → Delivery configs log a r.reply m.taken r.ends

@@ -20,23 +20,17 @@ use Rattle.p2p_log_rules.specs.Effect.{entry_of, goes_to}
 use Rattle.p2p_log.proofs.Filters.{filter-swap, filter-none}
 use Rattle.p2p_log.proofs.Lines.{live-append, filter_stays-append}
 use Rattle.p2p_log.proofs.Names.{AreApart-live_from}
-use Rattle.p2p_log_laws.proofs.Carried.{carried, put_copies, copies_of-bare}
+use Rattle.p2p_log_laws.proofs.Carried.{copies_of-bare}
 use Rattle.p2p_log.proofs.Each.{Has, Has-first, Has-after, Each-has, Each-from_has, Each-append}
 use Rattle.p2p_log.proofs.QueueNames.{queue_from_same}
 use Rattle.p2p_log.proofs.Taken.{filter-taken}
-use Rattle.p2p_log_rules.proofs.Moves.{Moves, taken_stood}
+use Rattle.p2p_log_rules.specs.Moves.{Moves}
+use Rattle.p2p_log_rules.proofs.Moves.{taken_stood}
 use Rattle.p2p_log_laws.proofs.Shape.{OfAct, OfItem, IsOwn, ComesOf, Moved, idle_bare}
-use Rattle.p2p_log_laws.proofs.Sublists.{IsSublist, IsSublist-append, IsSublist-filters, IsSublist-flat_map}
+use Rattle.p2p_log_laws.proofs.Sublists.{IsSublist-append, IsSublist-filters, IsSublist-flat_map}
+use Rattle.p2p_log_laws.specs.Flow.{IsSublist, carried, copies_in, copies_put, put_copies}
 
 -- ---- the copies of what stands in a queue
-
--- the copies that pass the test, of those that stand in the queue
-abbrev pub copies_in : (ℕ × ℕ → Bool) → Queue → List Envelope → List (ℕ × ℕ)
-copies_in test q items = filter test (carried (filter (stands_in q) items))
-
--- the copies that pass the test, of those that are put in the queue
-abbrev pub copies_put : (ℕ × ℕ → Bool) → Queue → List (Queue × Item) → List (ℕ × ℕ)
-copies_put test q puts = filter test (put_copies (filter (goes_to q) puts))
 
 carried-placed : (q : Queue) (n p : ℕ) (puts : List (Queue × Item)) → carried (filter (stands_in q) (placed n p puts)) ≡ put_copies (filter (goes_to q) puts)
 carried-placed q n p [] = refl
@@ -62,7 +56,7 @@ module _ (test : ℕ × ℕ → Bool) (q : Queue) where
       ∙ (copies_in-append (filter (stays (goes e)) (live log)) (placed (length log) 0 e.puts)
       ∙ ap (λ l. copies_in test q (filter (stays (goes e)) (live log)) ++ filter test l) (carried-placed q (length log) 0 e.puts))
 
-module _ (configs : List Config) (log : List Entry) (ev : Event) (r : Row) (m : Moves log r) (test : ℕ × ℕ → Bool) where
+module _ (log : List Entry) (ev : Event) (r : Row) (m : Moves log r) (test : ℕ × ℕ → Bool) where
   -- the copies that stay behind what is taken
   abbrev pub copies_behind : Queue → List (ℕ × ℕ)
   copies_behind q = copies_in test q (filter (stays (map name_of m.taken)) (live log))

@@ -1,17 +1,13 @@
 -- Sublists, and lists of copies in order.
-use Rattle.std.proofs.Common.{◌≡◌, ℕ, ◌<◌, Bool, true, false, cond, List, [], ◌∷◌, ◌++◌, ◌⊎◌, inl, inr, refl, ap, sym, subst, arith}
+use Rattle.std.proofs.Common.{◌≡◌, ℕ, ◌<◌, Bool, true, false, cond, List, [], ◌∷◌, ◌++◌, inl, inr, refl, ap, sym, subst, arith}
 use Rattle.std.specs.Prelude.{filter, flat_map}
 use Rattle.std.specs.List.{AllByRecursion as Each}
 use Rattle.std.proofs.lemmas.Bool.Decides.{nat_tests}
 use Rattle.p2p_log_laws.specs.Order.{is_before}
 use Rattle.p2p_log.proofs.Each.{Has, Has-after, Each-append, Each-has}
+use Rattle.p2p_log_laws.specs.Flow.{IsSublist}
 
 -- ---- sublists
-
--- the elements of one list are some of another's, in its order
-abbrev pub IsSublist : {X : Type 0} → List X → List X → Type 0
-IsSublist xs [] = xs ≡ []
-IsSublist {X} xs (y ∷ ys) = IsSublist xs ys ⊎ ((rest : List X) × (xs ≡ y ∷ rest) × IsSublist rest ys)
 
 pub IsSublist-nil : {X : Type 0} (ys : List X) → IsSublist [] ys
 IsSublist-nil [] = refl

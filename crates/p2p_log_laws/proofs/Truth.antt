@@ -35,7 +35,8 @@ use Rattle.p2p_log.proofs.Each.{Each-has, Each-append, Each-filter, Each-weaker}
 use Rattle.p2p_log_laws.proofs.Fitting.{Each-placed}
 use Rattle.p2p_log_laws.proofs.Puts.{IsPut, each_put}
 use Rattle.p2p_log_laws.proofs.Routing.{RoutesHold, route_peer}
-use Rattle.p2p_log_rules.proofs.Moves.{Moves, taken_stood}
+use Rattle.p2p_log_rules.specs.Moves.{Moves}
+use Rattle.p2p_log_rules.proofs.Moves.{taken_stood}
 use Rattle.p2p_log_laws.proofs.Shape.{Origin, OfAct, OfItem, IsSpread, IsReceived, is_idle, Laws, Moved-origins}
 use Rattle.p2p_log_laws.proofs.Telling.{IsOnLink, IsArrived, half_at-longer, Tells, Tells-longer, PutTells, StandTells, IsAddressed, copy_of_send}
 use Rattle.p2p_log.proofs.Taken.{Each-taken}

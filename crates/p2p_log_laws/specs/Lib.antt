@@ -1,6 +1,8 @@
+pub mod BulkEnds
 pub mod Causes
 pub mod Delivered
 pub mod Fates
+pub mod Flow
 pub mod Grants
 pub mod Leaving
 pub mod OneEnd

@@ -7,6 +7,7 @@ pub mod delivery;
 pub mod ends;
 pub mod fates;
 pub mod grants;
+pub mod moving;
 pub mod order;
 pub mod worked;
 
@@ -15,5 +16,6 @@ pub use delivery::only_sent_is_delivered;
 pub use ends::one_end;
 pub use fates::fates_are_true;
 pub use grants::{grants_take_turns, queues_keep_order};
+pub use moving::{bulk_ends_are_whole, flow_keeps_order};
 pub use order::delivered_in_order;
 pub use worked::worked_rows;

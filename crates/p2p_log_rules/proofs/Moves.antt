@@ -12,6 +12,7 @@ use Rattle.p2p_log.specs.declared.item.Envelope.{Envelope}
 use Rattle.p2p_log.specs.declared.entry.Entry.{Entry}
 use Rattle.p2p_log.specs.declared.event.Event.{Event}
 use Rattle.p2p_log_rules.specs.declared.row.Row.{Row}
+use Rattle.p2p_log_rules.specs.Moves.{Moves}
 use Rattle.p2p_log.specs.Lines.{name_of, ended_item, goes, stays, stands_in, placed, live, line, lines_in}
 use Rattle.p2p_log.specs.Drained.{drained, drained_with, all_end}
 use Rattle.p2p_log.specs.Copies.{copies_of}
@@ -26,15 +27,8 @@ use Rattle.p2p_log.proofs.QueueNames.{Each-in_queue}
 use Rattle.p2p_log.proofs.Filters.{filter-none}
 use Rattle.p2p_log.proofs.Lines.{live-append}
 use Rattle.p2p_log.proofs.Names.{AreApart-filter, AreApart-live_from}
-use Rattle.p2p_log.proofs.Taken.{AreTaken, AreTaken-append, AreTaken-first, AreTaken-take, AreDifferent, Each-taken, line_taken, lines_taken, drained_taken, BringsOthers, drained_with_taken, filter-taken}
-
--- the items that a row takes, and then those that it ends untaken, each the first of its queue when its turn comes
-pub record Moves (log : List Entry) (r : Row) : Type 0 where
-  pub taken : List Envelope
-  pub ended : List Envelope
-  pub names : r.takes ≡ map name_of taken
-  pub gone : flat_map ended_item r.ends ≡ map name_of ended
-  pub stood : AreTaken (live log) (taken ++ ended)
+use Rattle.p2p_log.proofs.Taken.{AreTaken-append, AreTaken-first, AreTaken-take, AreDifferent, Each-taken, line_taken, lines_taken, drained_taken, BringsOthers, drained_with_taken, filter-taken}
+use Rattle.p2p_log.specs.Taken.{AreTaken}
 
 module _ (log : List Entry) (ev : Event) (r : Row) (m : Moves log r) where
   pub taken_stood : AreTaken (live log) m.taken

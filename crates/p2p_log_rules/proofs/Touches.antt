@@ -17,7 +17,8 @@ use Rattle.p2p_log.specs.Lines.{stands_in, line}
 use Rattle.p2p_log_rules.specs.Reading.{reading_of}
 use Rattle.p2p_log_rules.specs.Effect.{entry_of, goes_to}
 use Rattle.p2p_log.proofs.Each.{Has, Each-append, Each-weaker}
-use Rattle.p2p_log_rules.proofs.Moves.{Moves, line-left}
+use Rattle.p2p_log_rules.specs.Moves.{Moves}
+use Rattle.p2p_log_rules.proofs.Moves.{line-left}
 use Rattle.p2p_log.proofs.QueueNames.{queue_from_same}
 
 -- what a router has: its mailbox, and the queues to which it writes
