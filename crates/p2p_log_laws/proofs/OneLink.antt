@@ -159,12 +159,10 @@ module _ (copy : ℕ × ℕ) where
     where
       exclusive : (q : Queue) (b : Bool) → one (is_low q && b) + one (is_link q && b) ≡ one (is_early q && b)
       exclusive (queue.Router n) b = omega arith
-      exclusive (queue.Peers n c) b = refl
-      exclusive (queue.Ready n e) b = refl
       exclusive (queue.High n e) b = omega arith
       exclusive (queue.Low n e) b = omega arith
       exclusive (queue.Link e s) b = omega arith
-      exclusive (queue.Channel n c) b = refl
+      exclusive _ b = refl
 
   -- ---- what an entry puts in these queues it takes from those before a link, or accepts
 
@@ -177,8 +175,8 @@ module _ (copy : ℕ × ℕ) where
     elsewhere_none y away (queue.High n e) i h = absurd (false≢true (sym away ∙ ap is_low h.stood))
     elsewhere_none y away (queue.Low n e) i h = absurd (false≢true (sym away ∙ ap is_low h.stood))
     elsewhere_none y away (queue.Link e s) i h = absurd (false≢true (sym away ∙ (ap is_low h.stood ∙ relay_low h.priority h.node e)))
-    elsewhere_none y away (queue.Channel n c) i h = refl
-    elsewhere_none y away _ i h = absurd h
+    elsewhere_none y away (queue.Router n) i h = absurd h
+    elsewhere_none y away _ i h = refl
 
     count_none : (xs : List (Queue × Item)) → Each (λ x. early copy x ≡ false) xs → count_by (early copy) xs ≡ 0
     count_none [] h = refl

@@ -41,8 +41,8 @@ pub record HasRunScript (configs : List Config) (script : List Event) (world : W
   pub only : (log : List Entry) → IsLawful configs script log → log ≡ world.log
 
 -- in the log, each copy of each accepted send has exactly one end: delivered once, or waiting in a queue, or dropped;
--- what is delivered was sent, is read, and in order; each drop shows its cause; and the fate of each copy, which the report tells, is
--- true
+-- what is delivered was sent, is read, and in order; each drop shows its cause; and the fate of each copy, which the
+-- report tells, is true
 pub record IsAccounted (configs : List Config) (log : List Entry) : Type 0 where
   pub one_end : EachHasOneEnd log
   pub nothing_else : NothingElseEnds log
