@@ -1,6 +1,10 @@
+pub mod Each
 pub mod Filters
 pub mod Lines
 pub mod Names
 pub mod Places
+pub mod QueueNames
 pub mod Queues
+pub mod Sending
+pub mod Taken
 pub mod Waiting

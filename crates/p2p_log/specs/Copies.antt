@@ -1,33 +1,43 @@
 -- The copies of accepted sends: whom they are for, what carries them, and what ends them.
-use Rattle.std.specs.Prelude.{◌≡◌, ℕ, ◌+◌, Bool, true, false, ◌==◌, ◌&&◌, nat_lt, cond, List, [], ◌∷◌, ◌++◌, length, flat_map, count_by, Option, Some, None, slice_get}
+use Rattle.std.specs.Prelude.{◌≡◌, ℕ, ◌+◌, Bool, false, ◌==◌, ◌&&◌, nat_lt, List, [], ◌∷◌, length, flat_map, count_by, Some}
 use Rattle.p2p_base.specs.declared.key.Key.{Key}
 use Rattle.p2p_log.specs.declared.item.Item.{Item}
 use Rattle.p2p_log.specs.declared.item.Item.TheVariants as item
 use Rattle.p2p_log.specs.declared.item.Envelope.{Envelope}
 use Rattle.p2p_log.specs.declared.end.End.{End}
 use Rattle.p2p_log.specs.declared.end.End.TheVariants as end
-use Rattle.p2p_log.specs.declared.end.Outcome.{Outcome}
 use Rattle.p2p_log.specs.declared.entry.Entry.{Entry}
 use Rattle.p2p_log.specs.declared.entry.Reply.{Reply}
-use Rattle.p2p_log.specs.declared.entry.Reply.TheVariants as reply
 use Rattle.p2p_log.specs.declared.event.Act.{Act}
-use Rattle.p2p_log.specs.declared.event.Act.TheVariants as act
 use Rattle.p2p_log.specs.declared.event.Recipients.{Recipients}
 use Rattle.p2p_log.specs.declared.event.Recipients.TheVariants as recipients
 use Rattle.p2p_log.specs.Lines.{same_name, live}
+use Rattle.p2p_log.specs.Sending.{sending_of, sending_at, keys_sent}
 
 -- whom a message is for, in order
 abbrev pub keys_of_recipients : Recipients → List Key
 keys_of_recipients (recipients.One k) = k ∷ []
 keys_of_recipients (recipients.Some ks) = ks
 
+-- the keys for whom an act with this reply sends
 abbrev pub accepted_by : Act → Reply → List Key
-accepted_by (act.Send bytes c n priority to) (reply.Sent keys) = keys
-accepted_by _ _ = []
+accepted_by a r = keys_sent (sending_of a r)
 
--- the keys for whom a send was accepted, in order: its copy p goes to the p-th
-unfoldable pub accepted : List Entry → ℕ → List Key
-accepted log send = elim (slice_get log send) [ None ↦ [] | Some e ↦ accepted_by e.event.act e.reply ]
+-- the keys for whom a send was accepted, in order
+abbrev pub accepted : List Entry → ℕ → List Key
+accepted log send = keys_sent (sending_at log send)
+
+-- the copies of a send, from this place on
+abbrev pub copies_from : ℕ → ℕ → List Key → List (ℕ × ℕ)
+copies_from send p [] = []
+copies_from send p (k ∷ ks) = (send, p) ∷ copies_from send (p + 1) ks
+
+-- the copies that an item carries, in order
+abbrev pub copies_of : Item → List (ℕ × ℕ)
+copies_of (item.Content c frame priority send to) = copies_from send 0 to
+copies_of (item.Frame (Some copy) frame) = copy ∷ []
+copies_of (item.Message bytes copy from) = copy ∷ []
+copies_of _ = []
 
 -- whether an item carries the copy of this name
 abbrev pub carries_copy : ℕ × ℕ → Item → Bool

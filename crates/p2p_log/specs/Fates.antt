@@ -1,8 +1,6 @@
 -- Where a copy is, or what became of it.
-use Rattle.std.specs.Prelude.{ℕ, ◌+◌, Bool, nat_lt, cond, List, [], ◌∷◌, filter, length, Option, Some, None, slice_get}
-use Rattle.std.specs.List.{list_any}
+use Rattle.std.specs.Prelude.{ℕ, ◌+◌, nat_lt, cond, List, [], ◌∷◌, filter, length, Option, Some, None, slice_get}
 use Rattle.p2p_log.specs.declared.queue.Queue.{Queue}
-use Rattle.p2p_log.specs.declared.item.Item.{Item}
 use Rattle.p2p_log.specs.declared.item.Envelope.{Envelope}
 use Rattle.p2p_log.specs.declared.end.End.{End}
 use Rattle.p2p_log.specs.declared.end.End.TheVariants as end
@@ -12,7 +10,7 @@ use Rattle.p2p_log.specs.declared.entry.Entry.{Entry}
 use Rattle.p2p_log.specs.declared.report.Fate.{Fate}
 use Rattle.p2p_log.specs.declared.report.Fate.TheVariants as fate
 use Rattle.p2p_log.specs.Lines.{same_name, live}
-use Rattle.p2p_log.specs.Copies.{accepted, carries, ends_copy}
+use Rattle.p2p_log.specs.Copies.{accepted, carries}
 
 -- how a copy ended among these ends
 abbrev pub outcome_in : ℕ × ℕ → List End → Option Outcome

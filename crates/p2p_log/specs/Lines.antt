@@ -1,5 +1,5 @@
 -- What stands in a queue, by the log: what was put there and has not gone.
-use Rattle.std.specs.Prelude.{ℕ, ◌+◌, Bool, ◌==◌, ◌&&◌, not, List, [], ◌∷◌, ◌++◌, map, filter, flat_map}
+use Rattle.std.specs.Prelude.{ℕ, ◌+◌, Bool, ◌==◌, ◌&&◌, not, List, [], ◌∷◌, ◌++◌, filter, flat_map}
 use Rattle.std.specs.List.{list_any}
 use Rattle.p2p_log.specs.declared.queue.Queue.{Queue}
 use Rattle.p2p_log.specs.declared.item.Item.{Item}
@@ -54,3 +54,7 @@ stands_in q x = same_queue q x.queue
 -- what stands in the queue
 unfoldable pub line : List Entry → Queue → List Envelope
 line log q = filter (stands_in q) (live log)
+
+-- of these items those that stand in these queues, one queue after another
+abbrev pub lines_in : List Envelope → List Queue → List Envelope
+lines_in items qs = flat_map (λ q. filter (stands_in q) items) qs

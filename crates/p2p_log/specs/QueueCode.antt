@@ -1,6 +1,5 @@
 -- A queue by three numbers, and when two queues are the same.
 use Rattle.std.specs.Prelude.{ℕ, Bool, ◌==◌, ◌&&◌}
-use Rattle.p2p_log.specs.declared.queue.Side.{Side}
 use Rattle.p2p_log.specs.declared.queue.Side.TheVariants as side
 use Rattle.p2p_log.specs.declared.queue.Queue.{Queue}
 use Rattle.p2p_log.specs.declared.queue.Queue.TheVariants as queue

@@ -1,6 +1,12 @@
 -- The shapes of calls: register, start, join, send and receive.
-use Rattle.std.proofs.Common.{◌≡◌, ℕ, ◌+◌, Bool, true, false, cond, List, [], ◌∷◌, length, Some, None, inl, refl, ap, ◌∙◌, arith, eq-eqb}
-use Rattle.std.specs.Prelude.{◌==◌, ◌&&◌, not, nat_le, nat_lt, count_by, slice_get}
+use Rattle.p2p_log_laws.proofs.OneShape.{spent_shape}
+use Rattle.p2p_log.specs.declared.event.Act.{Act}
+use Rattle.p2p_log_rules.specs.Reading.{reading_of, told, is_read}
+use Rattle.p2p_log.specs.Sending.Sender.{Node}
+use Rattle.p2p_log.specs.declared.entry.Reply.{Reply}
+use Rattle.p2p_log.specs.Sending.{Sending, sending_of, keys_sent}
+use Rattle.std.proofs.Common.{◌≡◌, ℕ, suc, ◌+◌, ◌<◌, Bool, true, false, cond, List, [], ◌∷◌, map, length, Some, None, inl, inr, refl, ap, sym, ◌∙◌, arith, eq-eqb, subst}
+use Rattle.std.specs.Prelude.{◌==◌, ◌&&◌, ◌||◌, not, nat_le, nat_lt, count_by, flat_map, slice_get, filter}
 use Rattle.std.specs.List.{AllByRecursion as Each}
 use Rattle.std.proofs.lemmas.Bool.{and_parts}
 use Rattle.std.proofs.lemmas.Bool.Decides.{nat_tests}
@@ -22,17 +28,23 @@ use Rattle.p2p_log.specs.declared.event.Act.TheVariants as act
 use Rattle.p2p_log.specs.declared.event.Rate.{Rate}
 use Rattle.p2p_log.specs.declared.event.Recipients.{Recipients}
 use Rattle.p2p_log_rules.specs.declared.row.Row.{Row}
-use Rattle.p2p_log.specs.Lines.{name_of, same_name, line}
+use Rattle.p2p_log.specs.QueueCode.{same_queue}
+use Rattle.p2p_log.specs.Lines.{name_of, same_name, ended_item, line}
 use Rattle.p2p_log_rules.specs.Facts.{is_up, channels, capacity_in, capacity_for, key_at, half_of, is_joined}
 use Rattle.p2p_log_rules.specs.Frames.{frame_of}
-use Rattle.p2p_log.specs.Copies.{carries, carries_copy, ends_copy, keys_of_recipients}
+use Rattle.p2p_log.specs.Copies.{keys_of_recipients, carries_copy, ends_copy, copies_from, copies_of}
 use Rattle.p2p_log_rules.specs.Effect
+use Rattle.p2p_log_rules.specs.Effect.{entry_of}
+use Rattle.p2p_log.proofs.Each.{Each-always, Each-map}
+use Rattle.p2p_log_rules.specs.Moves.{Moves}
+use Rattle.p2p_log_rules.proofs.Moves.{one_taken}
+use Rattle.p2p_log.proofs.Queues.{same_queue-refl}
+use Rattle.p2p_log_rules.proofs.Touches.{reads, writes}
 use Rattle.p2p_log_laws.proofs.Carried.{IsSublist-put}
-use Rattle.p2p_log_laws.proofs.Each.{Each-always, Each-map}
-use Rattle.p2p_log_laws.proofs.Fitting.{Fits, is_bare, is_item_end}
-use Rattle.p2p_log_laws.proofs.Shape.{Shape, Origin, Moved-nothing, Moved-taken, Moved-bare, accepts, still, no_delivery, no_router, bare_balanced, no_items_end, one_taken, stands_first, count_by-single, accepts-none}
-use Rattle.p2p_log_laws.proofs.Shape.Origin.{idle, begun, sent}
+use Rattle.p2p_log_laws.proofs.Shape.{Shape, IsQuiet, Moved-nothing, accepts, still, no_moves, bare_laws, quiet_laws, no_delivery, accepts-sent}
+use Rattle.p2p_log_laws.proofs.Showing.{EndShows}
 use Rattle.p2p_log_laws.proofs.Spreading.{from_place, from_first, one, count_by-copies_end}
+use Rattle.p2p_log_laws.specs.Flow.{IsSublist, put_copies}
 
 pub register_shape : (configs : List Config) (log : List Entry) (c n : ℕ) (rate : Rate)
     → Shape configs log (act.Register c n rate) (Effect.register_row configs n rate)
@@ -42,25 +54,13 @@ register_shape configs log c n rate =
 pub start_shape : (configs : List Config) (log : List Entry) (n : ℕ) → Shape configs log (act.Start n) (Effect.start_row configs log n)
 start_shape configs log n =
     let put : ℕ × ℕ → Queue × Item = λ c. (queue.Router n, item.Subscribe c.0) in
+    let cs = channels configs log n in
+    let m : Moves log (Effect.start_row configs log n) = no_moves log (Effect.start_row configs log n) refl refl in
     record {
-      taken = [];
-      names = refl;
-      stood = tt;
-      bare = no_items_end log [] tt;
-      fitting = Each-map Fits put (channels configs log n) (Each-always (λ c. Fits (put c)) (λ c. refl) (channels configs log n));
-      origins = Each-map (Origin configs log (act.Start n) reply.Ok []) put (channels configs log n)
-          (Each-always (λ c. Origin configs log (act.Start n) reply.Ok [] (put c)) (λ c. idle refl) (channels configs log n));
-      moved = Moved-bare configs log (act.Start n) reply.Ok (Effect.start_row configs log n).puts
-          (Each-map (Origin configs log (act.Start n) reply.Ok []) put (channels configs log n)
-          (Each-always (λ c. Origin configs log (act.Start n) reply.Ok [] (put c)) (λ c. idle refl) (channels configs log n)))
-          (Each-map (λ x. is_bare x.1 ≡ true) put (channels configs log n)
-          (Each-always (λ c. is_bare (put c).1 ≡ true) (λ c. refl) (channels configs log n)));
-      balanced = bare_balanced log (act.Start n) (Effect.start_row configs log n) [] refl tt
-          (Each-map (λ x. is_bare x.1 ≡ true) put (channels configs log n)
-          (Each-always (λ c. is_bare (put c).1 ≡ true) (λ c. refl) (channels configs log n)))
-          tt;
-      delivers = no_delivery (act.Start n) reply.Ok [] [] refl;
-      own = λ m e. tt;
+      moves = no_moves log (Effect.start_row configs log n) refl refl;
+      reach = record { taken = tt; ended = tt; puts = Each-map (λ x. writes configs log (act.Start n) x.0 ≡ true) put cs (Each-always (λ c. writes configs log (act.Start n) (put c).0 ≡ true) (λ c. same_queue-refl (queue.Router n)) cs) };
+      laws = λ stand. quiet_laws configs log (act.Start n) (Effect.start_row configs log n) (no_moves log (Effect.start_row configs log n) refl refl) refl refl tt tt tt
+          (Each-map IsQuiet put cs (Each-always (λ c. IsQuiet (put c)) (λ c. (refl, refl)) cs));
     }
 
 -- ---- join
@@ -84,30 +84,34 @@ joined_row configs log a b = record {
   ends = [];
 }
 
+or_true : (b : Bool) → (b || true) ≡ true
+or_true true = refl
+or_true false = refl
+
 joined_shape : (configs : List Config) (log : List Entry) (a b : ℕ) → Effect.may_join log a b ≡ true → Shape configs log (act.Join a b) (joined_row configs log a b)
 unfolding joined_row
 joined_shape configs log a b h =
     let parts = and_parts (is_up log a && is_up log b) (not (a == b) && not (is_joined log a b)) h in
     let two = and_parts (not (a == b)) (not (is_joined log a b)) parts.1 in
-    let begins : Each (Origin configs log (act.Join a b) reply.Ok []) (joined_row configs log a b).puts = (
-      begun a (record { peer = key_at configs b; writes = side.Out }) (peer_out configs a b) refl,
-      (begun b (record { peer = key_at configs a; writes = side.In }) (peer_in configs a b (other a b two.0)) refl, tt),
-    ) in
     record {
-      taken = [];
-      names = refl;
-      stood = tt;
-      bare = no_items_end log [] tt;
-      fitting = (refl, (refl, tt));
-      origins = begins;
-      moved = Moved-bare configs log (act.Join a b) reply.Ok (joined_row configs log a b).puts begins (refl, (refl, tt));
-      balanced = bare_balanced log (act.Join a b) (joined_row configs log a b) [] refl tt (refl, (refl, tt)) tt;
-      delivers = no_delivery (act.Join a b) reply.Ok [] [] refl;
-      own = λ m e. tt;
+      moves = no_moves log (joined_row configs log a b) refl refl;
+      reach = record { taken = tt; ended = tt; puts = (first a b, (second a b, tt)) };
+      laws = λ stand. bare_laws configs log (act.Join a b) (joined_row configs log a b) (no_moves log (joined_row configs log a b) refl refl) refl refl tt tt tt
+          (refl, (refl, tt)) (
+            inr (inl (record { peer = key_at configs b; writes = side.Out }, peer_out configs a b, refl)),
+            (inr (inl (record { peer = key_at configs a; writes = side.In }, peer_in configs a b (other a b two.0), refl)), tt),
+          )
+          (refl, (refl, tt));
     }
   where
     other : (a b : ℕ) → not (a == b) ≡ true → (b == a) ≡ false
     other a b h = grind (arith, nat_tests)
+
+    first : (a b : ℕ) → (same_queue (queue.Router a) (queue.Router a) || same_queue (queue.Router b) (queue.Router a)) ≡ true
+    first a b = ap (λ t. t || same_queue (queue.Router b) (queue.Router a)) (same_queue-refl (queue.Router a))
+
+    second : (a b : ℕ) → (same_queue (queue.Router a) (queue.Router b) || same_queue (queue.Router b) (queue.Router b)) ≡ true
+    second a b = ap (λ t. same_queue (queue.Router a) (queue.Router b) || t) (same_queue-refl (queue.Router b)) ∙ or_true (same_queue (queue.Router a) (queue.Router b))
 
 join_cases : (configs : List Config) (log : List Entry) (a b : ℕ) (t : Bool) → Effect.may_join log a b ≡ t
     → Shape configs log (act.Join a b) (cond t (joined_row configs log a b) (Effect.only reply.Gone))
@@ -120,51 +124,68 @@ join_shape configs log a b = join_cases configs log a b (Effect.may_join log a b
 
 -- ---- send
 
-copies_end_no_item : (send p : ℕ) (ks : List Key) (o : Outcome) → Each (λ d. is_item_end d ≡ false) (Effect.copies_end send p ks o)
-copies_end_no_item send p [] o = tt
-copies_end_no_item send p (k ∷ ks) o = (refl, copies_end_no_item send (p + 1) ks o)
+copies_end_no_item : (send p : ℕ) (ks : List Key) (o : Outcome) → flat_map ended_item (Effect.copies_end send p ks o) ≡ []
+copies_end_no_item send p [] o = refl
+copies_end_no_item send p (k ∷ ks) o = copies_end_no_item send (p + 1) ks o
 
-sent_shape : (configs : List Config) (log : List Entry) (bytes : List ℕ) (c n : ℕ) (priority : Bool) (to : Recipients) (up full : Bool)
-    → Shape configs log (act.Send bytes c n priority to)
-    (Effect.sent_row up full n (length log) c priority (frame_of c bytes) (keys_of_recipients to))
-sent_shape configs log bytes c n priority to false full =
-    let keys = keys_of_recipients to in
-    let ends = Effect.copies_end (length log) 0 keys (outcome.Dropped cause.Unbound) in
+-- each copy of a send at a node that has not started
+unbound_each : (configs : List Config) (log : List Entry) (e : Entry) (s : Sending) (n : ℕ) → sending_of e.event.act e.reply ≡ Some s → s.by ≡ Node n → is_up log n ≡ false
+    → (p : ℕ) (ks : List Key) → p + length ks ≡ length s.keys → Each (EndShows configs log e) (Effect.copies_end (length log) p ks (outcome.Dropped cause.Unbound))
+unbound_each configs log e s n sends by down p [] long = tt
+unbound_each configs log e s n sends by down p (k ∷ ks) long = (
+  record { sending = s; sends = sends; here = refl; has_copy = within p (length ks) (length (k ∷ ks)) (length s.keys) refl long; node = n; by = by; not_started = down },
+  unbound_each configs log e s n sends by down (p + 1) ks (longer p (length ks) (length (k ∷ ks)) (length s.keys) refl long),
+)
+  where
+    within : (p l m all : ℕ) → m ≡ suc l → p + m ≡ all → p < all
+    within p l m all e h = omega arith
+
+    longer : (p l m all : ℕ) → m ≡ suc l → p + m ≡ all → (p + 1) + l ≡ all
+    longer p l m all e h = omega arith
+
+-- a send, whatever act it is: by whether the node has started and its router's mailbox is full
+pub sent_shape : (configs : List Config) (log : List Entry) (a : Act) (s : Sending) (n : ℕ) (up full : Bool) → s.by ≡ Node n → is_up log n ≡ up
+    → sending_of a (reply.Sent s.keys) ≡ Some s → keys_sent (sending_of a (reply.Sent [])) ≡ [] → writes configs log a (queue.Router n) ≡ true
+    → Shape configs log a (Effect.sent_row up full n (length log) s.channel s.priority (frame_of s.channel s.bytes) s.keys)
+sent_shape configs log a s n false full by up sends refuses near =
+    let r : Row = Effect.sent_row false full n (length log) s.channel s.priority (frame_of s.channel s.bytes) s.keys in
     record {
-      taken = [];
-      names = refl;
-      stood = tt;
-      bare = no_items_end log ends (copies_end_no_item (length log) 0 keys (outcome.Dropped cause.Unbound));
-      fitting = tt;
-      origins = tt;
-      moved = Moved-nothing configs log (act.Send bytes c n priority to) (reply.Sent keys);
-      balanced = λ copy.
-          let all : count_by (ends_copy copy) ends ≡ from_place copy (length log) 0 (length keys) =
-          count_by-copies_end copy (length log) 0 keys (outcome.Dropped cause.Unbound)
-          in
-          let first = from_first copy.0 copy.1 (length log) (length keys) in
-          omega (arith, all, first);
-      delivers = no_delivery (act.Send bytes c n priority to) (reply.Sent keys) [] ends refl;
-      own = λ m e. tt;
-    }
-sent_shape configs log bytes c n priority to true true = still configs log (act.Send bytes c n priority to) (reply.Sent []) refl refl
-sent_shape configs log bytes c n priority to true false =
-    let keys = keys_of_recipients to in
-    let put : Queue × Item = (queue.Router n, item.Content c (frame_of c bytes) priority (length log) keys) in
-    record {
-      taken = [];
-      names = refl;
-      stood = tt;
-      bare = no_items_end log [] tt;
-      fitting = (refl, tt);
-      origins = (sent bytes c n priority to keys refl refl refl, tt);
-      moved = ((sent bytes c n priority to keys refl refl refl, tt), λ q. IsSublist-put (Effect.goes_to q) put);
-      balanced = λ copy. single ((length log == copy.0) && nat_lt copy.1 (length keys));
-      delivers = no_delivery (act.Send bytes c n priority to) (reply.Sent keys) [] [] refl;
-      own = λ m e. tt;
+      moves = no_moves log r refl (copies_end_no_item (length log) 0 s.keys (outcome.Dropped cause.Unbound));
+      reach = record { taken = tt; ended = tt; puts = tt };
+      laws = λ stand. record {
+        fitting = tt;
+        moved = Moved-nothing configs log a (reply.Sent s.keys);
+        balanced = λ copy.
+            let all : count_by (ends_copy copy) r.ends ≡ from_place copy (length log) 0 (length s.keys) =
+            count_by-copies_end copy (length log) 0 s.keys (outcome.Dropped cause.Unbound)
+            in
+            let first = from_first copy.0 copy.1 (length log) (length s.keys) in
+            let keys : accepts log a (reply.Sent s.keys) copy ≡ one ((length log == copy.0) && nat_lt copy.1 (length s.keys)) = accepts-sent log a (reply.Sent s.keys) copy s sends in
+            omega (arith, all, first, keys);
+        causes = λ ev acts.
+            unbound_each configs log (entry_of ev r) s n (ap (λ b. sending_of b (reply.Sent s.keys)) acts ∙ sends) by up 0 s.keys (none (length s.keys));
+        delivers = no_delivery configs log a (reply.Sent s.keys) [] r.ends refl;
+      };
     }
   where
-    single : (b : Bool) → one b + 0 ≡ (0 + one b) + 0
+    none : (n : ℕ) → 0 + n ≡ n
+    none n = omega arith
+sent_shape configs log a s n true true by up sends refuses near = still configs log a (reply.Sent []) refuses refl
+sent_shape configs log a s n true false by up sends refuses near =
+    let put : Queue × Item = (queue.Router n, item.Content s.channel (frame_of s.channel s.bytes) s.priority (length log) s.keys) in
+    record {
+      moves = no_moves log (Effect.sent_row true false n (length log) s.channel s.priority (frame_of s.channel s.bytes) s.keys) refl refl;
+      reach = record { taken = tt; ended = tt; puts = (near, tt) };
+      laws = λ stand. record {
+        fitting = (refl, tt);
+        moved = ((inr (inr (s, sends, by, refl)), tt), λ p. subst (λ o. IsSublist (put_copies (filter p (put ∷ []))) (copies_from (length log) 0 (keys_sent o))) (sym sends) (IsSublist-put p put));
+        balanced = λ copy. ap (λ n. n + (0 + 0)) (accepts-sent log a (reply.Sent s.keys) copy s sends) ∙ single ((length log == copy.0) && nat_lt copy.1 (length s.keys));
+        causes = λ ev acts. tt;
+        delivers = no_delivery configs log a (reply.Sent s.keys) [] [] refl;
+      };
+    }
+  where
+    single : (b : Bool) → one b + (0 + 0) ≡ (0 + one b) + 0
     single b = omega arith
 
 pub send_shape : (configs : List Config) (log : List Entry) (bytes : List ℕ) (c n : ℕ) (priority : Bool) (to : Recipients)
@@ -176,53 +197,57 @@ send_shape configs log bytes c n priority to =
       | Some _ ↦ Effect.sent_row (is_up log n) full n (length log) c priority (frame_of c bytes) (keys_of_recipients to)
     ])) [
       | None ↦ still configs log (act.Send bytes c n priority to) reply.Gone refl refl
-      | Some _ ↦ sent_shape configs log bytes c n priority to (is_up log n) full
+      | Some _ ↦ sent_shape configs log (act.Send bytes c n priority to) (record { by = Node n; channel = c; priority = priority; bytes = bytes; keys = keys_of_recipients to })
+          n (is_up log n) full refl refl refl refl (same_queue-refl (queue.Router n))
     ]
 
--- ---- receive
+-- ---- reading
 
-read_shape : (configs : List Config) (log : List Entry) (c n : ℕ) (x : Envelope) (rest : List Envelope) (i : Item)
-    → line log (queue.Channel n c) ≡ x ∷ rest → x.item ≡ i → Shape configs log (act.Recv c n) (Effect.read_row (name_of x) i)
-read_shape configs log c n x rest (item.Message bytes copy from) e h = record {
-  taken = x ∷ [];
-  names = refl;
-  stood = stands_first log (queue.Channel n c) x rest e;
-  bare = no_items_end log (end.Copy copy.0 copy.1 outcome.Delivered ∷ []) (refl, tt);
-  fitting = tt;
-  origins = tt;
-  moved = Moved-taken configs log (act.Recv c n) (reply.Message bytes from) x;
-  balanced = λ other.
-      let none : accepts log (act.Recv c n) (reply.Message bytes from) other ≡ 0 = accepts-none log (act.Recv c n) (reply.Message bytes from) other refl in
-      let taken : count_by (carries other) (x ∷ []) ≡ one (same_name other copy) = count_by-single other x (same_name other copy) (ap (carries_copy other) h) in
-      omega (arith, none, taken);
-  delivers = λ b f m. record {
-    channel = c;
-    node = n;
-    copy = copy;
-    read = x;
-    reads = refl;
-    has = inl refl;
-    in_queue = one_taken log (queue.Channel n c) x rest e;
-    is = h ∙ (cc);
-    ended = refl;
-  };
-  own = no_router (act.Recv c n) (x ∷ []) refl;
-}
-read_shape configs log c n x rest (item.Subscribe d) e h = still configs log (act.Recv c n) reply.Pending refl refl
-read_shape configs log c n x rest (item.Ready conn key) e h = still configs log (act.Recv c n) reply.Pending refl refl
-read_shape configs log c n x rest (item.Content d frame priority send to) e h = still configs log (act.Recv c n) reply.Pending refl refl
-read_shape configs log c n x rest (item.Peers keys) e h = still configs log (act.Recv c n) reply.Pending refl refl
-read_shape configs log c n x rest item.Answer e h = still configs log (act.Recv c n) reply.Pending refl refl
-read_shape configs log c n x rest (item.Frame copy frame) e h = still configs log (act.Recv c n) reply.Pending refl refl
+module _ (configs : List Config) (log : List Entry) (a : Act) (q : Queue) (reads_it : reading_of configs log a ≡ Some q) (read : reads configs log a q ≡ true)
+    (none : (r : Reply) → keys_sent (sending_of a r) ≡ []) where
+  carrying_shape : (x : Envelope) (rest : List Envelope) (i : Item) (copy : ℕ × ℕ) → line log q ≡ x ∷ rest → x.item ≡ i → copies_of i ≡ copy ∷ []
+      → ((other : ℕ × ℕ) → carries_copy other i ≡ same_name other copy) → is_read (told q i) ≡ true
+      → Shape configs log a (record { reply = told q i; takes = name_of x ∷ []; puts = []; ends = end.Copy copy.0 copy.1 outcome.Delivered ∷ [] })
+  carrying_shape x rest i copy first is carried alone says =
+      spent_shape configs log a (told q i) (none (told q i)) q x rest first read copy outcome.Delivered
+      (λ other. ap (carries_copy other) is ∙ alone other)
+      (λ stand ev acts. record {
+        queue = q;
+        reads = ap (reading_of configs log) acts ∙ reads_it;
+        oldest = x;
+        later = rest;
+        stood = first;
+        takes = refl;
+        carried = ap copies_of is ∙ carried;
+        tells = ap (told q) (sym is);
+        says = says;
+        ended = refl;
+      })
+      (λ says. record {
+        queue = q;
+        reads = reads_it;
+        read = x;
+        has = inl refl;
+        in_queue = one_taken log q x rest first;
+        tells = ap (told q) (sym is);
+        ended = sym (ap (λ cs. map (λ c. end.Copy c.0 c.1 outcome.Delivered) cs) (ap copies_of is ∙ carried));
+      })
 
-oldest_shape : (configs : List Config) (log : List Entry) (c n : ℕ) (xs : List Envelope) → line log (queue.Channel n c) ≡ xs
-    → Shape configs log (act.Recv c n) (Effect.oldest_read xs)
-oldest_shape configs log c n [] e = still configs log (act.Recv c n) reply.Pending refl refl
-oldest_shape configs log c n (x ∷ rest) e = read_shape configs log c n x rest x.item e refl
+  one_shape : (x : Envelope) (rest : List Envelope) (i : Item) → line log q ≡ x ∷ rest → x.item ≡ i → Shape configs log a (Effect.read_row (name_of x) i)
+  one_shape x rest (item.Message bytes copy from) first is = carrying_shape x rest (item.Message bytes copy from) copy first is refl (λ other. refl) refl
+  one_shape x rest _ first is = still configs log a reply.Pending (none reply.Pending) refl
+
+  oldest_shape : (xs : List Envelope) → line log q ≡ xs → Shape configs log a (Effect.oldest_read xs)
+  oldest_shape [] first = still configs log a reply.Pending (none reply.Pending) refl
+  oldest_shape (x ∷ rest) first = one_shape x rest x.item first refl
+
+  -- an act that reads the oldest message of its queue
+  read_shape : Shape configs log a (Effect.oldest_read (line log q))
+  read_shape = oldest_shape (line log q) refl
 
 pub recv_shape : (configs : List Config) (log : List Entry) (c n : ℕ) → Shape configs log (act.Recv c n) (Effect.recv_row configs log c n)
 recv_shape configs log c n =
     elim (capacity_in (channels configs log n) c) as (λ o. Shape configs log (act.Recv c n) (elim o [ None ↦ Effect.only reply.Gone | Some _ ↦ Effect.oldest_read (line log (queue.Channel n c)) ])) [
       | None ↦ still configs log (act.Recv c n) reply.Gone refl refl
-      | Some _ ↦ oldest_shape configs log c n (line log (queue.Channel n c)) refl
+      | Some _ ↦ read_shape configs log (act.Recv c n) (queue.Channel n c) refl (same_queue-refl (queue.Channel n c)) (λ r. refl)
     ]

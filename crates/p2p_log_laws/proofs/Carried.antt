@@ -1,55 +1,22 @@
 -- The copies that items carry, in order.
-use Rattle.std.proofs.Common.{◌≡◌, ℕ, ◌+◌, Bool, true, false, cond, List, [], ◌∷◌, ◌++◌, Some, None, inl, inr, refl, ap, sym, subst, ◌∙◌, append-nil}
-use Rattle.std.specs.Prelude.{filter, flat_map}
+use Rattle.std.proofs.Common.{◌≡◌, ℕ, ◌+◌, Bool, true, false, cond, List, [], ◌∷◌, ◌++◌, Some, inl, inr, refl, ap, sym, subst, ◌∙◌, append-nil}
+use Rattle.std.specs.Prelude.{filter}
 use Rattle.std.specs.List.{AllByRecursion as Each}
 use Rattle.p2p_base.specs.declared.key.Key.{Key}
 use Rattle.p2p_log.specs.declared.queue.Queue.{Queue}
-use Rattle.p2p_log.specs.declared.queue.Queue.TheVariants as queue
 use Rattle.p2p_log.specs.declared.item.Item.{Item}
 use Rattle.p2p_log.specs.declared.item.Item.TheVariants as item
-use Rattle.p2p_log.specs.declared.item.Envelope.{Envelope}
-use Rattle.p2p_log_rules.specs.Effect.{relay_queue}
+use Rattle.p2p_log.specs.Copies.{copies_of, copies_from}
 use Rattle.p2p_log_laws.proofs.Fitting.{is_bare}
 use Rattle.p2p_log_laws.proofs.Spreads.{AreFrames}
-use Rattle.p2p_log_laws.proofs.Sublists.{IsSublist, IsSublist-nil, IsSublist-refl}
-
--- the copies of a send, from this place on
-abbrev pub copies_from : ℕ → ℕ → List Key → List (ℕ × ℕ)
-copies_from send p [] = []
-copies_from send p (k ∷ ks) = (send, p) ∷ copies_from send (p + 1) ks
-
-abbrev pub copies_of : Item → List (ℕ × ℕ)
-copies_of (item.Content c frame priority send to) = copies_from send 0 to
-copies_of (item.Frame (Some copy) frame) = copy ∷ []
-copies_of (item.Message bytes copy from) = copy ∷ []
-copies_of _ = []
-
--- what items in queues carry
-abbrev pub carried : List Envelope → List (ℕ × ℕ)
-carried xs = flat_map (λ x. copies_of x.item) xs
-
--- what puts carry
-abbrev pub put_copies : List (Queue × Item) → List (ℕ × ℕ)
-put_copies xs = flat_map (λ x. copies_of x.1) xs
-
--- whether a queue is a router's mailbox
-abbrev pub is_mailbox : Queue → Bool
-is_mailbox (queue.Router n) = true
-is_mailbox _ = false
-
-pub relay_away : (priority : Bool) (n conn : ℕ) → is_mailbox (relay_queue priority n conn) ≡ false
-relay_away true n conn = refl
-relay_away false n conn = refl
+use Rattle.p2p_log_laws.proofs.Sublists.{IsSublist-nil, IsSublist-refl}
+use Rattle.p2p_log_laws.specs.Flow.{IsSublist, put_copies}
 
 pub copies_of-bare : (i : Item) → is_bare i ≡ true → copies_of i ≡ []
-copies_of-bare (item.Subscribe c) h = refl
-copies_of-bare (item.Ready conn key) h = refl
 copies_of-bare (item.Content c frame priority send to) h = absurd (cc)
-copies_of-bare (item.Peers keys) h = refl
-copies_of-bare item.Answer h = refl
 copies_of-bare (item.Frame (Some other) frame) h = absurd (cc)
-copies_of-bare (item.Frame None frame) h = refl
-copies_of-bare (item.Message bytes other from) h = absurd (cc)
+copies_of-bare (item.Message bytes copy from) h = absurd (cc)
+copies_of-bare _ h = refl
 
 -- puts that carry no copy
 put_none : (p : Queue × Item → Bool) (puts : List (Queue × Item)) → Each (λ x. is_bare x.1 ≡ true) puts → put_copies (filter p puts) ≡ []

@@ -1,13 +1,13 @@
 -- The fate of each copy of a lawful log is true.
-use Rattle.std.proofs.Common.{◌≡◌, ℕ, zero, suc, ◌+◌, ◌≤◌, ◌<◌, Bool, true, false, cond, List, [], ◌∷◌, ◌++◌, length, take, drop, Option, Some, None, inl, inr, refl, ap, sym, subst, ◌∙◌, arith, take-append-drop}
+use Rattle.p2p_log.proofs.Sending.{get_longer}
+use Rattle.p2p_log.specs.Copies.{accepted}
+use Rattle.p2p_log_rules.proofs.Moves.{one_taken, first_has}
+use Rattle.std.proofs.Common.{◌≡◌, ℕ, ◌+◌, ◌≤◌, Bool, true, false, cond, List, [], ◌∷◌, ◌++◌, length, take, drop, Option, Some, None, inl, inr, refl, ap, sym, subst, ◌∙◌, arith, take-append-drop}
 use Rattle.std.specs.Prelude.{count_by, filter, is_some, nat_lt, slice_get}
-use Rattle.std.specs.List.{AllByRecursion as Each}
-use Rattle.std.proofs.lemmas.Bool.{false≢true}
 use Rattle.std.proofs.lemmas.List.Sums.{length-filter}
 use Rattle.std.proofs.lemmas.Option.{same_Some}
 use Rattle.p2p_log.specs.declared.config.Config.{Config}
 use Rattle.p2p_log.specs.declared.queue.Queue.{Queue}
-use Rattle.p2p_log.specs.declared.queue.Queue.TheVariants as queue
 use Rattle.p2p_log.specs.declared.item.Item.{Item}
 use Rattle.p2p_log.specs.declared.item.Envelope.{Envelope}
 use Rattle.p2p_log.specs.declared.end.Cause.{Cause}
@@ -18,38 +18,22 @@ use Rattle.p2p_log.specs.declared.event.Event.{Event}
 use Rattle.p2p_log.specs.declared.report.Fate.{Fate}
 use Rattle.p2p_log.specs.declared.report.Fate.TheVariants as fate
 use Rattle.p2p_log_rules.specs.Lawful.{IsLawful}
-use Rattle.p2p_log.specs.Lines.{name_of, same_name, stands_in, live, line}
-use Rattle.p2p_log.specs.Copies.{accepted, carries, carries_copy, carriers, times_ended}
+use Rattle.p2p_log.specs.Lines.{name_of, stands_in, live, line}
+use Rattle.p2p_log.specs.Copies.{carries, carriers, times_ended}
 use Rattle.p2p_log.specs.Fates.{ended_from, queue_named, queue_read, takes_at, fate_ended, fate_waiting, fate_of}
-use Rattle.p2p_log.proofs.Names.{same_name-refl}
+use Rattle.p2p_log_laws.proofs.Bulk.{carried_is}
 use Rattle.p2p_log.proofs.Queues.{same_queue-refl}
 use Rattle.p2p_log_laws.specs.Fates.{WaitsIn, EndsAt, IsReadFrom, EachHasFate, WaitingIsTrue, DroppedIsTrue, DeliveredIsTrue}
-use Rattle.p2p_log_laws.proofs.Drops.{IsRead, each_read}
-use Rattle.p2p_log_laws.proofs.Each.{Has, Has-get, Has-kept, Each-has, Each-passing}
+use Rattle.p2p_log_laws.proofs.Drops.{each_read}
+use Rattle.p2p_log_laws.specs.Delivered.{IsRead}
+use Rattle.p2p_log.proofs.Each.{Has, Has-get, Has-kept, Each-has, Each-passing, place_of, Has-of_kept}
 use Rattle.p2p_log_laws.proofs.FirstEnd.{times_at, ended_place, ended_none, ended_is}
-use Rattle.p2p_log_laws.proofs.Ledger.{Kept-end}
+use Rattle.p2p_log_laws.proofs.Ledger.{Told-end}
 use Rattle.p2p_log_laws.proofs.Puts.{IsPut, each_put}
-use Rattle.p2p_log_laws.proofs.Queues.{Each-in_queue}
-use Rattle.p2p_log_laws.proofs.Shape.{one_taken, first_has}
+use Rattle.p2p_log.proofs.QueueNames.{Each-in_queue}
 use Rattle.p2p_log_laws.proofs.Spreading.{one}
-use Rattle.p2p_log_laws.proofs.Telling.{get_longer}
 
 -- ---- lists
-
-Has-of_kept : {X : Type 0} (p : X → Bool) (xs : List X) (x : X) → Has (filter p xs) x → Has xs x
-Has-of_kept p [] x h = h
-Has-of_kept p (y ∷ ys) x h = go (p y) h (Has-of_kept p ys x)
-  where
-    go : (b : Bool) → Has (cond b (y ∷ filter p ys) (filter p ys)) x → (Has (filter p ys) x → Has ys x) → Has (y ∷ ys) x
-    go true k rest = elim k [ inl e ↦ inl e | inr l ↦ inr (rest l) ]
-    go false k rest = inr (rest k)
-
-place_of : {X : Type 0} (xs : List X) (x : X) → Has xs x → (i : ℕ) × (slice_get xs i ≡ Some x)
-place_of [] x h = absurd h
-place_of (y ∷ ys) x h = elim h [
-  | inl e ↦ (0, ap (λ z. Some z) e)
-  | inr l ↦ let rest = place_of ys x l in (suc rest.0, rest.1)
-]
 
 no_kept : {X : Type 0} (p : X → Bool) (xs : List X) → count_by p xs ≡ 1 → filter p xs ≡ [] → ⊥
 no_kept p xs one none = absurd (let long : length (filter p xs) ≡ count_by p xs = length-filter p xs in let zero_long : length (filter p xs) ≡ 0 = ap (λ l. length l) none in omega (arith, one, long, zero_long))
@@ -66,7 +50,7 @@ module _ (configs : List Config) (script : List Event) (log : List Entry) (lawfu
 
   -- what carries the copy and what ends it are one, or none
   balance : carriers log copy + times_ended log copy ≡ one is_accepted
-  balance = (Kept-end configs script log lawful).balance copy
+  balance = (Told-end configs script log lawful).balance copy
 
   is_accepted_by : (b : Bool) → is_accepted ≡ b → 1 ≤ carriers log copy + times_ended log copy → b ≡ true
   is_accepted_by true e h = refl
@@ -113,15 +97,15 @@ module _ (configs : List Config) (script : List Event) (log : List Entry) (lawfu
   -- the reader of a copy that an entry delivers
   read_at : (n : ℕ) → EndsAt log copy outcome.Delivered n → (q : Queue) × IsReadFrom log copy q n
   read_at n h =
-      let r : IsRead (take n log) h.entry copy = each_read configs script log lawful n h.entry h.place copy h.at h.ended in (
-        queue.Channel r.node r.channel,
+      let r : IsRead configs (take n log) h.entry copy = each_read configs script log lawful n h.entry h.place copy h.at h.ended in (
+        r.queue,
         record {
           ends = h;
           carrier = r.oldest;
           later = r.later;
           stood = r.stood;
           takes = r.takes;
-          has_copy = ap (carries_copy copy) r.is ∙ same_name-refl copy;
+          has_copy = carried_is copy r.oldest.item r.carried;
         },
       )
 

@@ -1,6 +1,6 @@
 -- Of what kind the items of each queue are, and which items carry no copy.
-use Rattle.std.proofs.Common.{◌≡◌, ℕ, ◌+◌, Bool, true, false, cond, List, [], ◌∷◌, Some, None, refl, ap, sym, ◌∙◌, arith}
-use Rattle.std.specs.Prelude.{filter, count_by, ◌||◌, flat_map}
+use Rattle.std.proofs.Common.{◌≡◌, ℕ, ◌+◌, Bool, true, false, cond, List, [], ◌∷◌, Some, refl, ap, sym, ◌∙◌}
+use Rattle.std.specs.Prelude.{count_by, flat_map}
 use Rattle.std.specs.List.{AllByRecursion as Each}
 use Rattle.std.proofs.lemmas.List.Sums.{sum_by-cons}
 use Rattle.p2p_log.specs.declared.queue.Queue.{Queue}
@@ -10,7 +10,7 @@ use Rattle.p2p_log.specs.declared.item.Item.TheVariants as item
 use Rattle.p2p_log.specs.declared.item.Envelope.{Envelope}
 use Rattle.p2p_log.specs.declared.end.End.{End}
 use Rattle.p2p_log.specs.declared.end.End.TheVariants as end
-use Rattle.p2p_log.specs.Lines.{stays, placed, ended_item}
+use Rattle.p2p_log.specs.Lines.{placed, ended_item}
 use Rattle.p2p_log.specs.Copies.{carries_copy, carries, ends_copy}
 
 -- whether an item is of the kind that its queue takes
@@ -46,35 +46,15 @@ is_item_end (end.Item n p) = true
 is_item_end (end.Copy n p o) = false
 
 pub bare_carries_none : (copy : ℕ × ℕ) (i : Item) → is_bare i ≡ true → carries_copy copy i ≡ false
-bare_carries_none copy (item.Subscribe c) h = refl
-bare_carries_none copy (item.Ready conn key) h = refl
 bare_carries_none copy (item.Content c frame priority send to) h = absurd (cc)
-bare_carries_none copy (item.Peers keys) h = refl
-bare_carries_none copy item.Answer h = refl
 bare_carries_none copy (item.Frame (Some other) frame) h = absurd (cc)
-bare_carries_none copy (item.Frame None frame) h = refl
 bare_carries_none copy (item.Message bytes other from) h = absurd (cc)
+bare_carries_none copy _ h = refl
 
 pub count_by-none : {X : Type 0} (p : X → Bool) (xs : List X) → Each (λ x. p x ≡ false) xs → count_by p xs ≡ 0
 count_by-none p [] h = refl
 count_by-none p (x ∷ xs) h =
     sum_by-cons (λ y. cond (p y) 1 0) x xs ∙ (ap (λ b. cond b 1 0 + count_by p xs) h.0 ∙ ap (λ n. 0 + n) (count_by-none p xs h.1))
-
-one_bare_gone : (copy : ℕ × ℕ) (x : Envelope) (rest : List Envelope) (s b : Bool) → (b || s) ≡ true → (b ≡ true → carries copy x ≡ false)
-    → count_by (carries copy) (cond s (x ∷ rest) rest) ≡ cond (carries copy x) 1 0 + count_by (carries copy) rest
-one_bare_gone copy x rest true b h k = sum_by-cons (λ y. cond (carries copy y) 1 0) x rest
-one_bare_gone copy x rest false true h k =
-    let none : ◌≡◌ {A = ℕ} (cond (carries copy x) 1 0) 0 = ap (λ z. cond z 1 0) (k refl) in
-    omega (arith, none)
-one_bare_gone copy x rest false false h k = absurd (cc)
-
--- items that carry nothing go, and what the others carry is as before
-pub count_by-bare_gone : (copy : ℕ × ℕ) (gone : List (ℕ × ℕ)) (xs : List Envelope)
-    → Each (λ x. (is_bare x.item || stays gone x) ≡ true) xs → count_by (carries copy) (filter (stays gone) xs) ≡ count_by (carries copy) xs
-count_by-bare_gone copy gone [] h = refl
-count_by-bare_gone copy gone (x ∷ xs) h =
-    one_bare_gone copy x (filter (stays gone) xs) (stays gone x) (is_bare x.item) h.0 (bare_carries_none copy x.item)
-    ∙ (ap (λ n. cond (carries copy x) 1 0 + n) (count_by-bare_gone copy gone xs h.1) ∙ sym (sum_by-cons (λ y. cond (carries copy y) 1 0) x xs))
 
 -- the puts of an entry, each in its envelope
 pub count_by-placed : (copy : ℕ × ℕ) (n p : ℕ) (puts : List (Queue × Item)) → count_by (carries copy) (placed n p puts) ≡ count_by (λ x. carries_copy copy x.1) puts

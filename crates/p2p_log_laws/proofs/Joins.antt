@@ -40,19 +40,6 @@ crossed a b x y h k = grind (arith, nat_tests)
 
 joins_of : (configs : List Config) (a b : ℕ) (near far : Half) (c : Act) (r : Reply) → half_of configs a c r ≡ Some near → half_of configs b c r ≡ Some far
     → near.writes ≡ other_side far.writes → joins a b c r ≡ true
-joins_of configs a b near far (act.Register c k rate) r h k' w = absurd (cc)
-joins_of configs a b near far (act.Start k) r h k' w = absurd (cc)
-joins_of configs a b near far (act.Send bytes c k priority to) r h k' w = absurd (cc)
-joins_of configs a b near far (act.Router k) r h k' w = absurd (cc)
-joins_of configs a b near far (act.SendStep conn k) r h k' w = absurd (cc)
-joins_of configs a b near far (act.RecvStep conn k) r h k' w = absurd (cc)
-joins_of configs a b near far (act.Recv c k) r h k' w = absurd (cc)
-joins_of configs a b near far (act.Join x y) reply.Idle h k w = absurd (cc)
-joins_of configs a b near far (act.Join x y) reply.Pending h k w = absurd (cc)
-joins_of configs a b near far (act.Join x y) reply.Gone h k w = absurd (cc)
-joins_of configs a b near far (act.Join x y) (reply.Capacity c) h k w = absurd (cc)
-joins_of configs a b near far (act.Join x y) (reply.Sent keys) h k w = absurd (cc)
-joins_of configs a b near far (act.Join x y) (reply.Message bytes from) h k w = absurd (cc)
 joins_of configs a b near far (act.Join x y) reply.Ok h k w = elim (half_is configs x y a near h) [
   | inl near_out ↦ elim (half_is configs x y b far k) [
     | inl far_out ↦ let e : side.Out ≡ side.In = sym near_out.writes ∙ (w ∙ ap other_side far_out.writes) in absurd (cc)
@@ -63,6 +50,7 @@ joins_of configs a b near far (act.Join x y) reply.Ok h k w = elim (half_is conf
     | inr far_in ↦ let e : side.In ≡ side.Out = sym near_in.writes ∙ (w ∙ ap other_side far_in.writes) in absurd (cc)
   ]
 ]
+joins_of configs a b near far _ r h k w = absurd (cc)
 
 -- the event of a connection joined the nodes of its halves
 pub join_of : (configs : List Config) (log : List Entry) (conn a b : ℕ) (near far : Half) → half_at configs log a conn ≡ Some near → half_at configs log b conn ≡ Some far
@@ -88,39 +76,14 @@ swapped : (a b p q : ℕ) → (((p == a) && (q == b)) || ((p == b) && (q == a)))
 swapped a b p q = grind (arith, nat_tests)
 
 joins_swap : (a b : ℕ) (d : Act) (s : Reply) → joins a b d s ≡ joins b a d s
-joins_swap a b (act.Register c k rate) s = refl
-joins_swap a b (act.Start k) s = refl
-joins_swap a b (act.Send bytes c k priority to) s = refl
-joins_swap a b (act.Router k) s = refl
-joins_swap a b (act.SendStep conn k) s = refl
-joins_swap a b (act.RecvStep conn k) s = refl
-joins_swap a b (act.Recv c k) s = refl
-joins_swap a b (act.Join x y) reply.Idle = refl
-joins_swap a b (act.Join x y) reply.Pending = refl
-joins_swap a b (act.Join x y) reply.Gone = refl
-joins_swap a b (act.Join x y) (reply.Capacity c) = refl
-joins_swap a b (act.Join x y) (reply.Sent keys) = refl
-joins_swap a b (act.Join x y) (reply.Message bytes from) = refl
 joins_swap a b (act.Join x y) reply.Ok = swapped a b x y
+joins_swap a b _ s = refl
 
 or_parts : (p q : Bool) → (p || q) ≡ true → (p ≡ true) ⊎ (q ≡ true)
 or_parts true q h = inl refl
 or_parts false q h = inr h
 
 joins_is : (a b : ℕ) (c : Act) (r : Reply) → joins a b c r ≡ true → Joins a b c r
-joins_is a b (act.Register c k rate) r h = absurd (cc)
-joins_is a b (act.Start k) r h = absurd (cc)
-joins_is a b (act.Send bytes c k priority to) r h = absurd (cc)
-joins_is a b (act.Router k) r h = absurd (cc)
-joins_is a b (act.SendStep conn k) r h = absurd (cc)
-joins_is a b (act.RecvStep conn k) r h = absurd (cc)
-joins_is a b (act.Recv c k) r h = absurd (cc)
-joins_is a b (act.Join x y) reply.Idle h = absurd (cc)
-joins_is a b (act.Join x y) reply.Pending h = absurd (cc)
-joins_is a b (act.Join x y) reply.Gone h = absurd (cc)
-joins_is a b (act.Join x y) (reply.Capacity c) h = absurd (cc)
-joins_is a b (act.Join x y) (reply.Sent keys) h = absurd (cc)
-joins_is a b (act.Join x y) (reply.Message bytes from) h = absurd (cc)
 joins_is a b (act.Join x y) reply.Ok h = elim (or_parts ((x == a) && (y == b)) ((x == b) && (y == a)) h) [
   | inl t ↦
       let parts = and_parts (x == a) (y == b) t in
@@ -145,6 +108,7 @@ joins_is a b (act.Join x y) reply.Ok h = elim (or_parts ((x == a) && (y == b)) (
         same = λ d s. joins_swap a b d s ∙ (ap (λ n. joins n a d s) (sym first) ∙ ap (λ n. joins x n d s) (sym second));
       }
 ]
+joins_is a b _ r h = absurd (cc)
 
 any_at : {X : Type 0} (p : X → Bool) (xs : List X) (i : ℕ) (x : X) → slice_get xs i ≡ Some x → p x ≡ true → list_any p xs ≡ true
 any_at p [] i x e h = absurd (cc)

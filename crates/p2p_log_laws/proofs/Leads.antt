@@ -1,9 +1,13 @@
 -- From where the copies of one sender come that enter a stage of their way: from the stage before.
-use Rattle.std.proofs.Common.{◌≡◌, ℕ, Bool, true, false, List, [], ◌∷◌, ◌++◌, Option, Some, None, inl, inr, refl, ap, sym, subst, ◌∙◌, eq-eqb, eqb-true}
-use Rattle.std.specs.Prelude.{◌==◌, ◌&&◌, not, slice_get}
-use Rattle.std.specs.List.{AllByRecursion as Each}
+use Rattle.p2p_log.specs.Sending.{Sender, Sending, sending_at, sending_of}
+use Rattle.p2p_log.specs.Sending.Sender.{Node, Raw}
+use Rattle.p2p_log_laws.proofs.Telling.{StandTells}
+use Rattle.p2p_log_laws.proofs.Stages.{Fail, OwnFails, ItemsFail, OthersFail}
+use Rattle.p2p_log.proofs.Sending.{sending_at-longer}
+use Rattle.p2p_log.specs.Copies.{copies_of}
+use Rattle.std.proofs.Common.{◌≡◌, ℕ, Bool, true, false, List, ◌++◌, length, Option, Some, None, refl, ap, sym, subst, ◌∙◌, eq-eqb, eqb-true}
+use Rattle.std.specs.Prelude.{◌==◌, ◌&&◌, not}
 use Rattle.std.proofs.lemmas.Bool.{and_parts, false≢true}
-use Rattle.std.proofs.lemmas.Option.{same_Some}
 use Rattle.p2p_base.specs.declared.key.Key.{Key}
 use Rattle.p2p_log.specs.declared.config.Config.{Config}
 use Rattle.p2p_log.specs.declared.queue.Queue.{Queue}
@@ -15,24 +19,15 @@ use Rattle.p2p_log.specs.declared.item.Envelope.{Envelope}
 use Rattle.p2p_log.specs.declared.entry.Entry.{Entry}
 use Rattle.p2p_log.specs.declared.entry.Reply.{Reply}
 use Rattle.p2p_log.specs.declared.event.Act.{Act}
-use Rattle.p2p_log.specs.declared.event.Act.TheVariants as act
-use Rattle.p2p_log_rules.specs.declared.row.Half.{Half}
 use Rattle.p2p_log.specs.Lines.{stands_in}
-use Rattle.p2p_log_rules.specs.Facts.{half_at}
-use Rattle.p2p_log_rules.specs.Frames.{message_in}
-use Rattle.p2p_log_rules.specs.Effect.{goes_to, relay_queue, other_side}
+use Rattle.p2p_log_rules.specs.Effect.{relay_queue, other_side}
 use Rattle.p2p_log.proofs.Queues.{same_queue-refl}
-use Rattle.p2p_log_laws.specs.Delivered.{IsCopyOf}
-use Rattle.p2p_log_laws.proofs.Carried.{copies_of, is_mailbox, relay_away, copies_of-bare}
 use Rattle.p2p_log_laws.proofs.ConnShapes.{relayed_fits}
-use Rattle.p2p_log_laws.proofs.Fitting.{StandsFit, fits, is_bare}
-use Rattle.p2p_log_laws.proofs.FrameLaw.{frames_give}
+use Rattle.p2p_log_laws.proofs.Fitting.{StandsFit, fits}
 use Rattle.p2p_log_laws.proofs.Marks.{IsSentBy, Marks, StandMarks, relay_marked}
-use Rattle.p2p_log_laws.proofs.Queues.{queue_from_same}
-use Rattle.p2p_log_laws.proofs.Shape.{Origin, is_idle}
-use Rattle.p2p_log_laws.proofs.Shape.Origin.{idle, begun, sent, routed, written, arrived}
-use Rattle.p2p_log_laws.proofs.Telling.{Tells, StandTells, get_longer, half_at-longer}
-use Rattle.p2p_log_laws.proofs.Truth.{Arrives, arrives}
+use Rattle.p2p_log_laws.proofs.Shape.{OfAct, IsWritten, spread_relay}
+use Rattle.p2p_log_laws.proofs.OneLink.{all_puts, WasPut}
+use Rattle.p2p_log.proofs.Each.{Has}
 
 -- ---- whose copy it is
 
@@ -40,17 +35,28 @@ abbrev same_priority : Bool → Bool → Bool
 same_priority true b = b
 same_priority false b = not b
 
-abbrev sends_by : ℕ → Bool → Act → Bool
-sends_by n priority (act.Send bytes c m p to) = (m == n) && same_priority p priority
-sends_by n priority _ = false
+abbrev same_sender : Sender → Sender → Bool
+same_sender (Node n) (Node m) = n == m
+same_sender (Raw n) (Raw m) = n == m
+same_sender _ _ = false
 
-abbrev is_by : ℕ → Bool → Option Entry → Bool
-is_by n priority None = false
-is_by n priority (Some e) = sends_by n priority e.event.act
+senders : (a b : Sender) → same_sender a b ≡ true → a ≡ b
+senders (Node n) (Node m) h = ap (λ k. Node k) (eqb-true n m h)
+senders (Raw n) (Raw m) h = ap (λ k. Raw k) (eqb-true n m h)
+senders (Node n) (Raw m) h = absurd (false≢true h)
+senders (Raw n) (Node m) h = absurd (false≢true h)
 
--- whether the copy is of a send of this node, with this priority
-abbrev pub is_copy_by : List Entry → ℕ → Bool → ℕ × ℕ → Bool
-is_copy_by all n priority copy = is_by n priority (slice_get all copy.0)
+sender_itself : (a : Sender) → same_sender a a ≡ true
+sender_itself (Node n) = eq-eqb n n refl
+sender_itself (Raw n) = eq-eqb n n refl
+
+abbrev is_by : Sender → ℕ → Bool → Option Sending → Bool
+is_by sender channel priority None = false
+is_by sender channel priority (Some s) = same_sender s.by sender && ((s.channel == channel) && same_priority s.priority priority)
+
+-- whether the copy is of a send of this sender, on this channel, with this priority
+abbrev pub is_copy_by : List Entry → Sender → ℕ → Bool → ℕ × ℕ → Bool
+is_copy_by all sender channel priority copy = is_by sender channel priority (sending_at all copy.0)
 
 priorities : (p q : Bool) → same_priority p q ≡ true → p ≡ q
 priorities true q h = sym h
@@ -61,81 +67,57 @@ priority_itself : (p : Bool) → same_priority p p ≡ true
 priority_itself true = refl
 priority_itself false = refl
 
-by_parts : (all : List Entry) (n m : ℕ) (priority p : Bool) (copy : ℕ × ℕ) → IsSentBy all copy.0 m p → is_copy_by all n priority copy ≡ true → (m ≡ n) × (p ≡ priority)
-by_parts all n m priority p copy s h =
-    let is : sends_by n priority s.entry.event.act ≡ true = sym (ap (is_by n priority) s.at) ∙ h in
-    let parts = and_parts (m == n) (same_priority p priority) (sym (ap (sends_by n priority) s.sends) ∙ is) in
-    (eqb-true m n parts.0, priorities p priority parts.1)
+-- of a send whose copies pass
+sending_parts : (all : List Entry) (sender : Sender) (channel : ℕ) (priority : Bool) (copy : ℕ × ℕ) (s : Sending) → sending_at all copy.0 ≡ Some s
+    → is_copy_by all sender channel priority copy ≡ true → (s.by ≡ sender) × (s.channel ≡ channel) × (s.priority ≡ priority)
+sending_parts all sender channel priority copy s at h =
+    let is : is_by sender channel priority (Some s) ≡ true = sym (ap (is_by sender channel priority) at) ∙ h in
+    let parts = and_parts (same_sender s.by sender) ((s.channel == channel) && same_priority s.priority priority) is in
+    let more = and_parts (s.channel == channel) (same_priority s.priority priority) parts.1 in
+    (senders s.by sender parts.0, eqb-true s.channel channel more.0, priorities s.priority priority more.1)
 
-pub by_sent : (all : List Entry) (n : ℕ) (priority : Bool) (copy : ℕ × ℕ) → IsSentBy all copy.0 n priority → is_copy_by all n priority copy ≡ true
-by_sent all n priority copy s =
-    ap (is_by n priority) s.at ∙ (ap (sends_by n priority) s.sends
-    ∙ (ap (λ b. b && same_priority priority priority) (eq-eqb n n refl) ∙ priority_itself priority))
+by_parts : (all : List Entry) (sender m : Sender) (channel : ℕ) (priority p : Bool) (copy : ℕ × ℕ) → IsSentBy all copy.0 m p
+    → is_copy_by all sender channel priority copy ≡ true → (m ≡ sender) × (p ≡ priority)
+by_parts all sender m channel priority p copy s h =
+    let parts = sending_parts all sender channel priority copy s.sending s.at h in
+    (sym s.by ∙ parts.0, sym s.with_priority ∙ parts.2)
+
+pub by_sent : (all : List Entry) (sender : Sender) (channel : ℕ) (priority : Bool) (copy : ℕ × ℕ) (bytes : List ℕ) (keys : List Key)
+    → sending_at all copy.0 ≡ Some (record { by = sender; channel = channel; priority = priority; bytes = bytes; keys = keys })
+    → is_copy_by all sender channel priority copy ≡ true
+by_sent all sender channel priority copy bytes keys at =
+    ap (is_by sender channel priority) at
+    ∙ (ap (λ b. b && ((channel == channel) && same_priority priority priority)) (sender_itself sender)
+    ∙ (ap (λ b. b && same_priority priority priority) (eq-eqb channel channel refl) ∙ priority_itself priority))
 
 -- what was sent in the beginning of the log was sent
-pub copy_sent : (log more all : List Entry) → log ++ more ≡ all → (copy : ℕ × ℕ) (m c : ℕ) (bytes : List ℕ) (key : Key) (h : IsCopyOf log copy m c bytes key)
-    → IsSentBy all copy.0 m h.priority
-copy_sent log more all whole copy m c bytes key h = record {
-  entry = h.entry;
-  at = subst (λ (l : List Entry). slice_get l copy.0 ≡ Some h.entry) whole (get_longer log more copy.0 h.entry h.at);
-  bytes = bytes;
-  channel = c;
-  to = h.to;
-  sends = h.sends;
-}
+pub sent_in_all : (log more all : List Entry) → log ++ more ≡ all → (n : ℕ) (s : Sending) → sending_at log n ≡ Some s → sending_at all n ≡ Some s
+sent_in_all log more all whole n s h = subst (λ (l : List Entry). sending_at l n ≡ Some s) whole (sending_at-longer log more n s h)
 
-half_in_all : (configs : List Config) (log more all : List Entry) → log ++ more ≡ all → (n conn : ℕ) (half : Half) → half_at configs log n conn ≡ Some half → half_at configs all n conn ≡ Some half
-half_in_all configs log more all whole n conn half h = subst (λ (l : List Entry). half_at configs l n conn ≡ Some half) whole (half_at-longer configs log more n conn half h)
-
--- ---- queues that differ
-
-relay_not_channel : (priority : Bool) (n e m c : ℕ) → relay_queue priority n e ≡ queue.Channel m c → ⊥
-relay_not_channel true n e m c h = cc
-relay_not_channel false n e m c h = cc
-
-relay_not_link : (priority : Bool) (n e l : ℕ) (s : Side) → relay_queue priority n e ≡ queue.Link l s → ⊥
-relay_not_link true n e l s h = cc
-relay_not_link false n e l s h = cc
-
-channel_not_relay : (priority : Bool) (n e m c : ℕ) → queue.Channel m c ≡ relay_queue priority n e → ⊥
-channel_not_relay priority n e m c h = relay_not_channel priority n e m c (sym h)
-
-link_not_relay : (priority : Bool) (n e l : ℕ) (s : Side) → queue.Link l s ≡ relay_queue priority n e → ⊥
-link_not_relay priority n e l s h = relay_not_link priority n e l s (sym h)
-
-relay_owner : (p q : Bool) (n e m f : ℕ) → relay_queue p n e ≡ relay_queue q m f → n ≡ m
-relay_owner true true n e m f h = cc
-relay_owner true false n e m f h = absurd (cc)
-relay_owner false true n e m f h = absurd (cc)
-relay_owner false false n e m f h = cc
-
-idle_bare : (i : Item) → is_idle i ≡ true → is_bare i ≡ true
-idle_bare (item.Subscribe c) h = refl
-idle_bare (item.Ready conn key) h = absurd (cc)
-idle_bare (item.Content c frame priority send to) h = absurd (cc)
-idle_bare (item.Peers keys) h = refl
-idle_bare item.Answer h = refl
-idle_bare (item.Frame copy frame) h = absurd (cc)
-idle_bare (item.Message bytes copy from) h = absurd (cc)
+-- what is known of an item that is taken
+abbrev pub Known : List Config → List Entry → List Entry → List Envelope → Envelope → Type 0
+Known configs log all taken y = StandsFit y × StandMarks all y × WasPut all y × StandTells configs log y × Has taken y
 
 -- ---- the stages
 
--- what is known of an item that is taken
-abbrev pub Known : List Config → List Entry → List Entry → Envelope → Type 0
-Known configs log all y = StandsFit y × StandTells configs log y × StandMarks all y
-
-module _ (configs : List Config) (log more all : List Entry) (whole : log ++ more ≡ all) (a : Act) (r : Reply) (sender receiver channel : ℕ) (priority : Bool) (conn : ℕ) (near : Half)
-    (near_at : half_at configs all sender conn ≡ Some near)
-    (only : (i : ℕ) (h k : Half) → half_at configs all sender i ≡ Some h → half_at configs all receiver i ≡ Some k → h.writes ≡ other_side k.writes → i ≡ conn) where
-  abbrev test : ℕ × ℕ → Bool
-  test copy = is_copy_by all sender priority copy
-
+module _ (configs : List Config) (log more all : List Entry) (whole : log ++ more ≡ all) (sender : Sender) (channel : ℕ) (priority : Bool) (link : ℕ) (side : Side)
+    (test : ℕ × ℕ → Bool)
+    -- a copy that passes is of the sender, on this channel, with this priority, and is put in no other link
+    (by_sender : (copy : ℕ × ℕ) → test copy ≡ true → is_copy_by all sender channel priority copy ≡ true)
+    (by_link : (copy : ℕ × ℕ) → test copy ≡ true → (e : ℕ) (s : Side) (frame : List ℕ) → Has (all_puts all) (queue.Link e s, item.Frame (Some copy) frame)
+    → queue.Link e s ≡ queue.Link link side)
+    (a : Act) (r : Reply) (here : sending_at all (length log) ≡ sending_of a r) (taken : List Envelope) (puts : List (Queue × Item)) where
   abbrev Fails : Item → Type 0
-  Fails i = Each (λ c. test c ≡ false) (copies_of i)
+  Fails i = Fail test (copies_of i)
 
-  -- what carries no copy
-  bare_fails : (i : Item) → is_bare i ≡ true → Fails i
-  bare_fails i h = subst (Each (λ c. test c ≡ false)) (sym (copies_of-bare i h)) tt
+  abbrev Own : Queue → Type 0
+  Own q = OwnFails test configs log a r puts (Known configs log all taken) q
+
+  abbrev Items : Queue → Type 0
+  Items q = ItemsFail test configs log a r puts (Known configs log all taken) q
+
+  abbrev Others : Queue → Queue → Type 0
+  Others q p = OthersFail test configs log a r puts (Known configs log all taken) q p
 
   one_fails : (copy : ℕ × ℕ) → (test copy ≡ true → ⊥) → test copy ≡ false
   one_fails copy f = go (test copy) refl
@@ -148,118 +130,72 @@ module _ (configs : List Config) (log more all : List Entry) (whole : log ++ mor
   elsewhere : (q : Queue) (y : Envelope) → stands_in q y ≡ false → y.queue ≡ q → ⊥
   elsewhere q y away is = absurd (false≢true (sym away ∙ (ap (λ p. stands_in p y) (sym is) ∙ same_queue-refl y.queue)))
 
-  -- what an act puts of itself enters no other queue than a mailbox, or carries no copy
-  sent_clash : (q : Queue) (n : ℕ) → is_mailbox q ≡ false → queue.Router n ≡ q → ⊥
-  sent_clash q n away is = absurd (false≢true (sym away ∙ sym (ap is_mailbox is)))
+  -- what stood in the link was put there
+  was_put : (y : Envelope) (e : ℕ) (s : Side) (copy : ℕ × ℕ) (frame : List ℕ) → Known configs log all taken y → y.queue ≡ queue.Link e s → y.item ≡ item.Frame (Some copy) frame
+      → Has (all_puts all) (queue.Link e s, item.Frame (Some copy) frame)
+  was_put y e s copy frame known stood is = subst (λ j. Has (all_puts all) (queue.Link e s, j)) is (subst (λ q. Has (all_puts all) (q, y.item)) stood known.2)
 
-  module _ (q : Queue) (away : is_mailbox q ≡ false) where
-    pub own_fails : (x : Queue × Item) → Origin configs log a r [] x → goes_to q x ≡ true → Fails x.1
-    own_fails x (idle h) g = bare_fails x.1 (idle_bare x.1 h)
-    own_fails x (begun n half h e) g = subst (λ (z : Queue × Item). Fails z.1) (sym e) tt
-    own_fails x (sent bytes c n p to keys s t e) g = absurd (sent_clash q n away (sym (ap (λ (z : Queue × Item). z.0) e) ∙ queue_from_same q x.0 g))
-    own_fails x (routed y n c frame p send to place k e has in_queue is at route is_x) g = absurd has
-    own_fails x (written y n e p half has in_queue at is_x) g = absurd has
-    own_fails x (arrived y n e half copy frame limit message has in_queue at is read is_x) g = absurd has
+  -- into a channel, from the link
+  pub into_channel : (n c : ℕ) → Others (queue.Channel n c) (queue.Link link side)
+  into_channel n c y i known is_put h away =
+      let s = other_side h.half.writes in
+      subst Fails (sym h.put) (
+        one_fails h.copy (λ passes.
+            elsewhere (queue.Link link side) y away
+            (h.stood ∙ by_link h.copy passes h.conn s h.frame (was_put y h.conn s h.copy h.frame known h.stood h.is))),
+        tt,
+      )
 
-  -- into the channel, from the link
-  module _ (y : Envelope) (known : Known configs log all y) (away : stands_in (queue.Link conn near.writes) y ≡ false) where
-    arrives_over : (n e : ℕ) (half : Half) (copy : ℕ × ℕ) (frame : List ℕ) (limit : ℕ) (message : ℕ × List ℕ) → y.queue ≡ queue.Link e (other_side half.writes)
-        → half_at configs log n e ≡ Some half → y.item ≡ item.Frame (Some copy) frame → message_in frame limit ≡ Some message → n ≡ receiver → test copy ≡ true → ⊥
-    arrives_over n e half copy frame limit message in_queue at is read same_node passes =
-        let told : Tells configs log (item.Frame (Some copy) frame) (queue.Link e (other_side half.writes)) =
-        subst (λ p. Tells configs log (item.Frame (Some copy) frame) p) in_queue (subst (λ j. Tells configs log j y.queue) is known.1)
-        in
-        let here : Arrives configs log n e half copy message = arrives configs frames_give log n e half copy frame limit message at told read in
-        let by : IsSentBy all copy.0 here.sender here.sent.priority = copy_sent log more all whole copy here.sender message.0 message.1 _ here.sent in
-        let parts = by_parts all sender here.sender priority here.sent.priority copy by passes in
-        let far_at : half_at configs all sender e ≡ Some here.far =
-        ap (λ m. half_at configs all m e) (sym parts.0) ∙ half_in_all configs log more all whole here.sender e here.far here.far_at
-        in
-        let half_of_receiver : half_at configs all receiver e ≡ Some half =
-        ap (λ m. half_at configs all m e) (sym same_node) ∙ half_in_all configs log more all whole n e half at
-        in
-        let same : e ≡ conn = only e here.far half far_at half_of_receiver here.writes in
-        let halves : here.far ≡ near = same_Some here.far near (sym far_at ∙ (ap (λ i. half_at configs all sender i) same ∙ near_at)) in
-        let link : y.queue ≡ queue.Link conn near.writes =
-        in_queue
-        ∙ (ap (λ s. queue.Link e s) (sym here.writes) ∙ (ap (λ i. queue.Link i here.far.writes) same ∙ ap (λ (h : Half). queue.Link conn h.writes) halves))
-        in
-        elsewhere (queue.Link conn near.writes) y away link
-
-    pub into_channel : (x : Queue × Item) → Origin configs log a r (y ∷ []) x → goes_to (queue.Channel receiver channel) x ≡ true → Fails x.1
-    into_channel x (idle h) g = bare_fails x.1 (idle_bare x.1 h)
-    into_channel x (begun n half h e) g = subst (λ (z : Queue × Item). Fails z.1) (sym e) tt
-    into_channel x (sent bytes c n p to keys s t e) g =
-        absurd (sent_clash (queue.Channel receiver channel) n refl (sym (ap (λ (z : Queue × Item). z.0) e) ∙ queue_from_same (queue.Channel receiver channel) x.0 g))
-    into_channel x (routed z n c frame p send to place k e has in_queue is at route is_x) g =
-        absurd (relay_not_channel p n e receiver channel (sym (ap (λ (w : Queue × Item). w.0) is_x) ∙ queue_from_same (queue.Channel receiver channel) x.0 g))
-    into_channel x (written z n e p half has in_queue at is_x) g =
-        let clash : queue.Link e half.writes ≡ queue.Channel receiver channel = sym (ap (λ (w : Queue × Item). w.0) is_x) ∙ queue_from_same (queue.Channel receiver channel) x.0 g in
-        absurd (cc)
-    into_channel x (arrived z n e half copy frame limit message has in_queue at is read is_x) g = elim has [
-      | inl same ↦
-          let same_queue : queue.Channel n message.0 ≡ queue.Channel receiver channel = sym (ap (λ (w : Queue × Item). w.0) is_x) ∙ queue_from_same (queue.Channel receiver channel) x.0 g in
-          let node : n ≡ receiver = cc in
-          subst (λ (w : Queue × Item). Fails w.1) (sym is_x)
-          (one_fails copy (arrives_over n e half copy frame limit message (ap (λ (w : Envelope). w.queue) same ∙ in_queue) at (ap (λ (w : Envelope). w.item) same ∙ is) read node), tt)
-      | inr l ↦ absurd l
-    ]
+  -- what is written into a link is of its node, with the priority of the queue where it stood
+  written_by : (y : Envelope) (i : Item) → Known configs log all taken y → (h : IsWritten configs log y link side i)
+      → ((copy : ℕ × ℕ) → test copy ≡ true → Node h.node ≡ sender → h.priority ≡ priority → ⊥) → Fails i
+  written_by y i known h clash =
+      let fit : fits (queue.Link link side) y.item ≡ true = relayed_fits h.priority h.node link link side y.item (subst (λ q. fits q y.item ≡ true) h.stood known.0) in
+      subst Fails (sym h.put) (go y.item refl fit)
+    where
+      go : (j : Item) → y.item ≡ j → fits (queue.Link link side) j ≡ true → Fails j
+      go (item.Frame None frame) is fit = tt
+      go (item.Frame (Some copy) frame) is fit = (
+        one_fails copy (λ passes.
+            let marked : Marks all (item.Frame (Some copy) frame) (relay_queue h.priority h.node link) =
+            subst (λ q. Marks all (item.Frame (Some copy) frame) q) h.stood (subst (λ j. Marks all j y.queue) is known.1)
+            in
+            let parts = by_parts all sender (Node h.node) channel priority h.priority copy (relay_marked all h.priority h.node link copy frame marked) (by_sender copy passes) in
+            clash copy passes parts.0 parts.1),
+        tt,
+      )
+      go _ is fit = absurd (cc)
 
   -- into the link, from the relay
-  module _ (y : Envelope) (known : Known configs log all y) (away : stands_in (relay_queue priority sender conn) y ≡ false) where
-    written_item : (n : ℕ) (p : Bool) (i : Item) → y.queue ≡ relay_queue p n conn → y.item ≡ i → fits (queue.Link conn near.writes) i ≡ true → Fails i
-    written_item n p (item.Subscribe c) in_queue is fit = absurd (cc)
-    written_item n p (item.Ready e key) in_queue is fit = absurd (cc)
-    written_item n p (item.Content c frame q send to) in_queue is fit = absurd (cc)
-    written_item n p (item.Peers keys) in_queue is fit = absurd (cc)
-    written_item n p item.Answer in_queue is fit = absurd (cc)
-    written_item n p (item.Frame None frame) in_queue is fit = tt
-    written_item n p (item.Message bytes copy from) in_queue is fit = absurd (cc)
-    written_item n p (item.Frame (Some copy) frame) in_queue is fit = (
-      one_fails copy (λ passes.
-          let marked : Marks all (item.Frame (Some copy) frame) (relay_queue p n conn) =
-          subst (λ q. Marks all (item.Frame (Some copy) frame) q) in_queue (subst (λ j. Marks all j y.queue) is known.2)
-          in
-          let parts = by_parts all sender n priority p copy (relay_marked all p n conn copy frame marked) passes in
-          elsewhere (relay_queue priority sender conn) y away
-          (in_queue ∙ (ap (λ m. relay_queue p m conn) parts.0 ∙ ap (λ b. relay_queue b sender conn) parts.1))),
-      tt,
-    )
+  pub into_link : (n : ℕ) → sender ≡ Node n → Others (queue.Link link side) (relay_queue priority n link)
+  into_link n is_node y i known is_put h away =
+      written_by y i known h (λ copy passes by with_priority.
+      let nodes : Node h.node ≡ Node n = by ∙ is_node in
+      let same : h.node ≡ n = cc in
+      elsewhere (relay_queue priority n link) y away (h.stood ∙ (ap (λ m. relay_queue h.priority m link) same ∙ ap (λ b. relay_queue b n link) with_priority)))
 
-    pub into_link : (x : Queue × Item) → Origin configs log a r (y ∷ []) x → goes_to (queue.Link conn near.writes) x ≡ true → Fails x.1
-    into_link x (idle h) g = bare_fails x.1 (idle_bare x.1 h)
-    into_link x (begun n half h e) g = subst (λ (z : Queue × Item). Fails z.1) (sym e) tt
-    into_link x (sent bytes c n p to keys s t e) g =
-        absurd (sent_clash (queue.Link conn near.writes) n refl (sym (ap (λ (z : Queue × Item). z.0) e) ∙ queue_from_same (queue.Link conn near.writes) x.0 g))
-    into_link x (routed z n c frame p send to place k e has in_queue is at route is_x) g =
-        absurd (relay_not_link p n e conn near.writes (sym (ap (λ (w : Queue × Item). w.0) is_x) ∙ queue_from_same (queue.Link conn near.writes) x.0 g))
-    into_link x (arrived z n e half copy frame limit message has in_queue at is read is_x) g =
-        let clash : queue.Channel n message.0 ≡ queue.Link conn near.writes = sym (ap (λ (w : Queue × Item). w.0) is_x) ∙ queue_from_same (queue.Link conn near.writes) x.0 g in
-        absurd (cc)
-    into_link x (written z n e p half has in_queue at is_x) g = elim has [
-      | inl same ↦
-          let links : queue.Link e half.writes ≡ queue.Link conn near.writes = sym (ap (λ (w : Queue × Item). w.0) is_x) ∙ queue_from_same (queue.Link conn near.writes) x.0 g in
-          let conns : e ≡ conn = cc in
-          let in_relay : y.queue ≡ relay_queue p n conn = ap (λ (w : Envelope). w.queue) same ∙ (in_queue ∙ ap (λ i. relay_queue p n i) conns) in
-          let fit : fits (queue.Link conn near.writes) y.item ≡ true = relayed_fits p n conn conn near.writes y.item (subst (λ q. fits q y.item ≡ true) in_relay known.0) in
-          subst (λ (w : Queue × Item). Fails w.1) (sym is_x) (subst Fails (ap (λ (w : Envelope). w.item) same) (written_item n p y.item in_relay refl fit))
-      | inr l ↦ absurd l
-    ]
+  -- a raw peer's writes are none of a node's
+  pub own_link : (n : ℕ) → sender ≡ Node n → Own (queue.Link link side)
+  own_link n is_node i h =
+      subst Fails (sym h.put) (
+        one_fails (length log, 0) (λ passes.
+            let parts = sending_parts all sender channel priority (length log, 0) h.sending (here ∙ h.sends) (by_sender (length log, 0) passes) in
+            let clash : Raw link ≡ Node n = sym h.by ∙ (parts.0 ∙ is_node) in
+            absurd (cc)),
+        tt,
+      )
+
+  -- and a node's none of a raw peer's
+  pub raw_link : (e : ℕ) → sender ≡ Raw e → Items (queue.Link link side)
+  raw_link e is_raw y i known h = written_by y i known h (λ copy passes by with_priority. let clash : Node h.node ≡ Raw e = by ∙ is_raw in absurd (cc))
 
   -- into the relay, from the mailbox
-  module _ (y : Envelope) (away : stands_in (queue.Router sender) y ≡ false) where
-    pub into_relay : (x : Queue × Item) → Origin configs log a r (y ∷ []) x → goes_to (relay_queue priority sender conn) x ≡ true → Fails x.1
-    into_relay x (idle h) g = bare_fails x.1 (idle_bare x.1 h)
-    into_relay x (begun n half h e) g = subst (λ (z : Queue × Item). Fails z.1) (sym e) tt
-    into_relay x (sent bytes c n p to keys s t e) g =
-        absurd (sent_clash (relay_queue priority sender conn) n (relay_away priority sender conn) (sym (ap (λ (z : Queue × Item). z.0) e) ∙ queue_from_same (relay_queue priority sender conn) x.0 g))
-    into_relay x (written z n e p half has in_queue at is_x) g =
-        absurd (link_not_relay priority sender conn e half.writes (sym (ap (λ (w : Queue × Item). w.0) is_x) ∙ queue_from_same (relay_queue priority sender conn) x.0 g))
-    into_relay x (arrived z n e half copy frame limit message has in_queue at is read is_x) g =
-        absurd (channel_not_relay priority sender conn n message.0 (sym (ap (λ (w : Queue × Item). w.0) is_x) ∙ queue_from_same (relay_queue priority sender conn) x.0 g))
-    into_relay x (routed z n c frame p send to place k e has in_queue is at route is_x) g = elim has [
-      | inl same ↦
-          let owner : n ≡ sender = relay_owner p priority n e sender conn (sym (ap (λ (w : Queue × Item). w.0) is_x) ∙ queue_from_same (relay_queue priority sender conn) x.0 g) in
-          absurd (elsewhere (queue.Router sender) y away (ap (λ (w : Envelope). w.queue) same ∙ (in_queue ∙ ap (λ m. queue.Router m) owner)))
-      | inr l ↦ absurd l
-    ]
+  pub into_relay : (n : ℕ) → Others (relay_queue priority n link) (queue.Router n)
+  into_relay n y i known is_put h away = absurd (elsewhere (queue.Router n) y away (spread_relay configs log y priority n link i h).stood)
+
+  pub own_relay : (n : ℕ) → Own (relay_queue priority n link)
+  own_relay n i h = absurd (clash priority h)
+    where
+      clash : (p : Bool) → OfAct configs log a r (relay_queue p n link) i → ⊥
+      clash true k = k
+      clash false k = k

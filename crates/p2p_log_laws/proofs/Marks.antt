@@ -1,6 +1,8 @@
 -- A queue of a connection that is for messages with priority holds those alone, and the other one those without.
-use Rattle.std.proofs.Common.{◌≡◌, ℕ, Bool, true, false, List, [], ◌∷◌, ◌++◌, length, Some, None, sym, subst}
-use Rattle.std.specs.Prelude.{filter, slice_get}
+use Rattle.p2p_log.specs.Sending.Sender.{Node}
+use Rattle.p2p_log.specs.Sending.{Sender, Sending, sending_at, sending_of}
+use Rattle.std.proofs.Common.{inl, inr, refl, ◌≡◌, ℕ, Bool, true, false, List, [], ◌∷◌, ◌++◌, length, Some, None, sym, subst, ◌∙◌}
+use Rattle.std.specs.Prelude.{filter}
 use Rattle.std.specs.List.{AllByRecursion as Each}
 use Rattle.p2p_log.specs.declared.config.Config.{Config}
 use Rattle.p2p_log.specs.declared.queue.Queue.{Queue}
@@ -11,33 +13,40 @@ use Rattle.p2p_log.specs.declared.item.Item.TheVariants as item
 use Rattle.p2p_log.specs.declared.item.Envelope.{Envelope}
 use Rattle.p2p_log.specs.declared.entry.Entry.{Entry}
 use Rattle.p2p_log.specs.declared.event.Event.{Event}
-use Rattle.p2p_log.specs.declared.event.Act.TheVariants as act
-use Rattle.p2p_log.specs.declared.event.Recipients.{Recipients}
 use Rattle.p2p_log_rules.specs.declared.row.Row.{Row}
 use Rattle.p2p_log.specs.Lines.{goes, stays, placed, live}
 use Rattle.p2p_log_rules.specs.Effect.{entry_of, relay_queue}
 use Rattle.p2p_log.proofs.Lines.{live-append}
-use Rattle.p2p_log_laws.proofs.Each.{Each-has, Each-append, Each-filter, Each-weaker}
+use Rattle.p2p_log.proofs.Each.{Each-has, Each-append, Each-filter, Each-weaker}
 use Rattle.p2p_log_laws.proofs.Fitting.{Each-placed}
-use Rattle.p2p_log_laws.proofs.Shape.{Shape, Origin, is_idle}
-use Rattle.p2p_log_laws.proofs.Shape.Origin.{idle, begun, sent, routed, written, arrived}
-use Rattle.p2p_log_laws.proofs.Weights.{Each-taken}
+use Rattle.p2p_log_rules.specs.Moves.{Moves}
+use Rattle.p2p_log_rules.proofs.Moves.{taken_stood}
+use Rattle.p2p_log_laws.proofs.Shape.{Origin, OfAct, OfItem, IsSpread, is_idle, Laws, Moved-origins}
+use Rattle.p2p_log.proofs.Taken.{Each-taken}
 
--- the entry is a send at this node, with this priority
-pub record IsSentBy (all : List Entry) (send node : ℕ) (priority : Bool) : Type 0 where
-  pub entry : Entry
-  pub at : slice_get all send ≡ Some entry
-  pub bytes : List ℕ
-  pub channel : ℕ
-  pub to : Recipients
-  pub sends : entry.event.act ≡ act.Send bytes channel node priority to
+-- the entry is a send of this sender, with this priority
+pub record IsSentBy (all : List Entry) (send : ℕ) (sender : Sender) (priority : Bool) : Type 0 where
+  pub sending : Sending
+  pub at : sending_at all send ≡ Some sending
+  pub by : sending.by ≡ sender
+  pub with_priority : sending.priority ≡ priority
 
 -- by whom an item in its queue was sent, and with which priority
 abbrev pub Marks : List Entry → Item → Queue → Type 0
-Marks all (item.Content c frame priority send to) (queue.Router n) = IsSentBy all send n priority
-Marks all (item.Frame (Some copy) frame) (queue.High n conn) = IsSentBy all copy.0 n true
-Marks all (item.Frame (Some copy) frame) (queue.Low n conn) = IsSentBy all copy.0 n false
-Marks all _ _ = Unit {0}
+Marks all (item.Content c frame priority send to) (queue.Router n) = IsSentBy all send (Node n) priority
+Marks all (item.Frame (Some copy) frame) (queue.High n conn) = IsSentBy all copy.0 (Node n) true
+Marks all (item.Frame (Some copy) frame) (queue.Low n conn) = IsSentBy all copy.0 (Node n) false
+-- what has gone over a link is told by the link
+Marks all (item.Frame (Some copy) frame) (queue.Link link side) = Unit {0}
+Marks all (item.Message bytes copy from) q = Unit {0}
+-- these carry no copy
+Marks all (item.Subscribe c) q = Unit {0}
+Marks all (item.Ready conn key) q = Unit {0}
+Marks all (item.Peers keys) q = Unit {0}
+Marks all item.Answer q = Unit {0}
+Marks all (item.Frame None frame) q = Unit {0}
+-- the others stand in no other queue
+Marks all _ _ = ⊥
 
 abbrev pub StandMarks : List Entry → Envelope → Type 0
 StandMarks all x = Marks all x.item x.queue
@@ -46,47 +55,61 @@ abbrev PutMarks : List Entry → Queue × Item → Type 0
 PutMarks all x = Marks all x.1 x.0
 
 idle_marks : (all : List Entry) (i : Item) (q : Queue) → is_idle i ≡ true → Marks all i q
-idle_marks all (item.Subscribe c) q h = tt
 idle_marks all (item.Ready conn key) q h = absurd (cc)
 idle_marks all (item.Content c frame priority send to) q h = absurd (cc)
-idle_marks all (item.Peers keys) q h = tt
-idle_marks all item.Answer q h = tt
 idle_marks all (item.Frame copy frame) q h = absurd (cc)
 idle_marks all (item.Message bytes copy from) q h = absurd (cc)
+idle_marks all _ q h = tt
 
-link_marks : (all : List Entry) (i : Item) (link : ℕ) (s : Side) → Marks all i (queue.Link link s)
-link_marks all (item.Subscribe c) link s = tt
-link_marks all (item.Ready conn key) link s = tt
-link_marks all (item.Content c frame priority send to) link s = tt
-link_marks all (item.Peers keys) link s = tt
-link_marks all item.Answer link s = tt
-link_marks all (item.Frame (Some copy) frame) link s = tt
-link_marks all (item.Frame None frame) link s = tt
-link_marks all (item.Message bytes copy from) link s = tt
+-- what is written into a link was marked where it stood
+link_marks : (all : List Entry) (priority : Bool) (n conn : ℕ) (i : Item) (link : ℕ) (s : Side) → Marks all i (relay_queue priority n conn) → Marks all i (queue.Link link s)
+link_marks all true n conn (item.Content c frame p send to) link s h = absurd h
+link_marks all false n conn (item.Content c frame p send to) link s h = absurd h
+link_marks all priority n conn (item.Frame (Some copy) frame) link s h = tt
+link_marks all priority n conn (item.Frame None frame) link s h = tt
+link_marks all priority n conn _ link s h = tt
 
-relay_marks : (all : List Entry) (priority : Bool) (n conn : ℕ) (copy : ℕ × ℕ) (frame : List ℕ) → IsSentBy all copy.0 n priority
+relay_marks : (all : List Entry) (priority : Bool) (n conn : ℕ) (copy : ℕ × ℕ) (frame : List ℕ) → IsSentBy all copy.0 (Node n) priority
     → Marks all (item.Frame (Some copy) frame) (relay_queue priority n conn)
 relay_marks all true n conn copy frame h = h
 relay_marks all false n conn copy frame h = h
 
 pub relay_marked : (all : List Entry) (priority : Bool) (n conn : ℕ) (copy : ℕ × ℕ) (frame : List ℕ)
-    → Marks all (item.Frame (Some copy) frame) (relay_queue priority n conn) → IsSentBy all copy.0 n priority
+    → Marks all (item.Frame (Some copy) frame) (relay_queue priority n conn) → IsSentBy all copy.0 (Node n) priority
 relay_marked all true n conn copy frame h = h
 relay_marked all false n conn copy frame h = h
 
-module _ (configs : List Config) (log : List Entry) (ev : Event) (r : Row) (shape : Shape configs log ev.act r) (all : List Entry)
-    (here : slice_get all (length log) ≡ Some (entry_of ev r)) (mark : Each (StandMarks all) (live log)) where
-  marks : (x : Queue × Item) → Origin configs log ev.act r.reply shape.taken x → PutMarks all x
-  marks x (idle h) = idle_marks all x.1 x.0 h
-  marks x (begun n half h e) = subst (PutMarks all) (sym e) tt
-  marks x (sent bytes c n priority to keys a s e) =
-      subst (PutMarks all) (sym e) (record { entry = entry_of ev r; at = here; bytes = bytes; channel = c; to = to; sends = a })
-  marks x (routed y n c frame priority send to p k conn has in_queue is at route e) =
-      let marked : Marks all y.item y.queue = Each-has (StandMarks all) shape.taken y (Each-taken (StandMarks all) (live log) shape.taken mark shape.stood) has in
-      let by : IsSentBy all send n priority = subst (Marks all (item.Content c frame priority send to)) in_queue (subst (λ j. Marks all j y.queue) is marked) in
-      subst (PutMarks all) (sym e) (relay_marks all priority n conn (send, p) frame by)
-  marks x (written y n conn priority half has in_queue at e) = subst (PutMarks all) (sym e) (link_marks all y.item conn half.writes)
-  marks x (arrived y n conn half copy frame limit message has in_queue at is read e) = subst (PutMarks all) (sym e) tt
+module _ (configs : List Config) (log : List Entry) (ev : Event) (r : Row) (m : Moves log r) (laws : Laws configs log ev.act r m) (all : List Entry)
+    (here : sending_at all (length log) ≡ sending_of ev.act r.reply) (mark : Each (StandMarks all) (live log)) where
+  own_marks : (q : Queue) (i : Item) → OfAct configs log ev.act r.reply q i → Marks all i q
+  own_marks (queue.Router n) i h = elim h [
+    | inl begun ↦ subst (λ j. Marks all j (queue.Router n)) (sym begun.2) tt
+    | inr sent ↦ subst (λ j. Marks all j (queue.Router n)) (sym sent.3) (record { sending = sent.0; at = here ∙ sent.1; by = sent.2; with_priority = refl })
+  ]
+  own_marks (queue.Link link s) i h = subst (λ j. Marks all j (queue.Link link s)) (sym h.put) tt
+  own_marks _ i h = absurd h
+
+  spread_marks : (y : Envelope) (n : ℕ) (priority : Bool) (conn : ℕ) (i : Item) → StandMarks all y → IsSpread log y n priority conn i → Marks all i (relay_queue priority n conn)
+  spread_marks y n priority conn i marked h =
+      let by : IsSentBy all h.send (Node n) priority =
+      subst (Marks all (item.Content h.channel h.frame priority h.send h.to)) h.stood (subst (λ j. Marks all j y.queue) h.is marked)
+      in
+      subst (λ j. Marks all j (relay_queue priority n conn)) (sym h.put) (relay_marks all priority n conn (h.send, h.place) h.frame by)
+
+  item_marks : (y : Envelope) (q : Queue) (i : Item) → StandMarks all y → OfItem configs log y q i → Marks all i q
+  item_marks y (queue.High n conn) i marked h = spread_marks y n true conn i marked h
+  item_marks y (queue.Low n conn) i marked h = spread_marks y n false conn i marked h
+  item_marks y (queue.Link conn s) i marked h =
+      subst (λ j. Marks all j (queue.Link conn s)) (sym h.put)
+      (link_marks all h.priority h.node conn y.item conn s (subst (λ p. Marks all y.item p) h.stood marked))
+  item_marks y (queue.Channel n c) i marked h = subst (λ j. Marks all j (queue.Channel n c)) (sym h.put) tt
+  item_marks y _ i marked h = absurd h
+
+  marks : (x : Queue × Item) → Origin configs log ev.act r.reply m.taken x → PutMarks all x
+  marks x o = elim o [
+    | inl own ↦ elim own [ inl h ↦ idle_marks all x.1 x.0 h | inr h ↦ own_marks x.0 x.1 h ]
+    | inr item ↦ item_marks item.0 x.0 x.1 (Each-has (StandMarks all) m.taken item.0 (Each-taken (StandMarks all) (live log) m.taken mark (taken_stood log ev r m)) item.1) item.2
+  ]
 
   pub marks_kept : Each (StandMarks all) (live (log ++ entry_of ev r ∷ []))
   marks_kept =
@@ -94,4 +117,4 @@ module _ (configs : List Config) (log : List Entry) (ev : Event) (r : Row) (shap
       (Each-append (StandMarks all) (filter (stays (goes (entry_of ev r))) (live log)) (placed (length log) 0 r.puts)
       (Each-filter (StandMarks all) (stays (goes (entry_of ev r))) (live log) mark)
       (Each-placed (PutMarks all) (length log) 0 r.puts
-      (Each-weaker (Origin configs log ev.act r.reply shape.taken) (PutMarks all) marks r.puts shape.origins)))
+      (Each-weaker (Origin configs log ev.act r.reply m.taken) (PutMarks all) marks r.puts (Moved-origins configs log ev.act r.reply m.taken r.puts laws.moved))))

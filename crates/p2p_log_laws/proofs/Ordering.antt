@@ -1,250 +1,362 @@
--- The copies from one node to another, on one channel and with one priority, are delivered in the order in which they were accepted.
-use Rattle.std.proofs.Common.{◌≡◌, ℕ, zero, suc, ◌<◌, Bool, true, false, cond, List, [], ◌∷◌, ◌++◌, length, take, drop, Some, inl, inr, refl, ap, sym, subst, ◌∙◌, arith, append_assoc, append-nil, take-append-drop, eq-eqb}
-use Rattle.std.specs.Prelude.{filter, flat_map, ◌==◌, ◌&&◌, slice_get}
-use Rattle.std.specs.List.{AllByRecursion as Each}
-use Rattle.std.proofs.lemmas.Bool.{cases_lt}
+-- The copies of one sender, on one channel and with one priority, that go over one link are read from a queue in the order in which they were accepted.
+use Rattle.std.proofs.Common.{◌≡◌, ℕ, ◌<◌, Bool, true, false, cond, List, [], ◌∷◌, ◌++◌, length, take, drop, Some, inl, inr, refl, ap, sym, subst, ◌∙◌, arith, append_assoc, append-nil, take-append-drop}
+use Rattle.std.specs.Prelude.{flat_map, ◌&&◌, ◌||◌, slice_get}
+use Rattle.std.specs.List.{AllByRecursion as Each, list_any}
+use Rattle.std.proofs.lemmas.Bool.{cases_lt, and_parts, false≢true}
 use Rattle.std.proofs.lemmas.Option.{same_Some}
-use Rattle.std.proofs.lemmas.List.Concat.{flat_map-append}
-use Rattle.std.proofs.lemmas.List.Elements.{filter-append}
 use Rattle.p2p_log.specs.declared.config.Config.{Config}
+use Rattle.p2p_log.specs.declared.queue.Queue.{Queue}
 use Rattle.p2p_log.specs.declared.queue.Queue.TheVariants as queue
+use Rattle.p2p_log.specs.declared.queue.Side.{Side}
+use Rattle.p2p_log.specs.declared.item.Item.{Item}
+use Rattle.p2p_log.specs.declared.item.Item.TheVariants as item
 use Rattle.p2p_log.specs.declared.end.End.TheVariants as end
 use Rattle.p2p_log.specs.declared.end.Outcome.TheVariants as outcome
 use Rattle.p2p_log.specs.declared.entry.Entry.{Entry}
 use Rattle.p2p_log.specs.declared.event.Event.{Event}
-use Rattle.p2p_log.specs.declared.event.Act.TheVariants as act
-use Rattle.p2p_log_rules.specs.declared.row.Half.{Half}
 use Rattle.p2p_log_rules.specs.declared.row.Row.{Row}
+use Rattle.p2p_log.specs.QueueCode.{same_queue}
 use Rattle.p2p_log_rules.specs.Lawful.{IsLawful}
-use Rattle.p2p_log.specs.Lines.{live}
-use Rattle.p2p_log_rules.specs.Facts.{half_at, key_at}
-use Rattle.p2p_log_rules.specs.Effect.{effect, row, entry_of, relay_queue, other_side}
-use Rattle.p2p_log.proofs.Places.{slice_get-seam}
-use Rattle.p2p_log_laws.specs.Order.{is_before, IsDelivered, WentOver, AreDeliveredInOrder, EachWentOver, HaveOneConnection}
+use Rattle.p2p_log.specs.Lines.{live, same_name}
+use Rattle.p2p_log_rules.specs.Effect.{effect, row, entry_of, relay_queue}
+use Rattle.p2p_log_rules.specs.Reading.{reading_of, is_read}
+use Rattle.p2p_log.specs.Sending.{Sender, Sending, sending_at, sending_of}
+use Rattle.p2p_log.specs.Sending.Sender.{Node, Raw}
+use Rattle.p2p_log.proofs.Each.{Has, Has-get, Has-kept, Has-flat_map, Each-has, Each-from_has}
+use Rattle.p2p_log_rules.specs.Moves.{Moves}
+use Rattle.p2p_log_rules.proofs.Moves.{taken_stood}
+use Rattle.p2p_log.proofs.Names.{same_name-refl}
+use Rattle.p2p_log.proofs.QueueNames.{queue_from_same}
+use Rattle.p2p_log.proofs.Queues.{same_queue-refl}
+use Rattle.p2p_log.proofs.Sending.{sending_at-at}
+use Rattle.p2p_log.proofs.Taken.{Each-taken}
+use Rattle.p2p_log_laws.specs.Order.{is_before, IsDelivered, WentOver, Writes, ComesTo, AreDeliveredInOrderOverOne, EachWentOver}
 use Rattle.p2p_log_laws.proofs.Balance.{live-none}
-use Rattle.p2p_log_laws.proofs.Carried.{relay_away}
-use Rattle.p2p_log_laws.proofs.Delivering.{delivered_copy, reads_from, delivered_by}
-use Rattle.p2p_log_laws.proofs.Drops.{IsRead, each_read, read_arrived}
-use Rattle.p2p_log_laws.proofs.Each.{Has, Has-get, Has-kept, Has-flat_map, Each-has, Each-from_has}
+use Rattle.p2p_log_laws.proofs.Comes.{Gives, given_before}
+use Rattle.p2p_log_laws.proofs.Delivering.{delivered_copy, is_queue, delivered_by}
+use Rattle.p2p_log_laws.proofs.Drops.{each_read, read_came}
+use Rattle.p2p_log_laws.proofs.Coming.{HasCome, can_read, reading_can}
 use Rattle.p2p_log_laws.proofs.Fitting.{StandsFit}
-use Rattle.p2p_log_laws.proofs.FrameLaw.{frames_give}
-use Rattle.p2p_log_laws.proofs.Joins.{join_of, one_join, get_take}
-use Rattle.p2p_log_laws.proofs.Leads.{Known, is_copy_by, by_sent, copy_sent, own_fails, into_channel, into_link, into_relay}
+use Rattle.p2p_log_laws.proofs.Flow.{AreLed}
+use Rattle.p2p_log_laws.proofs.Leads.{Known, is_copy_by, by_sent, sent_in_all, into_channel, own_link, into_link, raw_link, own_relay, into_relay}
+use Rattle.p2p_log.specs.declared.item.Envelope.{Envelope}
 use Rattle.p2p_log_laws.proofs.Ledger.{Told, Told-none, Told-more}
-use Rattle.p2p_log_laws.proofs.Marks.{IsSentBy, StandMarks, marks_kept}
-use Rattle.p2p_log_laws.proofs.Path.{way, way-none, order_kept, delivered_in_order}
+use Rattle.p2p_log_laws.proofs.Marks.{StandMarks, marks_kept}
+use Rattle.p2p_log_laws.proofs.OneLink.{all_puts, on_link, IsLinkedOnce, linked_none, linked_more, one_link, WasPut, put_kept, has_seam}
+use Rattle.p2p_log_laws.proofs.Path.{delivers, delivered, way, way-none, order_kept, delivered_in_order}
 use Rattle.p2p_log_laws.proofs.Prefixes.{at_end}
-use Rattle.p2p_log_laws.proofs.Shape.{Shape, is_message}
+use Rattle.p2p_log_laws.proofs.Shape.{Laws, Shape}
 use Rattle.p2p_log_laws.proofs.Shapes.{row_shape}
-use Rattle.p2p_log_laws.proofs.Stages.{copies_in, copies_put, enters_from}
-use Rattle.p2p_log_laws.proofs.Sublists.{IsSublist, AreInOrder, before_of_parts, not_both}
-use Rattle.p2p_log_laws.proofs.Telling.{StandTells, IsArrived, WentOver-longer}
-use Rattle.p2p_log_laws.proofs.Weights.{Each-taken}
+use Rattle.p2p_log_laws.specs.Delivered.{IsRead}
+use Rattle.p2p_log_laws.proofs.Sublists.{IsBefore, AreInOrder, not_both}
+use Rattle.p2p_log_laws.proofs.Telling.{StandTells, WentOver-longer, Writes-longer, ComesTo-longer}
 
 same_copy : (a b c d : ℕ) → a ≡ c → b ≡ d → ◌≡◌ {A = ℕ × ℕ} (a, b) (c, d)
 same_copy a b c d h k = ap (λ s. (s, b)) h ∙ ap (λ p. (c, p)) k
 
 -- ---- the way stays in order
 
-module _ (configs : List Config) (all : List Entry) (sender receiver channel : ℕ) (priority : Bool) (conn : ℕ) (near : Half)
-    (near_at : half_at configs all sender conn ≡ Some near)
-    (only : (i : ℕ) (h k : Half) → half_at configs all sender i ≡ Some h → half_at configs all receiver i ≡ Some k → h.writes ≡ other_side k.writes → i ≡ conn) where
-  abbrev test : ℕ × ℕ → Bool
-  test copy = is_copy_by all sender priority copy
+-- what passes a test stands in a list, and the other way round
+any_has : {X : Type 0} (p : X → Bool) (xs : List X) → list_any p xs ≡ true → (x : X) × Has xs x × (p x ≡ true)
+any_has p [] h = absurd (false≢true h)
+any_has {X} p (x ∷ xs) h = go (p x) refl h (any_has p xs)
+  where
+    go : (b : Bool) → p x ≡ b → list_any p (x ∷ xs) ≡ true → (list_any p xs ≡ true → (y : X) × Has xs y × (p y ≡ true)) → (y : X) × Has (x ∷ xs) y × (p y ≡ true)
+    go true e k f = (x, inl refl, e)
+    go false e k f = let rest = f (sym (ap (λ b. b || list_any p xs) e) ∙ k) in (rest.0, inr rest.1, rest.2)
 
-  abbrev on_way : List Entry → List (ℕ × ℕ)
-  on_way log = way test sender receiver channel priority conn near.writes log
+or_true : (b : Bool) → (b || true) ≡ true
+or_true true = refl
+or_true false = refl
+
+both : (a b : Bool) → a ≡ true → b ≡ true → (a && b) ≡ true
+both a b h i = ap (λ x. x && b) h ∙ i
+
+has_any : {X : Type 0} (p : X → Bool) (xs : List X) (x : X) → Has xs x → p x ≡ true → list_any p xs ≡ true
+has_any p [] x h k = absurd h
+has_any p (y ∷ xs) x h k = elim h [
+  | inl e ↦ ap (λ b. b || list_any p xs) (ap p e ∙ k)
+  | inr l ↦ ap (λ b. p y || b) (has_any p xs x l k) ∙ or_true (p y)
+]
+
+module _ (configs : List Config) (all : List Entry) (sender : Sender) (channel : ℕ) (priority : Bool) (link : ℕ) (side : Side) (q : Queue)
+    (once : (copy : ℕ × ℕ) → IsLinkedOnce copy configs all) where
+  -- a put in the link that carries the copy
+  abbrev put_here : ℕ × ℕ → Queue × Item → Bool
+  put_here copy x = same_queue (queue.Link link side) x.0 && on_link copy x
+
+  abbrev by : ℕ × ℕ → Bool
+  by copy = is_copy_by all sender channel priority copy
+
+  abbrev test : ℕ × ℕ → Bool
+  test copy = by copy && list_any (put_here copy) (all_puts all)
+
+  by_sender : (copy : ℕ × ℕ) → test copy ≡ true → by copy ≡ true
+  by_sender copy h = (and_parts (by copy) (list_any (put_here copy) (all_puts all)) h).0
+
+  frame_on_link : (copy : ℕ × ℕ) (e : ℕ) (s : Side) (frame : List ℕ) → on_link copy (queue.Link e s, item.Frame (Some copy) frame) ≡ true
+  frame_on_link copy e s frame = same_name-refl copy
+
+  by_link : (copy : ℕ × ℕ) → test copy ≡ true → (e : ℕ) (s : Side) (frame : List ℕ) → Has (all_puts all) (queue.Link e s, item.Frame (Some copy) frame)
+      → queue.Link e s ≡ queue.Link link side
+  by_link copy h e s frame put =
+      let found = any_has (put_here copy) (all_puts all) (and_parts (by copy) (list_any (put_here copy) (all_puts all)) h).1 in
+      let parts = and_parts (same_queue (queue.Link link side) found.0.0) (on_link copy found.0) found.2 in
+      let same : (queue.Link e s, item.Frame (Some copy) frame) ≡ found.0 =
+      one_link configs copy all (once copy) (queue.Link e s, item.Frame (Some copy) frame) found.0 put found.1 (frame_on_link copy e s frame) parts.1
+      in
+      ap (λ (x : Queue × Item). x.0) same ∙ queue_from_same (queue.Link link side) found.0.0 parts.0
+
+  -- from the link back to where the sender put it
+  abbrev before_link : Sender → List Queue
+  before_link (Node n) = relay_queue priority n link ∷ queue.Router n ∷ []
+  before_link (Raw e) = []
+
+  -- from the queue that is read back to the link, and before it
+  abbrev stages_of : Queue → List Queue
+  stages_of (queue.Link e s) = before_link sender
+  stages_of _ = queue.Link link side ∷ before_link sender
+
+  -- a link that is read is this one
+  abbrev pub IsAtEnd : Queue → Type 0
+  IsAtEnd (queue.Link e s) = (e ≡ link) × (s ≡ side)
+  IsAtEnd _ = Unit {0}
+
+  abbrev pub on_way : List Entry → List (ℕ × ℕ)
+  on_way log = way configs test q (stages_of q) log
 
   record IsOrdered (log : List Entry) : Type 0 where
+    put : Each (WasPut all) (live log)
     marks : Each (StandMarks all) (live log)
     order : AreInOrder (on_way log)
     early : Each (λ c. c.0 < length log) (on_way log)
 
   ordered_none : IsOrdered []
   ordered_none =
-      let none : on_way [] ≡ [] = way-none test sender receiver channel priority conn near.writes in
+      let none : on_way [] ≡ [] = way-none configs test q (stages_of q) in
       record {
+        put = subst (Each (WasPut all)) (sym live-none) tt;
         marks = subst (Each (StandMarks all)) (sym live-none) tt;
         order = subst AreInOrder (sym none) tt;
         early = subst (Each (λ (c : ℕ × ℕ). c.0 < 0)) (sym none) tt;
       }
 
-  ordered_more : (log more : List Entry) (ev : Event) (r : Row) (shape : Shape configs log ev.act r) → log ++ entry_of ev r ∷ more ≡ all → Told configs log → IsOrdered log
-      → IsOrdered (log ++ entry_of ev r ∷ [])
-  ordered_more log more ev r shape whole told ordered =
-      let e = entry_of ev r in
-      let here : slice_get all (length log) ≡ Some e = subst (λ (l : List Entry). slice_get l (length log) ≡ Some e) whole (slice_get-seam log e more) in
-      let known : Each (Known configs log all) shape.taken =
-      Each-taken (Known configs log all) (live log) shape.taken
-      (Each-from_has (Known configs log all) (live log) (λ y has. (
-        Each-has StandsFit (live log) y told.fitting has,
-        Each-has (StandTells configs log) (live log) y told.tells has,
-        Each-has (StandMarks all) (live log) y ordered.marks has,
-      )))
-      shape.stood
-      in
-      let link = queue.Link conn near.writes in
-      let relay = relay_queue priority sender conn in
-      let read = queue.Channel receiver channel in
-      let mailbox = queue.Router sender in
-      let arrive : IsSublist (copies_put test read r.puts) (copies_in test link shape.taken) =
-      enters_from test read configs log ev.act r.reply link (Known configs log all)
-      (own_fails configs log (e ∷ more) all whole ev.act r.reply sender receiver channel priority conn near near_at only read refl)
-      (λ y x k o g away. into_channel configs log (e ∷ more) all whole ev.act r.reply sender receiver channel priority conn near near_at only y k away x o g)
-      shape.taken r.puts known shape.moved
-      in
-      let write : IsSublist (copies_put test link r.puts) (copies_in test relay shape.taken) =
-      enters_from test link configs log ev.act r.reply relay (Known configs log all)
-      (own_fails configs log (e ∷ more) all whole ev.act r.reply sender receiver channel priority conn near near_at only link refl)
-      (λ y x k o g away. into_link configs log (e ∷ more) all whole ev.act r.reply sender receiver channel priority conn near near_at only y k away x o g)
-      shape.taken r.puts known shape.moved
-      in
-      let route : IsSublist (copies_put test relay r.puts) (copies_in test mailbox shape.taken) =
-      enters_from test relay configs log ev.act r.reply mailbox (Known configs log all)
-      (own_fails configs log (e ∷ more) all whole ev.act r.reply sender receiver channel priority conn near near_at only relay (relay_away priority sender conn))
-      (λ y x k o g away. into_relay configs log (e ∷ more) all whole ev.act r.reply sender receiver channel priority conn near near_at only y away x o g)
-      shape.taken r.puts known shape.moved
-      in
-      let kept = order_kept test sender receiver channel priority conn near.writes configs log ev r shape arrive write route ordered.order ordered.early in
-      record { marks = marks_kept configs log ev r shape all here ordered.marks; order = kept.0; early = kept.1 }
+  -- the queue is one that is read
+  module _ (reads : can_read q ≡ true) (there : IsAtEnd q) where
+    module _ (log more : List Entry) (ev : Event) (r : Row) (m : Moves log r) (laws : Laws configs log ev.act r m) (whole : log ++ entry_of ev r ∷ more ≡ all) (told : Told configs log)
+        (ordered : IsOrdered log) where
+      here : sending_at all (length log) ≡ sending_of ev.act r.reply
+      here = subst (λ (l : List Entry). sending_at l (length log) ≡ sending_of ev.act r.reply) whole (sending_at-at log (entry_of ev r) more)
 
-  -- in each beginning of the log
-  abbrev OrderedIn : List Entry → Type 0
-  OrderedIn log = Told configs log × ((more : List Entry) → log ++ more ≡ all → IsOrdered log)
+      abbrev Before : Envelope → Type 0
+      Before y = StandsFit y × StandMarks all y × WasPut all y × StandTells configs log y
 
-  ordered_step : (before : List Entry) (ev : Event) → OrderedIn before → OrderedIn (before ++ effect configs before ev ∷ [])
-  unfolding effect
-  ordered_step before ev h =
-      let r = row configs before ev.act in
-      let e = entry_of ev r in (
-        Told-more configs frames_give before ev h.0,
-        λ more whole.
-            let parts : before ++ e ∷ more ≡ all = sym (append_assoc before (e ∷ []) more) ∙ whole in
-            ordered_more before more ev r (row_shape configs before ev.act h.0.fitting) parts h.0 (h.1 (e ∷ more) parts),
+      before : Each Before m.taken
+      before =
+          Each-taken Before (live log) m.taken
+          (Each-from_has Before (live log) (λ y has. (
+            Each-has StandsFit (live log) y told.standing.fitting has,
+            Each-has (StandMarks all) (live log) y ordered.marks has,
+            Each-has (WasPut all) (live log) y ordered.put has,
+            Each-has (StandTells configs log) (live log) y told.standing.tells has,
+          )))
+          (taken_stood log ev r m)
+
+      known : Each (Known configs log all m.taken) m.taken
+      known = Each-from_has (Known configs log all m.taken) m.taken (λ y has. let b = Each-has Before m.taken y before has in (b.0, b.1, b.2, b.3, has))
+
+      abbrev Led : Queue → List Queue → Type 0
+      Led p qs = AreLed test configs log ev r m laws (Known configs log all m.taken) known p qs
+
+      link_led : (s : Sender) → sender ≡ s → Led (queue.Link link side) (before_link s)
+      link_led (Node n) is = inl (
+        own_link configs log (entry_of ev r ∷ more) all whole sender channel priority link side test by_sender by_link ev.act r.reply here m.taken r.puts n is,
+        into_link configs log (entry_of ev r ∷ more) all whole sender channel priority link side test by_sender by_link ev.act r.reply here m.taken r.puts n is,
+        inl (
+          own_relay configs log (entry_of ev r ∷ more) all whole sender channel priority link side test by_sender by_link ev.act r.reply here m.taken r.puts n,
+          into_relay configs log (entry_of ev r ∷ more) all whole sender channel priority link side test by_sender by_link ev.act r.reply here m.taken r.puts n,
+          (λ y i k h. absurd h),
+        ),
       )
+      link_led (Raw e) is = raw_link configs log (entry_of ev r ∷ more) all whole sender channel priority link side test by_sender by_link ev.act r.reply here m.taken r.puts e is
 
-  pub way_in_order : (script : List Event) → IsLawful configs script all → AreInOrder (on_way all)
-  way_in_order script lawful =
-      ((at_end configs OrderedIn (Told-none configs, λ more whole. ordered_none) ordered_step script all lawful).1 [] (append-nil all)).order
+      led : (p : Queue) → can_read p ≡ true → IsAtEnd p → Led p (stages_of p)
+      led (queue.Channel n c) f at = inl (
+        (λ i h. absurd h),
+        into_channel configs log (entry_of ev r ∷ more) all whole sender channel priority link side test by_sender by_link ev.act r.reply here m.taken r.puts n c,
+        link_led sender refl,
+      )
+      led (queue.Link e s) f at = subst (λ c. Led (queue.Link c s) (before_link sender)) (sym at.0) (subst (λ d. Led (queue.Link link d) (before_link sender)) (sym at.1) (link_led sender refl))
+      led _ f at = absurd (cc)
 
--- ---- what is delivered went over the one connection
+      ordered_more : IsOrdered (log ++ entry_of ev r ∷ [])
+      ordered_more =
+          let puts : (x : Queue × Item) → Has r.puts x → Has (all_puts all) x = λ x h.
+          subst (λ (l : List Entry). Has (all_puts l) x) whole (has_seam log (entry_of ev r) more x h)
+          in
+          let kept = order_kept configs test q (stages_of q) log ev r m laws (Known configs log all m.taken) known (led q reads there) ordered.order ordered.early in
+          record { put = put_kept all log ev r puts ordered.put; marks = marks_kept configs log ev r m laws all here ordered.marks; order = kept.0; early = kept.1 }
 
--- the node that sent the copy
-record Came (configs : List Config) (log : List Entry) (copy : ℕ × ℕ) (sender receiver channel n : ℕ) (read : Entry) : Type 0 where
-  reads : IsRead (take n log) read copy
-  conn : ℕ
-  over : WentOver configs log copy sender receiver conn
+    -- in each beginning of the log
+    abbrev OrderedIn : List Entry → Type 0
+    OrderedIn log = Told configs log × ((more : List Entry) → log ++ more ≡ all → IsOrdered log)
+
+    ordered_step : (before : List Entry) (ev : Event) → OrderedIn before → OrderedIn (before ++ effect configs before ev ∷ [])
+    unfolding effect
+    ordered_step before ev h =
+        let r = row configs before ev.act in
+        let e = entry_of ev r in
+        let shape : Shape configs before ev.act r = row_shape configs before ev.act in (
+          Told-more configs before ev h.0,
+          λ more whole.
+              let parts : before ++ e ∷ more ≡ all = sym (append_assoc before (e ∷ []) more) ∙ whole in
+              ordered_more before more ev r shape.moves (shape.laws h.0.standing) parts h.0 (h.1 (e ∷ more) parts),
+        )
+
+    pub way_in_order : (script : List Event) → IsLawful configs script all → AreInOrder (on_way all)
+    way_in_order script lawful =
+        ((at_end configs OrderedIn (Told-none configs, λ more whole. ordered_none) ordered_step script all lawful).1 [] (append-nil all)).order
+
+-- ---- what is delivered went over a link
+
+record Came (configs : List Config) (log : List Entry) (copy : ℕ × ℕ) (sender : Sender) (q : Queue) (n : ℕ) (read : Entry) : Type 0 where
+  reads : IsRead configs (take n log) read copy
+  can : can_read q ≡ true
+  link : ℕ
+  side : Side
+  over : WentOver log copy link side
+  begins : Writes configs log sender link side
+  ends : ComesTo configs log q link side
 
 module _ (configs : List Config) (script : List Event) (log : List Entry) (lawful : IsLawful configs script log) where
-  came : (sender receiver channel : ℕ) (priority : Bool) (copy : ℕ × ℕ) (n : ℕ) (d : IsDelivered log copy sender receiver channel priority n) → Came configs log copy sender receiver channel n d.read
-  came sender receiver channel priority copy n d =
-      let r : IsRead (take n log) d.read copy = each_read configs script log lawful n d.read d.place copy d.read_at d.ended in
-      let a : IsArrived configs (take n log) r.bytes copy r.from r.node r.channel = read_arrived configs script log lawful n d.read copy r in
-      let reads : act.Recv r.channel r.node ≡ act.Recv channel receiver = sym r.reads ∙ d.reads in
-      let node : r.node ≡ receiver = cc in
-      let whole : take n log ++ drop n log ≡ log = take-append-drop n log in
-      let by : IsSentBy log copy.0 a.sender a.sent.priority = copy_sent (take n log) (drop n log) log whole copy a.sender r.channel r.bytes (key_at configs r.node) a.sent in
-      let entries : by.entry ≡ d.send = same_Some by.entry d.send (sym by.at ∙ d.sent_at) in
-      let sends : act.Send by.bytes by.channel a.sender a.sent.priority by.to ≡ act.Send d.bytes channel sender priority d.to =
-      sym by.sends ∙ (ap (λ (e : Entry). e.event.act) entries ∙ d.sends)
-      in
-      let senders : a.sender ≡ sender = cc in
-      let over : WentOver configs log copy a.sender r.node a.conn =
-      subst (λ (l : List Entry). WentOver configs l copy a.sender r.node a.conn) whole (WentOver-longer configs (take n log) (drop n log) copy a.sender r.node a.conn a.over)
+  came : (sender : Sender) (channel : ℕ) (priority : Bool) (q : Queue) (copy : ℕ × ℕ) (n : ℕ) (d : IsDelivered configs log copy sender channel priority q n) → Came configs log copy sender q n d.read
+  came sender channel priority q copy n d =
+      let before = take n log in
+      let more = drop n log in
+      let whole : before ++ more ≡ log = take-append-drop n log in
+      let r : IsRead configs before d.read copy = each_read configs script log lawful n d.read d.place copy d.read_at d.ended in
+      let c : HasCome configs before copy r.queue = read_came configs script log lawful n d.read copy r in
+      let queues : r.queue ≡ q = same_Some r.queue q (sym r.reads ∙ d.reads) in
+      let sendings : ◌≡◌ {A = Sending} (record { by = c.sender; channel = c.channel; priority = c.sent.priority; bytes = c.bytes; keys = c.sent.keys }) (record { by = sender; channel = channel; priority = priority; bytes = d.bytes; keys = d.keys }) =
+      same_Some _ _ (sym (sent_in_all before more log whole copy.0 _ c.sent.sends) ∙ d.sends)
       in
       record {
         reads = r;
-        conn = a.conn;
-        over = subst (λ m. WentOver configs log copy sender m a.conn) node (subst (λ m. WentOver configs log copy m r.node a.conn) senders over);
+        can = reading_can configs before d.read.event.act q d.reads;
+        link = c.link;
+        side = c.side;
+        over = subst (λ (l : List Entry). WentOver l copy c.link c.side) whole (WentOver-longer before more copy c.link c.side c.over);
+        begins = subst (λ s. Writes configs log s c.link c.side) (ap (λ (s : Sending). s.by) sendings)
+            (subst (λ (l : List Entry). Writes configs l c.sender c.link c.side) whole (Writes-longer configs before more c.sender c.link c.side c.begins));
+        ends = subst (λ p. ComesTo configs log p c.link c.side) queues (subst (λ (l : List Entry). ComesTo configs l r.queue c.link c.side) whole (ComesTo-longer configs before more r.queue c.link c.side c.ends));
       }
 
   pub each_went_over : EachWentOver configs log
-  each_went_over sender receiver channel priority copy n d =
-      let c = came sender receiver channel priority copy n d in
-      (c.conn, c.over)
+  each_went_over sender channel priority q copy n d =
+      let c = came sender channel priority q copy n d in
+      (c.link, c.side, c.over, c.begins, c.ends)
 
-  pub one_connection : HaveOneConnection configs log
-  one_connection sender receiver a b first second p q =
-      one_join configs script log lawful sender receiver a b
-      (join_of configs log a sender receiver p.near p.far p.near_at p.far_at p.opposite)
-      (join_of configs log b sender receiver q.near q.far q.near_at q.far_at q.opposite)
+  -- each copy is put in one link
+  Once : List Entry → Type 0
+  Once before = Told configs before × ((copy : ℕ × ℕ) → IsLinkedOnce copy configs before)
+
+  once_step : (before : List Entry) (ev : Event) → Once before → Once (before ++ effect configs before ev ∷ [])
+  unfolding effect Once
+  once_step before ev h =
+      let r = row configs before ev.act in
+      let shape : Shape configs before ev.act r = row_shape configs before ev.act in
+      (Told-more configs before ev h.0, λ copy. linked_more copy configs before ev r shape.moves (shape.laws h.0.standing) (h.1 copy))
+
+  once_none : Once []
+  unfolding Once
+  once_none = (Told-none configs, λ copy. linked_none copy configs)
+
+  linked_once : (copy : ℕ × ℕ) → IsLinkedOnce copy configs log
+  unfolding Once
+  linked_once = (at_end configs Once once_none once_step script log lawful).1
 
   -- ---- the order of what is delivered
 
-  has_delivered : (sender receiver channel : ℕ) (priority : Bool) (copy : ℕ × ℕ) (n : ℕ) (d : IsDelivered log copy sender receiver channel priority n)
-      → Has (delivered_by channel receiver d.read) copy
-  has_delivered sender receiver channel priority copy n d =
-      let r = (came sender receiver channel priority copy n d).reads in
-      let reads : reads_from channel receiver d.read.event.act ≡ true = ap (reads_from channel receiver) d.reads ∙ itself channel receiver in
-      let says : is_message d.read.reply ≡ true = ap is_message r.replies in
-      let ends : flat_map delivered_copy d.read.ends ≡ copy ∷ [] = ap (flat_map delivered_copy) r.ended in
-      let is : delivered_by channel receiver d.read ≡ copy ∷ [] =
-      ap (λ b. cond (b && is_message d.read.reply) (flat_map delivered_copy d.read.ends) []) reads
-      ∙ (ap (λ b. cond b (flat_map delivered_copy d.read.ends) []) says ∙ ends)
-      in
-      subst (λ (l : List (ℕ × ℕ)). Has l copy) (sym is) (inl refl)
-    where
-      itself : (c n : ℕ) → ((c == c) && (n == n)) ≡ true
-      itself c n = ap (λ b. b && (n == n)) (eq-eqb c c refl) ∙ eq-eqb n n refl
+  put_over : (copy : ℕ × ℕ) (link : ℕ) (side : Side) (over : WentOver log copy link side) → Has (all_puts log) (queue.Link link side, item.Frame (Some copy) over.frame)
+  put_over copy link side over =
+      let x : Queue × Item = (queue.Link link side, item.Frame (Some copy) over.frame) in
+      Has-flat_map (λ (e : Entry). e.puts) log over.entry x (Has-get log over.n over.entry over.at) (Has-get over.entry.puts over.place x over.put)
 
-  Has-drop : {X : Type 0} (xs : List X) (m : ℕ) (x : X) → slice_get xs m ≡ Some x → Has (drop m xs) x
-  Has-drop [] m x e = absurd (cc)
-  Has-drop (y ∷ ys) zero x e = inl (same_Some y x e)
-  Has-drop (y ∷ ys) (suc m) x e = Has-drop ys m x e
+  -- a copy goes over one link, in one direction
+  pub one_way : (copy : ℕ × ℕ) (l : ℕ) (d : Side) → WentOver log copy l d → (link : ℕ) (side : Side) → WentOver log copy link side → (l ≡ link) × (d ≡ side)
+  one_way copy l d other link side over =
+      let x : Queue × Item = (queue.Link l d, item.Frame (Some copy) other.frame) in
+      let y : Queue × Item = (queue.Link link side, item.Frame (Some copy) over.frame) in
+      let same : x ≡ y = one_link configs copy log (linked_once copy) x y (put_over copy l d other) (put_over copy link side over) (same_name-refl copy) (same_name-refl copy) in
+      let queues : queue.Link l d ≡ queue.Link link side = ap (λ (z : Queue × Item). z.0) same in
+      (cc, cc)
 
-  module _ (sender receiver channel : ℕ) (priority : Bool) where
-    passes : (copy : ℕ × ℕ) (n : ℕ) → IsDelivered log copy sender receiver channel priority n → is_copy_by log sender priority copy ≡ true
-    passes copy n d =
-        by_sent log sender priority copy (record { entry = d.send; at = d.sent_at; bytes = d.bytes; channel = channel; to = d.to; sends = d.sends })
+  module _ (sender : Sender) (channel : ℕ) (priority : Bool) (q : Queue) where
+    module _ (link : ℕ) (side : Side) where
+      abbrev pass : ℕ × ℕ → Bool
+      pass = test configs log sender channel priority link side q linked_once
+
+      passes : (copy : ℕ × ℕ) (n : ℕ) → IsDelivered configs log copy sender channel priority q n → WentOver log copy link side → pass copy ≡ true
+      passes copy n d over =
+          let put_it : Queue × Item → Bool = put_here configs log sender channel priority link side q linked_once copy in
+          let x : Queue × Item = (queue.Link link side, item.Frame (Some copy) over.frame) in
+          let found : list_any put_it (all_puts log) ≡ true =
+          has_any put_it (all_puts log) x (put_over copy link side over)
+          (both (same_queue (queue.Link link side) (queue.Link link side)) (same_name copy copy) (same_queue-refl (queue.Link link side)) (same_name-refl copy))
+          in
+          both (is_copy_by log sender channel priority copy) (list_any put_it (all_puts log))
+          (by_sent log sender channel priority copy d.bytes d.keys d.sends) found
+
+      gives : (copy : ℕ × ℕ) (n : ℕ) → IsDelivered configs log copy sender channel priority q n → WentOver log copy link side
+          → Gives (delivers configs pass q (stages_of configs log sender channel priority link side q linked_once q)) log copy n
+      gives copy n d over =
+          let r = (came sender channel priority q copy n d).reads in
+          let reads : is_queue q (reading_of configs (take n log) d.read.event.act) ≡ true = ap (is_queue q) d.reads ∙ same_queue-refl q in
+          let is : delivered_by configs q (take n log) d.read ≡ copy ∷ [] =
+          ap (λ b. cond (b && is_read d.read.reply) (flat_map delivered_copy d.read.ends) []) reads
+          ∙ (ap (λ b. cond b (flat_map delivered_copy d.read.ends) []) r.says ∙ ap (flat_map delivered_copy) r.ended)
+          in
+          (d.read, d.read_at, Has-kept pass (delivered_by configs q (take n log) d.read) copy (passes copy n d over) (subst (λ (l : List (ℕ × ℕ)). Has l copy) (sym is) (inl refl)))
+
+    -- it went over one link
+    ends_there : (link : ℕ) (side : Side) (copy : ℕ × ℕ) → WentOver log copy link side → (p : Queue) (l : ℕ) (d : Side) → WentOver log copy l d → ComesTo configs log p l d
+        → IsAtEnd configs log sender channel priority link side q linked_once p
+    ends_there link side copy over (queue.Link e s) l d other ends = let same = one_way copy l d other link side over in (ends.0 ∙ same.0, ends.1 ∙ same.1)
+    ends_there link side copy over _ l d other ends = tt
 
     -- one that is delivered at an earlier entry was accepted earlier
-    earlier : (first second : ℕ × ℕ) (m n : ℕ) → IsDelivered log first sender receiver channel priority m → IsDelivered log second sender receiver channel priority n → m < n
-        → is_before first second ≡ true
-    earlier first second m n a b h =
-        let c = came sender receiver channel priority first m a in
-        let over : WentOver configs log first sender receiver c.conn = c.over in
-        let test : ℕ × ℕ → Bool = is_copy_by log sender priority in
-        let by : Entry → List (ℕ × ℕ) = delivered_by channel receiver in
-        let only : (i : ℕ) (p q : Half) → half_at configs log sender i ≡ Some p → half_at configs log receiver i ≡ Some q → p.writes ≡ other_side q.writes → i ≡ c.conn =
-        λ i p q near_at far_at opposite.
-        one_join configs script log lawful sender receiver i c.conn (join_of configs log i sender receiver p q near_at far_at opposite)
-        (join_of configs log c.conn sender receiver over.near over.far over.near_at over.far_at over.opposite)
+    earlier : (link : ℕ) (side : Side) (first second : ℕ × ℕ) (m n : ℕ) → IsDelivered configs log first sender channel priority q m → IsDelivered configs log second sender channel priority q n
+        → WentOver log first link side → WentOver log second link side → m < n → is_before first second ≡ true
+    earlier link side first second m n a b over_first over_second h =
+        let stages = stages_of configs log sender channel priority link side q linked_once q in
+        let c = came sender channel priority q first m a in
+        let order : AreInOrder (delivered configs (pass link side) q stages log) =
+        delivered_in_order configs (pass link side) q stages log
+        (way_in_order configs log sender channel priority link side q linked_once c.can (ends_there link side first over_first q c.link c.side c.over c.ends) script lawful)
         in
-        let order : AreInOrder (filter test (flat_map by log)) =
-        delivered_in_order test sender receiver channel priority c.conn over.near.writes log
-        (way_in_order configs log sender receiver channel priority c.conn over.near over.near_at only script lawful)
-        in
-        let parts : filter test (flat_map by log) ≡ filter test (flat_map by (take n log)) ++ filter test (flat_map by (drop n log)) =
-        ap (λ l. filter test (flat_map by l)) (sym (take-append-drop n log))
-        ∙ (ap (filter test) (flat_map-append by (take n log) (drop n log)) ∙ filter-append test (flat_map by (take n log)) (flat_map by (drop n log)))
-        in
-        before_of_parts (filter test (flat_map by (take n log))) (filter test (flat_map by (drop n log))) first second (subst AreInOrder parts order)
-        (Has-kept test (flat_map by (take n log)) first (passes first m a)
-        (Has-flat_map by (take n log) a.read first (Has-get (take n log) m a.read (get_take log n m a.read a.read_at h)) (has_delivered sender receiver channel priority first m a)))
-        (Has-kept test (flat_map by (drop n log)) second (passes second n b)
-        (Has-flat_map by (drop n log) b.read second (Has-drop log n b.read b.read_at) (has_delivered sender receiver channel priority second n b)))
+        given_before (delivers configs (pass link side) q stages) IsBefore log first second m n order (gives link side first m a over_first) (gives link side second n b over_second) h
 
     -- one entry delivers one copy
-    same_entry : (first second : ℕ × ℕ) (m n : ℕ) → IsDelivered log first sender receiver channel priority m → IsDelivered log second sender receiver channel priority n → m ≡ n
+    same_entry : (first second : ℕ × ℕ) (m n : ℕ) → IsDelivered configs log first sender channel priority q m → IsDelivered configs log second sender channel priority q n → m ≡ n
         → first ≡ second
     same_entry first second m n a b h =
-        let p = (came sender receiver channel priority first m a).reads in
-        let q = (came sender receiver channel priority second n b).reads in
+        let r = (came sender channel priority q first m a).reads in
+        let s = (came sender channel priority q second n b).reads in
         let entries : a.read ≡ b.read = same_Some a.read b.read (sym a.read_at ∙ (ap (slice_get log) h ∙ b.read_at)) in
         let ends : end.Copy first.0 first.1 outcome.Delivered ∷ [] ≡ end.Copy second.0 second.1 outcome.Delivered ∷ [] =
-        sym p.ended ∙ (ap (λ (e : Entry). e.ends) entries ∙ q.ended)
+        sym r.ended ∙ (ap (λ (e : Entry). e.ends) entries ∙ s.ended)
         in
         let sends : first.0 ≡ second.0 = cc in
         let places : first.1 ≡ second.1 = cc in
         same_copy first.0 first.1 second.0 second.1 sends places
 
-  pub delivered_order : AreDeliveredInOrder log
-  delivered_order sender receiver channel priority first second m n a b h = elim (cases_lt m n) [
+  pub delivered_over_one : AreDeliveredInOrderOverOne configs log
+  delivered_over_one sender channel priority link side q first second m n a b h over_first over_second = elim (cases_lt m n) [
     | inl less ↦ less
     | inr more ↦ elim (cases_lt n m) [
-      | inl later ↦ absurd (not_both first.0 first.1 second.0 second.1 h (earlier sender receiver channel priority second first n m b a later))
+      | inl later ↦ absurd (not_both first.0 first.1 second.0 second.1 h (earlier sender channel priority q link side second first n m b a over_second over_first later))
       | inr same ↦
-          let copies : first ≡ second = same_entry sender receiver channel priority first second m n a b (omega arith) in
+          let copies : first ≡ second = same_entry sender channel priority q first second m n a b (omega arith) in
           let twice : is_before first first ≡ true = ap (is_before first) copies ∙ h in
           absurd (not_both first.0 first.1 first.0 first.1 twice twice)
     ]

@@ -1,164 +1,79 @@
 -- The copies on their way from one node to another, in the order in which they are delivered, and what an entry does to them.
-use Rattle.std.proofs.Common.{◌≡◌, ℕ, suc, ◌+◌, ◌<◌, Bool, true, List, [], ◌∷◌, ◌++◌, length, refl, ap, sym, subst, ◌∙◌, arith, append_assoc, append-nil, length-append}
-use Rattle.std.specs.Prelude.{filter, flat_map}
+use Rattle.p2p_log.specs.Sending.{keys_sent, sending_of}
+use Rattle.std.proofs.Common.{◌≡◌, ℕ, suc, ◌+◌, ◌<◌, Bool, true, List, [], ◌∷◌, ◌++◌, length, inl, refl, ap, sym, subst, ◌∙◌, arith, append_assoc, append-nil, length-append}
+use Rattle.std.specs.Prelude.{filter}
 use Rattle.std.specs.List.{AllByRecursion as Each}
-use Rattle.std.proofs.lemmas.List.Concat.{flat_map-append}
-use Rattle.std.proofs.lemmas.List.Elements.{filter-append}
 use Rattle.p2p_base.specs.declared.key.Key.{Key}
 use Rattle.p2p_log.specs.declared.config.Config.{Config}
 use Rattle.p2p_log.specs.declared.queue.Queue.{Queue}
-use Rattle.p2p_log.specs.declared.queue.Queue.TheVariants as queue
-use Rattle.p2p_log.specs.declared.queue.Side.{Side}
 use Rattle.p2p_log.specs.declared.entry.Entry.{Entry}
+use Rattle.p2p_log.specs.declared.item.Envelope.{Envelope}
 use Rattle.p2p_log.specs.declared.event.Event.{Event}
 use Rattle.p2p_log_rules.specs.declared.row.Row.{Row}
-use Rattle.p2p_log.specs.Lines.{goes, stays, stands_in, live}
-use Rattle.p2p_log.specs.Copies.{accepted_by}
-use Rattle.p2p_log_rules.specs.Effect.{entry_of, relay_queue}
+use Rattle.p2p_log.specs.Lines.{stands_in, live}
+use Rattle.p2p_log.specs.Copies.{copies_from}
+use Rattle.p2p_log_rules.specs.Effect.{entry_of}
+use Rattle.p2p_log_rules.specs.Facts.{history_from, history}
+use Rattle.p2p_log_rules.proofs.Facts.{history_from-append}
 use Rattle.p2p_log_laws.specs.Order.{is_before}
 use Rattle.p2p_log_laws.proofs.Balance.{live-none}
-use Rattle.p2p_log_laws.proofs.Carried.{copies_from, carried}
 use Rattle.p2p_log_laws.proofs.Delivering.{delivered_by, delivered_taken}
-use Rattle.p2p_log_laws.proofs.Each.{Each-append, Each-weaker, Each-filter}
-use Rattle.p2p_log_laws.proofs.Shape.{Shape}
-use Rattle.p2p_log_laws.proofs.Stages.{copies_in, copies_put, copies_behind, copies_in-live, copies_in-taken, kept_behind, enters_mailbox}
-use Rattle.p2p_log_laws.proofs.Sublists.{IsSublist, IsSublist-nil, IsSublist-refl, IsSublist-append, IsSublist-filter, IsSublist-filters, IsSublist-each, IsSublist-stage, AreInOrder, AreInOrder-sublist, AreInOrder-append, before_later, before_next}
+use Rattle.p2p_log.proofs.Each.{Each-append, Each-weaker, Each-filter}
+use Rattle.p2p_log_rules.specs.Moves.{Moves}
+use Rattle.p2p_log_laws.proofs.Shape.{Laws}
+use Rattle.p2p_log_laws.proofs.Flow.{stand-none, flows_kept, AreLed, led_flows}
+use Rattle.p2p_log_laws.proofs.Sublists.{IsSublist-nil, IsSublist-refl, IsSublist-append, IsSublist-filter, IsSublist-filters, IsSublist-each, AreInOrder, IsBefore, Ordered-sublist, Ordered-append, before_later, before_next}
+use Rattle.p2p_log_laws.specs.Flow.{IsSublist, carried, copies_in, stand}
 
-module _ (test : ℕ × ℕ → Bool) (sender receiver channel : ℕ) (priority : Bool) (conn : ℕ) (side : Side) where
-  abbrev pub in_channel : Queue
-  in_channel = queue.Channel receiver channel
+module _ (configs : List Config) (test : ℕ × ℕ → Bool) (read : Queue) (stages : List Queue) where
+  -- the copies that pass the test, of those that an entry delivers from the queue
+  abbrev pub delivers : List Entry → Entry → List (ℕ × ℕ)
+  delivers before e = filter test (delivered_by configs read before e)
 
-  abbrev pub in_link : Queue
-  in_link = queue.Link conn side
+  abbrev pub delivered : List Entry → List (ℕ × ℕ)
+  delivered log = history delivers log
 
-  abbrev pub in_relay : Queue
-  in_relay = relay_queue priority sender conn
-
-  abbrev pub in_mailbox : Queue
-  in_mailbox = queue.Router sender
-
-  -- the copies that pass the test: those delivered, those in the receiver's channel, in the link, in the sender's relay,
-  -- and in its router's mailbox
+  -- the copies that pass the test: those delivered, those in the queue that is read, and those in each stage before it
   pub way : List Entry → List (ℕ × ℕ)
-  way log =
-      filter test (flat_map (delivered_by channel receiver) log)
-      ++ (copies_in test in_channel (live log) ++ (copies_in test in_link (live log) ++ (copies_in test in_relay (live log) ++ copies_in test in_mailbox (live log))))
+  way log = delivered log ++ stand test (read ∷ stages) (live log)
 
   pub way-none : way [] ≡ []
-  unfolding way
-  way-none =
-      ap (λ items. copies_in test in_channel items ++ (copies_in test in_link items ++ (copies_in test in_relay items ++ copies_in test in_mailbox items))) live-none
+  unfolding way history_from
+  way-none = ap (stand test (read ∷ stages)) live-none ∙ stand-none test (read ∷ stages)
 
   -- what is delivered is the way's beginning
-  pub delivered_in_order : (log : List Entry) → AreInOrder (way log) → AreInOrder (filter test (flat_map (delivered_by channel receiver) log))
+  pub delivered_in_order : (log : List Entry) → AreInOrder (way log) → AreInOrder (delivered log)
   unfolding way
-  delivered_in_order log h =
-      front (filter test (flat_map (delivered_by channel receiver) log))
-      (copies_in test in_channel (live log) ++ (copies_in test in_link (live log) ++ (copies_in test in_relay (live log) ++ copies_in test in_mailbox (live log)))) h
+  delivered_in_order log h = front (delivered log) (stand test (read ∷ stages) (live log)) h
     where
       front : (xs ys : List (ℕ × ℕ)) → AreInOrder (xs ++ ys) → AreInOrder xs
       front xs ys k =
-          AreInOrder-sublist xs (xs ++ ys) (subst (λ l. IsSublist l (xs ++ ys)) (append-nil xs) (IsSublist-append xs xs [] ys (IsSublist-refl xs) (IsSublist-nil ys))) k
+          Ordered-sublist IsBefore xs (xs ++ ys) (subst (λ l. IsSublist l (xs ++ ys)) (append-nil xs) (IsSublist-append xs xs [] ys (IsSublist-refl xs) (IsSublist-nil ys))) k
 
   -- one entry: what it puts on a stage of the way left the stage before, and what it puts on the first is accepted
-  module _ (configs : List Config) (log : List Entry) (ev : Event) (r : Row) (shape : Shape configs log ev.act r)
-      (arrive : IsSublist (copies_put test in_channel r.puts) (copies_in test in_link shape.taken))
-      (write : IsSublist (copies_put test in_link r.puts) (copies_in test in_relay shape.taken))
-      (route : IsSublist (copies_put test in_relay r.puts) (copies_in test in_mailbox shape.taken)) where
+  module _ (log : List Entry) (ev : Event) (r : Row) (m : Moves log r) (laws : Laws configs log ev.act r m)
+      (Known : Envelope → Type 0) (known : Each Known m.taken) (led : AreLed test configs log ev r m laws Known known read stages) where
     abbrev accepts_now : List (ℕ × ℕ)
-    accepts_now = filter test (copies_from (length log) 0 (accepted_by ev.act r.reply))
+    accepts_now = filter test (copies_from (length log) 0 (keys_sent (sending_of ev.act r.reply)))
 
     abbrev later : List Entry
     later = log ++ entry_of ev r ∷ []
 
-    -- what stays in a queue, and what enters it
-    abbrev kept : Queue → List (ℕ × ℕ)
-    kept q = copies_in test q (filter (stays (goes (entry_of ev r))) (live log))
-
-    abbrev enters : Queue → List (ℕ × ℕ)
-    enters q = copies_put test q r.puts
-
-    -- what leaves it, and what stays behind
-    abbrev left : Queue → List (ℕ × ℕ)
-    left q = copies_in test q shape.taken
-
-    abbrev behind : Queue → List (ℕ × ℕ)
-    behind q = copies_behind configs log ev r shape test q
-
-    delivered : List (ℕ × ℕ)
-    delivered = filter test (flat_map (delivered_by channel receiver) log)
-
-    delivers_now : List (ℕ × ℕ)
-    delivers_now = filter test (delivered_by channel receiver (entry_of ev r))
-
-    way_after : way later
-        ≡ (delivered ++ delivers_now) ++ ((kept in_channel ++ enters in_channel) ++ ((kept in_link ++ enters in_link) ++ ((kept in_relay ++ enters in_relay) ++ (kept in_mailbox ++ enters in_mailbox))))
-    unfolding way delivered delivers_now
-    way_after =
-        let e = entry_of ev r in
-        let d : filter test (flat_map (delivered_by channel receiver) later) ≡ delivered ++ delivers_now =
-        ap (filter test) (flat_map-append (delivered_by channel receiver) log (e ∷ []) ∙ ap (λ l. flat_map (delivered_by channel receiver) log ++ l) (append-nil (delivered_by channel receiver e)))
-        ∙ filter-append test (flat_map (delivered_by channel receiver) log) (delivered_by channel receiver e)
-        in
-        let c : copies_in test in_channel (live later) ≡ kept in_channel ++ enters in_channel = copies_in-live test in_channel log e in
-        let l : copies_in test in_link (live later) ≡ kept in_link ++ enters in_link = copies_in-live test in_link log e in
-        let y : copies_in test in_relay (live later) ≡ kept in_relay ++ enters in_relay = copies_in-live test in_relay log e in
-        let m : copies_in test in_mailbox (live later) ≡ kept in_mailbox ++ enters in_mailbox = copies_in-live test in_mailbox log e in
-        five (filter test (flat_map (delivered_by channel receiver) later)) (copies_in test in_channel (live later)) (copies_in test in_link (live later)) (copies_in test in_relay (live later)) (copies_in test in_mailbox (live later))
-        (delivered ++ delivers_now) (kept in_channel ++ enters in_channel) (kept in_link ++ enters in_link) (kept in_relay ++ enters in_relay) (kept in_mailbox ++ enters in_mailbox)
-        d c l y m
-      where
-        five : (a b c d e v w x y z : List (ℕ × ℕ)) → a ≡ v → b ≡ w → c ≡ x → d ≡ y → e ≡ z → a ++ (b ++ (c ++ (d ++ e))) ≡ v ++ (w ++ (x ++ (y ++ z)))
-        five a b c d e v w x y z p q r s t = cc
-
-    way_before : way log ++ accepts_now
-        ≡ delivered ++ (left in_channel ++ (behind in_channel ++ (left in_link ++ (behind in_link ++ (left in_relay ++ (behind in_relay ++ (left in_mailbox ++ (behind in_mailbox ++ accepts_now))))))))
-    unfolding way delivered
-    way_before =
-        let c : copies_in test in_channel (live log) ≡ left in_channel ++ behind in_channel = copies_in-taken configs log ev r shape test in_channel in
-        let l : copies_in test in_link (live log) ≡ left in_link ++ behind in_link = copies_in-taken configs log ev r shape test in_link in
-        let y : copies_in test in_relay (live log) ≡ left in_relay ++ behind in_relay = copies_in-taken configs log ev r shape test in_relay in
-        let m : copies_in test in_mailbox (live log) ≡ left in_mailbox ++ behind in_mailbox = copies_in-taken configs log ev r shape test in_mailbox in
-        ap (λ x. x ++ accepts_now)
-        (four delivered (copies_in test in_channel (live log)) (copies_in test in_link (live log)) (copies_in test in_relay (live log)) (copies_in test in_mailbox (live log))
-        (left in_channel ++ behind in_channel) (left in_link ++ behind in_link) (left in_relay ++ behind in_relay) (left in_mailbox ++ behind in_mailbox) c l y m)
-        ∙ regroup delivered (left in_channel) (behind in_channel) (left in_link) (behind in_link) (left in_relay) (behind in_relay) (left in_mailbox) (behind in_mailbox) accepts_now
-      where
-        four : (a b c d e w x y z : List (ℕ × ℕ)) → b ≡ w → c ≡ x → d ≡ y → e ≡ z → a ++ (b ++ (c ++ (d ++ e))) ≡ a ++ (w ++ (x ++ (y ++ z)))
-        four a b c d e w x y z q r s t = cc
-
-        regroup : (a b c d e f g h i j : List (ℕ × ℕ)) → (a ++ ((b ++ c) ++ ((d ++ e) ++ ((f ++ g) ++ (h ++ i))))) ++ j ≡ a ++ (b ++ (c ++ (d ++ (e ++ (f ++ (g ++ (h ++ (i ++ j))))))))
-        regroup a b c d e f g h i j = simp append_assoc
+    abbrev delivers_now : List (ℕ × ℕ)
+    delivers_now = delivers log (entry_of ev r)
 
     -- an entry leaves some of the copies on the way, and then some of those that it accepted, in their order
     pub way_kept : IsSublist (way later) (way log ++ accepts_now)
-    unfolding delivered delivers_now
+    unfolding way
     way_kept =
-        let mailbox : IsSublist (kept in_mailbox ++ enters in_mailbox) (behind in_mailbox ++ accepts_now) =
-        IsSublist-append (kept in_mailbox) (behind in_mailbox) (enters in_mailbox) accepts_now (kept_behind configs log ev r shape test in_mailbox)
-        (enters_mailbox test sender configs log ev.act r.reply shape.taken r.puts shape.moved)
+        let delivery : IsSublist delivers_now (copies_in test read m.taken) =
+        IsSublist-filters test (delivered_by configs read log (entry_of ev r)) (carried (filter (stands_in read) m.taken)) (delivered_taken configs log ev r m laws read)
         in
-        let relay = IsSublist-stage (kept in_relay) (behind in_relay) (enters in_relay) (left in_mailbox) (kept in_mailbox ++ enters in_mailbox) (behind in_mailbox ++ accepts_now)
-        (kept_behind configs log ev r shape test in_relay) route mailbox
-        in
-        let link = IsSublist-stage (kept in_link) (behind in_link) (enters in_link) (left in_relay) ((kept in_relay ++ enters in_relay) ++ (kept in_mailbox ++ enters in_mailbox))
-        (behind in_relay ++ (left in_mailbox ++ (behind in_mailbox ++ accepts_now))) (kept_behind configs log ev r shape test in_link) write relay
-        in
-        let read = IsSublist-stage (kept in_channel) (behind in_channel) (enters in_channel) (left in_link)
-        ((kept in_link ++ enters in_link) ++ ((kept in_relay ++ enters in_relay) ++ (kept in_mailbox ++ enters in_mailbox)))
-        (behind in_link ++ (left in_relay ++ (behind in_relay ++ (left in_mailbox ++ (behind in_mailbox ++ accepts_now))))) (kept_behind configs log ev r shape test in_channel) arrive link
-        in
-        let delivery : IsSublist delivers_now (left in_channel) =
-        IsSublist-filters test (delivered_by channel receiver (entry_of ev r)) (carried (filter (stands_in in_channel) shape.taken)) (delivered_taken configs log ev r shape channel receiver)
-        in
-        let all = IsSublist-stage delivered delivered delivers_now (left in_channel)
-        ((kept in_channel ++ enters in_channel) ++ ((kept in_link ++ enters in_link) ++ ((kept in_relay ++ enters in_relay) ++ (kept in_mailbox ++ enters in_mailbox))))
-        (behind in_channel ++ (left in_link ++ (behind in_link ++ (left in_relay ++ (behind in_relay ++ (left in_mailbox ++ (behind in_mailbox ++ accepts_now)))))))
-        (IsSublist-refl delivered) delivery read
-        in
-        subst (λ l. IsSublist l (way log ++ accepts_now)) (sym way_after)
-        (subst (IsSublist ((delivered ++ delivers_now) ++ ((kept in_channel ++ enters in_channel) ++ ((kept in_link ++ enters in_link) ++ ((kept in_relay ++ enters in_relay) ++ (kept in_mailbox ++ enters in_mailbox))))))
-        (sym way_before) all)
+        let flows = flows_kept test log ev r m accepts_now delivers_now (read ∷ stages) (inl (delivery, led_flows test configs log ev r m laws Known known read stages led)) in
+        subst (λ (l : List (ℕ × ℕ)). IsSublist (l ++ stand test (read ∷ stages) (live later)) (way log ++ accepts_now)) (sym (history_from-append delivers [] log (entry_of ev r)))
+        (subst (λ (l : List (ℕ × ℕ)). IsSublist l (way log ++ accepts_now)) (sym (append_assoc (delivered log) delivers_now (stand test (read ∷ stages) (live later))))
+        (subst (IsSublist (delivered log ++ (delivers_now ++ stand test (read ∷ stages) (live later)))) (sym (append_assoc (delivered log) (stand test (read ∷ stages) (live log)) accepts_now))
+        (IsSublist-append (delivered log) (delivered log) (delivers_now ++ stand test (read ∷ stages) (live later)) (stand test (read ∷ stages) (live log) ++ accepts_now) (IsSublist-refl (delivered log)) flows)))
 
     -- ---- the copies that are accepted
 
@@ -177,7 +92,7 @@ module _ (test : ℕ × ℕ → Bool) (sender receiver channel : ℕ) (priority 
         below p b h = omega arith
 
     accepted_order : (ks : List Key) → AreInOrder (filter test (copies_from (length log) 0 ks))
-    accepted_order ks = AreInOrder-sublist (filter test (copies_from (length log) 0 ks)) (copies_from (length log) 0 ks) (IsSublist-filter test (copies_from (length log) 0 ks)) (accepted_in_order (length log) 0 ks).0
+    accepted_order ks = Ordered-sublist IsBefore (filter test (copies_from (length log) 0 ks)) (copies_from (length log) 0 ks) (IsSublist-filter test (copies_from (length log) 0 ks)) (accepted_in_order (length log) 0 ks).0
 
     accepted_now : (ks : List Key) → Each (λ (c : ℕ × ℕ). c.0 ≡ length log) (filter test (copies_from (length log) 0 ks))
     accepted_now ks =
@@ -187,7 +102,7 @@ module _ (test : ℕ × ℕ → Bool) (sender receiver channel : ℕ) (priority 
     -- the way stays in order, and its copies are of earlier sends
     pub order_kept : AreInOrder (way log) → Each (λ c. c.0 < length log) (way log) → AreInOrder (way later) × Each (λ c. c.0 < length later) (way later)
     order_kept order early =
-        let keys = accepted_by ev.act r.reply in
+        let keys = keys_sent (sending_of ev.act r.reply) in
         let longer : length later ≡ length log + 1 = length-append log (entry_of ev r ∷ []) in
         let new : Each (λ (c : ℕ × ℕ). c.0 ≡ length log) accepts_now = accepted_now keys in
         let across : Each (λ x. Each (λ y. is_before x y ≡ true) accepts_now) (way log) =
@@ -200,6 +115,6 @@ module _ (test : ℕ × ℕ → Bool) (sender receiver channel : ℕ) (priority 
         (Each-weaker (λ (c : ℕ × ℕ). c.0 < length log) (λ (c : ℕ × ℕ). c.0 < length later) (λ c h. omega arith) (way log) early)
         (Each-weaker (λ (c : ℕ × ℕ). c.0 ≡ length log) (λ (c : ℕ × ℕ). c.0 < length later) (λ c h. omega arith) accepts_now new)
         in (
-          AreInOrder-sublist (way later) (way log ++ accepts_now) way_kept (AreInOrder-append (way log) accepts_now order (accepted_order keys) across),
+          Ordered-sublist IsBefore (way later) (way log ++ accepts_now) way_kept (Ordered-append IsBefore (way log) accepts_now order (accepted_order keys) across),
           IsSublist-each (λ c. c.0 < length later) (way later) (way log ++ accepts_now) way_kept earlier,
         )

@@ -8,7 +8,7 @@ use Rattle.p2p_log.specs.declared.item.Envelope.{Envelope}
 use Rattle.p2p_log.specs.declared.entry.Entry.{Entry}
 use Rattle.p2p_log.specs.Lines.{placed, goes, stays, live_from, live}
 use Rattle.p2p_log.proofs.Places.{slice_get-seam}
-use Rattle.p2p_log_laws.proofs.Each.{Each-append, Each-filter}
+use Rattle.p2p_log.proofs.Each.{Each-append, Each-filter}
 
 pub record IsPut (log : List Entry) (x : Envelope) : Type 0 where
   pub entry : Entry

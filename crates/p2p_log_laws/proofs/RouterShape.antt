@@ -1,6 +1,7 @@
 -- The shape of a router's step.
-use Rattle.std.proofs.Common.{◌≡◌, ℕ, ◌+◌, Bool, true, false, cond, List, [], ◌∷◌, map, length, Option, Some, inl, refl, ap, sym, subst, ◌∙◌, arith}
-use Rattle.std.specs.Prelude.{◌==◌, ◌&&◌, nat_lt, count_by, filter}
+use Rattle.p2p_log.specs.Copies.{accepted}
+use Rattle.std.proofs.Common.{◌≡◌, ℕ, ◌+◌, Bool, true, false, cond, List, [], ◌∷◌, map, length, Option, Some, refl, ap, sym, subst, ◌∙◌, arith, eq-eqb, leb-true}
+use Rattle.std.specs.Prelude.{◌==◌, ◌&&◌, nat_le, nat_lt, count_by, filter, slice_get}
 use Rattle.std.specs.List.{AllByRecursion as Each}
 use Rattle.std.proofs.lemmas.Bool.{false≢true}
 use Rattle.p2p_base.specs.declared.key.Key.{Key}
@@ -10,151 +11,229 @@ use Rattle.p2p_log.specs.declared.queue.Queue.TheVariants as queue
 use Rattle.p2p_log.specs.declared.item.Item.{Item}
 use Rattle.p2p_log.specs.declared.item.Item.TheVariants as item
 use Rattle.p2p_log.specs.declared.item.Envelope.{Envelope}
-use Rattle.p2p_log.specs.declared.end.End.{End}
 use Rattle.p2p_log.specs.declared.entry.Entry.{Entry}
 use Rattle.p2p_log.specs.declared.entry.Reply.TheVariants as reply
+use Rattle.p2p_log.specs.declared.event.Event.{Event}
 use Rattle.p2p_log.specs.declared.event.Act.TheVariants as act
-use Rattle.p2p_log.specs.Lines.{name_of, stays, live, line}
+use Rattle.p2p_log_rules.specs.declared.row.Row.{Row}
+use Rattle.p2p_log.specs.Apart.{AreApart}
+use Rattle.p2p_log.specs.Lines.{name_of, stays, stands_in, live, line}
 use Rattle.p2p_log_rules.specs.Facts.{is_up, subscribers, routes, with_route, keys_in}
-use Rattle.p2p_log.specs.Copies.{carries, carries_copy}
+use Rattle.p2p_log.specs.Copies.{carries, carries_copy, copies_of}
 use Rattle.p2p_log_rules.specs.Effect
-use Rattle.p2p_log_laws.proofs.Carried.{copies_of, put_copies, is_mailbox, relay_away, IsSublist-bare, IsSublist-frames}
-use Rattle.p2p_log_laws.proofs.Each.{Has, Each-has, Each-from_has, Each-always, Each-filter, Each-map, Each-weaker}
-use Rattle.p2p_log_laws.proofs.Fitting.{Fits, StandsFit, fits, is_bare, is_item_end}
-use Rattle.p2p_log_laws.proofs.Shape.{Shape, Origin, Moved-all, accepts, EndsBare, still, no_delivery, bare_balanced, no_items_end, one_taken, stands_first, first_has, count_by-single, accepts-none, is_idle}
-use Rattle.p2p_log_laws.proofs.Overwriting.{Stand, overwritten_bare, peers_ends_items}
-use Rattle.p2p_log_laws.proofs.Spreading.{borne-spread, spread_each}
-use Rattle.p2p_log_laws.proofs.Shape.Origin.{idle, routed}
+use Rattle.p2p_log_rules.specs.Effect.{entry_of}
+use Rattle.p2p_log.proofs.Each.{Each-always, Each-filter, Each-map, Each-weaker}
+use Rattle.p2p_log_rules.specs.Moves.{Moves}
+use Rattle.p2p_log_rules.proofs.Moves.{one_taken, stands_first, first_has, rings, rings_gone, rings_queues, rings_taken}
+use Rattle.p2p_log.proofs.Names.{AreApart-filter, AreApart-live_from, filter_stays-first}
+use Rattle.p2p_log.proofs.Queues.{same_queue-refl}
+use Rattle.p2p_log.proofs.Taken.{AreTaken-append}
+use Rattle.p2p_log_rules.proofs.Touches.{reads, in_router}
+use Rattle.p2p_log_laws.specs.Causes.{IsRouted, enters_before}
+use Rattle.p2p_log_laws.proofs.Carried.{IsSublist-frames}
+use Rattle.p2p_log_laws.proofs.Fitting.{Fits, StandsFit, fits, is_bare, is_item_end, ended_item-none}
+use Rattle.p2p_log_laws.proofs.Overwriting.{rings_bare, peers_ends_items}
+use Rattle.p2p_log_laws.proofs.Shape.{Shape, ComesOf, relay_spread, IsQuiet, Moved-all, accepts, still, one_move, first_in, quiet_laws, no_delivery, count_by-single, accepts-none}
+use Rattle.p2p_log_laws.proofs.Showing.{Standing, EndShows, first_tells, send_accepted}
+use Rattle.p2p_log_laws.proofs.SpreadDrops.{spread_drops}
+use Rattle.p2p_log_laws.proofs.Spreading.{borne-spread, spread_each, borne_by, from_place, from_first, one}
 use Rattle.p2p_log_laws.proofs.Spreads.{Adds, puts-spread}
-use Rattle.p2p_log_laws.proofs.Sublists.{IsSublist}
-use Rattle.p2p_log_laws.proofs.Spreading.{borne_by, from_place, from_first, one}
+use Rattle.p2p_log_laws.specs.Flow.{IsSublist, put_copies}
 
 relay_fits : (priority : Bool) (n conn : ℕ) (copy : Option (ℕ × ℕ)) (frame : List ℕ) → fits (Effect.relay_queue priority n conn) (item.Frame copy frame) ≡ true
 relay_fits true n conn copy frame = refl
 relay_fits false n conn copy frame = refl
 
-module _ (configs : List Config) (log : List Entry) (n : ℕ) (stand : Each StandsFit (live log))
-    (x : Envelope) (rest : List Envelope) (first : line log (queue.Router n) ≡ x ∷ rest) where
-  in_mailbox : (m : ℕ) → act.Router n ≡ act.Router m → Each (λ y. y.queue ≡ queue.Router m) (x ∷ [])
-  in_mailbox m e =
-      let same : n ≡ m = cc in
-      (one_taken log (queue.Router n) x rest first ∙ ap (λ k. queue.Router k) same, tt)
+relay_near : (priority : Bool) (n conn : ℕ) → in_router n (Effect.relay_queue priority n conn) ≡ true
+relay_near true n conn = eq-eqb n n refl
+relay_near false n conn = eq-eqb n n refl
 
-  -- what carries no copy, and overwrites lists of peers
-  bare_step : (puts : List (Queue × Item)) (ends : List End) → is_bare x.item ≡ true
-      → Each Fits puts → Each (λ y. is_idle y.1 ≡ true) puts → Each (λ y. is_bare y.1 ≡ true) puts → Each (λ y. is_mailbox y.0 ≡ false) puts
-      → Each (λ d. is_item_end d ≡ true) ends → EndsBare log ends
-      → Shape configs log (act.Router n) (record { reply = reply.Ok; takes = name_of x ∷ []; puts = puts; ends = ends })
-  bare_step puts ends light fitting idles bares away items bare = record {
-    taken = x ∷ [];
-    names = refl;
-    stood = stands_first log (queue.Router n) x rest first;
-    bare = bare;
-    fitting = fitting;
-    origins = Each-weaker (λ y. is_idle y.1 ≡ true) (Origin configs log (act.Router n) reply.Ok (x ∷ [])) (λ y i. idle i) puts idles;
-    moved = Moved-all configs log (act.Router n) reply.Ok x puts
-        (Each-weaker (λ y. is_idle y.1 ≡ true) (Origin configs log (act.Router n) reply.Ok (x ∷ [])) (λ y i. idle i) puts idles)
-        away
-        (λ q. IsSublist-bare (Effect.goes_to q) puts (copies_of x.item) bares);
-    balanced = bare_balanced log (act.Router n) (record { reply = reply.Ok; takes = name_of x ∷ []; puts = puts; ends = ends }) (x ∷ []) refl (light, tt) bares items;
-    delivers = no_delivery (act.Router n) reply.Ok (x ∷ []) ends refl;
-    own = in_mailbox;
-  }
-
+module _ (configs : List Config) (log : List Entry) (n : ℕ) (x : Envelope) (rest : List Envelope) (first : line log (queue.Router n) ≡ x ∷ rest) where
   -- what stands in queues once the item is taken
-  left : List Envelope
+  abbrev left : List Envelope
   left = filter (stays (name_of x ∷ [])) (live log)
 
-  left_stand : Stand (live log) left
-  unfolding left
-  left_stand =
-      Each-filter (λ y. StandsFit y × Has (live log) y) (stays (name_of x ∷ [])) (live log)
-      (Each-from_has (λ y. StandsFit y × Has (live log) y) (live log) (λ y has. (Each-has StandsFit (live log) y stand has, has)))
+  apart : AreApart left
+  apart = AreApart-filter (stays (name_of x ∷ [])) (live log) (AreApart-live_from 0 log)
+
+  fit : Standing configs log → (i : Item) → x.item ≡ i → fits (queue.Router n) i ≡ true
+  fit stand i is =
+      let whole : fits x.queue x.item ≡ true = first_has StandsFit log (queue.Router n) x rest stand.fitting first in
+      subst (λ j. fits (queue.Router n) j ≡ true) is (subst (λ q. fits q x.item ≡ true) (one_taken log (queue.Router n) x rest first) whole)
+
+  in_mailbox : Each (λ y. reads configs log (act.Router n) y.queue ≡ true) (x ∷ [])
+  in_mailbox = (first_in (reads configs log (act.Router n)) log (queue.Router n) x rest first (same_queue-refl (queue.Router n)), tt)
+
+  -- the item, and the lists that newer ones overwrite
+  abbrev ringed : (puts : List (Queue × Item)) (cs : List ℕ) → Moves log (record { reply = reply.Ok; takes = name_of x ∷ []; puts = puts; ends = Effect.peers_ends left n cs })
+  ringed puts cs = record {
+    taken = x ∷ [];
+    ended = rings left n cs;
+    names = refl;
+    gone = rings_gone left n cs;
+    stood = AreTaken-append (live log) (x ∷ []) (rings left n cs) (stands_first log (queue.Router n) x rest first) (rings_taken left n cs apart);
+  }
+
+  -- what carries no copy, and overwrites lists of peers
+  quiet_step : (puts : List (Queue × Item)) (cs : List ℕ) → is_bare x.item ≡ true → Each IsQuiet puts → Each (λ y. in_router n y.0 ≡ true) puts
+      → Shape configs log (act.Router n) (record { reply = reply.Ok; takes = name_of x ∷ []; puts = puts; ends = Effect.peers_ends left n cs })
+  quiet_step puts cs light quiet near = record {
+    moves = ringed puts cs;
+    reach = record {
+      taken = in_mailbox;
+      ended = Each-weaker (λ y. (c : ℕ) × (y.queue ≡ queue.Peers n c)) (λ y. in_router n y.queue ≡ true) (λ y e. ap (in_router n) e.1 ∙ eq-eqb n n refl)
+          (rings left n cs) (rings_queues left n cs);
+      puts = near;
+    };
+    laws = λ stand.
+        let r : Row = record { reply = reply.Ok; takes = name_of x ∷ []; puts = puts; ends = Effect.peers_ends left n cs } in
+        quiet_laws configs log (act.Router n) r (ringed puts cs) refl refl (light, tt)
+        (rings_bare left n cs apart (Each-filter StandsFit (stays (name_of x ∷ [])) (live log) stand.fitting))
+        (peers_ends_items n cs left) quiet;
+  }
+
+  lists_quiet : (keys : List Key) (cs : List ℕ) → Each IsQuiet (map (Effect.peers_put n keys) cs)
+  lists_quiet keys cs = Each-map IsQuiet (Effect.peers_put n keys) cs (Each-always (λ c. IsQuiet (Effect.peers_put n keys c)) (λ c. (refl, refl)) cs)
+
+  lists_near : (keys : List Key) (cs : List ℕ) → Each (λ y. in_router n y.0 ≡ true) (map (Effect.peers_put n keys) cs)
+  lists_near keys cs =
+      Each-map (λ (y : Queue × Item). in_router n y.0 ≡ true) (Effect.peers_put n keys) cs
+      (Each-always (λ c. in_router n (Effect.peers_put n keys c).0 ≡ true) (λ c. eq-eqb n n refl) cs)
 
   subscribe_shape : (c : ℕ) → x.item ≡ item.Subscribe c → Shape configs log (act.Router n) (Effect.route_row configs log n (name_of x) (item.Subscribe c) left)
   subscribe_shape c is =
-      bare_step (Effect.peers_put n (keys_in (routes log n)) c ∷ []) (Effect.peers_ends left n (c ∷ [])) (ap is_bare is)
-      (refl, tt) (refl, tt) (refl, tt) (refl, tt) (peers_ends_items n (c ∷ []) left) (overwritten_bare log n (c ∷ []) left left_stand)
+      let keys = keys_in (routes log n) in
+      quiet_step (map (Effect.peers_put n keys) (c ∷ [])) (c ∷ []) (ap is_bare is) (lists_quiet keys (c ∷ [])) (lists_near keys (c ∷ []))
 
   ready_shape : (conn : ℕ) (key : Key) → x.item ≡ item.Ready conn key → Shape configs log (act.Router n) (Effect.route_row configs log n (name_of x) (item.Ready conn key) left)
   ready_shape conn key is =
       let keys = keys_in (with_route (routes log n) (item.Ready conn key)) in
-      let put : ℕ → Queue × Item = Effect.peers_put n keys in
       let subs = subscribers log n in
-      bare_step ((queue.Ready n conn, item.Answer) ∷ map put subs) (Effect.peers_ends left n subs) (ap is_bare is)
-      (refl, Each-map Fits put subs (Each-always (λ c. Fits (put c)) (λ c. refl) subs))
-      (refl, Each-map (λ y. is_idle y.1 ≡ true) put subs (Each-always (λ c. is_idle (put c).1 ≡ true) (λ c. refl) subs))
-      (refl, Each-map (λ y. is_bare y.1 ≡ true) put subs (Each-always (λ c. is_bare (put c).1 ≡ true) (λ c. refl) subs))
-      (refl, Each-map (λ y. is_mailbox y.0 ≡ false) put subs (Each-always (λ c. is_mailbox (put c).0 ≡ false) (λ c. refl) subs))
-      (peers_ends_items n subs left)
-      (overwritten_bare log n subs left left_stand)
+      quiet_step ((queue.Ready n conn, item.Answer) ∷ map (Effect.peers_put n keys) subs) subs (ap is_bare is)
+      ((refl, refl), lists_quiet keys subs) (eq-eqb n n refl, lists_near keys subs)
 
-  content_shape : (c : ℕ) (frame : List ℕ) (priority : Bool) (send : ℕ) (to : List Key) → x.item ≡ item.Content c frame priority send to
-      → Shape configs log (act.Router n) (Effect.route_row configs log n (name_of x) (item.Content c frame priority send to) left)
-  content_shape c frame priority send to is =
-      let size = Effect.mailbox_size_at configs n in
-      let s : Effect.Spread = Effect.spread size left n priority (routes log n) send 0 frame to (record { puts = []; ends = [] }) in
-      let origin = Origin configs log (act.Router n) reply.Ok (x ∷ []) in
-      let each_fits : Each (λ d. is_item_end d ≡ false) s.ends × Each Fits s.puts =
-      spread_each (λ d. is_item_end d ≡ false) Fits size left n priority (routes log n) send frame to (λ p o. refl)
-      (λ p k conn here route. relay_fits priority n conn (Some (send, p)) frame)
-      in
-      let each_comes : Each (λ d. is_item_end d ≡ false) s.ends × Each origin s.puts =
-      spread_each (λ d. is_item_end d ≡ false) origin size left n priority (routes log n) send frame to (λ p o. refl)
-      (λ p k conn here route. routed x n c frame priority send to p k conn (inl refl) (one_taken log (queue.Router n) x rest first) is here route refl)
-      in
-      let each_away : Each (λ d. is_item_end d ≡ false) s.ends × Each (λ (y : Queue × Item). is_mailbox y.0 ≡ false) s.puts =
-      spread_each (λ d. is_item_end d ≡ false) (λ (y : Queue × Item). is_mailbox y.0 ≡ false) size left n priority (routes log n) send frame to (λ p o. refl)
-      (λ p k conn here route. relay_away priority n conn)
-      in
-      record {
-        taken = x ∷ [];
-        names = refl;
-        stood = stands_first log (queue.Router n) x rest first;
-        bare = no_items_end log s.ends each_fits.0;
-        fitting = each_fits.1;
-        origins = each_comes.1;
-        moved = Moved-all configs log (act.Router n) reply.Ok x s.puts each_comes.1 each_away.1 (λ q.
-            let adds : Adds send 0 frame to [] s.puts = puts-spread size left n priority (routes log n) send frame to 0 (record { puts = []; ends = [] }) in
-            subst (λ (l : List (Queue × Item)). IsSublist (put_copies (filter (Effect.goes_to q) l)) (copies_of x.item)) (sym adds.1)
-            (subst (IsSublist (put_copies (filter (Effect.goes_to q) adds.0))) (sym (ap copies_of is)) (IsSublist-frames (Effect.goes_to q) send 0 frame to adds.0 adds.2)));
-        balanced = λ copy.
-            let none : accepts log (act.Router n) reply.Ok copy ≡ 0 = accepts-none log (act.Router n) reply.Ok copy refl in
-            let taken : count_by (carries copy) (x ∷ []) ≡ one ((send == copy.0) && nat_lt copy.1 (length to)) =
-            count_by-single copy x ((send == copy.0) && nat_lt copy.1 (length to)) (ap (carries_copy copy) is)
-            in
-            let all : borne_by copy s.puts s.ends ≡ 0 + from_place copy send 0 (length to) =
-            borne-spread copy size left n priority (routes log n) send 0 frame to (record { puts = []; ends = [] })
-            in
-            let place = from_first copy.0 copy.1 send (length to) in
-            omega (arith, none, taken, all, place);
-        delivers = no_delivery (act.Router n) reply.Ok (x ∷ []) s.ends refl;
-        own = in_mailbox;
-      }
+  -- what the router took stood in no relay
+  relays_same : (priority : Bool) (conn : ℕ) → filter (stands_in (Effect.relay_queue priority n conn)) left ≡ line log (Effect.relay_queue priority n conn)
+  unfolding line
+  relays_same true conn = filter_stays-first (live log) (queue.Router n) (queue.High n conn) x rest (AreApart-live_from 0 log) first
+  relays_same false conn = filter_stays-first (live log) (queue.Router n) (queue.Low n conn) x rest (AreApart-live_from 0 log) first
 
-  fit : (i : Item) → x.item ≡ i → fits (queue.Router n) i ≡ true
-  fit i is =
-      let whole : fits x.queue x.item ≡ true = first_has StandsFit log (queue.Router n) x rest stand first in
-      subst (λ j. fits (queue.Router n) j ≡ true) is (subst (λ q. fits q x.item ≡ true) (one_taken log (queue.Router n) x rest first) whole)
+  module _ (c : ℕ) (frame : List ℕ) (priority : Bool) (send : ℕ) (to : List Key) (is : x.item ≡ item.Content c frame priority send to) where
+    abbrev size : ℕ
+    size = Effect.mailbox_size_at configs n
+
+    abbrev s : Effect.Spread
+    s = Effect.spread size left n priority (routes log n) send 0 frame to (record { puts = []; ends = [] })
+
+    content_shows : (ev : Event) → Standing configs log → ev.act ≡ act.Router n
+        → Each (EndShows configs log (entry_of ev (Effect.row_of_spread (name_of x) s))) s.ends
+    content_shows ev stand steps =
+        let e : Entry = entry_of ev (Effect.row_of_spread (name_of x) s) in
+        let told = first_tells configs log (queue.Router n) x rest (item.Content c frame priority send to) stand.tells first is in
+        let recipients : accepted log send ≡ to = send_accepted log send n c told.0 to told.2 in
+        let routed : (p : ℕ) (k : Key) → slice_get to p ≡ Some k → IsRouted configs log e (send, p) n priority k = λ p k here. record {
+          steps = steps;
+          oldest = x;
+          later = rest;
+          stood = first;
+          takes = refl;
+          channel = c;
+          frame = frame;
+          to = to;
+          is = is;
+          recipients = recipients;
+          for_key = here;
+        } in
+        spread_drops (EndShows configs log e) size left n priority (routes log n) send frame to s.puts
+        (λ p k here route. record { node = n; priority = priority; key = k; routed = routed p k here; not_connected = route })
+        (λ p k conn here route full. record {
+          node = n;
+          priority = priority;
+          key = k;
+          routed = routed p k here;
+          conn = conn;
+          connected = route;
+          full = leb-true size _
+              (sym (ap (λ (l : List Envelope). nat_le size (length l + count_by (enters_before (Effect.relay_queue priority n conn) (send, p)) s.puts)) (relays_same priority conn)) ∙ full);
+        })
+        refl
+
+    -- a put of the spread
+    abbrev IsRelay : Queue × Item → Type 0
+    IsRelay y = Fits y × ComesOf configs log x y × (in_router n y.0 ≡ true)
+
+    relays : Each (λ d. is_item_end d ≡ false) s.ends × Each IsRelay s.puts
+    relays =
+        spread_each (λ d. is_item_end d ≡ false) IsRelay size left n priority (routes log n) send frame to (λ p o. refl)
+        (λ p k conn here route. (
+          relay_fits priority n conn (Some (send, p)) frame,
+          relay_spread configs log x priority n conn (item.Frame (Some (send, p)) frame) (record {
+            channel = c;
+            frame = frame;
+            send = send;
+            to = to;
+            place = p;
+            key = k;
+            stood = one_taken log (queue.Router n) x rest first;
+            is = is;
+            for_key = here;
+            route = route;
+            put = refl;
+          }),
+          relay_near priority n conn,
+        ))
+
+    content_shape : Shape configs log (act.Router n) (Effect.route_row configs log n (name_of x) (item.Content c frame priority send to) left)
+    content_shape =
+        let r : Row = Effect.row_of_spread (name_of x) s in
+        record {
+          moves = one_move log (queue.Router n) x rest first r refl (ended_item-none s.ends relays.0);
+          reach = record { taken = in_mailbox; ended = tt; puts = Each-weaker IsRelay (λ y. in_router n y.0 ≡ true) (λ y h. h.2) s.puts relays.1 };
+          laws = λ stand. record {
+            fitting = Each-weaker IsRelay Fits (λ y h. h.0) s.puts relays.1;
+            moved = Moved-all configs log (act.Router n) reply.Ok x s.puts
+                (Each-weaker IsRelay (ComesOf configs log x) (λ y h. h.1) s.puts relays.1)
+                (λ q.
+                let adds : Adds send 0 frame to [] s.puts = puts-spread size left n priority (routes log n) send frame to 0 (record { puts = []; ends = [] }) in
+                subst (λ (l : List (Queue × Item)). IsSublist (put_copies (filter q l)) (copies_of x.item)) (sym adds.1)
+                (subst (IsSublist (put_copies (filter q adds.0))) (sym (ap copies_of is)) (IsSublist-frames q send 0 frame to adds.0 adds.2)));
+            balanced = λ copy.
+                let none : accepts log (act.Router n) reply.Ok copy ≡ 0 = accepts-none log (act.Router n) reply.Ok copy refl in
+                let taken : count_by (carries copy) (x ∷ []) ≡ one ((send == copy.0) && nat_lt copy.1 (length to)) =
+                count_by-single copy x ((send == copy.0) && nat_lt copy.1 (length to)) (ap (carries_copy copy) is)
+                in
+                let all : borne_by copy s.puts s.ends ≡ 0 + from_place copy send 0 (length to) =
+                borne-spread copy size left n priority (routes log n) send 0 frame to (record { puts = []; ends = [] })
+                in
+                let place = from_first copy.0 copy.1 send (length to) in
+                omega (arith, none, taken, all, place);
+            causes = λ ev steps. content_shows ev stand steps;
+            delivers = no_delivery configs log (act.Router n) reply.Ok (x ∷ []) s.ends refl;
+          };
+        }
+
+  -- what does not belong in the mailbox
+  misfit : (i : Item) → x.item ≡ i → fits (queue.Router n) i ≡ false → Shape configs log (act.Router n) (record { reply = reply.Ok; takes = name_of x ∷ []; puts = []; ends = [] })
+  misfit i is h = record {
+    moves = one_move log (queue.Router n) x rest first (record { reply = reply.Ok; takes = name_of x ∷ []; puts = []; ends = [] }) refl refl;
+    reach = record { taken = in_mailbox; ended = tt; puts = tt };
+    laws = λ stand. absurd (false≢true (sym h ∙ fit stand i is));
+  }
 
   route_shape : (i : Item) → x.item ≡ i → Shape configs log (act.Router n) (Effect.route_row configs log n (name_of x) i left)
   route_shape (item.Subscribe c) is = subscribe_shape c is
   route_shape (item.Ready conn key) is = ready_shape conn key is
   route_shape (item.Content c frame priority send to) is = content_shape c frame priority send to is
-  route_shape (item.Peers keys) is = absurd (false≢true (fit (item.Peers keys) is))
-  route_shape item.Answer is = absurd (false≢true (fit item.Answer is))
-  route_shape (item.Frame copy frame) is = absurd (false≢true (fit (item.Frame copy frame) is))
-  route_shape (item.Message bytes copy from) is = absurd (false≢true (fit (item.Message bytes copy from) is))
+  route_shape i is = misfit i is refl
 
-oldest_shape : (configs : List Config) (log : List Entry) (n : ℕ) (xs : List Envelope) → Each StandsFit (live log) → line log (queue.Router n) ≡ xs
+oldest_shape : (configs : List Config) (log : List Entry) (n : ℕ) (xs : List Envelope) → line log (queue.Router n) ≡ xs
     → Shape configs log (act.Router n) (Effect.route_oldest configs log n xs)
-unfolding left
-oldest_shape configs log n [] stand e = still configs log (act.Router n) reply.Idle refl refl
-oldest_shape configs log n (x ∷ rest) stand e = route_shape configs log n stand x rest e x.item refl
+oldest_shape configs log n [] e = still configs log (act.Router n) reply.Idle refl refl
+oldest_shape configs log n (x ∷ rest) e = route_shape configs log n x rest e x.item refl
 
-pub router_shape : (configs : List Config) (log : List Entry) (n : ℕ) → Each StandsFit (live log) → Shape configs log (act.Router n) (Effect.router_row configs log n)
-router_shape configs log n stand =
+pub router_shape : (configs : List Config) (log : List Entry) (n : ℕ) → Shape configs log (act.Router n) (Effect.router_row configs log n)
+router_shape configs log n =
     elim (is_up log n) as (λ b. Shape configs log (act.Router n) (cond b (Effect.route_oldest configs log n (line log (queue.Router n))) (Effect.only reply.Gone))) [
-      | true ↦ oldest_shape configs log n (line log (queue.Router n)) stand refl
+      | true ↦ oldest_shape configs log n (line log (queue.Router n)) refl
       | false ↦ still configs log (act.Router n) reply.Gone refl refl
     ]

@@ -25,10 +25,13 @@ use Rattle.p2p_log_rules.specs.Effect.{entry_of}
 use Rattle.p2p_log_rules.proofs.Facts.{routes-append}
 use Rattle.p2p_log.proofs.Queues.{same_queue-refl}
 use Rattle.p2p_log_rules.proofs.Recorded.{AreRecorded, AreRecorded-line}
-use Rattle.p2p_log_laws.proofs.Each.{Each-has, Each-from_has, Each-map, Each-weaker}
-use Rattle.p2p_log_laws.proofs.Shape.{Shape}
+use Rattle.p2p_log.proofs.Each.{Each-has, Each-from_has, Each-map, Each-weaker}
+use Rattle.p2p_log_rules.specs.Moves.{Moves}
+use Rattle.p2p_log_rules.proofs.Moves.{taken_stood}
+use Rattle.p2p_log.proofs.QueueNames.{queue_from_same}
+use Rattle.p2p_log_rules.proofs.Touches.{Reach, reads}
 use Rattle.p2p_log_laws.proofs.Telling.{Tells, StandTells, half_at-longer}
-use Rattle.p2p_log_laws.proofs.Weights.{Each-taken}
+use Rattle.p2p_log.proofs.Taken.{Each-taken}
 
 -- the connection is the node's, with a peer of this key
 abbrev pub RouteHolds : List Config → List Entry → ℕ → ℕ × ℕ → Type 0
@@ -77,13 +80,8 @@ route_peer configs log n key conn holds h =
 
 module _ (configs : List Config) (log : List Entry) (n : ℕ) where
   with_one : (rs : List (ℕ × ℕ)) (i : Item) → Each (RouteHolds configs log n) rs → Tells configs log i (queue.Router n) → Each (RouteHolds configs log n) (with_route rs i)
-  with_one rs (item.Subscribe c) h t = h
   with_one rs (item.Ready conn key) h t = Each-insert_entry (RouteHolds configs log n) key.0 conn rs (t.0, t.1, ap (λ k. k.0) t.2) h
-  with_one rs (item.Content c frame priority send to) h t = h
-  with_one rs (item.Peers keys) h t = h
-  with_one rs item.Answer h t = h
-  with_one rs (item.Frame copy frame) h t = h
-  with_one rs (item.Message bytes copy from) h t = h
+  with_one rs _ h t = h
 
   with_all : (rs : List (ℕ × ℕ)) (xs : List Item) → Each (RouteHolds configs log n) rs → Each (λ i. Tells configs log i (queue.Router n)) xs
       → Each (RouteHolds configs log n) (routes_after rs xs)
@@ -121,31 +119,28 @@ named_items log [] h = refl
 named_items log (x ∷ xs) h = ap (λ l. l ++ flat_map (item_named log) (map name_of xs)) h.0 ∙ ap (λ r. x.item ∷ r) (named_items log xs h.1)
 
 steps_is : (n : ℕ) (a : Act) → steps_router n a ≡ true → a ≡ act.Router n
-steps_is n (act.Register c m rate) h = absurd (cc)
-steps_is n (act.Start m) h = absurd (cc)
-steps_is n (act.Join a b) h = absurd (cc)
-steps_is n (act.Send bytes c m priority to) h = absurd (cc)
 steps_is n (act.Router m) h = ap (λ k. act.Router k) (eqb-true m n h)
-steps_is n (act.SendStep conn m) h = absurd (cc)
-steps_is n (act.RecvStep conn m) h = absurd (cc)
-steps_is n (act.Recv c m) h = absurd (cc)
+steps_is n _ h = absurd (cc)
 
-module _ (configs : List Config) (log : List Entry) (ev : Event) (r : Row) (shape : Shape configs log ev.act r) (tell : Each (StandTells configs log) (live log)) where
-  taken_items : taken log (entry_of ev r) ≡ map (λ x. x.item) shape.taken
+module _ (configs : List Config) (log : List Entry) (ev : Event) (r : Row) (m : Moves log r) (reach : Reach configs ev.act log r m) (tell : Each (StandTells configs log) (live log)) where
+  taken_items : taken log (entry_of ev r) ≡ map (λ x. x.item) m.taken
   unfolding taken
   taken_items =
-      ap (λ ns. flat_map (item_named log) ns) shape.names
-      ∙ named_items log shape.taken (Each-taken (λ x. item_named log (name_of x) ≡ x.item ∷ []) (live log) shape.taken (recorded_live log) shape.stood)
+      ap (λ ns. flat_map (item_named log) ns) m.names
+      ∙ named_items log m.taken (Each-taken (λ x. item_named log (name_of x) ≡ x.item ∷ []) (live log) m.taken (recorded_live log) (taken_stood log ev r m))
 
   routed_cases : (n : ℕ) (b : Bool) → steps_router n ev.act ≡ b → Each (λ i. Tells configs log i (queue.Router n)) (cond b (taken log (entry_of ev r)) [])
   routed_cases n true h =
-      let all : Each (StandTells configs log) shape.taken = Each-taken (StandTells configs log) (live log) shape.taken tell shape.stood in
-      let own : Each (λ x. x.queue ≡ queue.Router n) shape.taken = shape.own n (steps_is n ev.act h) in
+      let all : Each (StandTells configs log) m.taken = Each-taken (StandTells configs log) (live log) m.taken tell (taken_stood log ev r m) in
+      let own : Each (λ x. x.queue ≡ queue.Router n) m.taken =
+      Each-weaker (λ x. reads configs log ev.act x.queue ≡ true) (λ x. x.queue ≡ queue.Router n)
+      (λ x k. queue_from_same (queue.Router n) x.queue (ap (λ a. reads configs log a x.queue) (sym (steps_is n ev.act h)) ∙ k)) m.taken reach.taken
+      in
       subst (Each (λ i. Tells configs log i (queue.Router n))) (sym taken_items)
-      (Each-map (λ i. Tells configs log i (queue.Router n)) (λ x. x.item) shape.taken
-      (Each-from_has (λ x. Tells configs log x.item (queue.Router n)) shape.taken (λ x has.
-      subst (Tells configs log x.item) (Each-has (λ y. y.queue ≡ queue.Router n) shape.taken x own has)
-      (Each-has (StandTells configs log) shape.taken x all has))))
+      (Each-map (λ i. Tells configs log i (queue.Router n)) (λ x. x.item) m.taken
+      (Each-from_has (λ x. Tells configs log x.item (queue.Router n)) m.taken (λ x has.
+      subst (Tells configs log x.item) (Each-has (λ y. y.queue ≡ queue.Router n) m.taken x own has)
+      (Each-has (StandTells configs log) m.taken x all has))))
   routed_cases n false h = tt
 
   pub routes_kept : RoutesHold configs log → RoutesHold configs (log ++ entry_of ev r ∷ [])

@@ -19,7 +19,7 @@ use Rattle.p2p_log_rules.specs.Facts.{route_to}
 use Rattle.p2p_log_rules.specs.Effect.{Spread, spread, spread_to, goes_to, relay_queue}
 use Rattle.p2p_log.proofs.Places.{slice_get-seam}
 use Rattle.p2p_log_laws.specs.Causes.{is_lower, enters_before}
-use Rattle.p2p_log_laws.proofs.Each.{Each-append, Each-weaker}
+use Rattle.p2p_log.proofs.Each.{Each-append, Each-weaker}
 use Rattle.p2p_log_laws.proofs.Fitting.{count_by-none}
 use Rattle.p2p_log_laws.proofs.Spreads.{AreFrames, Adds, puts-spread}
 
@@ -32,14 +32,8 @@ lower_next : (s p a b : ℕ) → ((a == s) && nat_lt b p) ≡ true → ((a == s)
 lower_next s p a b h = grind (arith, nat_tests)
 
 is_lower-next : (s p : ℕ) (i : Item) → is_lower (s, p) i ≡ true → is_lower (s, p + 1) i ≡ true
-is_lower-next s p (item.Subscribe c) h = absurd (cc)
-is_lower-next s p (item.Ready conn key) h = absurd (cc)
-is_lower-next s p (item.Content c frame priority send to) h = absurd (cc)
-is_lower-next s p (item.Peers keys) h = absurd (cc)
-is_lower-next s p item.Answer h = absurd (cc)
 is_lower-next s p (item.Frame (Some other) frame) h = lower_next s p other.0 other.1 h
-is_lower-next s p (item.Frame None frame) h = absurd (cc)
-is_lower-next s p (item.Message bytes other from) h = absurd (cc)
+is_lower-next s p _ h = absurd (cc)
 
 lower_here : (s p : ℕ) → ((s == s) && nat_lt p (p + 1)) ≡ true
 lower_here s p = grind (arith, nat_tests)

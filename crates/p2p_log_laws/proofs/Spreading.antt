@@ -19,7 +19,7 @@ use Rattle.p2p_log.specs.Lines.{same_name, stands_in}
 use Rattle.p2p_log_rules.specs.Facts.{route_to}
 use Rattle.p2p_log.specs.Copies.{carries_copy, ends_copy}
 use Rattle.p2p_log.proofs.Places.{slice_get-seam}
-use Rattle.p2p_log_laws.proofs.Each.{Each-append}
+use Rattle.p2p_log.proofs.Each.{Each-append}
 use Rattle.p2p_log_rules.specs.Effect.{Spread, spread, spread_one, spread_to, copies_end, goes_to, relay_queue}
 
 -- how many of these puts and ends are the copy's

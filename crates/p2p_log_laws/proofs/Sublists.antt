@@ -1,17 +1,13 @@
 -- Sublists, and lists of copies in order.
-use Rattle.std.proofs.Common.{◌≡◌, ℕ, ◌<◌, Bool, true, false, cond, List, [], ◌∷◌, ◌++◌, ◌⊎◌, inl, inr, refl, ap, sym, subst, ◌∙◌, arith, append_assoc}
+use Rattle.std.proofs.Common.{◌≡◌, ℕ, ◌<◌, Bool, true, false, cond, List, [], ◌∷◌, ◌++◌, inl, inr, refl, ap, sym, subst, arith}
 use Rattle.std.specs.Prelude.{filter, flat_map}
 use Rattle.std.specs.List.{AllByRecursion as Each}
 use Rattle.std.proofs.lemmas.Bool.Decides.{nat_tests}
 use Rattle.p2p_log_laws.specs.Order.{is_before}
-use Rattle.p2p_log_laws.proofs.Each.{Has, Has-after, Each-append, Each-has}
+use Rattle.p2p_log.proofs.Each.{Has, Has-after, Each-append, Each-has}
+use Rattle.p2p_log_laws.specs.Flow.{IsSublist}
 
 -- ---- sublists
-
--- the elements of one list are some of another's, in its order
-abbrev pub IsSublist : {X : Type 0} → List X → List X → Type 0
-IsSublist xs [] = xs ≡ []
-IsSublist {X} xs (y ∷ ys) = IsSublist xs ys ⊎ ((rest : List X) × (xs ≡ y ∷ rest) × IsSublist rest ys)
 
 pub IsSublist-nil : {X : Type 0} (ys : List X) → IsSublist [] ys
 IsSublist-nil [] = refl
@@ -65,13 +61,6 @@ IsSublist-flat_map f p (x ∷ xs) =
       | false ↦ IsSublist-after (f x) (flat_map f (filter p xs)) (flat_map f xs) (IsSublist-flat_map f p xs)
     ]
 
-pub IsSublist-single : {X : Type 0} (x : X) (ys : List X) → Has ys x → IsSublist (x ∷ []) ys
-IsSublist-single x [] h = absurd h
-IsSublist-single x (y ∷ ys) h = elim h [
-  | inl e ↦ inr ([], ap (λ z. z ∷ []) (sym e), IsSublist-nil ys)
-  | inr l ↦ inl (IsSublist-single x ys l)
-]
-
 pub IsSublist-each : {X : Type 0} (P : X → Type 0) (xs ys : List X) → IsSublist xs ys → Each P ys → Each P xs
 IsSublist-each P xs [] h k = subst (Each P) (sym h) tt
 IsSublist-each P xs (y ∷ ys) h k = elim h [
@@ -79,41 +68,38 @@ IsSublist-each P xs (y ∷ ys) h k = elim h [
   | inr take ↦ subst (Each P) (sym take.1) (k.0, IsSublist-each P take.0 ys take.2 k.1)
 ]
 
--- where each element fails the test, a filter leaves none
-pub filter-none : {X : Type 0} (p : X → Bool) (xs : List X) → Each (λ x. p x ≡ false) xs → filter p xs ≡ []
-filter-none p [] h = refl
-filter-none p (x ∷ xs) h = ap (λ b. cond b (x ∷ filter p xs) (filter p xs)) h.0 ∙ filter-none p xs h.1
+-- ---- lists in an order
 
--- one stage of a way: what enters it is of what left the next, and what it held before comes before both
-pub IsSublist-stage : {X : Type 0} (kept held enters left rest before : List X)
-    → IsSublist kept held → IsSublist enters left → IsSublist rest before → IsSublist ((kept ++ enters) ++ rest) (held ++ (left ++ before))
-IsSublist-stage kept held enters left rest before h i r =
-    subst (λ l. IsSublist l (held ++ (left ++ before))) (sym (append_assoc kept enters rest))
-    (IsSublist-append kept held (enters ++ rest) (left ++ before) h (IsSublist-append enters left rest before i r))
+module _ {X : Type 0} (R : X → X → Type 0) where
+  abbrev pub Ordered : List X → Type 0
+  Ordered [] = Unit {0}
+  Ordered (x ∷ xs) = Each (R x) xs × Ordered xs
+
+  pub Ordered-sublist : (xs ys : List X) → IsSublist xs ys → Ordered ys → Ordered xs
+  Ordered-sublist xs [] h k = subst Ordered (sym h) tt
+  Ordered-sublist xs (y ∷ ys) h k = elim h [
+    | inl skip ↦ Ordered-sublist xs ys skip k.1
+    | inr take ↦ subst Ordered (sym take.1) (IsSublist-each (R y) take.0 ys take.2 k.0, Ordered-sublist take.0 ys take.2 k.1)
+  ]
+
+  pub Ordered-append : (xs ys : List X) → Ordered xs → Ordered ys → Each (λ x. Each (R x) ys) xs → Ordered (xs ++ ys)
+  Ordered-append [] ys h k b = k
+  Ordered-append (x ∷ xs) ys h k b = (Each-append (R x) xs ys h.0 b.0, Ordered-append xs ys h.1 k b.1)
+
+  pub Ordered-parts : (xs ys : List X) (x y : X) → Ordered (xs ++ ys) → Has xs x → Has ys y → R x y
+  Ordered-parts [] ys x y h i k = absurd i
+  Ordered-parts (z ∷ zs) ys x y h i k = elim i [
+    | inl e ↦ subst (λ w. R w y) e (Each-has (R z) (zs ++ ys) y h.0 (Has-after zs ys y k))
+    | inr l ↦ Ordered-parts zs ys x y h.1 l k
+  ]
 
 -- ---- copies in order
 
+abbrev pub IsBefore : ℕ × ℕ → ℕ × ℕ → Type 0
+IsBefore x y = is_before x y ≡ true
+
 abbrev pub AreInOrder : List (ℕ × ℕ) → Type 0
-AreInOrder [] = Unit {0}
-AreInOrder (x ∷ xs) = Each (λ y. is_before x y ≡ true) xs × AreInOrder xs
-
-pub AreInOrder-sublist : (xs ys : List (ℕ × ℕ)) → IsSublist xs ys → AreInOrder ys → AreInOrder xs
-AreInOrder-sublist xs [] h k = subst AreInOrder (sym h) tt
-AreInOrder-sublist xs (y ∷ ys) h k = elim h [
-  | inl skip ↦ AreInOrder-sublist xs ys skip k.1
-  | inr take ↦ subst AreInOrder (sym take.1) (IsSublist-each (λ z. is_before y z ≡ true) take.0 ys take.2 k.0, AreInOrder-sublist take.0 ys take.2 k.1)
-]
-
-pub AreInOrder-append : (xs ys : List (ℕ × ℕ)) → AreInOrder xs → AreInOrder ys → Each (λ x. Each (λ y. is_before x y ≡ true) ys) xs → AreInOrder (xs ++ ys)
-AreInOrder-append [] ys h k b = k
-AreInOrder-append (x ∷ xs) ys h k b = (Each-append (λ y. is_before x y ≡ true) xs ys h.0 b.0, AreInOrder-append xs ys h.1 k b.1)
-
-pub before_of_parts : (xs ys : List (ℕ × ℕ)) (x y : ℕ × ℕ) → AreInOrder (xs ++ ys) → Has xs x → Has ys y → is_before x y ≡ true
-before_of_parts [] ys x y h i k = absurd i
-before_of_parts (z ∷ zs) ys x y h i k = elim i [
-  | inl e ↦ subst (λ w. is_before w y ≡ true) e (Each-has (λ w. is_before z w ≡ true) (zs ++ ys) y h.0 (Has-after zs ys y k))
-  | inr l ↦ before_of_parts zs ys x y h.1 l k
-]
+AreInOrder xs = Ordered IsBefore xs
 
 -- names of a later send come after those of earlier ones
 pub before_later : (a b c d : ℕ) → a < c → is_before (a, b) (c, d) ≡ true

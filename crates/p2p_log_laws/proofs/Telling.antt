@@ -1,5 +1,13 @@
 -- What the items in queues tell of sends and connections is true.
-use Rattle.std.proofs.Common.{◌≡◌, ℕ, zero, suc, Bool, List, [], ◌∷◌, ◌++◌, Option, Some, None, refl, ap, sym, ◌∙◌}
+use Rattle.p2p_log.proofs.Sending.{get_longer, sending_at-longer}
+use Rattle.p2p_log.specs.Sending.{Sender, sending_at}
+use Rattle.p2p_log.specs.Sending.Sender.{Node, Raw}
+use Rattle.p2p_log.specs.declared.queue.Side.{Side}
+use Rattle.p2p_log_rules.specs.Effect.{other_side}
+use Rattle.p2p_log.specs.QueueCode.{owner_of}
+use Rattle.p2p_log_laws.proofs.Fitting.{fits}
+use Rattle.std.specs.Prelude.{true}
+use Rattle.std.proofs.Common.{◌≡◌, ℕ, Bool, List, ◌++◌, Option, Some, None, ◌⊎◌, inl, inr, refl, ap, ◌∙◌}
 use Rattle.std.specs.Prelude.{slice_get}
 use Rattle.p2p_base.specs.declared.key.Key.{Key}
 use Rattle.p2p_log.specs.declared.config.Config.{Config}
@@ -9,22 +17,13 @@ use Rattle.p2p_log.specs.declared.item.Item.{Item}
 use Rattle.p2p_log.specs.declared.item.Item.TheVariants as item
 use Rattle.p2p_log.specs.declared.item.Envelope.{Envelope}
 use Rattle.p2p_log.specs.declared.entry.Entry.{Entry}
-use Rattle.p2p_log.specs.declared.entry.Reply.TheVariants as reply
-use Rattle.p2p_log.specs.declared.event.Act.TheVariants as act
-use Rattle.p2p_log.specs.declared.event.Recipients.{Recipients}
 use Rattle.p2p_log_rules.specs.declared.row.Half.{Half}
-use Rattle.p2p_log.specs.Copies.{accepted, accepted_by}
 use Rattle.p2p_log_rules.specs.Facts.{key_at, half_at, half_in}
 use Rattle.p2p_log_rules.specs.Frames.{frame_of}
-use Rattle.p2p_log_laws.specs.Delivered.{IsCopyOf}
-use Rattle.p2p_log_laws.specs.Order.{WentOver}
+use Rattle.p2p_log_laws.specs.Delivered.{IsCopyOf, HasKey, IsOn}
+use Rattle.p2p_log_laws.specs.Order.{WentOver, Writes, ComesTo}
 
 -- ---- a longer log
-
-pub get_longer : {X : Type 0} (xs ys : List X) (n : ℕ) (x : X) → slice_get xs n ≡ Some x → slice_get (xs ++ ys) n ≡ Some x
-get_longer [] ys n x h = absurd (cc)
-get_longer (y ∷ xs) ys zero x h = h
-get_longer (y ∷ xs) ys (suc n) x h = get_longer xs ys n x h
 
 pub half_at-longer : (configs : List Config) (log more : List Entry) (n conn : ℕ) (half : Half)
     → half_at configs log n conn ≡ Some half → half_at configs (log ++ more) n conn ≡ Some half
@@ -35,59 +34,25 @@ half_at-longer configs log more n conn half h = go (slice_get log conn) refl h
     go None e h = absurd (cc)
     go (Some d) e h = ap (half_in configs n) (get_longer log more conn d e) ∙ h
 
-pub accepted_at : (log : List Entry) (send : ℕ) (e : Entry) → slice_get log send ≡ Some e → accepted log send ≡ accepted_by e.event.act e.reply
-unfolding accepted
-accepted_at log send e h = ap (λ (o : Option Entry). elim o [ None ↦ [] | Some d ↦ accepted_by d.event.act d.reply ]) h
-
-pub IsCopyOf-longer : (log more : List Entry) (copy : ℕ × ℕ) (node channel : ℕ) (bytes : List ℕ) (key : Key)
-    → IsCopyOf log copy node channel bytes key → IsCopyOf (log ++ more) copy node channel bytes key
-IsCopyOf-longer log more copy node channel bytes key h =
-    let at : slice_get (log ++ more) copy.0 ≡ Some h.entry = get_longer log more copy.0 h.entry h.at in
-    record {
-      entry = h.entry;
-      at = at;
-      priority = h.priority;
-      to = h.to;
-      sends = h.sends;
-      for_key = ap (λ (ks : List Key). slice_get ks copy.1) (accepted_at (log ++ more) copy.0 h.entry at ∙ sym (accepted_at log copy.0 h.entry h.at)) ∙ h.for_key;
-    }
+pub IsCopyOf-longer : (log more : List Entry) (copy : ℕ × ℕ) (sender : Sender) (channel : ℕ) (bytes : List ℕ) (key : Key)
+    → IsCopyOf log copy sender channel bytes key → IsCopyOf (log ++ more) copy sender channel bytes key
+IsCopyOf-longer log more copy sender channel bytes key h =
+    record { priority = h.priority; keys = h.keys; sends = sending_at-longer log more copy.0 _ h.sends; for_key = h.for_key }
 
 -- ---- what an item tells
 
--- the entry is a send at this node, for these keys
+-- the entry sends this, at this node, for these keys
 pub record IsSend (log : List Entry) (send node channel : ℕ) (bytes : List ℕ) (keys : List Key) : Type 0 where
-  pub entry : Entry
-  pub at : slice_get log send ≡ Some entry
   pub priority : Bool
-  pub to : Recipients
-  pub sends : entry.event.act ≡ act.Send bytes channel node priority to
-  pub replies : entry.reply ≡ reply.Sent keys
+  pub sends : sending_at log send ≡ Some (record { by = Node node; channel = channel; priority = priority; bytes = bytes; keys = keys })
 
 pub IsSend-longer : (log more : List Entry) (send node channel : ℕ) (bytes : List ℕ) (keys : List Key)
     → IsSend log send node channel bytes keys → IsSend (log ++ more) send node channel bytes keys
-IsSend-longer log more send node channel bytes keys h = record {
-  entry = h.entry;
-  at = get_longer log more send h.entry h.at;
-  priority = h.priority;
-  to = h.to;
-  sends = h.sends;
-  replies = h.replies;
-}
+IsSend-longer log more send node channel bytes keys h = record { priority = h.priority; sends = sending_at-longer log more send _ h.sends }
 
 pub copy_of_send : (log : List Entry) (send node channel : ℕ) (bytes : List ℕ) (keys : List Key) (p : ℕ) (key : Key)
-    → IsSend log send node channel bytes keys → slice_get keys p ≡ Some key → IsCopyOf log (send, p) node channel bytes key
-copy_of_send log send node channel bytes keys p key h at =
-    let by : accepted_by h.entry.event.act h.entry.reply ≡ keys =
-    ap (λ a. accepted_by a h.entry.reply) h.sends ∙ ap (λ r. accepted_by (act.Send bytes channel node h.priority h.to) r) h.replies
-    in
-    record {
-      entry = h.entry;
-      at = h.at;
-      priority = h.priority;
-      to = h.to;
-      sends = h.sends;
-      for_key = ap (λ (ks : List Key). slice_get ks p) (accepted_at log send h.entry h.at ∙ by) ∙ at;
-    }
+    → IsSend log send node channel bytes keys → slice_get keys p ≡ Some key → IsCopyOf log (send, p) (Node node) channel bytes key
+copy_of_send log send node channel bytes keys p key h at = record { priority = h.priority; keys = keys; sends = h.sends; for_key = at }
 
 -- the frame is of a copy that this node sent to the peer of its half
 pub record IsAddressed (configs : List Config) (log : List Entry) (node conn : ℕ) (half : Half) (copy : ℕ × ℕ) (frame : List ℕ) : Type 0 where
@@ -95,7 +60,7 @@ pub record IsAddressed (configs : List Config) (log : List Entry) (node conn : �
   pub channel : ℕ
   pub bytes : List ℕ
   pub is : frame ≡ frame_of channel bytes
-  pub sent : IsCopyOf log copy node channel bytes half.peer
+  pub sent : IsCopyOf log copy (Node node) channel bytes half.peer
 
 pub IsAddressed-longer : (configs : List Config) (log more : List Entry) (node conn : ℕ) (half : Half) (copy : ℕ × ℕ) (frame : List ℕ)
     → IsAddressed configs log node conn half copy frame → IsAddressed configs (log ++ more) node conn half copy frame
@@ -104,42 +69,88 @@ IsAddressed-longer configs log more node conn half copy frame h = record {
   channel = h.channel;
   bytes = h.bytes;
   is = h.is;
-  sent = IsCopyOf-longer log more copy node h.channel h.bytes half.peer h.sent;
+  sent = IsCopyOf-longer log more copy (Node node) h.channel h.bytes half.peer h.sent;
 }
 
-pub WentOver-longer : (configs : List Config) (log more : List Entry) (copy : ℕ × ℕ) (sender receiver conn : ℕ)
-    → WentOver configs log copy sender receiver conn → WentOver configs (log ++ more) copy sender receiver conn
-WentOver-longer configs log more copy sender receiver conn h = record {
-  near = h.near;
-  near_at = half_at-longer configs log more sender conn h.near h.near_at;
+-- the frame is of what the raw peer of this link sent, for the node at the other end
+pub record IsRawFrame (configs : List Config) (log : List Entry) (link : ℕ) (side : Side) (copy : ℕ × ℕ) (frame : List ℕ) : Type 0 where
+  pub node : ℕ
+  pub far : Half
+  pub at : half_at configs log node link ≡ Some far
+  pub ends : side ≡ other_side far.writes
+  pub channel : ℕ
+  pub bytes : List ℕ
+  pub is : frame ≡ frame_of channel bytes
+  pub sent : IsCopyOf log copy (Raw link) channel bytes (key_at configs node)
+
+pub IsRawFrame-longer : (configs : List Config) (log more : List Entry) (link : ℕ) (side : Side) (copy : ℕ × ℕ) (frame : List ℕ)
+    → IsRawFrame configs log link side copy frame → IsRawFrame configs (log ++ more) link side copy frame
+IsRawFrame-longer configs log more link side copy frame h = record {
+  node = h.node;
   far = h.far;
-  far_at = half_at-longer configs log more receiver conn h.far h.far_at;
-  opposite = h.opposite;
-  n = h.n;
-  entry = h.entry;
-  at = get_longer log more h.n h.entry h.at;
-  place = h.place;
-  frame = h.frame;
-  put = h.put;
+  at = half_at-longer configs log more h.node link h.far h.at;
+  ends = h.ends;
+  channel = h.channel;
+  bytes = h.bytes;
+  is = h.is;
+  sent = IsCopyOf-longer log more copy (Raw link) h.channel h.bytes (key_at configs h.node) h.sent;
 }
 
--- the message is of a copy for this node, and came over a connection with the node of this key, which sent it
+pub WentOver-longer : (log more : List Entry) (copy : ℕ × ℕ) (link : ℕ) (side : Side) → WentOver log copy link side → WentOver (log ++ more) copy link side
+WentOver-longer log more copy link side h =
+    record { n = h.n; entry = h.entry; at = get_longer log more h.n h.entry h.at; place = h.place; frame = h.frame; put = h.put }
+
+pub HasKey-longer : (configs : List Config) (log more : List Entry) (sender : Sender) (key : Key) → HasKey configs log sender key → HasKey configs (log ++ more) sender key
+HasKey-longer configs log more (Node n) key h = h
+HasKey-longer configs log more (Raw link) key h = (h.0, h.1, half_at-longer configs log more h.0 link h.1 h.2, h.3)
+
+pub Writes-longer : (configs : List Config) (log more : List Entry) (sender : Sender) (link : ℕ) (side : Side) → Writes configs log sender link side → Writes configs (log ++ more) sender link side
+Writes-longer configs log more (Node n) link side h = (h.0, half_at-longer configs log more n link h.0 h.1, h.2)
+Writes-longer configs log more (Raw e) link side h = h
+
+pub ComesTo-longer : (configs : List Config) (log more : List Entry) (q : Queue) (link : ℕ) (side : Side) → ComesTo configs log q link side → ComesTo configs (log ++ more) q link side
+ComesTo-longer configs log more (queue.Link e s) link side h = h
+ComesTo-longer configs log more q link side h = (h.0, half_at-longer configs log more (owner_of q) link h.0 h.1, h.2)
+
+-- the message is of a copy for this node, and came over a link from the one of this key, who sent it
 pub record IsArrived (configs : List Config) (log : List Entry) (bytes : List ℕ) (copy : ℕ × ℕ) (from : Key) (node channel : ℕ) : Type 0 where
-  pub sender : ℕ
-  pub key : from ≡ key_at configs sender
+  pub sender : Sender
+  pub key : HasKey configs log sender from
   pub sent : IsCopyOf log copy sender channel bytes (key_at configs node)
-  pub conn : ℕ
-  pub over : WentOver configs log copy sender node conn
+  pub link : ℕ
+  pub side : Side
+  pub over : WentOver log copy link side
+  pub begins : Writes configs log sender link side
+  pub far : Half
+  pub far_at : half_at configs log node link ≡ Some far
+  pub ends : side ≡ other_side far.writes
 
 pub IsArrived-longer : (configs : List Config) (log more : List Entry) (bytes : List ℕ) (copy : ℕ × ℕ) (from : Key) (node channel : ℕ)
     → IsArrived configs log bytes copy from node channel → IsArrived configs (log ++ more) bytes copy from node channel
 IsArrived-longer configs log more bytes copy from node channel h = record {
   sender = h.sender;
-  key = h.key;
+  key = HasKey-longer configs log more h.sender from h.key;
   sent = IsCopyOf-longer log more copy h.sender channel bytes (key_at configs node) h.sent;
-  conn = h.conn;
-  over = WentOver-longer configs log more copy h.sender node h.conn h.over;
+  link = h.link;
+  side = h.side;
+  over = WentOver-longer log more copy h.link h.side h.over;
+  begins = Writes-longer configs log more h.sender h.link h.side h.begins;
+  far = h.far;
+  far_at = half_at-longer configs log more node h.link h.far h.far_at;
+  ends = h.ends;
 }
+
+-- the copy is for the peer of the half that writes here, or a raw peer's
+abbrev pub IsOnLink : List Config → List Entry → ℕ → Side → ℕ × ℕ → List ℕ → Type 0
+IsOnLink configs log conn side copy frame =
+    ((n : ℕ) × (half : Half) × (half.writes ≡ side) × IsAddressed configs log n conn half copy frame) ⊎ IsRawFrame configs log conn side copy frame
+
+pub IsOnLink-longer : (configs : List Config) (log more : List Entry) (conn : ℕ) (side : Side) (copy : ℕ × ℕ) (frame : List ℕ)
+    → IsOnLink configs log conn side copy frame → IsOnLink configs (log ++ more) conn side copy frame
+IsOnLink-longer configs log more conn side copy frame h = elim h [
+  | inl of ↦ inl (of.0, of.1, of.2, IsAddressed-longer configs log more of.0 conn of.1 copy frame of.3)
+  | inr raw ↦ inr (IsRawFrame-longer configs log more conn side copy frame raw)
+]
 
 -- what is true of an item in its queue
 abbrev pub Tells : List Config → List Entry → Item → Queue → Type 0
@@ -150,12 +161,16 @@ Tells configs log (item.Content c frame priority send to) (queue.Router n) = (by
 -- the copy is for the peer of this half
 Tells configs log (item.Frame (Some copy) frame) (queue.High n conn) = (half : Half) × IsAddressed configs log n conn half copy frame
 Tells configs log (item.Frame (Some copy) frame) (queue.Low n conn) = (half : Half) × IsAddressed configs log n conn half copy frame
--- the copy is for the peer of the half that writes here
-Tells configs log (item.Frame (Some copy) frame) (queue.Link conn side) =
-    (n : ℕ) × (half : Half) × (half.writes ≡ side) × IsAddressed configs log n conn half copy frame
+Tells configs log (item.Frame (Some copy) frame) (queue.Link conn side) = IsOnLink configs log conn side copy frame
 -- the copy arrived here
 Tells configs log (item.Message bytes copy from) (queue.Channel n c) = IsArrived configs log bytes copy from n c
-Tells _ _ _ _ = Unit {0}
+-- these tell nothing
+Tells configs log (item.Subscribe c) q = Unit {0}
+Tells configs log (item.Peers keys) q = Unit {0}
+Tells configs log item.Answer q = Unit {0}
+Tells configs log (item.Frame None frame) q = Unit {0}
+-- the others stand in no other queue
+Tells _ _ _ _ = ⊥
 
 -- what is true stays so
 pub Tells-longer : (configs : List Config) (log more : List Entry) (i : Item) (q : Queue) → Tells configs log i q → Tells configs (log ++ more) i q
@@ -163,7 +178,7 @@ Tells-longer configs log more (item.Ready conn key) (queue.Router n) h = (h.0, h
 Tells-longer configs log more (item.Content c frame priority send to) (queue.Router n) h = (h.0, h.1, IsSend-longer log more send n c h.0 to h.2)
 Tells-longer configs log more (item.Frame (Some copy) frame) (queue.High n conn) h = (h.0, IsAddressed-longer configs log more n conn h.0 copy frame h.1)
 Tells-longer configs log more (item.Frame (Some copy) frame) (queue.Low n conn) h = (h.0, IsAddressed-longer configs log more n conn h.0 copy frame h.1)
-Tells-longer configs log more (item.Frame (Some copy) frame) (queue.Link conn side) h = (h.0, h.1, h.2, IsAddressed-longer configs log more h.0 conn h.1 copy frame h.3)
+Tells-longer configs log more (item.Frame (Some copy) frame) (queue.Link conn side) h = IsOnLink-longer configs log more conn side copy frame h
 Tells-longer configs log more (item.Message bytes copy from) (queue.Channel n c) h = IsArrived-longer configs log more bytes copy from n c h
 Tells-longer configs log more _ _ h = h
 
@@ -172,3 +187,9 @@ PutTells configs log x = Tells configs log x.1 x.0
 
 abbrev pub StandTells : List Config → List Entry → Envelope → Type 0
 StandTells configs log x = Tells configs log x.item x.queue
+
+-- what a message tells, whichever queue of messages it is in
+pub message_told : (configs : List Config) (log : List Entry) (q : Queue) (bytes : List ℕ) (copy : ℕ × ℕ) (from : Key) → fits q (item.Message bytes copy from) ≡ true
+    → Tells configs log (item.Message bytes copy from) q → (c : ℕ) × IsOn q c × IsArrived configs log bytes copy from (owner_of q) c
+message_told configs log (queue.Channel n c) bytes copy from fit h = (c, refl, h)
+message_told configs log _ bytes copy from fit h = absurd (cc)

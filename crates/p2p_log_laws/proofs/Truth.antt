@@ -1,11 +1,16 @@
 -- What an entry puts tells the truth, where all that stands in queues does.
+use Rattle.p2p_log.proofs.Sending.{sending_at-last}
+use Rattle.p2p_log.specs.Sending.{Sender, Sending, sending_of, sending_at}
+use Rattle.p2p_log.specs.Sending.Sender.{Node, Raw}
 use Rattle.std.proofs.Common.{◌≡◌, ℕ, Bool, true, false, cond, List, [], ◌∷◌, ◌++◌, length, Option, Some, None, ◌⊎◌, inl, inr, refl, ap, sym, subst, ◌∙◌, eqb-true}
 use Rattle.std.specs.Prelude.{◌==◌, slice_get, filter}
 use Rattle.std.specs.List.{AllByRecursion as Each}
 use Rattle.std.proofs.lemmas.Option.{same_Some}
+use Rattle.p2p_base.specs.declared.key.Key.{Key}
 use Rattle.p2p_log.specs.declared.config.Config.{Config}
 use Rattle.p2p_log.specs.declared.queue.Queue.{Queue}
 use Rattle.p2p_log.specs.declared.queue.Queue.TheVariants as queue
+use Rattle.p2p_log.specs.declared.queue.Side.{Side}
 use Rattle.p2p_log.specs.declared.queue.Side.TheVariants as side
 use Rattle.p2p_log.specs.declared.item.Item.{Item}
 use Rattle.p2p_log.specs.declared.item.Item.TheVariants as item
@@ -24,16 +29,17 @@ use Rattle.p2p_log_rules.specs.Frames.{frame_of, message_in}
 use Rattle.p2p_log_rules.specs.Effect.{entry_of, relay_queue, other_side}
 use Rattle.p2p_log.proofs.Lines.{live-append}
 use Rattle.p2p_log.proofs.Places.{slice_get-seam}
-use Rattle.p2p_log_laws.specs.Delivered.{IsCopyOf}
-use Rattle.p2p_log_laws.specs.Order.{WentOver}
-use Rattle.p2p_log_laws.proofs.Each.{Has, Each-has, Each-append, Each-filter, Each-weaker}
+use Rattle.p2p_log_laws.specs.Delivered.{IsCopyOf, HasKey}
+use Rattle.p2p_log_laws.specs.Order.{WentOver, Writes}
+use Rattle.p2p_log.proofs.Each.{Each-has, Each-append, Each-filter, Each-weaker}
 use Rattle.p2p_log_laws.proofs.Fitting.{Each-placed}
 use Rattle.p2p_log_laws.proofs.Puts.{IsPut, each_put}
 use Rattle.p2p_log_laws.proofs.Routing.{RoutesHold, route_peer}
-use Rattle.p2p_log_laws.proofs.Shape.{Shape, Origin, is_idle}
-use Rattle.p2p_log_laws.proofs.Shape.Origin.{idle, begun, sent, routed, written, arrived}
-use Rattle.p2p_log_laws.proofs.Telling.{Tells, Tells-longer, PutTells, StandTells, IsAddressed, copy_of_send}
-use Rattle.p2p_log_laws.proofs.Weights.{Each-taken}
+use Rattle.p2p_log_rules.specs.Moves.{Moves}
+use Rattle.p2p_log_rules.proofs.Moves.{taken_stood}
+use Rattle.p2p_log_laws.proofs.Shape.{Origin, OfAct, OfItem, IsSpread, IsReceived, is_idle, Laws, Moved-origins}
+use Rattle.p2p_log_laws.proofs.Telling.{IsOnLink, IsArrived, half_at-longer, Tells, Tells-longer, PutTells, StandTells, IsAddressed, copy_of_send}
+use Rattle.p2p_log.proofs.Taken.{Each-taken}
 
 -- what a frame gives is what it is of
 abbrev pub FramesGive : Type 0
@@ -73,19 +79,6 @@ AreOpposite configs n m near far = (near.peer ≡ key_at configs m) × (far.peer
 
 opposite_of : (configs : List Config) (n m : ℕ) (near far : Half) (a : Act) (r : Reply) → half_of configs n a r ≡ Some near → half_of configs m a r ≡ Some far
     → near.writes ≡ other_side far.writes → AreOpposite configs n m near far
-opposite_of configs n m near far (act.Register c k rate) r h k' w = absurd (cc)
-opposite_of configs n m near far (act.Start k) r h k' w = absurd (cc)
-opposite_of configs n m near far (act.Send bytes c k priority to) r h k' w = absurd (cc)
-opposite_of configs n m near far (act.Router k) r h k' w = absurd (cc)
-opposite_of configs n m near far (act.SendStep conn k) r h k' w = absurd (cc)
-opposite_of configs n m near far (act.RecvStep conn k) r h k' w = absurd (cc)
-opposite_of configs n m near far (act.Recv c k) r h k' w = absurd (cc)
-opposite_of configs n m near far (act.Join a b) reply.Idle h k w = absurd (cc)
-opposite_of configs n m near far (act.Join a b) reply.Pending h k w = absurd (cc)
-opposite_of configs n m near far (act.Join a b) reply.Gone h k w = absurd (cc)
-opposite_of configs n m near far (act.Join a b) (reply.Capacity c) h k w = absurd (cc)
-opposite_of configs n m near far (act.Join a b) (reply.Sent keys) h k w = absurd (cc)
-opposite_of configs n m near far (act.Join a b) (reply.Message bytes from) h k w = absurd (cc)
 opposite_of configs n m near far (act.Join a b) reply.Ok h k w = elim (half_is configs a b n near h) [
   | inl near_out ↦ elim (half_is configs a b m far k) [
     | inl far_out ↦ let e : side.Out ≡ side.In = sym near_out.writes ∙ (w ∙ ap other_side far_out.writes) in absurd (cc)
@@ -96,6 +89,7 @@ opposite_of configs n m near far (act.Join a b) reply.Ok h k w = elim (half_is c
     | inr far_in ↦ let e : side.In ≡ side.Out = sym near_in.writes ∙ (w ∙ ap other_side far_in.writes) in absurd (cc)
   ]
 ]
+opposite_of configs n m near far _ r h k w = absurd (cc)
 
 opposite : (configs : List Config) (log : List Entry) (conn n m : ℕ) (near far : Half) → half_at configs log n conn ≡ Some near → half_at configs log m conn ≡ Some far
     → near.writes ≡ other_side far.writes → AreOpposite configs n m near far
@@ -106,16 +100,38 @@ opposite configs log conn n m near far h k w = go (slice_get log conn) h k
     go None h k = absurd (cc)
     go (Some e) h k = opposite_of configs n m near far e.event.act e.reply h k w
 
+-- two halves to which the same direction comes are of one node
+same_end_of : (configs : List Config) (n m : ℕ) (near far : Half) (a : Act) (r : Reply) → half_of configs n a r ≡ Some near → half_of configs m a r ≡ Some far
+    → other_side near.writes ≡ other_side far.writes → n ≡ m
+same_end_of configs n m near far (act.Join a b) reply.Ok h k w = elim (half_is configs a b n near h) [
+  | inl near_out ↦ elim (half_is configs a b m far k) [
+    | inl far_out ↦ near_out.node ∙ sym far_out.node
+    | inr far_in ↦ let e : side.In ≡ side.Out = ap other_side (sym near_out.writes) ∙ (w ∙ ap other_side far_in.writes) in absurd (cc)
+  ]
+  | inr near_in ↦ elim (half_is configs a b m far k) [
+    | inl far_out ↦ let e : side.Out ≡ side.In = ap other_side (sym near_in.writes) ∙ (w ∙ ap other_side far_out.writes) in absurd (cc)
+    | inr far_in ↦ near_in.node ∙ sym far_in.node
+  ]
+]
+same_end_of configs n m near far _ r h k w = absurd (cc)
+
+same_end : (configs : List Config) (log : List Entry) (conn n m : ℕ) (near far : Half) → half_at configs log n conn ≡ Some near → half_at configs log m conn ≡ Some far
+    → other_side near.writes ≡ other_side far.writes → n ≡ m
+unfolding half_at
+same_end configs log conn n m near far h k w = go (slice_get log conn) h k
+  where
+    go : (o : Option Entry) → half_in configs n o ≡ Some near → half_in configs m o ≡ Some far → n ≡ m
+    go None h k = absurd (cc)
+    go (Some e) h k = same_end_of configs n m near far e.event.act e.reply h k w
+
 -- ---- what is put
 
 idle_tells : (configs : List Config) (log : List Entry) (i : Item) (q : Queue) → is_idle i ≡ true → Tells configs log i q
-idle_tells configs log (item.Subscribe c) q h = tt
 idle_tells configs log (item.Ready conn key) q h = absurd (cc)
 idle_tells configs log (item.Content c frame priority send to) q h = absurd (cc)
-idle_tells configs log (item.Peers keys) q h = tt
-idle_tells configs log item.Answer q h = tt
 idle_tells configs log (item.Frame copy frame) q h = absurd (cc)
 idle_tells configs log (item.Message bytes copy from) q h = absurd (cc)
+idle_tells configs log _ q h = tt
 
 half_at-new : (configs : List Config) (log : List Entry) (e : Entry) (n : ℕ) (half : Half) → half_of configs n e.event.act e.reply ≡ Some half
     → half_at configs (log ++ e ∷ []) n (length log) ≡ Some half
@@ -134,107 +150,161 @@ relayed_is configs log false n conn copy frame h = h
 
 link_tells : (configs : List Config) (log : List Entry) (priority : Bool) (n conn : ℕ) (half : Half) (i : Item) → half_at configs log n conn ≡ Some half
     → Tells configs log i (relay_queue priority n conn) → Tells configs log i (queue.Link conn half.writes)
-link_tells configs log priority n conn half (item.Subscribe c) at h = tt
-link_tells configs log priority n conn half (item.Ready e key) at h = tt
-link_tells configs log priority n conn half (item.Content c frame p send to) at h = tt
-link_tells configs log priority n conn half (item.Peers keys) at h = tt
-link_tells configs log priority n conn half item.Answer at h = tt
-link_tells configs log priority n conn half (item.Frame None frame) at h = tt
-link_tells configs log priority n conn half (item.Message bytes copy from) at h = tt
 link_tells configs log priority n conn half (item.Frame (Some copy) frame) at h =
     let told = relayed_is configs log priority n conn copy frame h in
     let same : told.0 ≡ half = same_Some told.0 half (sym told.1.at ∙ at) in
-    (n, told.0, ap (λ (k : Half). k.writes) same, told.1)
+    inl (n, told.0, ap (λ (k : Half). k.writes) same, told.1)
+link_tells configs log true n conn half (item.Ready e key) at h = absurd h
+link_tells configs log true n conn half (item.Content c frame p send to) at h = absurd h
+link_tells configs log true n conn half (item.Message bytes copy from) at h = absurd h
+link_tells configs log false n conn half (item.Ready e key) at h = absurd h
+link_tells configs log false n conn half (item.Content c frame p send to) at h = absurd h
+link_tells configs log false n conn half (item.Message bytes copy from) at h = absurd h
+link_tells configs log priority n conn half _ at h = tt
 
 -- ---- what a half takes from its link
 
 -- the frame is of what the node at the other end sent to this one
 pub record Arrives (configs : List Config) (log : List Entry) (n conn : ℕ) (half : Half) (copy : ℕ × ℕ) (message : ℕ × List ℕ) : Type 0 where
-  pub sender : ℕ
-  pub far : Half
-  pub far_at : half_at configs log sender conn ≡ Some far
-  pub writes : far.writes ≡ other_side half.writes
-  pub key : half.peer ≡ key_at configs sender
+  pub sender : Sender
+  pub begins : Writes configs log sender conn (other_side half.writes)
+  pub key : HasKey configs log sender half.peer
   pub sent : IsCopyOf log copy sender message.0 message.1 (key_at configs n)
 
 pub arrives : (configs : List Config) → FramesGive → (log : List Entry) (n conn : ℕ) (half : Half) (copy : ℕ × ℕ) (frame : List ℕ) (limit : ℕ) (message : ℕ × List ℕ)
     → half_at configs log n conn ≡ Some half → Tells configs log (item.Frame (Some copy) frame) (queue.Link conn (other_side half.writes))
     → message_in frame limit ≡ Some message → Arrives configs log n conn half copy message
-arrives configs frames log n conn half copy frame limit message at told read =
-    let m : ℕ = told.0 in
-    let far : Half = told.1 in
-    let addressed : IsAddressed configs log m conn far copy frame = told.3 in
-    let halves : AreOpposite configs m n far half = opposite configs log conn m n far half addressed.at at told.2 in
-    let gives = frames addressed.channel addressed.bytes limit message (ap (λ f. message_in f limit) (sym addressed.is) ∙ read) in
-    record {
-      sender = m;
-      far = far;
-      far_at = addressed.at;
-      writes = told.2;
-      key = halves.1;
-      sent = subst (λ c. IsCopyOf log copy m c message.1 (key_at configs n)) (sym gives.0)
-          (subst (λ b. IsCopyOf log copy m addressed.channel b (key_at configs n)) (sym gives.1)
-          (subst (λ k. IsCopyOf log copy m addressed.channel addressed.bytes k) halves.0 addressed.sent));
-    }
+arrives configs frames log n conn half copy frame limit message at told read = elim told [
+  | inl of ↦
+      let m : ℕ = of.0 in
+      let far : Half = of.1 in
+      let addressed : IsAddressed configs log m conn far copy frame = of.3 in
+      let halves : AreOpposite configs m n far half = opposite configs log conn m n far half addressed.at at of.2 in
+      record {
+        sender = Node m;
+        begins = (far, addressed.at, of.2);
+        key = halves.1;
+        sent = as_read (Node m) addressed.channel addressed.bytes addressed.is far.peer halves.0 addressed.sent;
+      }
+  | inr raw ↦
+      let same : raw.node ≡ n = same_end configs log conn raw.node n raw.far half raw.at at (sym raw.ends) in
+      record {
+        sender = Raw conn;
+        begins = refl;
+        key = (n, half, at, refl);
+        sent = as_read (Raw conn) raw.channel raw.bytes raw.is (key_at configs raw.node) (ap (key_at configs) same) raw.sent;
+      }
+]
+  where
+    as_read : (by : Sender) (channel : ℕ) (bytes : List ℕ) → frame ≡ frame_of channel bytes → (key : Key) → key ≡ key_at configs n → IsCopyOf log copy by channel bytes key
+        → IsCopyOf log copy by message.0 message.1 (key_at configs n)
+    as_read by channel bytes is key same h =
+        let gives = frames channel bytes limit message (ap (λ f. message_in f limit) (sym is) ∙ read) in
+        subst (λ c. IsCopyOf log copy by c message.1 (key_at configs n)) (sym gives.0)
+        (subst (λ b. IsCopyOf log copy by channel b (key_at configs n)) (sym gives.1) (subst (λ k. IsCopyOf log copy by channel bytes k) same h))
 
-module _ (configs : List Config) (frames : FramesGive) (log : List Entry) (ev : Event) (r : Row) (shape : Shape configs log ev.act r)
+module _ (configs : List Config) (frames : FramesGive) (log : List Entry) (ev : Event) (r : Row) (m : Moves log r) (laws : Laws configs log ev.act r m)
     (tell : Each (StandTells configs log) (live log)) (hold : RoutesHold configs log) where
   abbrev longer : List Entry
   longer = log ++ entry_of ev r ∷ []
 
-  -- what is taken tells the truth
-  taken_tells : (y : Envelope) (i : Item) (q : Queue) → Has shape.taken y → y.item ≡ i → y.queue ≡ q → Tells configs log i q
-  taken_tells y i q has is in_queue =
-      let told : Tells configs log y.item y.queue = Each-has (StandTells configs log) shape.taken y (Each-taken (StandTells configs log) (live log) shape.taken tell shape.stood) has in
-      subst (Tells configs log i) in_queue (subst (λ j. Tells configs log j y.queue) is told)
+  -- what the act sends
+  sends_now : (s : Sending) (by : Sender) → sending_of ev.act r.reply ≡ Some s → s.by ≡ by
+      → sending_at longer (length log) ≡ Some (record { by = by; channel = s.channel; priority = s.priority; bytes = s.bytes; keys = s.keys })
+  sends_now s by sends is =
+      subst (λ b. sending_at longer (length log) ≡ Some (record { by = b; channel = s.channel; priority = s.priority; bytes = s.bytes; keys = s.keys })) is
+      (sending_at-last log (entry_of ev r) ∙ sends)
 
-  tells : (x : Queue × Item) → Origin configs log ev.act r.reply shape.taken x → PutTells configs longer x
-  tells x (idle h) = idle_tells configs longer x.1 x.0 h
-  tells x (begun n half h e) =
-      subst (PutTells configs longer) (sym e) (half, half_at-new configs log (entry_of ev r) n half h, refl)
-  tells x (sent bytes c n priority to keys a s e) =
-      subst (PutTells configs longer) (sym e)
-      (bytes, refl, record { entry = entry_of ev r; at = slice_get-seam log (entry_of ev r) []; priority = priority; to = to; sends = a; replies = s })
-  tells x (routed y n c frame priority send to p k conn has in_queue is at route e) =
-      let told = taken_tells y (item.Content c frame priority send to) (queue.Router n) has is in_queue in
-      let peer = route_peer configs log n k conn hold route in
-      let half : Half = peer.0 in
-      let for_peer : slice_get to p ≡ Some half.peer = at ∙ ap (λ j. Some j) (sym peer.2) in
-      let addressed : IsAddressed configs log n conn half (send, p) frame = record {
-        at = peer.1;
-        channel = c;
-        bytes = told.0;
-        is = told.1;
-        sent = copy_of_send log send n c told.0 to p half.peer told.2 for_peer;
-      } in
-      subst (PutTells configs longer) (sym e)
-      (Tells-longer configs log (entry_of ev r ∷ []) (item.Frame (Some (send, p)) frame) (relay_queue priority n conn)
-      (relay_tells configs log priority n conn half (send, p) frame addressed))
-  tells x (written y n conn priority half has in_queue at e) =
-      let told = taken_tells y y.item (relay_queue priority n conn) has refl in_queue in
-      subst (PutTells configs longer) (sym e)
-      (Tells-longer configs log (entry_of ev r ∷ []) y.item (queue.Link conn half.writes) (link_tells configs log priority n conn half y.item at told))
-  tells x (arrived y n conn half copy frame limit message has in_queue at is read e) =
-      let told = taken_tells y (item.Frame (Some copy) frame) (queue.Link conn (other_side half.writes)) has is in_queue in
-      let a : Arrives configs log n conn half copy message = arrives configs frames log n conn half copy frame limit message at told read in
-      let put : IsPut log y = Each-has (IsPut log) shape.taken y (Each-taken (IsPut log) (live log) shape.taken (each_put log) shape.stood) has in
-      let link : y.queue ≡ queue.Link conn a.far.writes = in_queue ∙ ap (λ s. queue.Link conn s) (sym a.writes) in
-      let over : WentOver configs log copy a.sender n conn = record {
-        near = a.far;
-        near_at = a.far_at;
-        far = half;
-        far_at = at;
-        opposite = a.writes;
-        n = y.entry;
-        entry = put.entry;
-        at = put.at;
-        place = y.place;
-        frame = frame;
-        put = put.put ∙ (ap (λ (q : Queue). Some (q, y.item)) link ∙ ap (λ (i : Item). Some (queue.Link conn a.far.writes, i)) is);
-      } in
-      subst (PutTells configs longer) (sym e)
-      (Tells-longer configs log (entry_of ev r ∷ []) (item.Message message.1 copy half.peer) (queue.Channel n message.0)
-      (record { sender = a.sender; key = a.key; sent = a.sent; conn = conn; over = over }))
+  own_tells : (q : Queue) (i : Item) → OfAct configs log ev.act r.reply q i → Tells configs longer i q
+  own_tells (queue.Router n) i h = elim h [
+    | inl begun ↦ subst (λ j. Tells configs longer j (queue.Router n)) (sym begun.2) (begun.0, half_at-new configs log (entry_of ev r) n begun.0 begun.1, refl)
+    | inr sent ↦
+        let s = sent.0 in
+        subst (λ j. Tells configs longer j (queue.Router n)) (sym sent.3) (s.bytes, refl, record { priority = s.priority; sends = sends_now s (Node n) sent.1 sent.2 })
+  ]
+  own_tells (queue.Link link side) i h =
+      let s = h.sending in
+      subst (λ j. Tells configs longer j (queue.Link link side)) (sym h.put)
+      (inr (record {
+        node = h.node;
+        far = h.far;
+        at = half_at-longer configs log (entry_of ev r ∷ []) h.node link h.far h.at;
+        ends = h.ends;
+        channel = s.channel;
+        bytes = s.bytes;
+        is = refl;
+        sent = record {
+          priority = s.priority;
+          keys = s.keys;
+          sends = sends_now s (Raw link) h.sends h.by;
+          for_key = ap (λ (ks : List Key). slice_get ks 0) h.keys;
+        };
+      }))
+  own_tells _ i h = absurd h
+
+  -- what comes of an item that tells the truth
+  module _ (y : Envelope) (told : StandTells configs log y) (was_put : IsPut log y) where
+    told_as : (i : Item) (q : Queue) → y.item ≡ i → y.queue ≡ q → Tells configs log i q
+    told_as i q is stood = subst (Tells configs log i) stood (subst (λ j. Tells configs log j y.queue) is told)
+
+    spread_tells : (n : ℕ) (priority : Bool) (conn : ℕ) (i : Item) → IsSpread log y n priority conn i → Tells configs log i (relay_queue priority n conn)
+    spread_tells n priority conn i h =
+        let content = told_as (item.Content h.channel h.frame priority h.send h.to) (queue.Router n) h.is h.stood in
+        let peer = route_peer configs log n h.key conn hold h.route in
+        let half : Half = peer.0 in
+        let for_peer : slice_get h.to h.place ≡ Some half.peer = h.for_key ∙ ap (λ j. Some j) (sym peer.2) in
+        subst (λ j. Tells configs log j (relay_queue priority n conn)) (sym h.put)
+        (relay_tells configs log priority n conn half (h.send, h.place) h.frame (record {
+          at = peer.1;
+          channel = h.channel;
+          bytes = content.0;
+          is = content.1;
+          sent = copy_of_send log h.send n h.channel content.0 h.to h.place half.peer content.2 for_peer;
+        }))
+
+    -- what y put in its link went over it
+    went_over : (conn : ℕ) (side : Side) (copy : ℕ × ℕ) (frame : List ℕ) → y.queue ≡ queue.Link conn side → y.item ≡ item.Frame (Some copy) frame → WentOver log copy conn side
+    went_over conn side copy frame stood is = record {
+      n = y.entry;
+      entry = was_put.entry;
+      at = was_put.at;
+      place = y.place;
+      frame = frame;
+      put = was_put.put ∙ (ap (λ (q : Queue). Some (q, y.item)) stood ∙ ap (λ (i : Item). Some (queue.Link conn side, i)) is);
+    }
+
+    message_tells : (n c conn : ℕ) (half : Half) (copy : ℕ × ℕ) (frame : List ℕ) (limit : ℕ) (bytes : List ℕ) → half_at configs log n conn ≡ Some half
+        → message_in frame limit ≡ Some (c, bytes) → WentOver log copy conn (other_side half.writes) → IsOnLink configs log conn (other_side half.writes) copy frame
+        → IsArrived configs log bytes copy half.peer n c
+    message_tells n c conn half copy frame limit bytes at read over told_there =
+        let a : Arrives configs log n conn half copy (c, bytes) = arrives configs frames log n conn half copy frame limit (c, bytes) at told_there read in
+        record { sender = a.sender; key = a.key; sent = a.sent; link = conn; side = other_side half.writes; over = over; begins = a.begins; far = half; far_at = at; ends = refl }
+
+    received_tells : (n c : ℕ) (i : Item) → IsReceived configs log y n c i → Tells configs log i (queue.Channel n c)
+    received_tells n c i h =
+        subst (λ j. Tells configs log j (queue.Channel n c)) (sym h.put)
+        (message_tells n c h.conn h.half h.copy h.frame h.limit h.bytes h.at h.read (went_over h.conn (other_side h.half.writes) h.copy h.frame h.stood h.is)
+        (told_as (item.Frame (Some h.copy) h.frame) (queue.Link h.conn (other_side h.half.writes)) h.is h.stood))
+
+    item_tells : (q : Queue) (i : Item) → OfItem configs log y q i → Tells configs log i q
+    item_tells (queue.High n conn) i h = spread_tells n true conn i h
+    item_tells (queue.Low n conn) i h = spread_tells n false conn i h
+    item_tells (queue.Link conn s) i h =
+        subst (λ w. Tells configs log i (queue.Link conn w)) h.writes
+        (subst (λ j. Tells configs log j (queue.Link conn h.half.writes)) (sym h.put) (link_tells configs log h.priority h.node conn h.half y.item h.at (told_as y.item (relay_queue h.priority h.node conn) refl h.stood)))
+    item_tells (queue.Channel n c) i h = received_tells n c i h
+    item_tells _ i h = absurd h
+
+  tells : (x : Queue × Item) → Origin configs log ev.act r.reply m.taken x → PutTells configs longer x
+  tells x o = elim o [
+    | inl own ↦ elim own [ inl h ↦ idle_tells configs longer x.1 x.0 h | inr h ↦ own_tells x.0 x.1 h ]
+    | inr item ↦
+        let y : Envelope = item.0 in
+        let stood = taken_stood log ev r m in
+        Tells-longer configs log (entry_of ev r ∷ []) x.1 x.0
+        (item_tells y (Each-has (StandTells configs log) m.taken y (Each-taken (StandTells configs log) (live log) m.taken tell stood) item.1)
+        (Each-has (IsPut log) m.taken y (Each-taken (IsPut log) (live log) m.taken (each_put log) stood) item.1) x.0 x.1 item.2)
+  ]
 
   pub tells_kept : Each (StandTells configs longer) (live longer)
   tells_kept =
@@ -243,4 +313,4 @@ module _ (configs : List Config) (frames : FramesGive) (log : List Entry) (ev : 
       (Each-filter (StandTells configs longer) (stays (goes (entry_of ev r))) (live log)
       (Each-weaker (StandTells configs log) (StandTells configs longer) (λ x h. Tells-longer configs log (entry_of ev r ∷ []) x.item x.queue h) (live log) tell))
       (Each-placed (PutTells configs longer) (length log) 0 r.puts
-      (Each-weaker (Origin configs log ev.act r.reply shape.taken) (PutTells configs longer) tells r.puts shape.origins)))
+      (Each-weaker (Origin configs log ev.act r.reply m.taken) (PutTells configs longer) tells r.puts (Moved-origins configs log ev.act r.reply m.taken r.puts laws.moved))))

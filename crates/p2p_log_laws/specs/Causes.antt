@@ -1,4 +1,7 @@
 -- What the log shows of the cause for which a copy was dropped.
+use Rattle.p2p_log.specs.Sending.{Sender, Sending, sending_of}
+use Rattle.p2p_log.specs.Copies.{accepted}
+use Rattle.p2p_log.specs.Sending.Sender.{Node}
 use Rattle.std.specs.Prelude.{◌≡◌, ℕ, ◌+◌, ◌<◌, ◌≤◌, Bool, false, ◌==◌, ◌&&◌, nat_lt, List, [], ◌∷◌, length, take, count_by, Some, None, slice_get}
 use Rattle.p2p_base.specs.declared.key.Key.{Key}
 use Rattle.p2p_log.specs.declared.config.Config.{Config}
@@ -13,10 +16,8 @@ use Rattle.p2p_log.specs.declared.end.Cause.{Cause}
 use Rattle.p2p_log.specs.declared.end.Cause.TheVariants as cause
 use Rattle.p2p_log.specs.declared.entry.Entry.{Entry}
 use Rattle.p2p_log.specs.declared.event.Act.TheVariants as act
-use Rattle.p2p_log.specs.declared.event.Recipients.{Recipients}
 use Rattle.p2p_log_rules.specs.declared.row.Half.{Half}
 use Rattle.p2p_log.specs.Lines.{name_of, line}
-use Rattle.p2p_log.specs.Copies.{accepted, accepted_by}
 use Rattle.p2p_log_rules.specs.Facts.{is_up, channels, capacity_in, key_at, routes, route_to, half_at}
 use Rattle.p2p_log_rules.specs.Effect.{goes_to, relay_queue, mailbox_size_at, other_side}
 use Rattle.p2p_log_laws.specs.Delivered.{IsCopyOf}
@@ -24,22 +25,20 @@ use Rattle.p2p_log_laws.specs.Delivered.{IsCopyOf}
 -- ---- unbound
 
 -- the entry is the copy's send, at a node that had not started
-pub record IsUnbound (before : List Entry) (e : Entry) (copy : ℕ × ℕ) : Type 0 where
-  pub bytes : List ℕ
-  pub channel : ℕ
-  pub node : ℕ
-  pub priority : Bool
-  pub to : Recipients
-  pub sends : e.event.act ≡ act.Send bytes channel node priority to
+pub record IsUnbound (configs : List Config) (before : List Entry) (e : Entry) (copy : ℕ × ℕ) : Type 0 where
+  pub sending : Sending
+  pub sends : sending_of e.event.act e.reply ≡ Some sending
   pub here : copy.0 ≡ length before
-  pub has_copy : copy.1 < length (accepted_by e.event.act e.reply)
+  pub has_copy : copy.1 < length sending.keys
+  pub node : ℕ
+  pub by : sending.by ≡ Node node
   pub not_started : is_up before node ≡ false
 
 -- ---- no connection
 
 -- the entry is a step of the node's router, which takes the message of the copy's send, the oldest in its mailbox; the
 -- copy is for this key
-pub record IsRouted (before : List Entry) (e : Entry) (copy : ℕ × ℕ) (node : ℕ) (priority : Bool) (key : Key) : Type 0 where
+pub record IsRouted (configs : List Config) (before : List Entry) (e : Entry) (copy : ℕ × ℕ) (node : ℕ) (priority : Bool) (key : Key) : Type 0 where
   pub steps : e.event.act ≡ act.Router node
   pub oldest : Envelope
   pub later : List Envelope
@@ -53,11 +52,11 @@ pub record IsRouted (before : List Entry) (e : Entry) (copy : ℕ × ℕ) (node 
   pub for_key : slice_get to copy.1 ≡ Some key
 
 -- the router has no connection to the copy's key
-pub record HasNoConnection (before : List Entry) (e : Entry) (copy : ℕ × ℕ) : Type 0 where
+pub record HasNoConnection (configs : List Config) (before : List Entry) (e : Entry) (copy : ℕ × ℕ) : Type 0 where
   pub node : ℕ
   pub priority : Bool
   pub key : Key
-  pub routed : IsRouted before e copy node priority key
+  pub routed : IsRouted configs before e copy node priority key
   pub not_connected : route_to (routes before node) key ≡ None
 
 -- ---- relay full
@@ -80,7 +79,7 @@ pub record RelayIsFull (configs : List Config) (before : List Entry) (e : Entry)
   pub node : ℕ
   pub priority : Bool
   pub key : Key
-  pub routed : IsRouted before e copy node priority key
+  pub routed : IsRouted configs before e copy node priority key
   pub conn : ℕ
   pub connected : route_to (routes before node) key ≡ Some conn
   pub full : mailbox_size_at configs node ≤ held_before before e (relay_queue priority node conn) copy
@@ -101,7 +100,7 @@ pub record MailboxIsFull (configs : List Config) (before : List Entry) (e : Entr
   pub takes : e.takes ≡ name_of oldest ∷ []
   pub frame : List ℕ
   pub is : oldest.item ≡ item.Frame (Some copy) frame
-  pub sender : ℕ
+  pub sender : Sender
   pub channel : ℕ
   pub bytes : List ℕ
   pub sent : IsCopyOf before copy sender channel bytes (key_at configs node)
@@ -113,8 +112,8 @@ pub record MailboxIsFull (configs : List Config) (before : List Entry) (e : Entr
 
 -- what an entry that drops the copy for this cause shows, given the entries before it
 abbrev pub Shows : List Config → List Entry → Entry → ℕ × ℕ → Cause → Type 0
-Shows configs before e copy cause.Unbound = IsUnbound before e copy
-Shows configs before e copy cause.NoConnection = HasNoConnection before e copy
+Shows configs before e copy cause.Unbound = IsUnbound configs before e copy
+Shows configs before e copy cause.NoConnection = HasNoConnection configs before e copy
 Shows configs before e copy cause.RelayFull = RelayIsFull configs before e copy
 Shows configs before e copy cause.MailboxFull = MailboxIsFull configs before e copy
 

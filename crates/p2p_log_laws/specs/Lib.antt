@@ -1,5 +1,10 @@
+pub mod BulkEnds
 pub mod Causes
 pub mod Delivered
 pub mod Fates
+pub mod Flow
+pub mod Grants
+pub mod Leaving
 pub mod OneEnd
 pub mod Order
+pub mod Worked

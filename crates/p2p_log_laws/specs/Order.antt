@@ -1,63 +1,84 @@
 -- The order in which copies are delivered.
-use Rattle.std.specs.Prelude.{◌≡◌, ℕ, ◌<◌, Bool, true, ◌==◌, ◌&&◌, ◌||◌, nat_lt, List, Some, slice_get}
+use Rattle.std.specs.Prelude.{◌≡◌, ℕ, ◌<◌, Bool, true, ◌==◌, ◌&&◌, ◌||◌, nat_lt, List, take, Some, slice_get}
+use Rattle.p2p_base.specs.declared.key.Key.{Key}
 use Rattle.p2p_log.specs.declared.config.Config.{Config}
+use Rattle.p2p_log.specs.declared.queue.Queue.{Queue}
 use Rattle.p2p_log.specs.declared.queue.Queue.TheVariants as queue
+use Rattle.p2p_log.specs.declared.queue.Side.{Side}
 use Rattle.p2p_log.specs.declared.item.Item.TheVariants as item
 use Rattle.p2p_log.specs.declared.end.End.TheVariants as end
 use Rattle.p2p_log.specs.declared.end.Outcome.TheVariants as outcome
 use Rattle.p2p_log.specs.declared.entry.Entry.{Entry}
-use Rattle.p2p_log.specs.declared.event.Act.TheVariants as act
-use Rattle.p2p_log.specs.declared.event.Recipients.{Recipients}
 use Rattle.p2p_log_rules.specs.declared.row.Half.{Half}
+use Rattle.p2p_log.specs.QueueCode.{owner_of}
 use Rattle.p2p_log_rules.specs.Facts.{half_at}
 use Rattle.p2p_log_rules.specs.Effect.{other_side}
+use Rattle.p2p_log_rules.specs.Reading.{reading_of}
+use Rattle.p2p_log.specs.Sending.{Sender, sending_at}
+use Rattle.p2p_log.specs.Sending.Sender.{Node, Raw}
 
 -- copies are accepted in order of their names: by send, and by place among the copies of one send
 abbrev pub is_before : ℕ × ℕ → ℕ × ℕ → Bool
 is_before a b = nat_lt a.0 b.0 || ((a.0 == b.0) && nat_lt a.1 b.1)
 
--- the copy was sent by one node on this channel, with this priority, and the other node read it at the entry n
-pub record IsDelivered (log : List Entry) (copy : ℕ × ℕ) (sender receiver channel : ℕ) (priority : Bool) (n : ℕ) : Type 0 where
-  pub send : Entry
-  pub sent_at : slice_get log copy.0 ≡ Some send
+-- the copy was sent by this sender on this channel, with this priority, and the entry n read it from the queue
+pub record IsDelivered (configs : List Config) (log : List Entry) (copy : ℕ × ℕ) (sender : Sender) (channel : ℕ) (priority : Bool) (q : Queue) (n : ℕ) : Type 0 where
   pub bytes : List ℕ
-  pub to : Recipients
-  pub sends : send.event.act ≡ act.Send bytes channel sender priority to
+  pub keys : List Key
+  pub sends : sending_at log copy.0 ≡ Some (record { by = sender; channel = channel; priority = priority; bytes = bytes; keys = keys })
   pub read : Entry
   pub read_at : slice_get log n ≡ Some read
-  pub reads : read.event.act ≡ act.Recv channel receiver
+  pub reads : reading_of configs (take n log) read.event.act ≡ Some q
   pub place : ℕ
   pub ended : slice_get read.ends place ≡ Some (end.Copy copy.0 copy.1 outcome.Delivered)
 
--- of two copies that went from one node to another on one channel with one priority, the one accepted first is delivered first
-abbrev pub AreDeliveredInOrder : List Entry → Type 0
-AreDeliveredInOrder log =
-    (sender receiver channel : ℕ) (priority : Bool) (first second : ℕ × ℕ) (m n : ℕ)
-    → IsDelivered log first sender receiver channel priority m → IsDelivered log second sender receiver channel priority n
-    → is_before first second ≡ true → m < n
-
--- the copy's frame was put in a connection of these two nodes, in the direction of the second
-pub record WentOver (configs : List Config) (log : List Entry) (copy : ℕ × ℕ) (sender receiver conn : ℕ) : Type 0 where
-  pub near : Half
-  pub near_at : half_at configs log sender conn ≡ Some near
-  pub far : Half
-  pub far_at : half_at configs log receiver conn ≡ Some far
-  pub opposite : near.writes ≡ other_side far.writes
+-- the copy's frame was put in the link, in this direction
+pub record WentOver (log : List Entry) (copy : ℕ × ℕ) (link : ℕ) (side : Side) : Type 0 where
   pub n : ℕ
   pub entry : Entry
   pub at : slice_get log n ≡ Some entry
   pub place : ℕ
   pub frame : List ℕ
-  pub put : slice_get entry.puts place ≡ Some (queue.Link conn near.writes, item.Frame (Some copy) frame)
+  pub put : slice_get entry.puts place ≡ Some (queue.Link link side, item.Frame (Some copy) frame)
 
--- what is delivered went over a connection
+-- the sender writes in this direction of the link
+abbrev pub Writes : List Config → List Entry → Sender → ℕ → Side → Type 0
+Writes configs log (Node n) link side = (near : Half) × (half_at configs log n link ≡ Some near) × (near.writes ≡ side)
+Writes configs log (Raw e) link side = e ≡ link
+
+-- what comes in this direction of the link comes to the node that has this queue, or this is the queue of the link
+abbrev pub ComesTo : List Config → List Entry → Queue → ℕ → Side → Type 0
+ComesTo configs log (queue.Link e s) link side = (e ≡ link) × (s ≡ side)
+ComesTo configs log q link side = (far : Half) × (half_at configs log (owner_of q) link ≡ Some far) × (side ≡ other_side far.writes)
+
+-- of two copies of one sender, on one channel with one priority, that were read from one queue, the one accepted first is
+-- delivered first
+abbrev pub AreDeliveredInOrder : List Config → List Entry → Type 0
+AreDeliveredInOrder configs log =
+    (sender : Sender) (channel : ℕ) (priority : Bool) (q : Queue) (first second : ℕ × ℕ) (m n : ℕ)
+    → IsDelivered configs log first sender channel priority q m → IsDelivered configs log second sender channel priority q n
+    → is_before first second ≡ true → m < n
+
+-- the same of two that went over one link in one direction
+abbrev pub AreDeliveredInOrderOverOne : List Config → List Entry → Type 0
+AreDeliveredInOrderOverOne configs log =
+    (sender : Sender) (channel : ℕ) (priority : Bool) (link : ℕ) (side : Side) (q : Queue) (first second : ℕ × ℕ) (m n : ℕ)
+    → IsDelivered configs log first sender channel priority q m → IsDelivered configs log second sender channel priority q n
+    → is_before first second ≡ true
+    → WentOver log first link side → WentOver log second link side → m < n
+
+-- of two copies of one sender that were read from one queue, and that went over two links, the one that went over the older
+-- link is delivered first, whatever their priorities are
+abbrev pub AreDeliveredInOrderOfLinks : List Config → List Entry → Type 0
+AreDeliveredInOrderOfLinks configs log =
+    (sender : Sender) (channel : ℕ) (p r : Bool) (q : Queue) (first second : ℕ × ℕ) (older newer : ℕ) (s t : Side) (m n : ℕ)
+    → IsDelivered configs log first sender channel p q m → IsDelivered configs log second sender channel r q n
+    → WentOver log first older s → WentOver log second newer t
+    → older < newer → m < n
+
+-- what is delivered went over a link from its sender to the node that has the queue
 abbrev pub EachWentOver : List Config → List Entry → Type 0
 EachWentOver configs log =
-    (sender receiver channel : ℕ) (priority : Bool) (copy : ℕ × ℕ) (n : ℕ)
-    → IsDelivered log copy sender receiver channel priority n → (conn : ℕ) × WentOver configs log copy sender receiver conn
-
--- two nodes have one connection
-abbrev pub HaveOneConnection : List Config → List Entry → Type 0
-HaveOneConnection configs log =
-    (sender receiver a b : ℕ) (first second : ℕ × ℕ)
-    → WentOver configs log first sender receiver a → WentOver configs log second sender receiver b → a ≡ b
+    (sender : Sender) (channel : ℕ) (priority : Bool) (q : Queue) (copy : ℕ × ℕ) (n : ℕ)
+    → IsDelivered configs log copy sender channel priority q n
+    → (link : ℕ) × (side : Side) × WentOver log copy link side × Writes configs log sender link side × ComesTo configs log q link side

@@ -1,17 +1,15 @@
 -- What one more entry makes of each fact.
-use Rattle.std.proofs.Common.{◌≡◌, ℕ, ◌+◌, Bool, true, false, cond, List, [], ◌∷◌, ◌++◌, length, refl, ap, sym, ◌∙◌, arith, append_assoc, append-nil, Option, Some, None}
-use Rattle.std.specs.Prelude.{map, flat_map, slice_get, nat_lt, ◌==◌, ◌||◌}
+use Rattle.std.proofs.Common.{◌≡◌, ℕ, Bool, true, false, cond, List, [], ◌∷◌, ◌++◌, length, refl, ap, sym, ◌∙◌, append_assoc, append-nil, Option, Some, None}
+use Rattle.std.specs.Prelude.{flat_map, slice_get, nat_lt, ◌==◌, ◌||◌}
 use Rattle.std.specs.List.{list_any}
 use Rattle.std.proofs.lemmas.List.{map-append}
 use Rattle.std.proofs.lemmas.List.Folds.{list_any-append}
 use Rattle.std.proofs.lemmas.Grind.{flat_map-append}
-use Rattle.p2p_base.specs.declared.key.Key.{Key}
 use Rattle.p2p_log.specs.declared.config.Config.{Config}
 use Rattle.p2p_log.specs.declared.item.Item.{Item}
 use Rattle.p2p_log.specs.declared.event.Event.{Event}
-use Rattle.p2p_log_rules.specs.declared.row.Half.{Half}
 use Rattle.p2p_log.specs.declared.entry.Entry.{Entry}
-use Rattle.p2p_log_rules.specs.Facts.{events_of, starts, has_started, registers_at, registered, taken, history_from, history, routed_by, routed, subscriber_of, subscribers, with_route, routes_after, routes, half_of, half_in, half_at, answers_by, is_running, joins, is_joined}
+use Rattle.p2p_log_rules.specs.Facts.{events_of, starts, has_started, registers_at, registered, history_from, history, routed_by, routed, subscriber_of, subscribers, with_route, routes_after, routes, half_of, half_in, half_at, answers_by, is_running, joins, is_joined}
 use Rattle.p2p_log.proofs.Places.{slice_get-append}
 
 or-false : (b : Bool) → (b || false) ≡ b

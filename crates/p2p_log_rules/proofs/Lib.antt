@@ -1,3 +1,5 @@
 pub mod Facts
 pub mod Lawful
+pub mod Moves
 pub mod Recorded
+pub mod Touches

@@ -7,8 +7,8 @@ use Rattle.p2p_log.specs.declared.entry.Entry.{Entry}
 use Rattle.p2p_log_rules.specs.Valid.{config_fault, event_fault}
 use Rattle.p2p_log_rules.specs.Lawful.{IsLawful}
 use Rattle.p2p_log_laws.specs.OneEnd.{EachHasOneEnd, NothingElseEnds}
-use Rattle.p2p_log_laws.specs.Delivered.{EachIsDelivery}
-use Rattle.p2p_log_laws.specs.Order.{AreDeliveredInOrder, EachWentOver, HaveOneConnection}
+use Rattle.p2p_log_laws.specs.Delivered.{EachIsDelivery, EachDeliveredIsRead}
+use Rattle.p2p_log_laws.specs.Order.{AreDeliveredInOrder, AreDeliveredInOrderOverOne, AreDeliveredInOrderOfLinks, EachWentOver}
 use Rattle.p2p_log_laws.specs.Causes.{EachDropShowsItsCause}
 use Rattle.p2p_log_laws.specs.Fates.{EachHasFate, WaitingIsTrue, DroppedIsTrue, DeliveredIsTrue}
 use Rattle.p2p_sim_script.specs.Form.{script_of}
@@ -41,15 +41,17 @@ pub record HasRunScript (configs : List Config) (script : List Event) (world : W
   pub only : (log : List Entry) → IsLawful configs script log → log ≡ world.log
 
 -- in the log, each copy of each accepted send has exactly one end: delivered once, or waiting in a queue, or dropped;
--- what is delivered was sent, and in order; each drop shows its cause; and the fate of each copy, which the report tells, is
--- true
+-- what is delivered was sent, is read, and in order; each drop shows its cause; and the fate of each copy, which the
+-- report tells, is true
 pub record IsAccounted (configs : List Config) (log : List Entry) : Type 0 where
   pub one_end : EachHasOneEnd log
   pub nothing_else : NothingElseEnds log
   pub delivery : EachIsDelivery configs log
-  pub order : AreDeliveredInOrder log
+  pub read : EachDeliveredIsRead configs log
+  pub order : AreDeliveredInOrder configs log
+  pub link : AreDeliveredInOrderOverOne configs log
+  pub links : AreDeliveredInOrderOfLinks configs log
   pub connection : EachWentOver configs log
-  pub one_connection : HaveOneConnection configs log
   pub causes : EachDropShowsItsCause configs log
   pub fates : EachHasFate log
   pub waiting : WaitingIsTrue log

@@ -5,10 +5,12 @@ returns c = λ configs script log lawful.
     record {
       one_end = c.one_end.ensures.copies configs script log lawful;
       nothing_else = c.one_end.ensures.nothing_else configs script log lawful;
-      delivery = c.only_sent_is_delivered.ensures configs script log lawful;
+      delivery = c.only_sent_is_delivered.ensures.sent configs script log lawful;
+      read = c.only_sent_is_delivered.ensures.read configs script log lawful;
       order = c.delivered_in_order.ensures.order configs script log lawful;
+      link = c.delivered_in_order.ensures.link configs script log lawful;
+      links = c.delivered_in_order.ensures.links configs script log lawful;
       connection = c.delivered_in_order.ensures.connection configs script log lawful;
-      one_connection = c.delivered_in_order.ensures.one_connection configs script log lawful;
       fates = c.fates_are_true.ensures.known configs script log lawful;
       waiting = c.fates_are_true.ensures.waiting configs script log lawful;
       dropped = c.fates_are_true.ensures.dropped configs script log lawful;

@@ -9,7 +9,7 @@ use Rattle.p2p_log.specs.declared.queue.Queue.TheVariants as queue
 use Rattle.p2p_log.specs.declared.item.Envelope.{Envelope}
 use Rattle.p2p_log.specs.QueueCode.{kind_of, owner_of, detail_of, same_queue}
 use Rattle.p2p_log.specs.Lines.{stands_in}
-use Rattle.p2p_log_laws.proofs.Each.{Each-passing}
+use Rattle.p2p_log.proofs.Each.{Each-passing}
 
 -- the queue of a code
 queue_of : ℕ → ℕ → ℕ → Queue

@@ -1,0 +1,55 @@
+-- Each entry is computed by the definitions, which stand open here.
+use Rattle.std.proofs.Common.{◌≡◌, [], Some, refl}
+use Rattle.p2p_log.specs.declared.end.Cause.TheVariants as cause
+use Rattle.p2p_log.specs.declared.queue.Queue.TheVariants as queue
+use Rattle.p2p_log.specs.declared.report.Fate.TheVariants as fate
+use Rattle.p2p_log.specs.Sending.{sending_at}
+use Rattle.p2p_log.specs.Fates.{fate_of}
+use Rattle.p2p_log.specs.Lines.{line, live_from}
+use Rattle.p2p_log_rules.specs.Effect.{effect, row}
+use Rattle.p2p_log_rules.specs.Facts.{has_started, registered, taken, history_from, routed, subscribers, routes, half_at, is_running, is_joined}
+use Rattle.p2p_wire.specs.Frame.{frame, decode_frame}
+use Rattle.p2p_wire.specs.Varint.{spelling, varint_at}
+use Rattle.p2p_log_laws.specs.Worked.{two_nodes, one_node, delivery, delivery_begins, list_overwritten, drop_before_start, drop_without_connection}
+use Rattle.p2p_log_laws.proofs.Following.{Follow, lawful_following}
+use Rattle.p2p_log_laws.proofs.worked.worked_rows.Goals as goal
+
+overwritten : effect two_nodes delivery_begins list_overwritten.event ≡ list_overwritten
+unfolding effect row line live_from has_started registered taken history_from routed subscribers routes half_at is_running is_joined
+overwritten = refl
+
+delivery_follows : Follow two_nodes [] delivery
+unfolding effect row line live_from has_started registered taken history_from routed subscribers routes half_at is_running is_joined frame decode_frame spelling varint_at
+delivery_follows =
+    (refl, (refl, (refl, (refl, (refl, (refl, (refl, (refl, (refl, (refl, (refl, (refl, (refl, (refl, (refl, (refl, tt))))))))))))))))
+
+drop_before_start_follows : Follow one_node [] drop_before_start
+unfolding effect row line live_from has_started registered
+drop_before_start_follows = (refl, (refl, tt))
+
+drop_without_connection_follows : Follow one_node [] drop_without_connection
+unfolding effect row line live_from has_started registered taken history_from routed subscribers routes frame spelling
+drop_without_connection_follows = (refl, (refl, (refl, (refl, (refl, tt)))))
+
+delivered : fate_of delivery (5, 0) ≡ Some (fate.Delivered (queue.Channel 1 7) 15)
+unfolding fate_of sending_at
+delivered = refl
+
+unbound : fate_of drop_before_start (1, 0) ≡ Some (fate.Dropped cause.Unbound 1)
+unfolding fate_of sending_at
+unbound = refl
+
+not_connected : fate_of drop_without_connection (2, 0) ≡ Some (fate.Dropped cause.NoConnection 4)
+unfolding fate_of sending_at
+not_connected = refl
+
+pub returns : goal.returns
+returns c = record {
+  delivery = lawful_following two_nodes delivery delivery_follows;
+  delivered = delivered;
+  overwritten = overwritten;
+  before_start = lawful_following one_node drop_before_start drop_before_start_follows;
+  unbound = unbound;
+  without_connection = lawful_following one_node drop_without_connection drop_without_connection_follows;
+  not_connected = not_connected;
+}

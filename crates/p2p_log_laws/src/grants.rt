@@ -1,0 +1,29 @@
+//! A key's grants go by turns, and what its connections say comes in their order.
+ghost use Rattle.std.specs.Prelude.{List, Option, ℕ};
+ghost use Rattle.p2p_log.specs.declared.config.Config.{Config};
+ghost use Rattle.p2p_log.specs.declared.event.Event.{Event};
+ghost use Rattle.p2p_log.specs.declared.entry.Entry.{Entry};
+ghost use Rattle.p2p_log.specs.declared.item.Envelope.{Envelope};
+ghost use Rattle.p2p_log.specs.declared.queue.Queue.{Queue};
+ghost use Rattle.p2p_log_rules.specs.Lawful.{IsLawful};
+ghost use Rattle.p2p_log_laws.specs.Grants.{Granting, EachIsTurn, GrantsAlternate, HasOneHolder, EachIsReleased, NewestLives};
+ghost use Rattle.p2p_log_laws.specs.Leaving.{LeaveInOrder, ArePutAlive, OlderLeaveFirst};
+
+/// States of the grants of a key at a node, whatever entries make them, that they and the releases that are taken go by
+/// turns; that a key that is held has one holder or one release that waits, and another none; that each grant is held or
+/// was released; and that of its connections only the newest lives. It does nothing.
+pub fn grants_take_turns()
+    ensures alternate { (g : Granting) (log : List Entry) → EachIsTurn g log → GrantsAlternate g log }
+    ensures holder { (g : Granting) (log : List Entry) → EachIsTurn g log → HasOneHolder g log }
+    ensures released { (g : Granting) (log : List Entry) → EachIsTurn g log → EachIsReleased g log }
+    ensures newest { (g : Granting) (log : List Entry) → EachIsTurn g log → NewestLives g log }
+{}
+
+/// States that items leave a queue in the order in which they were put there; and that what connections of a key put in a
+/// queue while they live leaves it in the order of the connections, so that no release of an old connection comes late. It
+/// does nothing.
+pub fn queues_keep_order()
+    ensures leave { (configs : List Config) (script : List Event) (log : List Entry) → IsLawful configs script log → LeaveInOrder log }
+    ensures older { (configs : List Config) (script : List Event) (log : List Entry) (g : Granting) (q : Queue) (conn_of : Envelope → Option ℕ)
+        → IsLawful configs script log → EachIsTurn g log → ArePutAlive g log q conn_of → OlderLeaveFirst log q conn_of }
+{}

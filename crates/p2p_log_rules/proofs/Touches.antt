@@ -1,0 +1,102 @@
+-- Which queues an act reaches: from which it takes, and which it changes.
+use Rattle.p2p_log.specs.declared.config.Config.{Config}
+use Rattle.p2p_log.proofs.Queues.{same_queue-refl}
+use Rattle.std.proofs.Common.{◌≡◌, ℕ, Bool, true, false, List, [], ◌∷◌, ◌++◌, Some, None, inl, inr, refl, ap, sym, ◌∙◌}
+use Rattle.std.specs.Prelude.{◌==◌, ◌&&◌, ◌||◌}
+use Rattle.std.specs.List.{AllByRecursion as Each, list_any}
+use Rattle.std.proofs.lemmas.Bool.{false≢true}
+use Rattle.p2p_log.specs.declared.queue.Queue.{Queue}
+use Rattle.p2p_log.specs.declared.queue.Queue.TheVariants as queue
+use Rattle.p2p_log.specs.declared.entry.Entry.{Entry}
+use Rattle.p2p_log.specs.declared.event.Event.{Event}
+use Rattle.p2p_log.specs.declared.event.Act.{Act}
+use Rattle.p2p_log.specs.declared.event.Act.TheVariants as act
+use Rattle.p2p_log_rules.specs.declared.row.Row.{Row}
+use Rattle.p2p_log.specs.QueueCode.{same_queue}
+use Rattle.p2p_log.specs.Lines.{stands_in, line}
+use Rattle.p2p_log_rules.specs.Reading.{reading_of}
+use Rattle.p2p_log_rules.specs.Effect.{entry_of, goes_to}
+use Rattle.p2p_log.proofs.Each.{Has, Each-append, Each-weaker}
+use Rattle.p2p_log_rules.specs.Moves.{Moves}
+use Rattle.p2p_log_rules.proofs.Moves.{line-left}
+use Rattle.p2p_log.proofs.QueueNames.{queue_from_same}
+
+-- what a router has: its mailbox, and the queues to which it writes
+abbrev pub in_router : ℕ → Queue → Bool
+in_router n (queue.Router m) = m == n
+in_router n (queue.Peers m c) = m == n
+in_router n (queue.Ready m e) = m == n
+in_router n (queue.High m e) = m == n
+in_router n (queue.Low m e) = m == n
+in_router n _ = false
+
+-- what a half of a connection has: what it is to write, its router's answer, and its link
+abbrev pub in_half : ℕ → ℕ → Queue → Bool
+in_half n conn (queue.Ready m e) = (m == n) && (e == conn)
+in_half n conn (queue.High m e) = (m == n) && (e == conn)
+in_half n conn (queue.Low m e) = (m == n) && (e == conn)
+in_half n conn (queue.Link e s) = e == conn
+in_half n conn _ = false
+
+abbrev pub in_link : ℕ → Queue → Bool
+in_link conn (queue.Link e s) = e == conn
+in_link conn _ = false
+
+abbrev pub in_channels : ℕ → Queue → Bool
+in_channels n (queue.Channel m c) = m == n
+in_channels n _ = false
+
+-- whether a queue is one of these
+abbrev pub is_among : List Queue → Queue → Bool
+is_among qs q = list_any (λ p. same_queue p q) qs
+
+-- the queues from which an act takes, after these entries
+abbrev pub reads : List Config → List Entry → Act → Queue → Bool
+reads configs log (act.Router n) q = same_queue (queue.Router n) q
+reads configs log (act.SendStep conn n) q = in_half n conn q
+reads configs log (act.RecvStep conn n) q = in_link conn q
+reads configs log a q = elim (reading_of configs log a) [ None ↦ false | Some p ↦ same_queue p q ]
+
+-- the others in which it puts or ends something
+abbrev pub writes : List Config → List Entry → Act → Queue → Bool
+writes configs log (act.Start n) q = same_queue (queue.Router n) q
+writes configs log (act.Join a b) q = same_queue (queue.Router a) q || same_queue (queue.Router b) q
+writes configs log (act.Send bytes c n priority to) q = same_queue (queue.Router n) q
+writes configs log (act.Router n) q = in_router n q
+writes configs log (act.SendStep conn n) q = in_half n conn q
+writes configs log (act.RecvStep conn n) q = in_channels n q
+writes configs log _ q = false
+
+pub Has-among : (qs : List Queue) (q : Queue) → Has qs q → is_among qs q ≡ true
+Has-among [] q h = absurd h
+Has-among (p ∷ ps) q h = elim h [
+  | inl e ↦ ap (λ b. b || is_among ps q) (ap (λ x. same_queue x q) e ∙ same_queue-refl q)
+  | inr l ↦ ap (λ b. same_queue p q || b) (Has-among ps q l) ∙ or_true (same_queue p q)
+]
+  where
+    or_true : (b : Bool) → (b || true) ≡ true
+    or_true true = refl
+    or_true false = refl
+
+-- a row stays within its act's reach
+pub record Reach (configs : List Config) (a : Act) (log : List Entry) (r : Row) (m : Moves log r) : Type 0 where
+  pub taken : Each (λ x. reads configs log a x.queue ≡ true) m.taken
+  pub ended : Each (λ x. writes configs log a x.queue ≡ true) m.ended
+  pub puts : Each (λ x. writes configs log a x.0 ≡ true) r.puts
+
+away : (p : Queue → Bool) (q x : Queue) → p q ≡ false → p x ≡ true → same_queue q x ≡ false
+away p q x none some = go (same_queue q x) refl
+  where
+    go : (b : Bool) → same_queue q x ≡ b → b ≡ false
+    go true e = absurd (false≢true (sym none ∙ (ap p (sym (queue_from_same q x e)) ∙ some)))
+    go false e = refl
+
+-- a line out of its reach stays as it was
+pub line-out_of_reach : (configs : List Config) (log : List Entry) (ev : Event) (r : Row) (m : Moves log r) → Reach configs ev.act log r m → (q : Queue)
+    → reads configs log ev.act q ≡ false → writes configs log ev.act q ≡ false → line (log ++ entry_of ev r ∷ []) q ≡ line log q
+line-out_of_reach configs log ev r m h q no_read no_write =
+    line-left log ev r m q
+    (Each-append (λ x. stands_in q x ≡ false) m.taken m.ended
+    (Each-weaker (λ x. reads configs log ev.act x.queue ≡ true) (λ x. stands_in q x ≡ false) (λ x k. away (reads configs log ev.act) q x.queue no_read k) m.taken h.taken)
+    (Each-weaker (λ x. writes configs log ev.act x.queue ≡ true) (λ x. stands_in q x ≡ false) (λ x k. away (writes configs log ev.act) q x.queue no_write k) m.ended h.ended))
+    (Each-weaker (λ x. writes configs log ev.act x.0 ≡ true) (λ x. goes_to q x ≡ false) (λ x k. away (writes configs log ev.act) q x.0 no_write k) r.puts h.puts)
