@@ -16,8 +16,9 @@ def copies_carried(item):
     if not isinstance(item, dict):
         return []
     content = item.get('content')
-    if isinstance(content, dict) and isinstance(content.get('to'), list):
-        return [(content.get('send'), place) for place in range(len(content['to']))]
+    if isinstance(content, dict):
+        send, to = content.get('send'), content.get('to')
+        return [(send, place) for place in range(len(to))] if isinstance(send, int) and isinstance(to, list) else []
     copy = item.get('copy')
     return [tuple(copy)] if isinstance(copy, list) and all(isinstance(part, int) for part in copy) else []
 
@@ -36,8 +37,8 @@ class Journey:
 
     def add(self, entry, queue, item):
         self.steps.append((entry, queue))
-        if 'content' in item:
-            content = item['content']
+        content = item.get('content')
+        if isinstance(content, dict):
             self.sender = node_of(queue)
             self.channel = content.get('channel')
             self.recipient = content['to'][self.name[1]]
@@ -49,8 +50,8 @@ class Journey:
         sent = entry.reply.get('sent') if isinstance(entry.reply, dict) else None
         if self.recipient is None and isinstance(sent, list) and self.name[1] < len(sent):
             self.recipient = sent[self.name[1]]
-        if self.sender is None:
-            self.sender = event.get('node')
+        if self.sender is None and isinstance(event.get('node'), int):
+            self.sender = event['node']
         if self.channel is None:
             self.channel = event.get('channel')
 

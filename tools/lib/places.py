@@ -15,7 +15,7 @@ def nodes_at(report, entry):
 
 def all_nodes(report, journeys):
     found = {node for entry in report.entries for node in nodes_of(entry)}
-    found.update(journey.sender for journey in journeys if isinstance(journey.sender, int))
+    found.update(journey.sender for journey in journeys if journey.sender is not None)
     return sorted(found)
 
 
@@ -23,7 +23,9 @@ def ready_of(put):
     """The node, the connection and the peer's key of a put that tells a router of a connection."""
     queue, item = put
     ready = item.get('ready') if isinstance(item, dict) else None
-    return (node_of(queue), ready.get('conn'), ready.get('key')) if isinstance(ready, dict) else None
+    if not isinstance(ready, dict) or node_of(queue) is None:
+        return None
+    return node_of(queue), ready.get('conn'), ready.get('key')
 
 
 def joins_of(report):

@@ -40,6 +40,7 @@ class Picture:
         self.shapes.append('<polygon points="%s" fill="%s"/>' % (' '.join('%.1f,%.1f' % point for point in points), colour))
 
     def text(self, x, y, words, kind='small', anchor='start', colour=None):
+        words = ''.join(mark if mark.isprintable() else '?' for mark in words)
         fill = ' style="fill:%s"' % colour if colour else ''
         halo = ' stroke="#fff" stroke-width="3" paint-order="stroke"' if kind == 'small' else ''
         self.shapes.append('<text x="%.1f" y="%.1f" class="%s" text-anchor="%s"%s%s>%s</text>'

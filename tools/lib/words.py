@@ -48,7 +48,8 @@ def whole(field, least=0, most=U64):
     """A whole number from the least to the most."""
     number = field.value.whole()
     if number is None or not least <= number <= most:
-        raise field.fault('a whole number from %d to %d is due here, without a sign, a point or an exponent' % (least, most))
+        kind = 'below 2^64' if (least, most) == (0, U64) else 'from %d to %d' % (least, most)
+        raise field.fault('a whole number %s is due here, written in digits alone' % kind)
     return number
 
 
