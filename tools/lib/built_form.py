@@ -16,7 +16,8 @@ def send_faults(event, least, registered, count):
     if event.said['priority']:
         yield event.fault('priority', 'messages with priority are not built yet')
     if event.said['bytes'] > least:
-        yield event.fault('bytes', 'a message of %d bytes is longer than the least `max_message_size`, %d' % (event.said['bytes'], least))
+        yield event.fault('bytes', 'a message of %d bytes is longer than the least `max_message_size`, %d'
+                          % (event.said['bytes'], least))
     for node in range(count):
         if (event.said['channel'], node) not in registered:
             yield event.fault('channel', 'channel %d is not registered at node %d; each node has to register it'

@@ -124,18 +124,21 @@ class Chart:
             self.note(x + 9, self.y(send), '[%d,%d] to key %s' % (*journey.name, journey.recipient), colour)
         stops = [(send, '')] + journey.steps
         following = [entry for entry, _ in journey.steps] + [self.last + 1 if end is None else end]
+        before = x
         for (entry, queue), after in zip(stops, following):
-            self.draw_queue(queue, entry, send, x, colour)
-            x = self.draw_leg(journey, queue, (x, entry, after), colour, lane)
+            if entry != send:
+                self.draw_queue(queue, entry, (before, x), colour)
+            before, x = x, self.draw_leg(journey, queue, (x, entry, after), colour, lane)
         self.draw_end(journey, x, following[-1], colour)
 
-    def draw_queue(self, queue, entry, send, x, colour):
-        """The name of a queue that a copy enters, once for all copies that enter it there; a link's away from its reader."""
-        if not queue or entry == send or not self.shows(entry) or (entry, queue) in self.labelled:
+    def draw_queue(self, queue, entry, moved, colour):
+        """The name of a queue that a copy enters, once for all copies that enter it there, away from what crosses."""
+        if not self.shows(entry) or (entry, queue) in self.labelled:
             return
         self.labelled.add((entry, queue))
+        before, x = moved
         reader = self.reads.get(queue)
-        if reader in self.nodes and self.x(reader) > x:
+        if before > x or (reader in self.nodes and self.x(reader) > x):
             self.picture.text(x - 9, self.y(entry) + 4, queue, anchor='end', colour=colour)
         else:
             self.note(x + 9, self.y(entry), queue, colour)
@@ -167,7 +170,7 @@ class Chart:
             self.picture.dot(x, y, 4, colour, False)
             column = round((x - LEFT) / GAP)
             self.waiting[column] = self.waiting.get(column, 0) + 1
-            self.picture.text(x + 9, y + 14 * self.waiting[column] - 10, '[%d,%d] %s' % (*journey.name, journey.end_text()), colour=colour)
+            self.picture.text(x + 9, y + 14 * self.waiting[column] - 10, words, colour=colour)
         elif not self.shows(entry):
             return
         elif journey.fate[0] == 'delivered':
