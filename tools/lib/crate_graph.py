@@ -35,11 +35,10 @@ def source_folders(top, crates):
     return [folder for folder in folders if os.path.isdir(os.path.join(top, folder))]
 
 
-def source_size(top, crate):
-    """How many bytes of sources a crate has."""
+def code_size(top, crate):
+    """How many bytes of code a crate has, by which what its proof takes can be guessed."""
     return sum(os.path.getsize(os.path.join(place, name))
-               for folder in source_folders(top, [crate])
-               for place, _, names in os.walk(os.path.join(top, folder))
+               for place, _, names in os.walk(os.path.join(top, 'crates', crate, 'src'))
                for name in names)
 
 

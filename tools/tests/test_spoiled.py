@@ -13,7 +13,7 @@ from places import keys_of_nodes
 from report_form import BadReport, read_report
 from spoil import spoil_bytes, spoil_value
 
-EACH = 150
+EACH = 60
 
 
 def spoiled_reports(path):
@@ -52,4 +52,4 @@ class Spoiled(unittest.TestCase):
                 self.assertTrue(copy_table(found, keys_of_nodes(report, found)))
                 xml.dom.minidom.parseString(Chart(report, found, [], 0, len(report.entries) - 1).draw())
                 shown += 1
-        self.assertGreater(min(told, shown), 100)
+        self.assertGreater(min(told, shown), 50)
