@@ -106,7 +106,7 @@ class Chart:
         """What ends connections: a kill that is put, and an answer that tells of an end."""
         for queue, item in entry.puts:
             if item == 'kill' and node_of(queue) in self.nodes:
-                self.picture.text(self.x(node_of(queue)) + 10, self.y(entry.number) + 4, 'kill: %s' % queue, colour=DROPPED)
+                self.note(self.x(node_of(queue)) + 10, self.y(entry.number), 'kill: %s' % queue, DROPPED)
         if isinstance(entry.reply, dict) and 'ended' in entry.reply:
             for node in nodes_at(self.report, entry):
                 self.picture.cross(self.x(node), self.y(entry.number), 5, DROPPED)
