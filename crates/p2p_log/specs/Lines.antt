@@ -13,6 +13,10 @@ use Rattle.p2p_log.specs.QueueCode.{same_queue}
 abbrev pub name_of : Envelope → ℕ × ℕ
 name_of x = (x.entry, x.place)
 
+-- an item with its name
+abbrev pub named : Envelope → (ℕ × ℕ) × Item
+named x = (name_of x, x.item)
+
 abbrev pub same_name : ℕ × ℕ → ℕ × ℕ → Bool
 same_name a b = (a.0 == b.0) && (a.1 == b.1)
 

@@ -16,14 +16,14 @@ use Rattle.p2p_log.specs.declared.event.Event.{Event}
 use Rattle.p2p_log.specs.declared.queue.Side.{Side}
 use Rattle.p2p_log_rules.specs.declared.row.Half.{Half}
 use Rattle.p2p_log_rules.specs.declared.row.Row.{Row}
-use Rattle.p2p_log.specs.Lines.{name_of, line, live}
+use Rattle.p2p_log.specs.Lines.{name_of, line, live, named}
 use Rattle.p2p_log_rules.specs.Facts.{taken, is_answer, is_running}
 use Rattle.p2p_log_rules.specs.Effect.{entry_of, batch, batch_size_at, begin_row, write_row}
 use Rattle.p2p_log.specs.QueueCode.{same_queue}
 use Rattle.p2p_log.proofs.Names.{AreApart-live_from}
 use Rattle.p2p_log.proofs.Queues.{same_queue-sym}
 use Rattle.p2p_net_queues.proofs.Queues.{is_boards-apart}
-use Rattle.p2p_net_router.specs.Batches.{batch_of, named, AreKept}
+use Rattle.p2p_net_router.specs.Batches.{batch_of, AreKept}
 use Rattle.p2p_net_router.specs.Names.{is_routers}
 use Rattle.p2p_net_router.specs.Stands.{StandsFor, IsBeside, AreAway}
 use Rattle.p2p_net_router.specs.declared.router.Router.{Router}

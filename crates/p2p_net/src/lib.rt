@@ -1,13 +1,18 @@
-//! The network: nodes and links that move messages as the events of a script say.
+//! The network: nodes and links that move messages as the events of a script say. A user names a `World`, and the plain data
+//! of its log.
 #![tactic(auto)]
 
-pub mod acts;
-pub mod configs;
-pub mod error;
-pub mod node;
-pub mod perform;
-pub mod valid;
-pub mod world;
+mod acts;
+mod configs;
+mod error;
+mod node;
+mod perform;
+mod valid;
+mod world;
 
 pub use crate::error::RunError;
 pub use crate::world::World;
+pub use p2p_log::{
+    Act, Cause, Config, End, Entry, Envelope, Event, Fate, Item, Outcome, Queue, Rate, Recipients,
+    Reply, Report, Side,
+};

@@ -1,5 +1,5 @@
 //! The world: all nodes, with the log of what was asked of them and what came of it.
-ghost use Rattle.std.specs.Prelude.{◌≡◌, ℕ, ◌+◌, ◌<◌, ◌++◌, ◌∷◌, [], List, length, IfOk, OnOk, OnErr, IfErr, true, false, Some, None};
+ghost use Rattle.std.specs.Prelude.{◌≡◌, ℕ, ◌+◌, ◌<◌, ◌++◌, ◌∷◌, [], List, length, IfOk, OnOk, OnErr, IfErr, Err, true, false, Some, None};
 ghost use Rattle.p2p_log.specs.declared.entry.Entry.{Entry};
 ghost use Rattle.p2p_log_rules.specs.Facts.{events_of};
 ghost use Rattle.p2p_log_rules.specs.Effect.{effect};
@@ -8,6 +8,7 @@ ghost use Rattle.p2p_log_rules.specs.Valid.{config_fault as config_fault_of, eve
 ghost use Rattle.p2p_net.specs.Stands.{NodeStands, NodesStand};
 ghost use Rattle.p2p_net.specs.World.{with_entry, PartsStand};
 ghost use Rattle.p2p_net.specs.Refusals.{StartRefused, ApplyRefused, RunRefused};
+ghost use Rattle.p2p_net.specs.declared.error.RunError.TheVariants as error;
 
 use crate::configs::{config_fault, retained};
 use crate::error::RunError;
@@ -133,18 +134,19 @@ impl World {
     ///
     /// Where a configuration is not valid, `RunError::Config` has the place of the first one. Where there is no
     /// memory, the answer is `RunError::Memory`.
-    pub fn new(alloc: Global, configs: List<Config>) -> Result<World, RunError>
-        ensures ok { IfOk result (λ w. w ≡ record { configs = configs; log = []; failed = false }) }
-        ensures valid { OnOk result (config_fault_of configs ≡ None) }
-        ensures err { IfErr result (λ e. StartRefused configs e) }
+    pub fn new(alloc: Global, configs: &[Config]) -> Result<World, RunError>
+        ensures ok { IfOk result (λ w. w ≡ record { configs = configs.now; log = []; failed = false }) }
+        ensures valid { OnOk result (config_fault_of configs.now ≡ None) }
+        ensures err { IfErr result (λ e. StartRefused configs.now e) }
     {
-        if let Some(place) = config_fault(alloc, configs.as_slice())? {
+        if let Some(place) = config_fault(alloc, configs)? {
             return Err(RunError::Config(place));
         }
-        let nodes = new_nodes(alloc, configs.as_slice())?;
+        let nodes = new_nodes(alloc, configs)?;
+        let kept = List::from_slice(alloc, configs)?;
         Ok(World {
             alloc,
-            configs,
+            configs: kept,
             report: Report {
                 log: List::empty(alloc),
             },
@@ -158,11 +160,13 @@ impl World {
     /// Asks for an event, and records what came of it.
     ///
     /// Where the event may not be asked for, `RunError::Event` has its place, and the world is as before. Where there
-    /// is no memory, the answer is `RunError::Memory` then and at each later event, and the log is as before.
+    /// is no memory, the log is as before, and the answer is `RunError::Memory` then and at each later event, whether or
+    /// not that may be asked for.
     pub fn apply(&mut self, event: &Event) -> Result<(), RunError>
         ensures ok { OnOk result (self.new ≡ with_entry self.old (effect self.old.configs self.old.log event.now)) }
         ensures valid { OnOk result (is_valid_event self.old.configs (events_of self.old.log) event.now ≡ true) }
         ensures err { IfErr result (λ e. ApplyRefused self.old event.now e self.new) }
+        ensures failed { self.old.failed ≡ true → (result ≡ Err error.Memory) × (self.new ≡ self.old) }
     {
         if self.failed {
             return Err(RunError::Memory);
@@ -195,14 +199,14 @@ impl World {
     /// Where a configuration is not valid, `RunError::Config` has the place of the first one; where each is, and an
     /// event may not be asked for, `RunError::Event` has the place of the first one. Where there is no memory, the
     /// answer is `RunError::Memory`.
-    pub fn run(alloc: Global, configs: List<Config>, script: &[Event]) -> Result<World, RunError>
-        ensures configs { IfOk result (λ w. w.configs ≡ configs) }
-        ensures lawful { IfOk result (λ w. IsLawful configs script.now w.log) }
-        ensures only { IfOk result (λ w. (log : List Entry) → IsLawful configs script.now log → log ≡ w.log) }
+    pub fn run(alloc: Global, configs: &[Config], script: &[Event]) -> Result<World, RunError>
+        ensures configs { IfOk result (λ w. w.configs ≡ configs.now) }
+        ensures lawful { IfOk result (λ w. IsLawful configs.now script.now w.log) }
+        ensures only { IfOk result (λ w. (log : List Entry) → IsLawful configs.now script.now log → log ≡ w.log) }
         ensures works { IfOk result (λ w. w.failed ≡ false) }
-        ensures valid { OnOk result (config_fault_of configs ≡ None) }
-        ensures allowed { OnOk result (event_fault configs script.now ≡ None) }
-        ensures err { IfErr result (λ e. RunRefused configs script.now e) }
+        ensures valid { OnOk result (config_fault_of configs.now ≡ None) }
+        ensures allowed { OnOk result (event_fault configs.now script.now ≡ None) }
+        ensures err { IfErr result (λ e. RunRefused configs.now script.now e) }
     {
         let mut world = World::new(alloc, configs)?;
         for event in script {

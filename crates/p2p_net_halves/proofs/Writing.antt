@@ -8,11 +8,10 @@ use Rattle.p2p_log.specs.declared.item.Envelope.{Envelope}
 use Rattle.p2p_log.specs.declared.entry.Entry.{Entry}
 use Rattle.p2p_log.specs.declared.entry.Reply.TheVariants as reply
 use Rattle.p2p_log_rules.specs.declared.row.Row.{Row}
-use Rattle.p2p_log.specs.Lines.{name_of, ended_item, stays, live, stands_in}
+use Rattle.p2p_log.specs.Lines.{name_of, ended_item, stays, live, stands_in, named}
 use Rattle.p2p_log_rules.specs.Effect.{only, write_row}
 use Rattle.p2p_net_queues.specs.declared.board.Board.{Board}
 use Rattle.p2p_net_queues.specs.Stands.{Holds, Builds}
-use Rattle.p2p_net_router.specs.Batches.{named}
 use Rattle.p2p_net_halves.specs.Batches.{IsBatch}
 
 -- nothing was taken

@@ -4,9 +4,8 @@ use Rattle.p2p_log.specs.declared.queue.Queue.{Queue}
 use Rattle.p2p_log.specs.declared.item.Item.{Item}
 use Rattle.p2p_log.specs.declared.item.Envelope.{Envelope}
 use Rattle.p2p_log.specs.declared.entry.Entry.{Entry}
-use Rattle.p2p_log.specs.Lines.{name_of, stays, live, stands_in}
+use Rattle.p2p_log.specs.Lines.{name_of, stays, live, stands_in, named}
 use Rattle.p2p_net_queues.specs.Stands.{is_boards}
-use Rattle.p2p_net_router.specs.Batches.{named}
 
 -- these items, with their names, are the batch, of which none stood on the board
 pub record IsBatch (log : List Entry) (taken : List ((ℕ × ℕ) × Item)) (batch : List Envelope) : Type 0 where

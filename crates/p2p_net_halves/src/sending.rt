@@ -1,11 +1,10 @@
 //! The sending half of a connection.
 ghost use Rattle.std.specs.Prelude.{◌≡◌, ℕ, ◌++◌, ◌∷◌, [], true, length, map, IfOk, OnOk};
-ghost use Rattle.p2p_log.specs.Lines.{live};
+ghost use Rattle.p2p_log.specs.Lines.{live, named};
 ghost use Rattle.p2p_log_rules.specs.Facts.{is_answer as answer_test};
 ghost use Rattle.p2p_log_rules.specs.Effect.{begin_row, write_row};
 ghost use Rattle.p2p_net_queues.specs.Board.{held};
 ghost use Rattle.p2p_net_queues.specs.Stands.{is_boards, Holds, Builds};
-ghost use Rattle.p2p_net_router.specs.Batches.{named};
 ghost use Rattle.p2p_net_halves.specs.Answered.{is_answered};
 ghost use Rattle.p2p_net_halves.specs.Batches.{IsBatch};
 

@@ -7,13 +7,13 @@ use Rattle.p2p_log.specs.declared.entry.Entry.{Entry}
 use Rattle.p2p_log.specs.declared.queue.Queue.{Queue}
 use Rattle.p2p_log.specs.declared.item.Item.{Item}
 use Rattle.p2p_log.specs.declared.item.Envelope.{Envelope}
-use Rattle.p2p_log.specs.Lines.{name_of, ended_item, goes, stays, live, stands_in}
+use Rattle.p2p_log.specs.Lines.{name_of, ended_item, goes, stays, live, stands_in, named}
 use Rattle.p2p_log_rules.specs.Effect.{mailbox_size_at}
 use Rattle.p2p_log.specs.Apart.{AreApart}
 use Rattle.p2p_log.proofs.Names.{AreApart-live_from}
 use Rattle.p2p_router.specs.Messenger.{is_bound}
 use Rattle.p2p_net_router.specs.Names.{is_routers, label, bare_item}
-use Rattle.p2p_net_router.specs.Batches.{named, batch_of, AreKept}
+use Rattle.p2p_net_router.specs.Batches.{batch_of, AreKept}
 use Rattle.p2p_net_router.specs.Holds.{Holds}
 use Rattle.p2p_net_router.specs.Stands.{StandsFor, HasPlaces, IsBeside, AreAway}
 use Rattle.p2p_net_router.specs.declared.router.Router.{Router}

@@ -7,14 +7,14 @@ use Rattle.p2p_log.specs.declared.queue.Queue.TheVariants as queue
 use Rattle.p2p_log.specs.declared.item.Item.{Item}
 use Rattle.p2p_log.specs.declared.item.Envelope.{Envelope}
 use Rattle.p2p_log.specs.QueueCode.{same_queue}
-use Rattle.p2p_log.specs.Lines.{name_of, stays, stands_in}
+use Rattle.p2p_log.specs.Lines.{name_of, stays, stands_in, named}
 use Rattle.p2p_log_rules.specs.Effect.{relay_queue}
 use Rattle.p2p_log.proofs.Lines.{filter_stays-append, filter_stays-nil}
 use Rattle.p2p_log.proofs.Queues.{same_queue-refl}
 use Rattle.p2p_log.specs.Apart.{AreApart}
 use Rattle.p2p_log.proofs.Names.{AreApart-filter, filter_stays-first}
 use Rattle.p2p_net_router.proofs.Taking.{map-take_next, take_spent, take_two}
-use Rattle.p2p_net_router.specs.Batches.{named, batch_of, AreKept}
+use Rattle.p2p_net_router.specs.Batches.{batch_of, AreKept}
 use Rattle.p2p_net_router.specs.Holds.{Holds, frame_taken, frame_gone, routes_in}
 use Rattle.p2p_net_router.specs.declared.router.Router.{Router}
 use Rattle.p2p_net_router.proofs.Beside.{filter-first_away}

@@ -1,15 +1,10 @@
 -- A batch of the frames that wait for a connection.
 use Rattle.std.specs.Prelude.{◌≡◌, ℕ, List, ◌++◌, take, filter}
 use Rattle.p2p_log.specs.declared.queue.Queue.TheVariants as queue
-use Rattle.p2p_log.specs.declared.item.Item.{Item}
 use Rattle.p2p_log.specs.declared.item.Envelope.{Envelope}
-use Rattle.p2p_log.specs.Lines.{name_of, stands_in}
+use Rattle.p2p_log.specs.Lines.{stands_in}
 use Rattle.p2p_net_router.specs.Holds.{routes_in}
 use Rattle.p2p_net_router.specs.declared.router.Router.{Router}
-
--- an item with its name
-abbrev pub named : Envelope → (ℕ × ℕ) × Item
-named x = (name_of x, x.item)
 
 -- high before low, as many as a batch has
 abbrev pub batch_of : ℕ → ℕ → ℕ → List Envelope → List Envelope

@@ -1,9 +1,9 @@
 //! A batch of frames of one connection.
 ghost use Rattle.std.specs.Prelude.{◌≡◌, ◌≤◌, ◌+◌, ◌++◌, ◌∷◌, [], true, length, map, take as first_of, filter, IfOk, OnOk};
-ghost use Rattle.p2p_log.specs.Lines.{name_of, stays, stands_in};
+ghost use Rattle.p2p_log.specs.Lines.{name_of, stays, stands_in, named};
 ghost use Rattle.p2p_log_rules.specs.Effect.{relay_queue};
 ghost use Rattle.p2p_log.specs.Apart.{AreApart};
-ghost use Rattle.p2p_net_router.specs.Batches.{named, batch_of, AreKept};
+ghost use Rattle.p2p_net_router.specs.Batches.{batch_of, AreKept};
 ghost use Rattle.p2p_net_router.specs.Holds.{Holds};
 ghost use Rattle.p2p_net_router.specs.Names.{is_routers};
 ghost use Rattle.p2p_net_router.specs.Stands.{StandsFor, IsBeside, AreAway};

@@ -1,7 +1,8 @@
-//! The tests of the router and of the halves of a connection, through their public names alone. They stand apart so that
-//! the gate proves each of those crates once.
+//! The tests of the router, of the halves of a connection and of the world, through their public names alone. They stand
+//! together so that the gate proves each of those crates once.
 //!
-//! Each file has those of the crate of its name: `p2p_router`, `p2p_net_router` and `p2p_net_halves`.
+//! Of `p2p_router` is `router`, of `p2p_net_router` is `routers`, of `p2p_net_halves` is `halves`, and of `p2p_net` is
+//! `world`.
 #![tactic(auto)]
 
 #[cfg(test)]
@@ -10,3 +11,5 @@ mod halves;
 mod router;
 #[cfg(test)]
 mod routers;
+#[cfg(test)]
+mod world;

@@ -37,7 +37,7 @@ impl Program for Network {
 
     fn run(alloc: Global, tree: &Value) -> Result<(World, String), RunError> {
         let (configs, script) = read_form(alloc, tree)?;
-        let world = run_script(alloc, configs, script.as_slice())?;
+        let world = run_script(alloc, configs.as_slice(), script.as_slice())?;
         account();
         match write_report(alloc, world.report()) {
             Ok(text) => Ok((world, text)),
@@ -86,10 +86,10 @@ fn test_form(alloc: Global, configs: &[Config], script: &[Event]) -> Result<(), 
 }
 
 // Runs a script that was read.
-fn run_script(alloc: Global, configs: List<Config>, script: &[Event]) -> Result<World, RunError>
-    ensures ran { IfOk result (λ w. HasRunScript configs script.now w) }
-    ensures valid { OnOk result (is_valid configs script.now ≡ true) }
-    ensures refused { (r : Refusal) → result ≡ Err (run_error.Refused r) → (r ≡ Refusal.NotScript) × (is_valid configs script.now ≡ false) }
+fn run_script(alloc: Global, configs: &[Config], script: &[Event]) -> Result<World, RunError>
+    ensures ran { IfOk result (λ w. HasRunScript configs.now script.now w) }
+    ensures valid { OnOk result (is_valid configs.now script.now ≡ true) }
+    ensures refused { (r : Refusal) → result ≡ Err (run_error.Refused r) → (r ≡ Refusal.NotScript) × (is_valid configs.now script.now ≡ false) }
 {
     match World::run(alloc, configs, script) {
         Ok(world) => Ok(world),

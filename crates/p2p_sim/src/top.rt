@@ -3,7 +3,7 @@ ghost use Rattle.std.specs.Prelude.{◌≡◌, ℕ, ◌+◌, ◌≤◌, ◌↔�
 ghost use Rattle.std.specs.Option.{option_map};
 ghost use Rattle.serde_json.specs.Data.{Data};
 ghost use Rattle.p2p_runtime.specs.Streams.{Rose};
-ghost use Rattle.p2p_sim_command.specs.Input.{Takes, json_of};
+ghost use Rattle.p2p_sim_command.specs.Input.{Takes, IsAllOf, json_of};
 ghost use Rattle.p2p_sim_command.specs.Judged.{judged, status_due};
 ghost use Rattle.p2p_sim_command.specs.Outcomes.{IsRefusal, IsSilent, HasRefused, HasStopped};
 ghost use Rattle.p2p_net.specs.World.{WorldView};
@@ -41,9 +41,10 @@ pub fn sim<S: Source, K: Sink>(
         × (length taken ≤ LIMIT + 1) × ((result ≡ status.TooLong) ↔ (length taken ≡ LIMIT + 1)) }
     ensures source_end { ¬ IsSilent result → IfSome (S.bytes_left source.new) (λ rest. rest ≡ []) }
 
-    // What is written is the report of the world that is left, and the world ran the tree of the input.
-    ensures report { result ≡ status.Ok → (input : List ℕ) → S.bytes_left source.old ≡ Some input
-        → (tree : Data) × (world : WorldView) × (report : List ℕ) × (json_of input ≡ Some tree) × (refusal_of tree ≡ None)
+    // What is written is the report of the world that is left, and the world ran the tree of the input, which is all that the
+    // source had left, where it tells.
+    ensures report { result ≡ status.Ok → (input : List ℕ) × IsAllOf (S.bytes_left source.old) input
+        × (tree : Data) × (world : WorldView) × (report : List ℕ) × (json_of input ≡ Some tree) × (refusal_of tree ≡ None)
         × RunsTree tree world report × (end.new ≡ Some world)
         × (K.bytes_held sink.new ≡ option_map (λ held. held ++ report) (K.bytes_held sink.old)) }
 
@@ -55,14 +56,14 @@ pub fn sim<S: Source, K: Sink>(
         → (tree : Data) × (i : ℕ) × (json_of input ≡ Some tree) × (refusal_of tree ≡ Some (refusal.Config i)) }
     ensures event { result ≡ status.Event → (input : List ℕ) → S.bytes_left source.old ≡ Some input
         → (tree : Data) × (i : ℕ) × (json_of input ≡ Some tree) × (refusal_of tree ≡ Some (refusal.Event i)) }
-    ensures line { IsRefusal result → (input : List ℕ) → S.bytes_left source.old ≡ Some input
-        → HasRefused refusal_of input result (K.bytes_held sink.old) (K.bytes_held sink.new) }
+    ensures line { IsRefusal result → (input : List ℕ) × IsAllOf (S.bytes_left source.old) input
+        × HasRefused refusal_of input result (K.bytes_held sink.old) (K.bytes_held sink.new) }
 
     // Writing, and what stays as it was.
     ensures write_fault { result ≡ status.WriteFault → Rose (K.faults_of sink.old) (K.faults_of sink.new) }
     ensures no_write_fault { ¬ (result ≡ status.WriteFault) → K.faults_of sink.new ≡ K.faults_of sink.old }
-    ensures front { result ≡ status.WriteFault → (input : List ℕ) → S.bytes_left source.old ≡ Some input
-        → HasStopped refusal_of RunsTree input (K.bytes_held sink.old) (K.bytes_held sink.new) }
+    ensures front { result ≡ status.WriteFault → (input : List ℕ) × IsAllOf (S.bytes_left source.old) input
+        × HasStopped refusal_of RunsTree input (K.bytes_held sink.old) (K.bytes_held sink.new) }
     ensures unwritten { IsSilent result → sink.new ≡ sink.old }
     ensures end_kept { ¬ (result ≡ status.Ok) → end.new ≡ end.old }
 

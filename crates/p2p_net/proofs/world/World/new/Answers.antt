@@ -6,9 +6,9 @@ use Rattle.p2p_net.proofs.world.World.new.Goals as goal
 
 pub invariant_of-result : goal.invariant_of-result
 invariant_of-result c = λ _.
-    subst (λ l. PartsStand c.args.configs l c.new.result c.in_ok-nodes.nodes.items 0) (sym c.empty.ensures)
+    subst (λ l. PartsStand c.in_ok-kept.kept l c.new.result c.in_ok-nodes.nodes.items 0) (sym c.empty.ensures)
     (record {
       holds = Holds-nothing c.new.result c.new.ensures;
-      nodes_stand = subst (λ l. NodesStand l [] c.in_ok-nodes.nodes.items) c.as_slice-2.ensures c.in_ok-nodes.ensures;
+      nodes_stand = subst (λ l. NodesStand l [] c.in_ok-nodes.nodes.items) (sym c.in_ok-kept.ensures) c.in_ok-nodes.ensures;
       last_is = refl;
     })
