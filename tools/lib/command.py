@@ -1,0 +1,18 @@
+"""How a tool ends: with its status, and in silence where nobody reads on."""
+import os
+import sys
+
+
+def end_with(main):
+    """Runs the tool on the words of the command line and ends with its status."""
+    for stream in (sys.stdout, sys.stderr):
+        stream.reconfigure(errors='backslashreplace')
+    try:
+        status = main(sys.argv[1:])
+        sys.stdout.flush()
+    except BrokenPipeError:
+        os.dup2(os.open(os.devnull, os.O_WRONLY), sys.stdout.fileno())
+        status = 1
+    except KeyboardInterrupt:
+        status = 1
+    sys.exit(status)

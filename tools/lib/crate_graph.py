@@ -1,0 +1,51 @@
+"""The graph of the repository's crates, as crates.txt has it."""
+import os
+
+SOURCES = ('src', 'specs', 'proofs')
+
+
+def read_graph(top):
+    """The crates of crates.txt, each with the crates of the repository that it uses."""
+    uses = {}
+    with open(os.path.join(top, 'crates.txt'), encoding='utf-8') as lines:
+        for line in lines:
+            head, colon, tail = line.partition('#')[0].partition(':')
+            if colon:
+                uses[head.split()[0]] = tail.split()
+    return {name: [used for used in names if used in uses] for name, names in uses.items()}
+
+
+def closure(graph, crate):
+    """The crate and all that it stands on, each after what it uses."""
+    found = []
+
+    def visit(name):
+        if name not in found:
+            for used in graph[name]:
+                visit(used)
+            found.append(name)
+
+    visit(crate)
+    return found
+
+
+def source_folders(top, crates):
+    """The folders of the crates' sources, from the top."""
+    folders = [os.path.join('crates', crate, part) for crate in crates for part in SOURCES]
+    return [folder for folder in folders if os.path.isdir(os.path.join(top, folder))]
+
+
+def code_size(top, crate):
+    """How many bytes of code a crate has, by which what its proof takes can be guessed."""
+    return sum(os.path.getsize(os.path.join(place, name))
+               for place, _, names in os.walk(os.path.join(top, 'crates', crate, 'src'))
+               for name in names)
+
+
+def remaining_work(graph, crates, sizes):
+    """For each of these crates, the sizes along the heaviest chain of crates from it upwards."""
+    work = {}
+    for crate in reversed(crates):
+        above = [work[other] for other in work if crate in graph[other]]
+        work[crate] = sizes[crate] + max(above, default=0)
+    return work

@@ -1,0 +1,26 @@
+"""What is wrong with a script, and where."""
+import difflib
+
+
+class Fault(Exception):
+    """One thing that is wrong: at which character of the text, of what, and why."""
+
+    def __init__(self, at, what, reason):
+        super().__init__(reason)
+        self.at = at
+        self.what = what
+        self.reason = reason
+
+
+class Verdict:
+    """What is wrong with a script, in order, and the status by the full rules. None: nothing is, but it is not built."""
+
+    def __init__(self, faults, status):
+        self.faults = faults
+        self.status = status
+
+
+def perhaps(word, known):
+    """A hint at the known word that this one is nearest to."""
+    near = difflib.get_close_matches(word, list(known), 1)
+    return '; perhaps "%s" is meant' % near[0] if near else ''

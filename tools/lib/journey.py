@@ -1,0 +1,80 @@
+"""The way of each copy through the queues, read off a report."""
+
+NODE_QUEUES = frozenset('''
+    router tracker spawner arrivals update dialer attempt handshake peers ready control high low held channel
+'''.split())
+
+
+def node_of(queue):
+    """The node that a queue belongs to; a link has none."""
+    kind, number, *rest = queue.split(':')
+    return int(number) if kind in NODE_QUEUES and (kind != 'control' or rest) else None
+
+
+def copies_carried(item):
+    """The names of the copies that an item carries."""
+    if not isinstance(item, dict):
+        return []
+    content = item.get('content')
+    if isinstance(content, dict):
+        send, to = content.get('send'), content.get('to')
+        return [(send, place) for place in range(len(to))] if isinstance(send, int) and isinstance(to, list) else []
+    copy = item.get('copy')
+    return [tuple(copy)] if isinstance(copy, list) and all(isinstance(part, int) for part in copy) else []
+
+
+class Journey:
+    """A copy: who sent it, for whom, on which channel, each queue that it entered and at which entry, and its fate."""
+
+    def __init__(self, name, fate):
+        self.name = name
+        self.fate = fate
+        self.steps = []
+        self.sender = None
+        self.sender_key = None
+        self.channel = None
+        self.recipient = None
+
+    def add(self, entry, queue, item):
+        self.steps.append((entry, queue))
+        content = item.get('content')
+        if isinstance(content, dict):
+            self.sender = node_of(queue)
+            self.channel = content.get('channel')
+            self.recipient = content['to'][self.name[1]]
+        elif 'from' in item:
+            self.sender_key = item['from']
+
+    def add_send(self, entry, event):
+        """What the send itself tells of a copy that entered no queue, and the script's event, where it is at hand."""
+        sent = entry.reply.get('sent') if isinstance(entry.reply, dict) else None
+        if self.recipient is None and isinstance(sent, list) and self.name[1] < len(sent):
+            self.recipient = sent[self.name[1]]
+        if self.sender is None and isinstance(event.get('node'), int):
+            self.sender = event['node']
+        if self.channel is None:
+            self.channel = event.get('channel')
+
+    def end_entry(self):
+        """The entry at which it ended, if it did."""
+        return self.fate[2] if len(self.fate) == 3 else None
+
+    def end_text(self):
+        if self.fate[0] == 'waiting':
+            return 'waits in %s' % self.fate[1]
+        if self.fate[0] == 'delivered':
+            return 'delivered at %d' % self.fate[2]
+        return 'dropped at %d: %s' % (self.fate[2], self.fate[1])
+
+
+def journeys(report, events):
+    """The journeys of all copies, in order of send and place."""
+    found = {name: Journey(name, fate) for name, fate in report.copies.items()}
+    for entry in report.entries:
+        for queue, item in entry.puts:
+            for name in copies_carried(item):
+                if name in found:
+                    found[name].add(entry.number, queue, item)
+    for (send, _), journey in found.items():
+        journey.add_send(report.entries[send], events[send] if send < len(events) else {})
+    return [found[name] for name in sorted(found)]

@@ -1,0 +1,64 @@
+"""The verdict on a script: what is wrong with it, where, and with which status the program ends."""
+from built_form import built_faults
+from faults import Fault, Verdict
+from json_text import BadJson, Places, read_json
+from script_form import read_script
+from valid_input import configuration_fault, event_fault
+
+LIMIT = 16_777_216
+SHOWN = 20
+CONCLUSIONS = {
+    0: 'status 0: the program runs this script',
+    4: 'status 4: the input is too long',
+    5: 'status 5: the input is not JSON',
+    6: 'status 6: this is not a script',
+    7: 'status 6; by the full rules 7, a configuration that is not valid, which the program does not tell apart yet',
+    8: 'status 6; by the full rules 8, an event that is not valid, which the program does not tell apart yet',
+    None: 'status 6: this is not built yet',
+}
+
+
+def judge_tree(tree):
+    """The verdict on a tree: its form first, then what is not built, then valid input, then the form that is built."""
+    script = read_script(tree)
+    if script.faults:
+        return Verdict(script.faults, 6)
+    if script.not_built:
+        return Verdict(script.not_built, None)
+    fault = configuration_fault(script.configurations)
+    if fault:
+        return Verdict([fault], 7)
+    fault = event_fault(script)
+    if fault:
+        return Verdict([fault], 8)
+    faults = built_faults(script)
+    return Verdict(faults, None) if faults else Verdict([], 0)
+
+
+def judge(data):
+    """The text of the bytes as far as it is one, and the verdict on it."""
+    if len(data) > LIMIT:
+        return '', Verdict([Fault(0, 'the input', '%d bytes are more than %d' % (len(data), LIMIT))], 4)
+    try:
+        text = data.decode('utf-8')
+    except UnicodeDecodeError as error:
+        before = data[:error.start].decode('utf-8')
+        return before, Verdict([Fault(len(before), 'the input', 'the bytes here are not UTF-8')], 5)
+    try:
+        return text, judge_tree(read_json(text))
+    except BadJson as bad:
+        return text, Verdict([Fault(bad.at, 'the input', bad.reason)], 5)
+
+
+def lines_of(path, text, verdict):
+    """What is told of a verdict: a line for each fault, and the conclusion."""
+    places = Places(text)
+    lines = ['%s:%d:%d: %s: %s' % (path, *places.of(fault.at), fault.what, fault.reason) for fault in verdict.faults[:SHOWN]]
+    if len(verdict.faults) > SHOWN:
+        lines.append('%s: and %d more' % (path, len(verdict.faults) - SHOWN))
+    return [*lines, '%s: %s' % (path, CONCLUSIONS[verdict.status])]
+
+
+def status_now(verdict):
+    """The status that the program ends with today, where it has memory and its streams do not fail."""
+    return verdict.status if verdict.status in (0, 4, 5) else 6

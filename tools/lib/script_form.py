@@ -1,0 +1,140 @@
+"""The form of a script: its tree as configurations and events, with what is not built yet told apart."""
+import later
+from faults import Fault, perhaps
+from words import U32, Field, a_flag, a_text, an_array, an_object, some_bytes, whole
+
+CONFIGURATION_FORMS = {
+    'key': whole,
+    'max_peers_per_set': lambda field: whole(field, 1),
+    'max_message_size': lambda field: whole(field, 0, U32),
+    'mailbox_size': lambda field: whole(field, 1),
+}
+
+
+def a_rate(field):
+    """A quota: its burst."""
+    an_object(field, ['burst', 'period'])
+    burst = whole(field.at_name('burst'), 1, U32)
+    whole(field.at_name('period'), 1)
+    return burst
+
+
+class NotBuilt(Fault):
+    """A form that a script will have, but that is not built yet."""
+
+
+def recipients(field):
+    """Whom a message is for: one key, or else what is not built yet."""
+    if field.value.kind == 'text' and field.value.held == 'all':
+        raise NotBuilt(field.value.at, field.what, 'a message to all is not built yet; one key is: {"one":KEY}')
+    an_object(field, ['one', 'some'])
+    if field.has('one') and not field.has('some'):
+        return [whole(field.at_name('one'))]
+    if field.has('some') and not field.has('one'):
+        return [whole(item) for item in an_array(field.at_name('some'))]
+    raise field.fault('either `one` or `some` is due here')
+
+
+ACT_FORMS = {
+    'register': {'channel': whole, 'node': whole, 'quota': a_rate},
+    'start': {'node': whole},
+    'join': {'a': whole, 'b': whole},
+    'send': {'bytes': some_bytes, 'channel': whole, 'node': whole, 'priority': a_flag, 'to': recipients},
+    'router': {'node': whole},
+    'send_step': {'conn': whole, 'node': whole},
+    'recv_step': {'conn': whole, 'node': whole},
+    'recv': {'channel': whole, 'node': whole},
+}
+
+
+class Part:
+    """A configuration or an event: its number, what it says, and where."""
+
+    def __init__(self, number, field, said, act=None):
+        self.number = number
+        self.field = field
+        self.said = said
+        self.act = act
+
+    def fault(self, name, reason):
+        """What is wrong with the value at this name."""
+        value = self.field.value.get(name)
+        at = self.field.value.at if value is None else value.at
+        return Fault(at, '%s, `%s`' % (self.field.what, name), reason)
+
+
+class Script:
+    """The parts of a script, what is wrong with its form, and what of it is not built yet."""
+
+    def __init__(self):
+        self.configurations = []
+        self.events = []
+        self.faults = []
+        self.not_built = []
+
+    def read_each(self, fields, read, parts):
+        for number, field in enumerate(fields):
+            try:
+                parts.append(read(number, field))
+            except NotBuilt as fault:
+                self.not_built.append(fault)
+            except Fault as fault:
+                self.faults.append(fault)
+
+
+def read_configuration(number, field):
+    field.what = 'configuration %d' % number
+    names = ['preset', *CONFIGURATION_FORMS]
+    an_object(field, [*names, *later.CONFIGURATION_NAMES])
+    preset = a_text(field.at_name('preset'))
+    if preset not in ('local', *later.PRESETS):
+        raise field.at_name('preset').fault('"%s" is no preset%s' % (preset, perhaps(preset, ['local', *later.PRESETS])))
+    said = {name: form(field.at_name(name)) for name, form in CONFIGURATION_FORMS.items()}
+    if preset != 'local':
+        raise NotBuilt(field.value.get('preset').at, field.what, 'the preset "%s" is not built yet; "local" is' % preset)
+    for name, at, _ in field.value.held:
+        if name not in names:
+            raise NotBuilt(at, field.what, '`%s` is not built yet: the preset gives it' % name)
+    return Part(number, field, said)
+
+
+def read_event(number, field):
+    field.what = 'event %d' % number
+    if field.value.kind != 'object':
+        raise field.fault('an object is due here')
+    at = whole(field.at_name('at'))
+    if field.has('seed'):
+        whole(field.at_name('seed'))
+    act = a_text(field.at_name('do'))
+    if act in later.ACTS:
+        raise NotBuilt(field.value.get('do').at, field.what, '"%s" is an act that is not built yet' % act)
+    if act not in ACT_FORMS:
+        raise field.at_name('do').fault('"%s" is no act%s' % (act, perhaps(act, [*ACT_FORMS, *later.ACTS])))
+    field.what = 'event %d (%s)' % (number, act)
+    return read_act(number, field, act, at)
+
+
+def read_act(number, field, act, at):
+    forms = ACT_FORMS[act]
+    extra = later.START_NAMES if act == 'start' else ()
+    an_object(field, ['at', 'seed', 'do', *forms, *extra])
+    said = {name: form(field.at_name(name)) for name, form in forms.items()}
+    for name, name_at, _ in field.value.held:
+        if name in extra:
+            raise NotBuilt(name_at, field.what, '`%s` is not built yet' % name)
+    said['at'] = at
+    return Part(number, field, said, act)
+
+
+def read_script(tree):
+    """The script that a tree says."""
+    script = Script()
+    try:
+        top = an_object(Field(tree, 'the script'), ['configs', 'script'])
+        configurations, events = an_array(top.at_name('configs')), an_array(top.at_name('script'))
+    except Fault as fault:
+        script.faults.append(fault)
+        return script
+    script.read_each(configurations, read_configuration, script.configurations)
+    script.read_each(events, read_event, script.events)
+    return script
