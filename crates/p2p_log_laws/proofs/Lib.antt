@@ -42,3 +42,4 @@ pub mod Sublists
 pub mod Telling
 pub mod Truth
 pub mod Turns
+pub mod Untouched
