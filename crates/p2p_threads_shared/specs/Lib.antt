@@ -1,0 +1,3 @@
+pub mod Limiter
+pub mod Mailbox
+pub mod Messenger

@@ -1,0 +1,10 @@
+//! The mailbox, the limiter and the messenger as objects that threads share, and threads that send into a mailbox.
+#![tactic(auto)]
+
+mod limiter;
+mod mailbox;
+mod messenger;
+
+pub use limiter::{CheckCall, LimiterObject, SharedLimiter};
+pub use mailbox::{MailboxCall, MailboxObject, MailboxReply, SharedMailbox};
+pub use messenger::{MessengerCall, MessengerObject, MessengerReply, SharedMessenger};
