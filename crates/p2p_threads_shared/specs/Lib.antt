@@ -1,3 +1,4 @@
 pub mod Limiter
 pub mod Mailbox
 pub mod Messenger
+pub mod Takes
