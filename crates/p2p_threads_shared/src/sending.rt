@@ -3,6 +3,7 @@ ghost use Rattle.std.specs.Prelude.{◌≡◌, ◌+◌, ◌-◌, ◌≤◌, [], 
 ghost use Rattle.std.specs.Thread.{IsSync};
 ghost use mathlib.Core.List.{IsPrefix};
 ghost use Rattle.p2p_threads.specs.Account.{IsMadeBy, IsAlike};
+ghost use Rattle.p2p_threads.specs.History.{IsEachOnce};
 ghost use Rattle.p2p_threads_shared.specs.Sending.{HaveSent, HaveBegun};
 
 use crate::gate::Gate;
@@ -109,6 +110,7 @@ pub fn senders<R: Threads + Wait + Sync, G: Gate>(
     ensures seen { IsPrefix pass.old.seen pass.new.seen }
     ensures sent { OnOk result (HaveSent 0 (replicate n m) pass.old pass.new) }
     ensures begun { HaveBegun 0 n m pass.old pass.new }
+    ensures once { IsEachOnce pass.new.made }
 {
     let Ok(own) = shared.split(pass) else {
         unreachable!()

@@ -1,0 +1,12 @@
+-- The words of the command.
+use Rattle.std.specs.Prelude.{◌≡◌, ℕ, ◌*◌, ◌≤◌, List, [], ◌∷◌, map, codes, decimal, String}
+use Rattle.std.specs.String.{string_bytes}
+
+-- the words are `threads`, the number of senders and the number of messages of each, within their bounds
+pub record AsksThreads {A : Type 0} (words : List (String A)) (n m : ℕ) : Type 0 where
+  pub words : map string_bytes words ≡ codes "threads" ∷ decimal n ∷ decimal m ∷ []
+  pub some_senders : 1 ≤ n
+  pub senders : n ≤ 64
+  pub some_messages : 1 ≤ m
+  pub messages : m ≤ 10000
+  pub all : n * m ≤ 65536
