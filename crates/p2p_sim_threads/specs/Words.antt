@@ -4,7 +4,7 @@ use Rattle.std.specs.String.{string_bytes}
 
 -- the words are `threads`, the number of senders and the number of messages of each, within their bounds
 pub record AsksThreads {A : Type 0} (words : List (String A)) (n m : ℕ) : Type 0 where
-  pub words : map string_bytes words ≡ codes "threads" ∷ decimal n ∷ decimal m ∷ []
+  pub says : map string_bytes words ≡ codes "threads" ∷ decimal n ∷ decimal m ∷ []
   pub some_senders : 1 ≤ n
   pub senders : n ≤ 64
   pub some_messages : 1 ≤ m
