@@ -9,7 +9,8 @@ returns-in-Ok-clause-ok c =
     let script = c.in_ok-configs.script in
     let world = c.in_ok-world.world in
     let ran : HasRunScript configs script world =
-    subst (λ l. HasRunScript configs l world) c.as_slice.ensures c.in_ok-world.ensures.ran
+    subst (λ l. HasRunScript configs l world) c.as_slice-2.ensures
+    (subst (λ l. HasRunScript l c.as_slice-2.result.now world) c.as_slice.ensures c.in_ok-world.ensures.ran)
     in
     record {
       script = (configs, script);
