@@ -1,6 +1,6 @@
 //! The words of the command.
-ghost use Rattle.std.specs.Prelude.{◌≡◌, ◌<◌, ◌^◌, ℕ, decimal, IfSome, IfNone};
-ghost use Rattle.p2p_sim_threads.specs.Words.{AsksThreads};
+ghost use Rattle.std.specs.Prelude.{◌≡◌, ◌<◌, ◌^◌, ℕ, decimal, ◌↔◌, IfSome, IfNone, IsTrue};
+ghost use Rattle.p2p_sim_threads.specs.Words.{AsksThreads, AreWithin};
 
 use itoa::Buffer;
 
@@ -18,13 +18,21 @@ fn number_of(word: &str) -> Option<u32>
     ensures some { IfSome result (λ n. word.now ≡ decimal n) }
     ensures none { IfNone result ((n : ℕ) → n < 2 ^ 32 → ¬ (word.now ≡ decimal n)) }
 {
-    let number: u32 = word.parse().ok()?;
+    let Ok(number) = word.parse::<u32>() else {
+        return None;
+    };
     let mut buffer = Buffer::new();
-    if buffer.format(number) == word {
-        Some(number)
-    } else {
-        None
+    if buffer.format(number) != word {
+        return None;
     }
+    Some(number)
+}
+
+// Whether so many senders may send so many messages each.
+fn is_within(n: u32, m: u32) -> bool
+    ensures { IsTrue result ↔ AreWithin n m }
+{
+    n >= 1 && n <= SENDERS && m >= 1 && m <= NUMBERS && n * m <= MESSAGES
 }
 
 /// How many senders, and how many messages of each, the words `threads N M` ask for. `None` of any other words.
@@ -38,9 +46,13 @@ pub fn asked(words: &[String]) -> Option<(u32, u32)>
     if command.as_str() != "threads" {
         return None;
     }
-    let n = number_of(senders.as_str())?;
-    let m = number_of(numbers.as_str())?;
-    if n < 1 || n > SENDERS || m < 1 || m > NUMBERS || n * m > MESSAGES {
+    let Some(n) = number_of(senders.as_str()) else {
+        return None;
+    };
+    let Some(m) = number_of(numbers.as_str()) else {
+        return None;
+    };
+    if !is_within(n, m) {
         return None;
     }
     Some((n, m))
