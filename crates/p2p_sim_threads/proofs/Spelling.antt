@@ -25,3 +25,13 @@ one_asked ws x y z n m k l three spells spells2 small small2 asks =
 
 pub asks_for : {A : Type 0} (ws : List (String A)) (x y z : String A) (n m : ℕ) → ws ≡ x ∷ y ∷ z ∷ [] → string_bytes x ≡ codes "threads" → string_bytes y ≡ decimal n → string_bytes z ≡ decimal m → AreWithin n m → AsksThreads ws n m
 asks_for ws x y z n m three command spells spells2 within = record { says = ap (map string_bytes) three ∙ cc (command, spells, spells2); within = within }
+
+-- the words ask for one pair of numbers
+pub same_asked : {A : Type 0} (ws : List (String A)) (n m k l : ℕ) → AsksThreads ws n m → AsksThreads ws k l → (n ≡ k) × (m ≡ l)
+same_asked ws n m k l one two =
+    let says : codes "threads" ∷ decimal n ∷ decimal m ∷ [] ≡ codes "threads" ∷ decimal k ∷ decimal l ∷ [] = sym one.says ∙ two.says in
+    let first : decimal n ≡ decimal k = cc (says) in
+    let second : decimal m ≡ decimal l = cc (says) in
+    let a = one.within in
+    let b = two.within in
+    (decimal_injective n k (omega (arith, a.senders)) (omega (arith, b.senders)) first, decimal_injective m l (omega (arith, a.messages)) (omega (arith, b.messages)) second)
