@@ -16,7 +16,15 @@ fn main(rt: HostRuntime) -> ExitCode {
             let mut source = StdSource::new(rt.stdin());
             let mut sink = StdSink::new(rt.stdout());
             let mut end = None;
-            p2p_sim(&rt, rt.alloc(), &words, &mut source, &mut sink, &mut end, &NoGate)
+            p2p_sim(
+                &rt,
+                rt.alloc(),
+                &words,
+                &mut source,
+                &mut sink,
+                &mut end,
+                &NoGate,
+            )
         }
         Err(status) => status,
     };

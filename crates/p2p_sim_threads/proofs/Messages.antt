@@ -63,25 +63,28 @@ filter-rising t (x ∷ h) k high es w at = step (filter-rising t h) (t x) refl e
   where
     shifted : (fs : Made) → ((j : ℕ) → entry_at fs (k + suc j) ≡ passed t (slice_get h j)) → (j : ℕ) → entry_at fs ((k + 1) + j) ≡ passed t (slice_get h j)
     shifted fs all j = let e : (k + 1) + j ≡ k + suc j = omega arith in ap (λ (p : ℕ). entry_at fs p) e ∙ all j
+
     first : (fs : Made) → ((j : ℕ) → entry_at fs (k + j) ≡ passed t (slice_get (x ∷ h) j)) → entry_at fs k ≡ cond (t x) (Some x) None
     first fs all = let e : k ≡ k + 0 = omega arith in ap (λ (p : ℕ). entry_at fs p) e ∙ all 0
+
     later : (gs : Made) → RisesWithin k gs high → entry_at gs k ≡ None → RisesWithin (k + 1) gs (high + 1)
     later [] r none = omega (arith, r)
     later (g ∷ gs) r none = dite (ℕ_discrete g.0 k)
         (λ same. absurd (some_none g.1 (sym (entry-first g gs) ∙ (ap (λ (p : ℕ). entry_at (g ∷ gs) p) same ∙ none))))
         (λ ne. (omega (arith, r.0, ne), within-wider (g.0 + 1) high (high + 1) gs r.1 (omega arith)))
+
     step : ((l top : ℕ) (fs : Made) → RisesWithin l fs top → ((j : ℕ) → entry_at fs (l + j) ≡ passed t (slice_get h j)) → filter t h ≡ map (λ e. e.1) fs) → (b : Bool) → t x ≡ b → (fs : Made) → RisesWithin k fs high → ((j : ℕ) → entry_at fs (k + j) ≡ passed t (slice_get (x ∷ h) j)) → cond (t x) (x ∷ filter t h) (filter t h) ≡ map (λ e. e.1) fs
     step on true is [] rises all = absurd (some_none x (sym (first [] all ∙ ap (λ b. cond b (Some x) None) is)))
     step on true is (e ∷ fs) rises all = dite (ℕ_discrete e.0 k)
         (λ same.
-            let found : Some e.1 ≡ Some x = sym (entry-first e fs) ∙ (ap (λ (p : ℕ). entry_at (e ∷ fs) p) same ∙ (first (e ∷ fs) all ∙ ap (λ b. cond b (Some x) None) is)) in
-            let one : e.1 ≡ x = some_same e.1 x found in
-            let more : RisesWithin (k + 1) fs high = subst (λ (p : ℕ). RisesWithin (p + 1) fs high) same rises.1 in
-            let next = on (k + 1) high fs more (shifted fs (λ j. sym (entry-after e fs (k + suc j) (omega (arith, same))) ∙ all (suc j))) in
-            ap (λ b. cond b (x ∷ filter t h) (filter t h)) is ∙ (ap (λ w. x ∷ w) next ∙ ap (λ w. w ∷ map (λ (d : Entry). d.1) fs) (sym one)))
+        let found : Some e.1 ≡ Some x = sym (entry-first e fs) ∙ (ap (λ (p : ℕ). entry_at (e ∷ fs) p) same ∙ (first (e ∷ fs) all ∙ ap (λ b. cond b (Some x) None) is)) in
+        let one : e.1 ≡ x = some_same e.1 x found in
+        let more : RisesWithin (k + 1) fs high = subst (λ (p : ℕ). RisesWithin (p + 1) fs high) same rises.1 in
+        let next = on (k + 1) high fs more (shifted fs (λ j. sym (entry-after e fs (k + suc j) (omega (arith, same))) ∙ all (suc j))) in
+        ap (λ b. cond b (x ∷ filter t h) (filter t h)) is ∙ (ap (λ w. x ∷ w) next ∙ ap (λ w. w ∷ map (λ (d : Entry). d.1) fs) (sym one)))
         (λ ne.
-            let none : entry_at (e ∷ fs) k ≡ None = entry-before (e.0) high k (e ∷ fs) (omega arith, rises.1) (omega (arith, rises.0, ne)) in
-            absurd (some_none x (sym (sym none ∙ (first (e ∷ fs) all ∙ ap (λ b. cond b (Some x) None) is)))))
+        let none : entry_at (e ∷ fs) k ≡ None = entry-before (e.0) high k (e ∷ fs) (omega arith, rises.1) (omega (arith, rises.0, ne)) in
+        absurd (some_none x (sym (sym none ∙ (first (e ∷ fs) all ∙ ap (λ b. cond b (Some x) None) is)))))
     step on false is fs rises all =
         let none : entry_at fs k ≡ None = first fs all ∙ ap (λ b. cond b (Some x) None) is in
         ap (λ b. cond b (x ∷ filter t h) (filter t h)) is ∙ on (k + 1) (high + 1) fs (later fs rises none) (shifted fs (λ j. all (suc j)))
@@ -179,12 +182,13 @@ find_part low high m i sender (suc count) [] each le lt once = absurd each
 find_part low high m i sender (suc count) (q ∷ qs) each le lt once = dite (ℕ_discrete sender i)
     (λ same. (q, subst (λ (k : ℕ). AreCallsOf k m low high q) same each.0, λ p. sym (ap (passed (is_of i)) (entry-both q (joined qs) p) ∙ own same p (entry_at q p) refl)))
     (λ ne.
-        let r = find_part low high m i (sender + 1) count qs each.1 (omega (arith, le, ne)) (omega (arith, lt)) (λ p. let t = times-append p q (joined qs) in let o = once p in omega arith) in
-        (r.0, r.1, λ p. sym (ap (passed (is_of i)) (entry-both q (joined qs) p) ∙ more ne r.0 r.2 p (entry_at q p) refl)))
+    let r = find_part low high m i (sender + 1) count qs each.1 (omega (arith, le, ne)) (omega (arith, lt)) (λ p. let t = times-append p q (joined qs) in let o = once p in omega arith) in
+    (r.0, r.1, λ p. sym (ap (passed (is_of i)) (entry-both q (joined qs) p) ∙ more ne r.0 r.2 p (entry_at q p) refl)))
   where
     own : sender ≡ i → (p : ℕ) (o : Option Call) → entry_at q p ≡ o → passed (is_of i) (or_else o (entry_at (joined qs) p)) ≡ entry_at q p
     own same p None is = others-pass i low high (sender + 1) p (replicate count m) qs each.1 (omega (arith, same)) ∙ sym is
     own same p (Some e) is = ap (λ b. cond b (Some e) None) (own_call i e.0 (subst (λ (k : ℕ). IsCallOf k e.0) same (entry-of sender q p e (part-each sender m low high q each.0) is))) ∙ sym is
+
     more : sender ≢ i → (part : Made) → ((p : ℕ) → entry_at part p ≡ passed (is_of i) (entry_at (joined qs) p)) → (p : ℕ) (o : Option Call) → entry_at q p ≡ o → passed (is_of i) (or_else o (entry_at (joined qs) p)) ≡ entry_at part p
     more ne part at p None is = sym (at p)
     more ne part at p (Some e) is =

@@ -7,14 +7,13 @@ ghost use Rattle.p2p_sim_command.specs.declared.status.Status.TheVariants as sta
 ghost use Rattle.p2p_sim_threads.specs.Text.{thread_text};
 
 use crate::running::run;
+pub use crate::words::asked as asks_threads;
 use p2p_runtime::{Sink, write_all};
 use p2p_sim_command::Status;
 use p2p_threads_shared::Gate;
 use std::alloc::Global;
 use std::sync::Wait;
 use std::thread::Threads;
-
-pub use crate::words::asked as asks_threads;
 
 /// Runs `n` sender threads of `m` messages each, and writes a line for each sender: how many calls it made, and the
 /// numbers that were taken of it.

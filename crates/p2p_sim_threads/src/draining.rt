@@ -6,10 +6,7 @@ use p2p_threads_shared::Numbered;
 use std::alloc::{AllocError, Global};
 
 /// All messages of a mailbox, in order.
-pub fn drained(
-    alloc: Global,
-    mailbox: Mailbox<Numbered>,
-) -> Result<Vec<Numbered>, AllocError>
+pub fn drained(alloc: Global, mailbox: Mailbox<Numbered>) -> Result<Vec<Numbered>, AllocError>
     ensures { IfOk result (λ v. v.items ≡ mailbox.items) }
 {
     let mut mailbox = mailbox;

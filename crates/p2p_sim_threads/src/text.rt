@@ -45,12 +45,7 @@ fn put_numbers(out: &mut String, numbers: &[u32]) -> Result<(), AllocError>
 }
 
 // The line of a sender.
-fn put_line(
-    out: &mut String,
-    calls: u32,
-    sender: u32,
-    taken: &[u32],
-) -> Result<(), AllocError>
+fn put_line(out: &mut String, calls: u32, sender: u32, taken: &[u32]) -> Result<(), AllocError>
     ensures { OnOk result (string_bytes out.new ≡ line_onto (string_bytes out.old) calls sender taken.now) }
 {
     put(out, "{\"calls\":")?;
@@ -77,12 +72,7 @@ fn taken(alloc: Global, messages: &[Numbered], of: u32) -> Result<Vec<u32>, Allo
 }
 
 // A line for each of `n` senders, with what was taken of it.
-fn lines(
-    alloc: Global,
-    messages: &[Numbered],
-    n: u32,
-    m: u32,
-) -> Result<String, AllocError>
+fn lines(alloc: Global, messages: &[Numbered], n: u32, m: u32) -> Result<String, AllocError>
     ensures { IfOk result (λ text. string_bytes text ≡ taken_onto [] messages.now n m) }
 {
     let mut out = String::new(alloc);
@@ -94,12 +84,7 @@ fn lines(
 }
 
 /// The text of the command, where the messages are all that `n` senders sent of `m` each.
-pub fn text_of(
-    alloc: Global,
-    messages: &[Numbered],
-    n: u32,
-    m: u32,
-) -> Result<String, AllocError>
+pub fn text_of(alloc: Global, messages: &[Numbered], n: u32, m: u32) -> Result<String, AllocError>
     requires { HaveAll n m messages.now }
     ensures { IfOk result (λ text. string_bytes text ≡ thread_text n m) }
 {

@@ -60,14 +60,13 @@ ended-joined low high sender n (p ∷ q ∷ ps) e each = absurd each.1
 
 ended-each : (low high top sender n : ℕ) (ps : List Made) (e : Entry) → AreParts low high sender (n ∷ []) ps → high ≤ e.0 → e.0 + 1 ≤ top → e.1.0 ≡ Enqueue (record { sender = sender; number = n }) → AreParts low top sender ((n + 1) ∷ []) (ended_with ps e)
 ended-each low high top sender n [] e each le room is = absurd each
-ended-each low high top sender n (p ∷ []) e each le room is =
-    (
-      record {
-        calls = map-more (λ (d : Entry). d.1.0) p e ∙ (ap (λ w. w ++ e.1.0 ∷ []) each.0.calls ∙ (ap (λ c. numbers_of sender n ++ c ∷ []) is ∙ ap (λ (k : ℕ). numbers_of sender k) (one_after n)));
-        rises = within-more low high top p e each.0.rises le room;
-      },
-      tt,
-    )
+ended-each low high top sender n (p ∷ []) e each le room is = (
+  record {
+    calls = map-more (λ (d : Entry). d.1.0) p e ∙ (ap (λ w. w ++ e.1.0 ∷ []) each.0.calls ∙ (ap (λ c. numbers_of sender n ++ c ∷ []) is ∙ ap (λ (k : ℕ). numbers_of sender k) (one_after n)));
+    rises = within-more low high top p e each.0.rises le room;
+  },
+  tt,
+)
 ended-each low high top sender n (p ∷ q ∷ ps) e each le room is = absurd each.1
 
 -- one call more

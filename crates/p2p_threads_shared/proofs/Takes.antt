@@ -28,8 +28,8 @@ module _ {T : Type 0} where
 
   -- what an enqueue adds is what it was told that it kept
   enqueue_keeps : (k : Keep) (items : List T) (capacity : ℕ) (closed room : Bool) (m : T) → k ≢ keep.Replace
-    → room ≡ nat_lt (length items) capacity
-    → items ++ accepted (Enqueue m) (told_of (enqueue_answer k (queue_of items capacity closed) m)) ≡ taken (told_of (enqueue_answer k (queue_of items capacity closed) m)) ++ (enqueued k (queue_of items capacity closed) m).items
+      → room ≡ nat_lt (length items) capacity
+      → items ++ accepted (Enqueue m) (told_of (enqueue_answer k (queue_of items capacity closed) m)) ≡ taken (told_of (enqueue_answer k (queue_of items capacity closed) m)) ++ (enqueued k (queue_of items capacity closed) m).items
   enqueue_keeps k items capacity true room m never is = append-nil items
   enqueue_keeps k items capacity false true m never is = rw (sym is) refl
   enqueue_keeps keep.Refuse items capacity false false m never is = rw (sym is) (append-nil items)
@@ -38,7 +38,7 @@ module _ {T : Type 0} where
 
   -- one call
   one_call : (f : T → Keep) (items : List T) (capacity : ℕ) (closed : Bool) (c : MailboxCall T) → NeverReplaces f
-    → items ++ accepted c (mailbox_reply f (queue_of items capacity closed) c) ≡ taken (mailbox_reply f (queue_of items capacity closed) c) ++ (mailbox_next f (queue_of items capacity closed) c).items
+      → items ++ accepted c (mailbox_reply f (queue_of items capacity closed) c) ≡ taken (mailbox_reply f (queue_of items capacity closed) c) ++ (mailbox_next f (queue_of items capacity closed) c).items
   one_call f items capacity closed (Enqueue m) never = enqueue_keeps (f m) items capacity closed (nat_lt (length items) capacity) m (never m) refl
   one_call f [] capacity closed Take never = refl
   one_call f (x ∷ xs) capacity closed Take never = ap (λ w. x ∷ w) (append-nil xs)

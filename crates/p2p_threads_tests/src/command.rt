@@ -33,7 +33,8 @@ fn answered<R: Threads + Wait + Sync, G: Gate>(
     Ok((status, held))
 }
 
-const TWO_LINES: &[u8] = b"{\"calls\":3,\"sender\":0,\"taken\":[0,1,2]}\n{\"calls\":3,\"sender\":1,\"taken\":[0,1,2]}\n";
+const TWO_LINES: &[u8] =
+    b"{\"calls\":3,\"sender\":0,\"taken\":[0,1,2]}\n{\"calls\":3,\"sender\":1,\"taken\":[0,1,2]}\n";
 
 #[test]
 fn two_senders_have_a_line_each(rt: HostRuntime) -> Result<(), Fail> {

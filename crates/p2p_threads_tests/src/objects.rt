@@ -32,7 +32,10 @@ fn a_shared_limiter_counts_each_check(rt: HostRuntime) -> Result<(), Fail> {
     let Some(quota) = Quota::new(1, 10) else {
         return Err(Fail::new("quota"));
     };
-    assert_eq!(rt; two_checks(&rt, rt.alloc(), quota), Ok([(0, Ok(())), (1, Err(15))]));
+    assert_eq!(rt;
+        two_checks(&rt, rt.alloc(), quota),
+        Ok([(0, Ok(())), (1, Err(15))])
+    );
     Ok(())
 }
 

@@ -32,7 +32,10 @@ fn the_second_of_two_senders_is_rejected(rt: HostRuntime) -> Result<(), Fail> {
     let [(first, told), (second, told_second)] = history.as_slice() else {
         return Err(Fail::new("two calls"));
     };
-    assert_eq!(rt; (*told, *told_second), (MailboxReply::Ok, MailboxReply::Rejected));
+    assert_eq!(rt;
+        (*told, *told_second),
+        (MailboxReply::Ok, MailboxReply::Rejected)
+    );
     let taken = mailbox.take();
     assert_eq!(rt; taken.map(MailboxCall::Enqueue), Some(*first));
     assert_eq!(rt; mailbox.take(), None);

@@ -10,8 +10,8 @@ returns-clause-sent g c =
     let back = c.send_from-own.result.0 in
     when_ok c.send_from-own.result.1 c.send_from-own.ensures.sent
     (λ sent.
-        lent_sent 0 _ c.args.pass.now c.in-Ok.own back c.join.new.into sent split.blank.0 split.blank.1
-        (c.join.ensures.made ∙ ap (λ (p : Knows). p.made ++ back.made) split.same) (begins_length _ _ c.join.ensures.begins.1))
+    lent_sent 0 _ c.args.pass.now c.in-Ok.own back c.join.new.into sent split.blank.0 split.blank.1
+    (c.join.ensures.made ∙ ap (λ (p : Knows). p.made ++ back.made) split.same) (begins_length _ _ c.join.ensures.begins.1))
 
 pub returns-clause-begun : goal.returns-clause-begun
 returns-clause-begun g c =
