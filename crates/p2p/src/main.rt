@@ -1,11 +1,13 @@
-//! The program: reads a script from standard input, runs it and writes the report to standard output.
+//! The program: runs a script from standard input or sender threads, and writes to standard output what came of it.
 #![tactic(auto)]
 
+mod gate;
 mod words;
 
+use crate::gate::NoGate;
 use crate::words::words_of;
 use p2p_runtime::{StdSink, StdSource};
-use p2p_sim::sim;
+use p2p_sim::p2p_sim;
 use std::process::ExitCode;
 
 fn main(rt: HostRuntime) -> ExitCode {
@@ -14,7 +16,15 @@ fn main(rt: HostRuntime) -> ExitCode {
             let mut source = StdSource::new(rt.stdin());
             let mut sink = StdSink::new(rt.stdout());
             let mut end = None;
-            sim(rt.alloc(), &words, &mut source, &mut sink, &mut end)
+            p2p_sim(
+                &rt,
+                rt.alloc(),
+                &words,
+                &mut source,
+                &mut sink,
+                &mut end,
+                &NoGate,
+            )
         }
         Err(status) => status,
     };

@@ -1,6 +1,7 @@
 pub mod Draws
 pub mod Ends
 pub mod MemoryBytes
+pub mod QuotaCheck
 pub mod QuotaKept
 pub mod QuotaKeys
 pub mod QuotaLaw

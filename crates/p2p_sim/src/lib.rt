@@ -2,7 +2,9 @@
 #![tactic(auto)]
 
 mod network;
+mod program;
 mod top;
 
 pub use crate::network::Network;
+pub use crate::program::p2p_sim;
 pub use crate::top::sim;

@@ -1,5 +1,5 @@
 //! The shared object, and what a caller of it carries.
-ghost use Rattle.std.specs.Prelude.{◌≡◌, ℕ, ◌+◌, ◌<◌, ◌≤◌, [], ◌∷◌, ◌++◌, length, slice_get, Some, IfOk, IfErr, OnErr, IsOk};
+ghost use Rattle.std.specs.Prelude.{◌≡◌, ℕ, ◌+◌, ◌<◌, ◌≤◌, [], ◌∷◌, ◌++◌, length, vec_len, slice_get, Some, IfOk, IfErr, OnErr, IsOk};
 ghost use mathlib.Core.List.{IsPrefix};
 ghost use Rattle.p2p_threads.specs.Account.{IsMadeBy, IsAlike};
 ghost use Rattle.p2p_threads.specs.History.{after, Replays, longer, IsEachOnce, entry_at};
@@ -129,6 +129,7 @@ impl<T: Served> Shared<T> {
         ensures replays { IfOk result (λ r. Replays T.reply T.next self.first r.1.items) }
         ensures seen { IfOk result (λ r. IsPrefix pass.seen r.1.items) }
         ensures made { IfOk result (λ r. (p : ℕ) → entry_at pass.made p ≡ slice_get r.1.items p) }
+        ensures whole { IfOk result (λ r. vec_len r.1 ≤ length pass.made) }
         ensures same { IfErr result (λ o. (o.0 ≡ self) × IsAlike pass o.1 × (o.1.made ≡ pass.made)) }
         ensures history { IfErr result (λ o. IsPrefix pass.seen o.1.seen × Replays T.reply T.next self.first o.1.seen) }
         ensures more { IfErr result (λ o. length pass.made < length o.1.seen) }

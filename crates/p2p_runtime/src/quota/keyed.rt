@@ -2,6 +2,7 @@
 ghost use Rattle.std.specs.Prelude.{◌≡◌, ℕ, max, List, [], is_ok, IfOk, IfErr, OnOk, OnErr};
 ghost use Rattle.p2p_runtime.specs.QuotaLaw.{admits, retry};
 ghost use Rattle.p2p_runtime.specs.QuotaKeys.{StandsForEach, with_admission, KeepsOnlyRecent};
+ghost use Rattle.p2p_runtime.specs.QuotaCheck.{check_answer, after_check};
 
 use super::Quota;
 use super::arrival::check_arrival;
@@ -52,6 +53,8 @@ impl<K: Ord + Copy> KeyedRateLimiter<K> {
     /// The outer `Err` is want of memory for a key of which nothing is kept: then the limiter is
     /// as it was before.
     pub fn check_key(&mut self, key: &K, now: u64) -> Result<Result<(), u128>, AllocError>
+        ensures answer { IfOk result (λ answer. answer ≡ check_answer K.cmp self.old key.now now) }
+        ensures after { OnOk result (self.new ≡ after_check K.cmp self.old key.now now) }
         ensures rate { self.new.rate ≡ self.old.rate }
         ensures law { (past : K → List ℕ) (latest : ℕ) → StandsForEach K.cmp self.old past latest →
             IfOk result (λ answer. is_ok answer ≡ admits self.old.rate (past key.now) (max latest now)) }

@@ -1,0 +1,5 @@
+pub mod Limiter
+pub mod Mailbox
+pub mod Messenger
+pub mod Sending
+pub mod Takes
