@@ -2,4 +2,6 @@
 #![tactic(auto)]
 
 #[cfg(test)]
+mod refusing;
+#[cfg(test)]
 mod shared;

@@ -1,6 +1,6 @@
 //! `Metadata`, who is reserved and which side began.
 ghost use Rattle.std.specs.Prelude.{◌≡◌};
-ghost use Rattle.p2p_tracker_mailbox.specs.Reserved.{peer_of};
+ghost use Rattle.p2p_tracker_directory.specs.Reserved.{peer_of};
 
 /// The peer of a reservation, and which side began its connection.
 ///

@@ -3,7 +3,7 @@ ghost use Rattle.std.specs.Prelude.{◌≡◌, ◌<◌, length, slice_get, IfOk,
 ghost use Rattle.p2p_flow.specs.Provided.{answer_of};
 ghost use Rattle.p2p_tracker_mailbox.specs.Desk.{told_of, asked, question_at, answer_taken, subscribed, updates_at, update_taken, blocked_subscribed, set_of, set_taken};
 
-use super::Mailbox;
+use super::Desk;
 use super::putting::put_last;
 use crate::Message;
 use crate::question::Question;
@@ -12,7 +12,7 @@ use p2p_base::{Feedback, PublicKey, Set};
 use p2p_flow::{PeerSetUpdate, Polled, TrackedPeers};
 use std::alloc::AllocError;
 
-impl<P: PublicKey> Mailbox<P> {
+impl<P: PublicKey> Desk<P> {
     // Asks for the peers of the set with this index. Gives the number of the question.
     pub(crate) fn ask(&mut self, index: u64) -> Result<(u64, Feedback), AllocError>
         ensures number { IfOk result (λ r. r.0 ≡ length self.old.questions) }

@@ -1,4 +1,4 @@
-//! How a message enters the tracker's mailbox.
+//! How a message enters the tracker's queue.
 ghost use Rattle.std.specs.Prelude.{◌≡◌, IfOk, OnOk, OnErr};
 ghost use Rattle.p2p_base.specs.Queue.{enqueued};
 ghost use Rattle.p2p_base.specs.declared.policy.Keep.TheVariants.{Append};
