@@ -63,10 +63,7 @@ fn three_calls(
 }
 
 // What the calls are told, and whether the history is that of the two that were served.
-fn called(
-    rt: &impl Wait,
-    alloc: Global,
-) -> Result<Option<([(u64, u64); 2], bool)>, AllocError> {
+fn called(rt: &impl Wait, alloc: Global) -> Result<Option<([(u64, u64); 2], bool)>, AllocError> {
     let balky = Balky {
         sum: 0,
         has_refused: false,

@@ -18,6 +18,6 @@ pub use answer::{DialerAnswer, HandshakeAnswer};
 pub use desk::Desk;
 pub use mailbox::Mailbox;
 pub use message::Message;
-pub use p2p_tracker_directory::Metadata;
 pub use oracle::Oracle;
+pub use p2p_tracker_directory::Metadata;
 pub use waiting::Waiting;

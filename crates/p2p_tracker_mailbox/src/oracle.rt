@@ -63,11 +63,7 @@ impl<P: PublicKey> Provider for Oracle<P> {
         way.ask(id)
     }
 
-    fn poll_peer_set(
-        &mut self,
-        way: &mut Desk<P>,
-        ticket: u64,
-    ) -> Polled<Option<TrackedPeers<P>>> {
+    fn poll_peer_set(&mut self, way: &mut Desk<P>, ticket: u64) -> Polled<Option<TrackedPeers<P>>> {
         way.take_answer(ticket)
     }
 
@@ -118,21 +114,12 @@ impl<P: PublicKey> Blocker for Oracle<P> {
 
     ghost after_poll_blocked = { λ _ d n. set_taken d n };
 
-    fn block(
-        &mut self,
-        alloc: Global,
-        way: &mut Desk<P>,
-        peer: P,
-    ) -> Result<Feedback, AllocError> {
+    fn block(&mut self, alloc: Global, way: &mut Desk<P>, peer: P) -> Result<Feedback, AllocError> {
         let _ = alloc;
         way.put(Message::Block { public_key: peer })
     }
 
-    fn blocked(
-        &mut self,
-        alloc: Global,
-        way: &mut Desk<P>,
-    ) -> Result<(u64, Feedback), AllocError> {
+    fn blocked(&mut self, alloc: Global, way: &mut Desk<P>) -> Result<(u64, Feedback), AllocError> {
         let _ = alloc;
         way.subscribe_blocked()
     }

@@ -1,4 +1,5 @@
 //! What the dialer, a handshake and the listener find after a step.
+ghost use Rattle.std.specs.Prelude.{◌≡◌};
 ghost use Rattle.p2p_tracker_mailbox.specs.Mailboxes.{new_mailbox};
 
 use crate::tracker::{only, tracker};
@@ -101,6 +102,9 @@ fn listened_twice(alloc: Global) -> Result<[Option<(u64, bool)>; 2], Fail> {
 
 #[test]
 fn a_held_peer_is_taken_up_once(rt: HostRuntime) -> Result<(), Fail> {
-    assert_eq!(rt; listened_twice(rt.alloc())?, [Some((5, true)), Some((6, false))]);
+    assert_eq!(rt;
+        listened_twice(rt.alloc())?,
+        [Some((5, true)), Some((6, false))]
+    );
     Ok(())
 }

@@ -1,4 +1,5 @@
 //! What those who ask by an oracle find after a step.
+ghost use Rattle.std.specs.Prelude.{◌≡◌};
 ghost use Rattle.p2p_tracker_mailbox.specs.Mailboxes.{new_mailbox};
 
 use crate::tracker::{only, tracker};

@@ -24,7 +24,11 @@ impl<P: PublicKey> Desk<P> {
     // Puts an update for a subscription, behind those that wait for it. Where there is no such subscription it is dropped.
     //
     // `Err` only where memory runs out. The update is dropped then, and the mailbox stays as it was.
-    pub(crate) fn put_update(&mut self, ticket: u64, update: PeerSetUpdate<P>) -> Result<(), AllocError>
+    pub(crate) fn put_update(
+        &mut self,
+        ticket: u64,
+        update: PeerSetUpdate<P>,
+    ) -> Result<(), AllocError>
         ensures after { OnOk result (self.new ≡ with_update self.old ticket update) }
         ensures memory { OnErr result (self.new ≡ self.old) }
     {

@@ -6,9 +6,9 @@ mod answering;
 mod asking;
 mod putting;
 
+use crate::Message;
 use crate::question::Question;
 use crate::waiting::Waiting;
-use crate::Message;
 use p2p_base::{Feedback, Mailbox as Queue, PublicKey, Set};
 use p2p_flow::PeerSetUpdate;
 use putting::put_last;
