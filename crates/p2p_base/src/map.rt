@@ -1,5 +1,5 @@
 //! `Map`, values under keys in order.
-ghost use Rattle.std.specs.Prelude.{◌≡◌, ◌==◌, ◌&&◌, length, position, true, false, Err, IfOk, OnOk};
+ghost use Rattle.std.specs.Prelude.{◌≡◌, ◌==◌, ◌&&◌, [], length, position, true, false, Err, IfOk, OnOk};
 ghost use Rattle.std.specs.Option.{option_copied};
 ghost use Rattle.std.specs.List.{AllZip};
 ghost use Rattle.std.specs.List.Sorted.{IsStrictlySortedBy};
@@ -12,7 +12,7 @@ ghost use Rattle.p2p_base.specs.Sorted.{sorted_once, has_repeat, by_key};
 ghost use Rattle.p2p_base.specs.declared.set_error.SetError.TheVariants as set_error;
 
 use crate::{PublicKey, Set, SetError};
-use std::alloc::AllocError;
+use std::alloc::{AllocError, Global};
 use std::marker::Model;
 
 /// Values under keys in order, each key once.
@@ -39,6 +39,16 @@ impl<P: PublicKey, V> Model for Map<P, V> {
 }
 
 impl<P: PublicKey, V> Map<P, V> {
+    /// An empty map, which takes no memory.
+    pub fn empty(alloc: Global) -> Map<P, V>
+        ensures { result ≡ [] }
+    {
+        Map {
+            keys: Set::empty(alloc),
+            values: Vec::new(alloc),
+        }
+    }
+
     /// The values of `pairs` under their keys, each of which stands there once.
     ///
     /// `Duplicate` comes exactly where a key repeats, and `Memory` of want of memory.

@@ -29,23 +29,14 @@ impl<P: PublicKey> AddressableTrackedPeers<P> {
         AddressableTrackedPeers { primary, secondary }
     }
 
-    /// These primary peers, and no secondary one.
-    ///
-    /// `Err` only where memory runs out; the peers are dropped then.
+    /// These primary peers, and no secondary one. It takes no memory.
     ///
     /// Ports `AddressableTrackedPeers::primary` of commonware-p2p, and its `From<Map<P, Address>>`.
-    pub fn primary(
-        alloc: Global,
-        primary: Map<P, Address>,
-    ) -> Result<AddressableTrackedPeers<P>, AllocError>
-        ensures primary { IfOk result (λ peers. peers.primary ≡ primary) }
-        ensures secondary { IfOk result (λ peers. peers.secondary ≡ []) }
+    pub fn primary(alloc: Global, primary: Map<P, Address>) -> AddressableTrackedPeers<P>
+        ensures primary { result.primary ≡ primary }
+        ensures secondary { result.secondary ≡ [] }
     {
-        // No key repeats in an empty list, so memory alone can be wanting.
-        match Map::try_from(Vec::new(alloc)) {
-            Ok(secondary) => Ok(AddressableTrackedPeers::new(primary, secondary)),
-            Err(_) => Err(AllocError),
-        }
+        AddressableTrackedPeers::new(primary, Map::empty(alloc))
     }
 
     /// Equal peers. `Err` only where memory runs out.

@@ -9,6 +9,8 @@ mod gates;
 #[cfg(test)]
 mod objects;
 #[cfg(test)]
+mod refusing;
+#[cfg(test)]
 mod senders;
 #[cfg(test)]
 mod shared;

@@ -10,7 +10,8 @@ use Rattle.p2p_tracker_calls.specs.Rules.{Rules}
 use Rattle.p2p_tracker_calls.specs.Keeping.{all_connect_by}
 use Rattle.p2p_tracker_mailbox.specs.declared.message.Message.{Message}
 use Rattle.p2p_tracker_mailbox.specs.declared.message.Message.TheVariants as message
-use Rattle.p2p_tracker.specs.Serving.{overwritten, calls_after, calls_by}
+use Rattle.p2p_tracker.specs.Serving.{calls_after, calls_by}
+use Rattle.p2p_tracker_calls.specs.Overwrites.{overwritten}
 use Rattle.p2p_tracker.specs.declared.stepped.Stepped.{Stepped}
 use Rattle.p2p_tracker.specs.declared.stepped.Stepped.TheVariants as stepped
 

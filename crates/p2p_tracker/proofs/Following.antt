@@ -2,7 +2,7 @@
 use Rattle.std.proofs.Common.{◌≡◌, ℕ, zero, suc, ◌+◌, ◌<◌, Bool, true, false, cond, ◌&&◌, ◌||◌, not, List, [], ◌∷◌, length, get_or, take, Option, Some, None, refl, sym, ap, ◌∙◌, subst, arith, add-one}
 use Rattle.std.proofs.lemmas.Bool.{false≢true}
 use Rattle.std.specs.Prelude.{is_some}
-use Rattle.std.specs.Option.{option_map}
+use Rattle.std.specs.Option.{option_map, option_or}
 use Rattle.std.specs.Cmp.{IsTotalOrder}
 use Rattle.std.specs.Map.{lookup}
 use Rattle.std.specs.BTreeMap.{is_at}
@@ -16,7 +16,8 @@ use Rattle.p2p_tracker_calls.specs.Grants.{Grant, is_held}
 use Rattle.p2p_tracker_calls.specs.Blocks.{is_local, is_blocked}
 use Rattle.p2p_tracker_calls.specs.Kills.{is_killed}
 use Rattle.p2p_tracker_calls.specs.Lives.{address_of, last_grant, is_stale, is_connected, is_eligible, accepts, connects, is_overwritten}
-use Rattle.p2p_tracker_calls.specs.Keeping.{is_kept, ends_connection}
+use Rattle.p2p_tracker_calls.specs.Keeping.{begun_by, kept_of, is_kept, ends_connection}
+use Rattle.p2p_tracker_calls.proofs.Eligible.{is_kept-more}
 use Rattle.p2p_tracker_calls.proofs.KeptCalls.{kept-after}
 use Rattle.p2p_tracker_directory.specs.Recorded.{is_reserved_in, is_stale_in, differs_in}
 use Rattle.p2p_tracker_directory.specs.Stands.{Kept, StandsFor, record_of}
@@ -60,14 +61,6 @@ last : (a b : Bool) → (a && b) ≡ true → b ≡ true
 last true b h = h
 last false b h = absurd (false≢true h)
 
-gone : (b : Bool) (o : Option ℕ) → is_some (cond b None o) ≡ (not b && is_some o)
-gone true o = refl
-gone false o = refl
-
-came : (b : Bool) (x : ℕ) (o : Option ℕ) → is_some (cond b (Some x) o) ≡ (b || is_some o)
-came true x o = refl
-came false x o = refl
-
 was : (joins kept lasts : Bool) → joins ≡ false → ((joins || kept) && lasts) ≡ true → kept ≡ true
 was true kept lasts n h = absurd (false≢true (sym n))
 was false true lasts n h = refl
@@ -100,14 +93,44 @@ held_step false cooldown n m held joins stale g None e = absurd (false≢true e)
 held_step false cooldown n m true joins stale g (Some a) e = refl
 held_step false cooldown n m false joins stale g (Some a) e = absurd (false≢true e)
 
+only_some : (o : Option ℕ) → cond (is_some o) o None ≡ o
+only_some None = refl
+only_some (Some n) = refl
+
+ended_once : (b : Bool) (o : Option ℕ) → cond (not b && is_some o) o None ≡ cond b None o
+ended_once true o = refl
+ended_once false o = only_some o
+
+begun_once : (a : Bool) (conn : ℕ) (o : Option ℕ) → cond (a || is_some o) (option_or (cond a (Some conn) None) o) None ≡ cond a (Some conn) o
+begun_once true conn o = refl
+begun_once false conn o = only_some o
+
 module _ {P : Type 0} (cmp : P → P → Ordering) (rules : Rules P) (calls : List (Call P)) (q : P) where
+  kept_by : (c : Call P) → begun_by cmp rules c calls q ≡ None → (b : Bool) → is_kept cmp rules (c ∷ calls) q ≡ b → kept_of cmp rules (c ∷ calls) q ≡ cond b (kept_of cmp rules calls q) None
+  kept_by c n b e =
+      (kept-after cmp rules calls q).begun c
+      ∙ (ap (λ x. cond x (option_or (begun_by cmp rules c calls q) (kept_of cmp rules calls q)) None) e
+      ∙ ap (λ o. cond b (option_or o (kept_of cmp rules calls q)) None) n)
+
+  -- a call that ends nothing, and one that ends the connection of a key
+  kept_same : (c : Call P) → begun_by cmp rules c calls q ≡ None → is_kept cmp rules (c ∷ calls) q ≡ is_kept cmp rules calls q → kept_of cmp rules calls q ≡ kept_of cmp rules (c ∷ calls) q
+  kept_same c n e = sym (kept_by c n (is_kept cmp rules calls q) e ∙ only_some (kept_of cmp rules calls q))
+
+  kept_ended : (c : Call P) → begun_by cmp rules c calls q ≡ None → (b : Bool) → (not b && is_kept cmp rules calls q) ≡ is_kept cmp rules (c ∷ calls) q
+      → cond b None (kept_of cmp rules calls q) ≡ kept_of cmp rules (c ∷ calls) q
+  kept_ended c n b e = sym (kept_by c n (not b && is_kept cmp rules calls q) (sym e) ∙ ended_once b (kept_of cmp rules calls q))
+
+  kept_begun : (p : P) (t conn : ℕ) → cond (is_at (cmp p) q && accepts cmp rules calls q (Some t)) (Some conn) (kept_of cmp rules calls q) ≡ kept_of cmp rules (call.Connect p (Some t) conn ∷ calls) q
+  kept_begun p t conn =
+      sym ((kept-after cmp rules calls q).begun (call.Connect p (Some t) conn)
+      ∙ (ap (λ x. cond x (option_or (begun_by cmp rules (call.Connect p (Some t) conn) calls q) (kept_of cmp rules calls q)) None) ((kept-after cmp rules calls q).connect p t conn)
+      ∙ begun_once (is_at (cmp p) q && accepts cmp rules calls q (Some t)) conn (kept_of cmp rules calls q)))
+
   was_kept : (c : Call P) → connects cmp rules c calls q ≡ false → is_kept cmp rules (c ∷ calls) q ≡ true → is_kept cmp rules calls q ≡ true
-  unfolding is_kept
-  was_kept c n h = was (connects cmp rules c calls q) (is_kept cmp rules calls q) (not (ends_connection cmp rules c calls q)) n h
+  was_kept c n h = was (connects cmp rules c calls q) (is_kept cmp rules calls q) (not (ends_connection cmp rules c calls q)) n (sym (is_kept-more cmp rules c calls q) ∙ h)
 
   connected_or_kept : {Q : Type 0} (c : Call P) → is_kept cmp rules (c ∷ calls) q ≡ true → (connects cmp rules c calls q ≡ true → Q) → (is_kept cmp rules calls q ≡ true → Q) → Q
-  unfolding is_kept
-  connected_or_kept c h f g = joined (connects cmp rules c calls q) (is_kept cmp rules calls q) (not (ends_connection cmp rules c calls q)) h f g
+  connected_or_kept c h f g = joined (connects cmp rules c calls q) (is_kept cmp rules calls q) (not (ends_connection cmp rules c calls q)) (sym (is_kept-more cmp rules c calls q) ∙ h) f g
 
   reserved_held : is_reserved_in (record_of cmp rules calls q) ≡ true → is_held cmp calls q ≡ true
   unfolding record_of own peer
@@ -123,11 +146,11 @@ module _ {P : Type 0} {cmp : P → P → Ordering} where
   -- a call that is no connect
   follows-on : (d e : Kept P) (cs ds : List (P × ℕ)) (calls : List (Call P)) (c : Call P) → e.rules ≡ d.rules → Follows cmp d cs calls → StandsFor cmp e (c ∷ calls)
       → ((q : P) → connects cmp d.rules c calls q ≡ false)
-      → ((q : P) → is_some (lookup (is_at (cmp q)) ds) ≡ is_kept cmp d.rules (c ∷ calls) q)
+      → ((q : P) → lookup (is_at (cmp q)) ds ≡ kept_of cmp d.rules (c ∷ calls) q)
       → Follows cmp e ds (c ∷ calls)
   follows-on d e cs ds calls c r f s n k = record {
     stands = s;
-    exactly = subst (λ (x : Rules P). (q : P) → is_some (lookup (is_at (cmp q)) ds) ≡ is_kept cmp x (c ∷ calls) q) (sym r) k;
+    exactly = subst (λ (x : Rules P). (q : P) → lookup (is_at (cmp q)) ds ≡ kept_of cmp x (c ∷ calls) q) (sym r) k;
     held = subst (λ (x : Rules P). (q : P) → is_kept cmp x (c ∷ calls) q ≡ true → is_held cmp (c ∷ calls) q ≡ true) (sym r)
         (λ q h. (kept-after cmp d.rules calls q).held c (f.held q) (λ j. absurd (false≢true (sym (n q) ∙ j))) h);
     others = subst (λ (x : Rules P). (q : P) → is_kept cmp x (c ∷ calls) q ≡ true → is_local cmp x q ≡ false) (sym r)
@@ -136,30 +159,30 @@ module _ {P : Type 0} {cmp : P → P → Ordering} where
 
   module _ (d e : Kept P) (cs : List (P × ℕ)) (calls : List (Call P)) (r : e.rules ≡ d.rules) (f : Follows cmp d cs calls) where
     pub follows-unblock : (t : ℕ) → StandsFor cmp e (call.UnblockExpired t ∷ calls) → Follows cmp e cs (call.UnblockExpired t ∷ calls)
-    follows-unblock t s = follows-on d e cs cs calls (call.UnblockExpired t) r f s (λ q. refl) (λ q. f.exactly q ∙ sym ((kept-after cmp d.rules calls q).unblock t))
+    follows-unblock t s = follows-on d e cs cs calls (call.UnblockExpired t) r f s (λ q. refl) (λ q. f.exactly q ∙ kept_same cmp d.rules calls q (call.UnblockExpired t) refl ((kept-after cmp d.rules calls q).unblock t))
 
     pub follows-dial : (p : P) (t j : ℕ) (b : Bool) → StandsFor cmp e (call.Dial p t j b ∷ calls) → Follows cmp e cs (call.Dial p t j b ∷ calls)
-    follows-dial p t j b s = follows-on d e cs cs calls (call.Dial p t j b) r f s (λ q. refl) (λ q. f.exactly q ∙ sym ((kept-after cmp d.rules calls q).dial p t j b))
+    follows-dial p t j b s = follows-on d e cs cs calls (call.Dial p t j b) r f s (λ q. refl) (λ q. f.exactly q ∙ kept_same cmp d.rules calls q (call.Dial p t j b) refl ((kept-after cmp d.rules calls q).dial p t j b))
 
     pub follows-listen : (p : P) (t j : ℕ) (b : Bool) → StandsFor cmp e (call.Listen p t j b ∷ calls) → Follows cmp e cs (call.Listen p t j b ∷ calls)
-    follows-listen p t j b s = follows-on d e cs cs calls (call.Listen p t j b) r f s (λ q. refl) (λ q. f.exactly q ∙ sym ((kept-after cmp d.rules calls q).listen p t j b))
+    follows-listen p t j b s = follows-on d e cs cs calls (call.Listen p t j b) r f s (λ q. refl) (λ q. f.exactly q ∙ kept_same cmp d.rules calls q (call.Listen p t j b) refl ((kept-after cmp d.rules calls q).listen p t j b))
 
     -- the set is refused
     pub follows-refused : (index : ℕ) (primary secondary : List (P × Address)) → is_above index (accepted_sets cmp calls) ≡ false
         → StandsFor cmp e (call.Track index primary secondary ∷ calls) → Follows cmp e cs (call.Track index primary secondary ∷ calls)
     follows-refused index primary secondary a s =
-        follows-on d e cs cs calls (call.Track index primary secondary) r f s (λ q. refl) (λ q. f.exactly q ∙ sym ((kept-after cmp d.rules calls q).refused index primary secondary a))
+        follows-on d e cs cs calls (call.Track index primary secondary) r f s (λ q. refl) (λ q. f.exactly q ∙ kept_same cmp d.rules calls q (call.Track index primary secondary) refl ((kept-after cmp d.rules calls q).refused index primary secondary a))
 
     module _ (ds : List (P × ℕ)) where
       pub follows-release : (p : P) → StandsFor cmp e (call.Release p ∷ calls)
           → ((q : P) → lookup (is_at (cmp q)) ds ≡ cond (is_at (cmp p) q) None (lookup (is_at (cmp q)) cs)) → Follows cmp e ds (call.Release p ∷ calls)
       follows-release p s l = follows-on d e cs ds calls (call.Release p) r f s (λ q. refl)
-          (λ q. ap is_some (l q) ∙ gone (is_at (cmp p) q) (lookup (is_at (cmp q)) cs) ∙ ap (λ b. not (is_at (cmp p) q) && b) (f.exactly q) ∙ sym ((kept-after cmp d.rules calls q).release p))
+          (λ q. l q ∙ ap (λ o. cond (is_at (cmp p) q) None o) (f.exactly q) ∙ kept_ended cmp d.rules calls q (call.Release p) refl (is_at (cmp p) q) (sym ((kept-after cmp d.rules calls q).release p)))
 
       pub follows-block : (p : P) (t : ℕ) → StandsFor cmp e (call.Block p t ∷ calls)
           → ((q : P) → lookup (is_at (cmp q)) ds ≡ cond (is_at (cmp p) q) None (lookup (is_at (cmp q)) cs)) → Follows cmp e ds (call.Block p t ∷ calls)
       follows-block p t s l = follows-on d e cs ds calls (call.Block p t) r f s (λ q. refl)
-          (λ q. ap is_some (l q) ∙ gone (is_at (cmp p) q) (lookup (is_at (cmp q)) cs) ∙ ap (λ b. not (is_at (cmp p) q) && b) (f.exactly q) ∙ sym ((kept-after cmp d.rules calls q).block p t))
+          (λ q. l q ∙ ap (λ o. cond (is_at (cmp p) q) None o) (f.exactly q) ∙ kept_ended cmp d.rules calls q (call.Block p t) refl (is_at (cmp p) q) (sym ((kept-after cmp d.rules calls q).block p t)))
 
       -- the set is accepted, and these keys are killed
       pub follows-track : (index : ℕ) (primary secondary : List (P × Address)) (killed : List P) → is_above index (accepted_sets cmp calls) ≡ true
@@ -167,13 +190,12 @@ module _ {P : Type 0} {cmp : P → P → Ordering} where
           → StandsFor cmp e (call.Track index primary secondary ∷ calls)
           → ((q : P) → lookup (is_at (cmp q)) ds ≡ cond (is_among cmp killed q) None (lookup (is_at (cmp q)) cs)) → Follows cmp e ds (call.Track index primary secondary ∷ calls)
       follows-track index primary secondary killed a m s l = follows-on d e cs ds calls (call.Track index primary secondary) r f s (λ q. refl)
-          (λ q. ap is_some (l q) ∙ gone (is_among cmp killed q) (lookup (is_at (cmp q)) cs)
-          ∙ ap (λ b. not b && is_some (lookup (is_at (cmp q)) cs)) (m q)
-          ∙ ap (λ b. not (is_killed cmp d.rules index primary secondary calls q) && b) (f.exactly q)
+          (λ q. l q ∙ ap (λ o. cond (is_among cmp killed q) None o) (f.exactly q)
+          ∙ kept_ended cmp d.rules calls q (call.Track index primary secondary) refl (is_among cmp killed q) (ap (λ b. not b && is_kept cmp d.rules calls q) (m q)
           ∙ killed_step (is_kept cmp d.rules calls q) (is_killed cmp d.rules index primary secondary calls q) (is_kept cmp d.rules (call.Track index primary secondary ∷ calls) q)
           (λ h. (kept-after cmp d.rules calls q).kill index primary secondary a h (f.held q h) (f.others q h))
           (λ h. (kept-after cmp d.rules calls q).track index primary secondary
-          ∙ ap (λ b. (b && not (is_stale cmp d.rules (call.Track index primary secondary ∷ calls) q)) && is_tracked cmp d.rules (call.Track index primary secondary ∷ calls) q) h))
+          ∙ ap (λ b. (b && not (is_stale cmp d.rules (call.Track index primary secondary ∷ calls) q)) && is_tracked cmp d.rules (call.Track index primary secondary ∷ calls) q) h)))
 
 module _ {P : Type 0} {cmp : P → P → Ordering} (o : IsTotalOrder cmp) (d e : Kept P) (cs ds : List (P × ℕ)) (calls : List (Call P)) (r : e.rules ≡ d.rules) (f : Follows cmp d cs calls) where
   overwritten_same : (p q : P) (given : Address) → is_at (cmp p) q ≡ true → is_overwritten cmp d.rules calls p given ≡ is_overwritten cmp d.rules calls q given
@@ -187,12 +209,11 @@ module _ {P : Type 0} {cmp : P → P → Ordering} (o : IsTotalOrder cmp) (d e :
   pub follows-overwrite : (p : P) (given : Address) (b : Bool) → b ≡ is_overwritten cmp d.rules calls p given → StandsFor cmp e (call.Overwrite p given ∷ calls)
       → ((q : P) → lookup (is_at (cmp q)) ds ≡ cond (b && is_at (cmp p) q) None (lookup (is_at (cmp q)) cs)) → Follows cmp e ds (call.Overwrite p given ∷ calls)
   follows-overwrite p given b w s l = follows-on d e cs ds calls (call.Overwrite p given) r f s (λ q. refl)
-      (λ q. ap is_some (l q) ∙ gone (b && is_at (cmp p) q) (lookup (is_at (cmp q)) cs)
-      ∙ ap (λ x. not x && is_some (lookup (is_at (cmp q)) cs)) (turned b (is_at (cmp p) q) (is_overwritten cmp d.rules calls q given) (λ h. w ∙ overwritten_same p q given h))
-      ∙ ap (λ x. not (is_at (cmp p) q && is_overwritten cmp d.rules calls q given) && x) (f.exactly q)
+      (λ q. l q ∙ ap (λ x. cond (b && is_at (cmp p) q) None x) (f.exactly q)
+      ∙ kept_ended cmp d.rules calls q (call.Overwrite p given) refl (b && is_at (cmp p) q) (ap (λ x. not x && is_kept cmp d.rules calls q) (turned b (is_at (cmp p) q) (is_overwritten cmp d.rules calls q given) (λ h. w ∙ overwritten_same p q given h))
       ∙ killed_step (is_kept cmp d.rules calls q) (is_at (cmp p) q && is_overwritten cmp d.rules calls q given) (is_kept cmp d.rules (call.Overwrite p given ∷ calls) q)
       (λ h. (kept-after cmp d.rules calls q).change p given h (f.held q h) (f.others q h) (has_address q h))
-      (λ h. (kept-after cmp d.rules calls q).overwrite p given ∙ ap (λ x. x && not (is_stale cmp d.rules (call.Overwrite p given ∷ calls) q)) h))
+      (λ h. (kept-after cmp d.rules calls q).overwrite p given ∙ ap (λ x. x && not (is_stale cmp d.rules (call.Overwrite p given ∷ calls) q)) h)))
 
   module _ (p : P) (t : ℕ) (reserved : is_eligible cmp d.rules calls p t ≡ true → is_reserved_in (lookup (is_at (cmp p)) d.records) ≡ true) where
     reserved_same : (q : P) → is_at (cmp p) q ≡ true → is_eligible cmp d.rules calls p t ≡ true → is_reserved_in (lookup (is_at (cmp q)) d.records) ≡ true
@@ -212,18 +233,18 @@ module _ {P : Type 0} {cmp : P → P → Ordering} (o : IsTotalOrder cmp) (d e :
         reserved_held cmp d.rules calls q (ap is_reserved_in (sym (f.stands.records q)) ∙ reserved_same q at (eligible-same o f.stands p q t at ∙ eligible_of q h))
 
     -- a connection begins, and is accepted or not
-    pub follows-connect : (b : Bool) → b ≡ accepts cmp d.rules calls p (Some t) → StandsFor cmp e (call.Connect p (Some t) ∷ calls)
-        → ((q : P) → is_some (lookup (is_at (cmp q)) ds) ≡ ((b && is_at (cmp p) q) || is_some (lookup (is_at (cmp q)) cs))) → Follows cmp e ds (call.Connect p (Some t) ∷ calls)
-    follows-connect b w s l = record {
+    pub follows-connect : (conn : ℕ) (b : Bool) → b ≡ accepts cmp d.rules calls p (Some t) → StandsFor cmp e (call.Connect p (Some t) conn ∷ calls)
+        → ((q : P) → lookup (is_at (cmp q)) ds ≡ cond (b && is_at (cmp p) q) (Some conn) (lookup (is_at (cmp q)) cs)) → Follows cmp e ds (call.Connect p (Some t) conn ∷ calls)
+    follows-connect conn b w s l = record {
       stands = s;
-      exactly = subst (λ (x : Rules P). (q : P) → is_some (lookup (is_at (cmp q)) ds) ≡ is_kept cmp x (call.Connect p (Some t) ∷ calls) q) (sym r)
-          (λ q. l q ∙ ap (λ x. x || is_some (lookup (is_at (cmp q)) cs)) (turned b (is_at (cmp p) q) (accepts cmp d.rules calls q (Some t)) (λ h. w ∙ accepts_same q h))
-          ∙ ap (λ x. (is_at (cmp p) q && accepts cmp d.rules calls q (Some t)) || x) (f.exactly q)
-          ∙ sym ((kept-after cmp d.rules calls q).connect p t));
-      held = subst (λ (x : Rules P). (q : P) → is_kept cmp x (call.Connect p (Some t) ∷ calls) q ≡ true → is_held cmp (call.Connect p (Some t) ∷ calls) q ≡ true) (sym r)
-          (λ q h. (kept-after cmp d.rules calls q).held (call.Connect p (Some t)) (f.held q) (held_of q) h);
-      others = subst (λ (x : Rules P). (q : P) → is_kept cmp x (call.Connect p (Some t) ∷ calls) q ≡ true → is_local cmp x q ≡ false) (sym r)
-          (λ q h. connected_or_kept cmp d.rules calls q (call.Connect p (Some t)) h (λ j. other cmp d.rules calls q t (eligible_of q j)) (f.others q));
+      exactly = subst (λ (x : Rules P). (q : P) → lookup (is_at (cmp q)) ds ≡ kept_of cmp x (call.Connect p (Some t) conn ∷ calls) q) (sym r)
+          (λ q. l q ∙ ap (λ x. cond x (Some conn) (lookup (is_at (cmp q)) cs)) (turned b (is_at (cmp p) q) (accepts cmp d.rules calls q (Some t)) (λ h. w ∙ accepts_same q h))
+          ∙ ap (λ x. cond (is_at (cmp p) q && accepts cmp d.rules calls q (Some t)) (Some conn) x) (f.exactly q)
+          ∙ kept_begun cmp d.rules calls q p t conn);
+      held = subst (λ (x : Rules P). (q : P) → is_kept cmp x (call.Connect p (Some t) conn ∷ calls) q ≡ true → is_held cmp (call.Connect p (Some t) conn ∷ calls) q ≡ true) (sym r)
+          (λ q h. (kept-after cmp d.rules calls q).held (call.Connect p (Some t) conn) (f.held q) (held_of q) h);
+      others = subst (λ (x : Rules P). (q : P) → is_kept cmp x (call.Connect p (Some t) conn ∷ calls) q ≡ true → is_local cmp x q ≡ false) (sym r)
+          (λ q h. connected_or_kept cmp d.rules calls q (call.Connect p (Some t) conn) h (λ j. other cmp d.rules calls q t (eligible_of q j)) (f.others q));
     }
 
 module _ {P : Type 0} {cmp : P → P → Ordering} (o : IsTotalOrder cmp) where
@@ -231,11 +252,6 @@ module _ {P : Type 0} {cmp : P → P → Ordering} (o : IsTotalOrder cmp) where
   pub reserved-eligible : (d : Kept P) (calls : List (Call P)) (k : P) (t : ℕ) → StandsFor cmp d calls → (IsEligible cmp d k t → is_reserved_in (lookup (is_at (cmp k)) d.records) ≡ true)
       → is_eligible cmp d.rules calls k t ≡ true → is_reserved_in (lookup (is_at (cmp k)) d.records) ≡ true
   reserved-eligible d calls k t s r h = r (λ others u. is_eligible-kept o u k t ∙ (sym (is_eligible-kept o s k t) ∙ h))
-
-  -- a key that connects is kept
-  pub some-kept : (k : P) (conn : ℕ) (cs ds : List (P × ℕ)) → ((q : P) → lookup (is_at (cmp q)) ds ≡ cond (is_at (cmp k) q) (Some conn) (lookup (is_at (cmp q)) cs))
-      → (q : P) → is_some (lookup (is_at (cmp q)) ds) ≡ ((true && is_at (cmp k) q) || is_some (lookup (is_at (cmp q)) cs))
-  some-kept k conn cs ds l q = ap is_some (l q) ∙ came (is_at (cmp k) q) conn (lookup (is_at (cmp q)) cs)
 
 -- keys that are taken away one after another
 once : (a b : Bool) (x y : Option ℕ) → y ≡ cond a None x → cond b None y ≡ cond (a || b) None x

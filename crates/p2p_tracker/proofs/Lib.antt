@@ -1,7 +1,10 @@
+pub mod Asking
 pub mod Connecting
+pub mod Exact
 pub mod Following
 pub mod Putting
 pub mod Readdressing
 pub mod Standing
 pub mod Taking
+pub mod Told
 pub mod Turns

@@ -32,19 +32,19 @@ barred false b stale h = refl
 
 module _ {P : Type 0} (cmp : P → P → Ordering) (rules : Rules P) (calls : List (Call P)) (q : P) where
   -- a connection's moment matters only to whether it is accepted
-  record_of-moment : (p : P) (t : ℕ) → (is_at (cmp p) q && accepts cmp rules calls q (Some t)) ≡ (is_at (cmp p) q && accepts cmp rules calls q None)
-      → record_of cmp rules (call.Connect p None ∷ calls) q ≡ record_of cmp rules (call.Connect p (Some t) ∷ calls) q
+  record_of-moment : (p : P) (t conn : ℕ) → (is_at (cmp p) q && accepts cmp rules calls q (Some t)) ≡ (is_at (cmp p) q && accepts cmp rules calls q None)
+      → record_of cmp rules (call.Connect p None conn ∷ calls) q ≡ record_of cmp rules (call.Connect p (Some t) conn ∷ calls) q
   unfolding record_of address_of last_grant is_stale is_connected is_held is_tracked primary_sets secondary_sets kept_sets accepted_sets peer own
-  record_of-moment p t e =
+  record_of-moment p t conn e =
       ap (λ b. cond (is_local cmp rules q) (Some (own (primary_sets cmp rules calls q) (secondary_sets cmp rules calls q)))
       (option_map (peer rules.cooldown (is_held cmp calls q) (b || is_connected cmp rules calls q) (primary_sets cmp rules calls q) (secondary_sets cmp rules calls q) (is_stale cmp rules calls q)
       (cond (is_alive cmp rules calls q) (last_grant cmp rules calls q) None)) (cond (is_alive cmp rules calls q && not (is_local cmp rules q)) (address_of cmp rules calls q) None))) (sym e)
 
   -- one that isn't accepted is nothing but a question
-  record_of-refused : (p : P) (t t2 : ℕ) → (is_at (cmp p) q && accepts cmp rules calls q (Some t)) ≡ false
-      → record_of cmp rules (call.Connect p (Some t) ∷ calls) q ≡ record_of cmp rules (call.UnblockExpired t2 ∷ calls) q
+  record_of-refused : (p : P) (t conn t2 : ℕ) → (is_at (cmp p) q && accepts cmp rules calls q (Some t)) ≡ false
+      → record_of cmp rules (call.Connect p (Some t) conn ∷ calls) q ≡ record_of cmp rules (call.UnblockExpired t2 ∷ calls) q
   unfolding record_of address_of last_grant is_stale is_connected is_held is_tracked primary_sets secondary_sets kept_sets accepted_sets peer own
-  record_of-refused p t t2 e =
+  record_of-refused p t conn t2 e =
       ap (λ b. cond (is_local cmp rules q) (Some (own (primary_sets cmp rules calls q) (secondary_sets cmp rules calls q)))
       (option_map (peer rules.cooldown (is_held cmp calls q) (b || is_connected cmp rules calls q) (primary_sets cmp rules calls q) (secondary_sets cmp rules calls q) (is_stale cmp rules calls q)
       (cond (is_alive cmp rules calls q) (last_grant cmp rules calls q) None)) (cond (is_alive cmp rules calls q && not (is_local cmp rules q)) (address_of cmp rules calls q) None))) e
@@ -61,31 +61,31 @@ module _ {P : Type 0} {cmp : P → P → Ordering} (o : IsTotalOrder cmp) {kept 
       ∙ sym (eligible-record cmp kept.rules calls q (s.addressed q) t)))
 
   -- a connection of a key that isn't eligible changes nothing
-  pub stands-barred : (p : P) (t : ℕ) → is_eligible cmp kept.rules calls p t ≡ false → StandsFor cmp kept (call.Connect p (Some t) ∷ calls)
+  pub stands-barred : (p : P) (t conn : ℕ) → is_eligible cmp kept.rules calls p t ≡ false → StandsFor cmp kept (call.Connect p (Some t) conn ∷ calls)
   unfolding kept_sets accepted_sets block_of is_tracked is_held address_of
-  stands-barred p t e = record {
+  stands-barred p t conn e = record {
     sets = s.sets;
     latest = s.latest;
-    records = λ q. s.records q ∙ sym (record_of-refused cmp kept.rules calls q p t t
+    records = λ q. s.records q ∙ sym (record_of-refused cmp kept.rules calls q p t conn t
         (barred (is_at (cmp p) q) (is_eligible cmp kept.rules calls q t) (is_stale cmp kept.rules calls q) (λ h. sym (eligible-same p q t h) ∙ e))
         ∙ record_of-unblock cmp kept.rules calls q (s.addressed q) t);
     blocks = s.blocks;
     ordered = s.ordered;
-    addressed = λ q. addressed-connect cmp kept.rules calls q (s.addressed q) p;
+    addressed = λ q. addressed-connect cmp kept.rules calls q (s.addressed q) p (Some t) conn;
   }
 
 module _ {P : Type 0} {cmp : P → P → Ordering} (o : IsTotalOrder cmp) where
   -- a connection of an eligible key has its moment
-  pub stands-moment : (before after : Kept P) (calls : List (Call P)) (p : P) (t : ℕ) → after.rules ≡ before.rules → StandsFor cmp before calls
-      → is_eligible cmp before.rules calls p t ≡ true → StandsFor cmp after (call.Connect p None ∷ calls) → StandsFor cmp after (call.Connect p (Some t) ∷ calls)
+  pub stands-moment : (before after : Kept P) (calls : List (Call P)) (p : P) (t conn : ℕ) → after.rules ≡ before.rules → StandsFor cmp before calls
+      → is_eligible cmp before.rules calls p t ≡ true → StandsFor cmp after (call.Connect p None conn ∷ calls) → StandsFor cmp after (call.Connect p (Some t) conn ∷ calls)
   unfolding kept_sets accepted_sets block_of is_tracked is_held address_of
-  stands-moment before after calls p t e b h s =
+  stands-moment before after calls p t conn e b h s =
       let eligible : (q : P) → is_at (cmp p) q ≡ true → is_eligible cmp after.rules calls q t ≡ true =
       subst (λ (r : Rules P). (q : P) → is_at (cmp p) q ≡ true → is_eligible cmp r calls q t ≡ true) (sym e) (λ q k. sym (eligible-same o b p q t k) ∙ h) in
       record {
         sets = s.sets;
         latest = s.latest;
-        records = λ q. s.records q ∙ record_of-moment cmp after.rules calls q p t
+        records = λ q. s.records q ∙ record_of-moment cmp after.rules calls q p t conn
             (held_by_eligible (is_at (cmp p) q) (is_eligible cmp after.rules calls q t) (is_stale cmp after.rules calls q) (eligible q));
         blocks = s.blocks;
         ordered = s.ordered;

@@ -5,10 +5,10 @@ use Rattle.p2p_tracker_calls.specs.declared.call.Call.{Call}
 use Rattle.p2p_tracker_calls.specs.Rules.{Rules}
 use Rattle.p2p_tracker_calls.specs.Blocks.{is_over}
 use Rattle.p2p_tracker_calls.specs.Lives.{is_eligible}
-use Rattle.p2p_tracker_mailbox.specs.Reserved.{peer_of}
+use Rattle.p2p_tracker_directory.specs.Reserved.{peer_of}
 use Rattle.p2p_tracker_mailbox.specs.declared.message.Message.{Message}
 use Rattle.p2p_tracker_mailbox.specs.declared.message.Message.TheVariants as message
-use Rattle.p2p_tracker_mailbox.specs.declared.metadata.Metadata.{Metadata}
+use Rattle.p2p_tracker_directory.specs.declared.metadata.Metadata.{Metadata}
 use Rattle.p2p_tracker_directory.specs.Recorded.{is_reserved_in, is_held_or_unknown}
 use Rattle.p2p_tracker_directory.specs.Stands.{Kept, StandsFor, record_of}
 use Rattle.p2p_tracker.specs.Serving.{IsQuiet, IsQuietIn, MayTake, calls_after, calls_on}

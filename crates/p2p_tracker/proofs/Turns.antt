@@ -9,7 +9,8 @@ use Rattle.p2p_tracker_calls.specs.Turns.{grants_none_held}
 use Rattle.p2p_tracker_calls.proofs.Alternating.{grants_none_held-dial, grants_none_held-listen}
 use Rattle.p2p_tracker_mailbox.specs.declared.message.Message.{Message}
 use Rattle.p2p_tracker_mailbox.specs.declared.message.Message.TheVariants as message
-use Rattle.p2p_tracker.specs.Serving.{overwritten, calls_after, calls_by}
+use Rattle.p2p_tracker.specs.Serving.{calls_after, calls_by}
+use Rattle.p2p_tracker_calls.specs.Overwrites.{overwritten}
 use Rattle.p2p_tracker.specs.declared.stepped.Stepped.{Stepped}
 use Rattle.p2p_tracker.specs.declared.stepped.Stepped.TheVariants as stepped
 

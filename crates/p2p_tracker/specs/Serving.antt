@@ -4,25 +4,24 @@ use Rattle.std.specs.Map.{lookup}
 use Rattle.std.specs.BTreeMap.{is_at}
 use Rattle.std.specs.declared.cmp.Ordering.{Ordering}
 use Rattle.p2p_base.specs.Queue.{Queue, without_oldest}
-use Rattle.p2p_address.specs.declared.peer.Address.{Address}
 use Rattle.p2p_tracker_calls.specs.declared.call.Call.{Call}
 use Rattle.p2p_tracker_calls.specs.declared.call.Call.TheVariants as call
 use Rattle.p2p_tracker_calls.specs.Rules.{Rules}
 use Rattle.p2p_tracker_calls.specs.Allows.{allows_dial, allows_listen}
 use Rattle.p2p_tracker_calls.specs.Blocks.{is_over, block_of}
 use Rattle.p2p_tracker_calls.specs.Lives.{is_eligible}
-use Rattle.p2p_tracker_mailbox.specs.Reserved.{peer_of}
+use Rattle.p2p_tracker_calls.specs.Overwrites.{overwritten}
+use Rattle.p2p_tracker_directory.specs.Reserved.{peer_of}
+use Rattle.p2p_tracker_mailbox.specs.Desk.{without_message}
+use Rattle.p2p_tracker_mailbox.specs.Mailboxes.{with_desk}
+use Rattle.p2p_tracker_mailbox.specs.declared.mailbox.Mailbox.{Mailbox}
 use Rattle.p2p_tracker_mailbox.specs.declared.message.Message.{Message}
 use Rattle.p2p_tracker_mailbox.specs.declared.message.Message.TheVariants as message
 use Rattle.p2p_tracker_directory.specs.Recorded.{is_reserved_in, is_held_or_unknown}
 use Rattle.p2p_tracker_directory.specs.Stands.{Kept, StandsFor}
+use Rattle.p2p_tracker.specs.declared.stepped.Put.{Put}
 use Rattle.p2p_tracker.specs.declared.stepped.Stepped.{Stepped}
 use Rattle.p2p_tracker.specs.declared.stepped.Stepped.TheVariants as stepped
-
--- the calls once each key got its address, by a call of its own, in their order
-unfoldable pub overwritten : {P : Type 0} → List (P × Address) → List (Call P) → List (Call P)
-overwritten [] calls = calls
-overwritten (e ∷ es) calls = overwritten es (call.Overwrite e.0 e.1 ∷ calls)
 
 module _ {P : Type 0} where
   -- a step took blocks away that had ended
@@ -36,6 +35,18 @@ module _ {P : Type 0} where
   serves stepped.Idle = false
   serves (stepped.EndedBlocks put) = false
   serves (stepped.Message put) = true
+
+  -- what a step put, in order
+  abbrev pub puts_of : Stepped P → List (Put P)
+  puts_of stepped.Idle = []
+  puts_of (stepped.EndedBlocks put) = put
+  puts_of (stepped.Message put) = put
+
+  -- the mailbox without the message that was taken
+  abbrev pub left_in : Stepped P → Mailbox P → Mailbox P
+  left_in stepped.Idle m = m
+  left_in (stepped.EndedBlocks put) m = m
+  left_in (stepped.Message put) m = with_desk m (without_message m.desk)
 
   -- the messages that are left
   abbrev pub left_by : Stepped P → Queue (Message P) → Queue (Message P)
@@ -56,7 +67,7 @@ module _ {P : Type 0} (cmp : P → P → Ordering) (rules : Rules P) where
   calls_after (message.Subscribe ticket) now jitter calls = calls
   calls_after (message.Block k) now jitter calls = call.Block k now ∷ calls
   calls_after (message.SubscribeBlocked ticket) now jitter calls = calls
-  calls_after (message.Connect k conn) now jitter calls = call.Connect k (Some now) ∷ calls
+  calls_after (message.Connect k conn) now jitter calls = call.Connect k (Some now) conn ∷ calls
   calls_after message.Dialable now jitter calls = calls
   calls_after (message.Dial k) now jitter calls = call.Dial k now jitter (allows_dial cmp rules calls k now) ∷ calls
   calls_after (message.Acceptable k source handshake) now jitter calls = calls

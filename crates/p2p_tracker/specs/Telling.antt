@@ -1,10 +1,14 @@
--- What a step of the tracker puts: kills, updates and sets of blocked keys.
-use Rattle.std.specs.Prelude.{◌≡◌, ℕ, Bool, true, false, List, [], ◌∷◌, ◌++◌, Option, Some, None}
+-- What a step of the tracker puts, and what that makes of the mailbox.
+use Rattle.std.specs.Prelude.{ℕ, Bool, true, false, List, [], ◌∷◌, ◌++◌, Option, Some, None, slice_index_or, slice_set}
 use Rattle.std.specs.Map.{lookup, remove_entry}
 use Rattle.std.specs.BTreeMap.{is_at}
 use Rattle.std.specs.declared.cmp.Ordering.{Ordering}
 use Rattle.p2p_flow.specs.declared.update.PeerSetUpdate.{PeerSetUpdate}
-use Rattle.p2p_tracker_mailbox.specs.Desk.{Desk, with_update, with_set, set_of}
+use Rattle.p2p_tracker_mailbox.specs.Desk.{with_update, with_set, answered_at}
+use Rattle.p2p_tracker_mailbox.specs.Mailboxes.{with_desk}
+use Rattle.p2p_tracker_mailbox.specs.declared.answer.DialerAnswer.TheVariants as dialer
+use Rattle.p2p_tracker_mailbox.specs.declared.answer.HandshakeAnswer.TheVariants as shake
+use Rattle.p2p_tracker_mailbox.specs.declared.mailbox.Mailbox.{Mailbox}
 use Rattle.p2p_tracker.specs.declared.stepped.Put.{Put}
 use Rattle.p2p_tracker.specs.declared.stepped.Put.TheVariants as put
 
@@ -13,6 +17,23 @@ has_any [] = false
 has_any (x ∷ xs) = true
 
 module _ {P : Type 0} where
+  -- the mailbox once this was put
+  abbrev pub after_put : Put P → Mailbox P → Mailbox P
+  after_put (put.Kill peer conn) m = m
+  after_put (put.Listenable addresses dropped) m = record m { heard = Some addresses }
+  after_put (put.Update ticket update) m = with_desk m (with_update m.desk ticket update)
+  after_put (put.Blocked ticket blocked dropped) m = with_desk m (with_set m.desk ticket blocked)
+  after_put (put.PeerSet ticket peers) m = with_desk m (answered_at m.desk ticket peers)
+  after_put (put.Dialable list) m = record m { dialer = m.dialer ++ dialer.Dialable list ∷ [] }
+  after_put (put.Dial grant) m = record m { dialer = m.dialer ++ dialer.Dial grant ∷ [] }
+  after_put (put.Acceptable handshake acceptable) m = record m { handshakes = m.handshakes ++ (handshake, shake.Acceptable acceptable) ∷ [] }
+  after_put (put.Listen handshake grant) m = record m { handshakes = m.handshakes ++ (handshake, shake.Listen grant) ∷ [] }
+
+  -- the mailbox once all of it was put, in order
+  abbrev pub after_puts : List (Put P) → Mailbox P → Mailbox P
+  after_puts [] m = m
+  after_puts (p ∷ ps) m = after_puts ps (after_put p m)
+
   -- the kill of a key, if a connection of it is kept
   abbrev pub kill_put : P → Option ℕ → List (Put P)
   kill_put k None = []
@@ -29,32 +50,17 @@ module _ {P : Type 0} where
     without_keys controls [] = controls
     without_keys controls (k ∷ ks) = without_keys (remove_entry (is_at (cmp k)) controls) ks
 
-  -- the mailbox once an update was put for each of these subscriptions
-  abbrev pub with_updates : Desk P → List ℕ → PeerSetUpdate P → Desk P
-  with_updates d [] u = d
-  with_updates d (t ∷ ts) u = with_updates (with_update d t u) ts u
+  -- the update for each of these subscriptions
+  abbrev pub updates_put : List ℕ → PeerSetUpdate P → List (Put P)
+  updates_put [] u = []
+  updates_put (t ∷ ts) u = put.Update t u ∷ updates_put ts u
 
-  abbrev pub updates_put : List ℕ → List (Put P)
-  updates_put [] = []
-  updates_put (t ∷ ts) = put.Update t ∷ updates_put ts
+  -- the same, if there is an update
+  abbrev pub told_of_sets : List ℕ → Option (PeerSetUpdate P) → List (Put P)
+  told_of_sets ts None = []
+  told_of_sets ts (Some u) = updates_put ts u
 
-  -- the mailbox once a set of blocked keys was put for each of these subscriptions
-  abbrev pub with_sets : Desk P → List ℕ → List P → Desk P
-  with_sets d [] s = d
-  with_sets d (t ∷ ts) s = with_sets (with_set d t s) ts s
-
-  abbrev pub sets_put : Desk P → List ℕ → List P → List (Put P)
-  sets_put d [] s = []
-  sets_put d (t ∷ ts) s = put.Blocked t (set_of d t) ∷ sets_put (with_set d t s) ts s
-
--- of a mailbox, the updates alone change
-pub record ChangesUpdates {P : Type 0} (before after : Desk P) : Type 0 where
-  pub messages : after.messages ≡ before.messages
-  pub questions : after.questions ≡ before.questions
-  pub sets : after.sets ≡ before.sets
-
--- of a mailbox, the sets of blocked keys alone change
-pub record ChangesSets {P : Type 0} (before after : Desk P) : Type 0 where
-  pub messages : after.messages ≡ before.messages
-  pub questions : after.questions ≡ before.questions
-  pub updates : after.updates ≡ before.updates
+  -- the set of blocked keys for each of these subscriptions, with the one that waited and makes way for it
+  abbrev pub sets_put : List (Option (List P)) → List ℕ → List P → List (Put P)
+  sets_put waiting [] s = []
+  sets_put waiting (t ∷ ts) s = put.Blocked t s (slice_index_or waiting t None) ∷ sets_put (slice_set waiting t (Some s)) ts s

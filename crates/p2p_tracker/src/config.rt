@@ -3,7 +3,7 @@
 /// What a tracker is told when it is made. Durations are in nanoseconds.
 ///
 /// Ports `Config` of commonware-p2p's lookup tracker.
-#[derive(Clone, Copy, Drop)]
+#[derive(Clone, Copy, PartialEq, Eq, Debug)]
 pub struct Config<C> {
     /// The key of this node.
     pub public_key: C,

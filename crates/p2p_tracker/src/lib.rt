@@ -5,6 +5,7 @@
 
 mod actor;
 mod config;
+pub mod directory;
 mod stepped;
 
 pub use actor::Actor;
@@ -12,5 +13,7 @@ pub use config::Config;
 pub use p2p_tracker_directory::{
     Address, DialStatus, Dialable, Directory, Record, Reservation, ReserveResult, Status,
 };
-pub use p2p_tracker_mailbox::{Mailbox, Message, Metadata, Oracle};
+pub use p2p_tracker_mailbox::{
+    Desk, DialerAnswer, HandshakeAnswer, Mailbox, Message, Metadata, Oracle, Waiting,
+};
 pub use stepped::{Put, Stepped};

@@ -73,7 +73,7 @@ module _ {P : Type 0} {cmp : P → P → Ordering} (o : IsTotalOrder cmp) where
   grant_by-same (call.Overwrite k address) p q e = refl
   grant_by-same (call.Block k at) p q e = refl
   grant_by-same (call.UnblockExpired at) p q e = refl
-  grant_by-same (call.Connect k at) p q e = refl
+  grant_by-same (call.Connect k at conn) p q e = refl
   grant_by-same (call.Release k) p q e = refl
 
   releases-same : (c : Call P) (p q : P) → is_at (cmp p) q ≡ true → releases cmp c p ≡ releases cmp c q
@@ -83,7 +83,7 @@ module _ {P : Type 0} {cmp : P → P → Ordering} (o : IsTotalOrder cmp) where
   releases-same (call.Overwrite k address) p q e = refl
   releases-same (call.Block k at) p q e = refl
   releases-same (call.UnblockExpired at) p q e = refl
-  releases-same (call.Connect k at) p q e = refl
+  releases-same (call.Connect k at conn) p q e = refl
   releases-same (call.Release k) p q e = same_key k p q e
 
   -- equal keys are held together
@@ -108,7 +108,7 @@ module _ {P : Type 0} {cmp : P → P → Ordering} (o : IsTotalOrder cmp) where
   free_grant (call.Overwrite k address) calls q h e = absurd (false≢true e)
   free_grant (call.Block k at) calls q h e = absurd (false≢true e)
   free_grant (call.UnblockExpired at) calls q h e = absurd (false≢true e)
-  free_grant (call.Connect k at) calls q h e = absurd (false≢true e)
+  free_grant (call.Connect k at conn) calls q h e = absurd (false≢true e)
   free_grant (call.Release k) calls q h e = absurd (false≢true e)
 
   pub alternate-turns_of : (calls : List (Call P)) (q : P) → grants_none_held cmp calls ≡ true → alternate (turns_of cmp calls q) ≡ true

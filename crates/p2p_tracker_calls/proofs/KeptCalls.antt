@@ -21,7 +21,7 @@ use Rattle.p2p_tracker_calls.specs.Kills.{is_evicted}
 use Rattle.p2p_tracker_calls.specs.Keeping.{blocks, is_kept}
 use Rattle.p2p_tracker_calls.specs.KeptAfter.{IsLeft, IsLeftByDial, IsLeftByListen, IsLeftByUnblock, IsKeptByConnect, IsEndedByRelease, IsEndedByBlock, IsKeptByTrack, IsKeptByOverwrite, IsLeftByRefusedTrack, IsEndedByKill, IsEndedByChange, IsHeldWhileKept, IsKeptAfter}
 use Rattle.p2p_tracker_calls.proofs.Alternating.{first_of, last_of, not_true}
-use Rattle.p2p_tracker_calls.proofs.Eligible.{either, held_or, tracked-is_kept, not_stale-is_kept}
+use Rattle.p2p_tracker_calls.proofs.Eligible.{either, is_kept-more, kept_of-more, held_or, tracked-is_kept, not_stale-is_kept}
 
 and_false : (b : Bool) → (b && false) ≡ false
 and_false true = refl
@@ -129,26 +129,30 @@ module _ {P : Type 0} (cmp : P → P → Ordering) (rules : Rules P) (calls : Li
   tracked = tracked-is_kept cmp rules calls q
 
   pub kept-left : IsLeft cmp rules calls q
-  unfolding is_kept
   kept-left c e f g i j =
-      left_by (connects cmp rules c calls q) (releases cmp c q) (blocks cmp c q) (is_stale cmp rules (c ∷ calls) q) (is_tracked cmp rules (c ∷ calls) q) (is_kept cmp rules calls q)
+      is_kept-more cmp rules c calls q
+      ∙ left_by (connects cmp rules c calls q) (releases cmp c q) (blocks cmp c q) (is_stale cmp rules (c ∷ calls) q) (is_tracked cmp rules (c ∷ calls) q) (is_kept cmp rules calls q)
       (is_stale cmp rules calls q) (is_tracked cmp rules calls q) e f g i j fresh tracked
 
   pub kept-dial : IsLeftByDial cmp rules calls q
-  unfolding is_kept is_stale is_tracked kept_sets accepted_sets
+  unfolding is_stale is_tracked kept_sets accepted_sets
   kept-dial p t jitter granted =
-      left_step (is_kept cmp rules calls q) (is_stale cmp rules (call.Dial p t jitter granted ∷ calls) q) (is_tracked cmp rules calls q)
+      is_kept-more cmp rules (call.Dial p t jitter granted) calls q
+      ∙ left_step (is_kept cmp rules calls q) (is_stale cmp rules (call.Dial p t jitter granted ∷ calls) q) (is_tracked cmp rules calls q)
       (λ h. never_stale (is_some (grant_by cmp (call.Dial p t jitter granted) q) || false) (is_stale cmp rules calls q) (fresh h)) tracked
 
   pub kept-listen : IsLeftByListen cmp rules calls q
-  unfolding is_kept is_stale is_tracked kept_sets accepted_sets
+  unfolding is_stale is_tracked kept_sets accepted_sets
   kept-listen p t jitter granted =
-      left_step (is_kept cmp rules calls q) (is_stale cmp rules (call.Listen p t jitter granted ∷ calls) q) (is_tracked cmp rules calls q)
+      is_kept-more cmp rules (call.Listen p t jitter granted) calls q
+      ∙ left_step (is_kept cmp rules calls q) (is_stale cmp rules (call.Listen p t jitter granted ∷ calls) q) (is_tracked cmp rules calls q)
       (λ h. never_stale (is_some (grant_by cmp (call.Listen p t jitter granted) q) || false) (is_stale cmp rules calls q) (fresh h)) tracked
 
   pub kept-unblock : IsLeftByUnblock cmp rules calls q
-  unfolding is_kept is_stale is_tracked kept_sets accepted_sets
-  kept-unblock t = left_step (is_kept cmp rules calls q) (is_stale cmp rules calls q) (is_tracked cmp rules calls q) fresh tracked
+  unfolding is_stale is_tracked kept_sets accepted_sets
+  kept-unblock t =
+      is_kept-more cmp rules (call.UnblockExpired t) calls q
+      ∙ left_step (is_kept cmp rules calls q) (is_stale cmp rules calls q) (is_tracked cmp rules calls q) fresh tracked
 
   accepted_tracked : (b : Bool) (t : ℕ) → (b && accepts cmp rules calls q (Some t)) ≡ true → is_tracked cmp rules calls q ≡ true
   accepted_tracked b t h =
@@ -160,28 +164,35 @@ module _ {P : Type 0} (cmp : P → P → Ordering) (rules : Rules P) (calls : Li
   accepted_fresh b t h = not_true (is_stale cmp rules calls q) (last_of (is_eligible cmp rules calls q t) (not (is_stale cmp rules calls q)) (last_of b (accepts cmp rules calls q (Some t)) h))
 
   pub kept-connect : IsKeptByConnect cmp rules calls q
-  unfolding is_kept is_stale is_tracked kept_sets accepted_sets
-  kept-connect p t =
-      left_step ((is_at (cmp p) q && accepts cmp rules calls q (Some t)) || is_kept cmp rules calls q) (is_stale cmp rules calls q) (is_tracked cmp rules calls q)
+  unfolding is_stale is_tracked kept_sets accepted_sets
+  kept-connect p t conn =
+      is_kept-more cmp rules (call.Connect p (Some t) conn) calls q
+      ∙ left_step ((is_at (cmp p) q && accepts cmp rules calls q (Some t)) || is_kept cmp rules calls q) (is_stale cmp rules calls q) (is_tracked cmp rules calls q)
       (λ h. either (is_at (cmp p) q && accepts cmp rules calls q (Some t)) (is_kept cmp rules calls q) h (accepted_fresh (is_at (cmp p) q) t) fresh)
       (λ h. either (is_at (cmp p) q && accepts cmp rules calls q (Some t)) (is_kept cmp rules calls q) h (accepted_tracked (is_at (cmp p) q) t) tracked)
 
   pub kept-release : IsEndedByRelease cmp rules calls q
-  unfolding is_kept is_stale is_tracked kept_sets accepted_sets
-  kept-release p = release_step (is_at (cmp p) q) (is_kept cmp rules calls q) (is_stale cmp rules calls q) (is_tracked cmp rules calls q) fresh tracked
+  unfolding is_stale is_tracked kept_sets accepted_sets
+  kept-release p =
+      is_kept-more cmp rules (call.Release p) calls q
+      ∙ release_step (is_at (cmp p) q) (is_kept cmp rules calls q) (is_stale cmp rules calls q) (is_tracked cmp rules calls q) fresh tracked
 
   pub kept-block : IsEndedByBlock cmp rules calls q
-  unfolding is_kept is_stale is_tracked kept_sets accepted_sets
-  kept-block p t = block_step (is_at (cmp p) q) (is_kept cmp rules calls q) (is_stale cmp rules calls q) (is_tracked cmp rules calls q) fresh tracked
+  unfolding is_stale is_tracked kept_sets accepted_sets
+  kept-block p t =
+      is_kept-more cmp rules (call.Block p t) calls q
+      ∙ block_step (is_at (cmp p) q) (is_kept cmp rules calls q) (is_stale cmp rules calls q) (is_tracked cmp rules calls q) fresh tracked
 
   pub kept-track : IsKeptByTrack cmp rules calls q
-  unfolding is_kept
   kept-track index primary secondary =
-      track_step (is_kept cmp rules calls q) (is_stale cmp rules (call.Track index primary secondary ∷ calls) q) (is_tracked cmp rules (call.Track index primary secondary ∷ calls) q)
+      is_kept-more cmp rules (call.Track index primary secondary) calls q
+      ∙ track_step (is_kept cmp rules calls q) (is_stale cmp rules (call.Track index primary secondary ∷ calls) q) (is_tracked cmp rules (call.Track index primary secondary ∷ calls) q)
 
   pub kept-overwrite : IsKeptByOverwrite cmp rules calls q
-  unfolding is_kept is_tracked kept_sets accepted_sets
-  kept-overwrite p address = overwrite_step (is_kept cmp rules calls q) (is_stale cmp rules (call.Overwrite p address ∷ calls) q) (is_tracked cmp rules calls q) tracked
+  unfolding is_tracked kept_sets accepted_sets
+  kept-overwrite p address =
+      is_kept-more cmp rules (call.Overwrite p address) calls q
+      ∙ overwrite_step (is_kept cmp rules calls q) (is_stale cmp rules (call.Overwrite p address ∷ calls) q) (is_tracked cmp rules calls q) tracked
 
   module _ (index : ℕ) (primary secondary : List (P × Address)) where
     stale_track : is_stale cmp rules (call.Track index primary secondary ∷ calls) q
@@ -209,9 +220,9 @@ module _ {P : Type 0} (cmp : P → P → Ordering) (rules : Rules P) (calls : Li
         ap (λ b. cond b (option_or (lookup (λ p. is_at (cmp p) q) primary) (lookup (λ p. is_at (cmp p) q) (only_secondary cmp primary secondary))) None) e
 
   pub kept-refused : IsLeftByRefusedTrack cmp rules calls q
-  unfolding is_kept
   kept-refused index primary secondary e =
-      left_by false false false (is_stale cmp rules (call.Track index primary secondary ∷ calls) q) (is_tracked cmp rules (call.Track index primary secondary ∷ calls) q) (is_kept cmp rules calls q)
+      is_kept-more cmp rules (call.Track index primary secondary) calls q
+      ∙ left_by false false false (is_stale cmp rules (call.Track index primary secondary ∷ calls) q) (is_tracked cmp rules (call.Track index primary secondary ∷ calls) q) (is_kept cmp rules calls q)
       (is_stale cmp rules calls q) (is_tracked cmp rules calls q) refl refl refl
       (stale_track index primary secondary ∙ ap (λ g. (is_change g (address_of cmp rules calls q) && is_held cmp calls q) || is_stale cmp rules calls q) (given_refused index primary secondary e))
       (tracked_track index primary secondary false e ∙ sym (tracked_is index primary secondary)) fresh tracked
@@ -236,6 +247,7 @@ module _ {P : Type 0} (cmp : P → P → Ordering) (rules : Rules P) (calls : Li
 
   pub kept-after : IsKeptAfter cmp rules calls q
   kept-after = record {
+    begun = λ c. kept_of-more cmp rules c calls q;
     left = kept-left;
     dial = kept-dial;
     listen = kept-listen;

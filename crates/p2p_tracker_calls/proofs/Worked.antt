@@ -13,7 +13,7 @@ use Rattle.p2p_tracker_calls.specs.Grants.{is_held}
 use Rattle.p2p_tracker_calls.specs.Blocks.{block_of, is_blocked}
 use Rattle.p2p_tracker_calls.specs.Lives.{address_of, last_grant, is_stale, next_dial}
 use Rattle.p2p_tracker_calls.specs.Turns.{turns_of}
-use Rattle.p2p_tracker_calls.specs.Keeping.{is_kept}
+use Rattle.p2p_tracker_calls.specs.Keeping.{kept_of, is_kept}
 use Rattle.p2p_tracker_calls.specs.Allows.{allows_dial, allows_listen, is_acceptable}
 
 keeping : ℕ → Rules ℕ
@@ -98,22 +98,26 @@ by_turns = refl
 
 -- a connection is kept from its connect on, until a block of its key, also where that has no effect
 joined : List (Call ℕ)
-joined = call.Connect 7 (Some 4) ∷ call.Dial 7 0 3 true ∷ set 0 7 ∷ []
+joined = call.Connect 7 (Some 4) 24 ∷ call.Dial 7 0 3 true ∷ set 0 7 ∷ []
 
 kept : is_kept nat_cmp (keeping 2) joined 7 ≡ true
-unfolding keeping here address set joined accepted_sets kept_sets is_tracked is_held block_of address_of is_stale is_kept
+unfolding keeping here address set joined accepted_sets kept_sets is_tracked is_held block_of address_of is_stale kept_of
 kept = refl
 
+its_connection : kept_of nat_cmp (keeping 2) joined 7 ≡ Some 24
+unfolding keeping here address set joined accepted_sets kept_sets is_tracked is_held block_of address_of is_stale kept_of
+its_connection = refl
+
 ended : is_kept nat_cmp (keeping 2) (call.Block 7 10 ∷ joined) 7 ≡ false
-unfolding keeping here address set joined accepted_sets kept_sets is_tracked is_held block_of address_of is_stale is_kept
+unfolding keeping here address set joined accepted_sets kept_sets is_tracked is_held block_of address_of is_stale kept_of
 ended = refl
 
 -- a connect of a blocked key is refused, whose block lasts
-refused : is_kept nat_cmp (keeping 2) (call.Connect 7 (Some 14) ∷ call.Block 7 10 ∷ joined) 7 ≡ false
-unfolding keeping here address set joined accepted_sets kept_sets is_tracked is_held block_of address_of is_stale is_kept
+refused : is_kept nat_cmp (keeping 2) (call.Connect 7 (Some 14) 24 ∷ call.Block 7 10 ∷ joined) 7 ≡ false
+unfolding keeping here address set joined accepted_sets kept_sets is_tracked is_held block_of address_of is_stale kept_of
 refused = refl
 
 -- a key that is in no kept set any more is kept no longer
 evicted : is_kept nat_cmp (keeping 1) (set 1 8 ∷ joined) 7 ≡ false
-unfolding keeping here address set joined accepted_sets kept_sets is_tracked is_held block_of address_of is_stale is_kept
+unfolding keeping here address set joined accepted_sets kept_sets is_tracked is_held block_of address_of is_stale kept_of
 evicted = refl

@@ -1,5 +1,6 @@
 -- Whose connection is kept.
-use Rattle.std.specs.Prelude.{◌≡◌, ℕ, ◌≤◌, Bool, true, false, not, ◌&&◌, ◌||◌, nat_lt, List, [], ◌∷◌, Option, Some, None}
+use Rattle.std.specs.Prelude.{◌≡◌, ℕ, ◌≤◌, Bool, true, false, cond, not, ◌&&◌, ◌||◌, nat_lt, List, [], ◌∷◌, Option, Some, None, is_some}
+use Rattle.std.specs.Option.{option_or}
 use Rattle.std.specs.List.{list_all}
 use Rattle.std.specs.BTreeMap.{is_at}
 use Rattle.std.specs.declared.cmp.Ordering.{Ordering}
@@ -8,7 +9,7 @@ use Rattle.p2p_tracker_calls.specs.declared.call.Call.TheVariants as call
 use Rattle.p2p_tracker_calls.specs.Rules.{Rules}
 use Rattle.p2p_tracker_calls.specs.Sets.{is_tracked}
 use Rattle.p2p_tracker_calls.specs.Grants.{releases}
-use Rattle.p2p_tracker_calls.specs.Lives.{is_stale, is_eligible, connects}
+use Rattle.p2p_tracker_calls.specs.Lives.{is_stale, is_eligible, accepts}
 
 module _ {P : Type 0} (cmp : P → P → Ordering) where
   -- the call blocks the key, also where that has no effect
@@ -21,10 +22,19 @@ module _ {P : Type 0} (cmp : P → P → Ordering) (rules : Rules P) where
   abbrev pub ends_connection : Call P → List (Call P) → P → Bool
   ends_connection c calls q = releases cmp c q || blocks cmp c q || is_stale cmp rules (c ∷ calls) q || not (is_tracked cmp rules (c ∷ calls) q)
 
-  -- a connect of the key was accepted, and since then no call ended a connection of the key
-  unfoldable pub is_kept : List (Call P) → P → Bool
-  is_kept [] q = false
-  is_kept (c ∷ calls) q = (connects cmp rules c calls q || is_kept calls q) && not (ends_connection c calls q)
+  -- the connection that the call begins for the key
+  abbrev pub begun_by : Call P → List (Call P) → P → Option ℕ
+  begun_by (call.Connect p at conn) calls q = cond (is_at (cmp p) q && accepts cmp rules calls q at) (Some conn) None
+  begun_by _ calls q = None
+
+  -- the connection of the last accepted connect of the key, unless since then a call ended it
+  unfoldable pub kept_of : List (Call P) → P → Option ℕ
+  kept_of [] q = None
+  kept_of (c ∷ calls) q = cond (ends_connection c calls q) None (option_or (begun_by c calls q) (kept_of calls q))
+
+  -- a connection of the key is kept
+  abbrev pub is_kept : List (Call P) → P → Bool
+  is_kept calls q = is_some (kept_of calls q)
 
 -- there is a moment, and it is not after this one
 abbrev pub has_come : Option ℕ → ℕ → Bool
@@ -34,7 +44,7 @@ has_come (Some at) now = not (nat_lt now at)
 module _ {P : Type 0} where
   -- if the call is a connect, it has a moment, and that has come
   abbrev pub connects_by : ℕ → Call P → Bool
-  connects_by now (call.Connect p at) = has_come at now
+  connects_by now (call.Connect p at conn) = has_come at now
   connects_by now _ = true
 
   -- each connect has a moment, and that has come

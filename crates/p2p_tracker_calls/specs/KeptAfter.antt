@@ -1,5 +1,6 @@
 -- Whose connection is kept after one more call.
-use Rattle.std.specs.Prelude.{◌≡◌, ℕ, Bool, true, false, not, ◌&&◌, ◌||◌, List, ◌∷◌, Some, is_some}
+use Rattle.std.specs.Prelude.{◌≡◌, ℕ, Bool, true, false, cond, not, ◌&&◌, ◌||◌, List, ◌∷◌, Some, None, is_some}
+use Rattle.std.specs.Option.{option_or}
 use Rattle.std.specs.BTreeMap.{is_at}
 use Rattle.std.specs.declared.cmp.Ordering.{Ordering}
 use Rattle.p2p_address.specs.declared.peer.Address.{Address}
@@ -11,9 +12,13 @@ use Rattle.p2p_tracker_calls.specs.Grants.{releases, is_held}
 use Rattle.p2p_tracker_calls.specs.Blocks.{is_local}
 use Rattle.p2p_tracker_calls.specs.Lives.{address_of, is_stale, accepts, connects, is_overwritten}
 use Rattle.p2p_tracker_calls.specs.Kills.{is_killed}
-use Rattle.p2p_tracker_calls.specs.Keeping.{blocks, is_kept}
+use Rattle.p2p_tracker_calls.specs.Keeping.{blocks, begun_by, kept_of, is_kept}
 
 module _ {P : Type 0} (cmp : P → P → Ordering) (rules : Rules P) (calls : List (Call P)) (q : P) where
+  -- the connection that is kept is the one that the call began, or else the one before
+  abbrev pub IsLastBegun : Type 0
+  IsLastBegun = (c : Call P) → kept_of cmp rules (c ∷ calls) q ≡ cond (is_kept cmp rules (c ∷ calls) q) (option_or (begun_by cmp rules c calls q) (kept_of cmp rules calls q)) None
+
   -- a call that is no accepted connect, release or block of the key, and leaves it as stale and as tracked as it was, changes nothing
   abbrev pub IsLeft : Type 0
   IsLeft = (c : Call P) → connects cmp rules c calls q ≡ false → releases cmp c q ≡ false → blocks cmp c q ≡ false
@@ -32,8 +37,8 @@ module _ {P : Type 0} (cmp : P → P → Ordering) (rules : Rules P) (calls : Li
 
   -- a connect that has a moment keeps the key where it is accepted, and else changes nothing
   abbrev pub IsKeptByConnect : Type 0
-  IsKeptByConnect = (p : P) (at : ℕ)
-      → is_kept cmp rules (call.Connect p (Some at) ∷ calls) q ≡ ((is_at (cmp p) q && accepts cmp rules calls q (Some at)) || is_kept cmp rules calls q)
+  IsKeptByConnect = (p : P) (at conn : ℕ)
+      → is_kept cmp rules (call.Connect p (Some at) conn ∷ calls) q ≡ ((is_at (cmp p) q && accepts cmp rules calls q (Some at)) || is_kept cmp rules calls q)
 
   abbrev pub IsEndedByRelease : Type 0
   IsEndedByRelease = (p : P) → is_kept cmp rules (call.Release p ∷ calls) q ≡ (not (is_at (cmp p) q) && is_kept cmp rules calls q)
@@ -75,6 +80,7 @@ module _ {P : Type 0} (cmp : P → P → Ordering) (rules : Rules P) (calls : Li
 
 -- what each call makes of a kept key
 pub record IsKeptAfter {P : Type 0} (cmp : P → P → Ordering) (rules : Rules P) (calls : List (Call P)) (q : P) : Type 0 where
+  pub begun : IsLastBegun cmp rules calls q
   pub left : IsLeft cmp rules calls q
   pub dial : IsLeftByDial cmp rules calls q
   pub listen : IsLeftByListen cmp rules calls q

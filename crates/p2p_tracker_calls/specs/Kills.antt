@@ -9,6 +9,7 @@ use Rattle.p2p_tracker_calls.specs.Rules.{Rules}
 use Rattle.p2p_tracker_calls.specs.Sets.{PeerSet, set_of, is_primary_in, is_secondary_in, kept_sets, is_tracked}
 use Rattle.p2p_tracker_calls.specs.Grants.{is_held}
 use Rattle.p2p_tracker_calls.specs.Blocks.{is_local}
+use Rattle.p2p_tracker_calls.specs.Named.{keys_where}
 use Rattle.p2p_tracker_calls.specs.Lives.{is_change, given_by, address_of, is_stale}
 
 module _ {P : Type 0} (cmp : P → P → Ordering) (rules : Rules P) (index : ℕ) (primary secondary : List (P × Address)) where
@@ -24,3 +25,8 @@ module _ {P : Type 0} (cmp : P → P → Ordering) (rules : Rules P) (index : �
   abbrev pub is_killed : List (Call P) → P → Bool
   is_killed calls q = not (is_local cmp rules q) && is_held cmp calls q && (is_change (given_by cmp (call.Track index primary secondary) calls q) (address_of cmp rules calls q)
       || (is_evicted calls q && (is_stale cmp rules (call.Track index primary secondary ∷ calls) q || not (is_tracked cmp rules (call.Track index primary secondary ∷ calls) q))))
+
+module _ {P : Type 0} (cmp : P → P → Ordering) (rules : Rules P) (index : ℕ) (primary secondary : List (P × Address)) where
+  -- the keys that it kills, in their order
+  abbrev pub killed_keys : List (Call P) → List P
+  killed_keys calls = keys_where cmp (λ q. is_killed cmp rules index primary secondary calls q) calls

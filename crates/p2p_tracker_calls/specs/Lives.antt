@@ -107,7 +107,7 @@ module _ {P : Type 0} (cmp : P → P → Ordering) (rules : Rules P) where
   accepts calls q (Some t) = is_eligible cmp rules calls q t && not (is_stale cmp rules calls q)
 
   abbrev pub connects : Call P → List (Call P) → P → Bool
-  connects (call.Connect p at) calls q = is_at (cmp p) q && accepts calls q at
+  connects (call.Connect p at conn) calls q = is_at (cmp p) q && accepts calls q at
   connects _ calls q = false
 
 module _ {P : Type 0} (cmp : P → P → Ordering) (rules : Rules P) where

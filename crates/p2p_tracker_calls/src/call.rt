@@ -47,6 +47,7 @@ pub enum Call<P> {
     Connect {
         peer: P,
         at: Option<u64>,
+        conn: u64,
     },
     /// A reservation was given back.
     Release {

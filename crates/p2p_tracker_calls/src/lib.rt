@@ -3,9 +3,11 @@
 #![tactic(auto)]
 
 pub mod call;
+pub mod config;
 pub mod keeping;
 pub mod turns;
 
 pub use call::Call;
+pub use config::Config;
 pub use keeping::{kept_after_each_call, kept_keys_are_eligible};
 pub use turns::{allowed_grants_are_of_none_held, grants_and_releases_alternate};

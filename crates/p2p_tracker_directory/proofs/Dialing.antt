@@ -23,7 +23,8 @@ use Rattle.p2p_tracker_calls.specs.Lists.{is_heard_at, is_dialable, next_query, 
 use Rattle.p2p_tracker_directory.specs.Recorded.{Recorded, is_inert}
 use Rattle.p2p_tracker_directory.specs.Stands.{Kept, StandsFor, status_of, record_of}
 use Rattle.p2p_tracker_directory.specs.Tracked.{passes}
-use Rattle.p2p_tracker_directory.specs.Listed.{heard, heard_in, is_heard, after_block, outlook, outlook_in, is_now, moment_of, earliest, comes_by}
+use Rattle.p2p_tracker_directory.specs.Listed.{heard, heard_in, is_heard, after_block, outlook, outlook_in, is_now, moment_of}
+use Rattle.p2p_tracker_calls.specs.DialList.{earliest, comes_by}
 use Rattle.p2p_tracker_directory.specs.declared.record.DialStatus.{DialStatus}
 use Rattle.p2p_tracker_directory.specs.declared.record.DialStatus.TheVariants as dial
 use Rattle.p2p_tracker_directory.proofs.Counts.{is_tracked-counts, is_primary-count}
@@ -140,7 +141,7 @@ listenable_step false tracked held blocked cooldown n m joined stale g (Some a) 
     ∙ heard_turned (nat_lt 0 n || nat_lt 0 m) blocked (private || is_global (egress_of a)) (egress_of a) source
 listenable_step false tracked held blocked cooldown n m joined stale g None source private t = and_false (tracked && not blocked)
 
-moment_is : (r : Option ℕ) (t : ℕ) → is_moment r t ≡ true → r ≡ Some t
+pub moment_is : (r : Option ℕ) (t : ℕ) → is_moment r t ≡ true → r ≡ Some t
 moment_is None t e = absurd (false≢true e)
 moment_is (Some u) t e = ap Some (eqb-true u t e)
 

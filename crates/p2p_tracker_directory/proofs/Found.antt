@@ -14,7 +14,8 @@ use Rattle.p2p_base.specs.Moments.{is_moment}
 use Rattle.p2p_address.specs.declared.ip.IpAddr.{IpAddr}
 use Rattle.p2p_tracker_calls.specs.Lives.{same_ip}
 use Rattle.p2p_tracker_directory.specs.Tracked.{passes}
-use Rattle.p2p_tracker_directory.specs.Listed.{is_heard, earlier, earliest, comes_by}
+use Rattle.p2p_tracker_directory.specs.Listed.{is_heard}
+use Rattle.p2p_tracker_calls.specs.DialList.{earlier, earliest, comes_by}
 use Rattle.p2p_tracker_directory.proofs.Killing.{lookup-flip}
 use Rattle.p2p_tracker_directory.proofs.Entries.{lookup_past}
 use Rattle.p2p_tracker_directory.proofs.Walks.{apart, equal_by}

@@ -1,10 +1,12 @@
 pub mod Accepting
+pub mod Addresses
 pub mod Asked
 pub mod Counts
 pub mod Dialing
 pub mod Ended
 pub mod Enrolling
 pub mod Entries
+pub mod Exact
 pub mod Found
 pub mod Keeping
 pub mod Killing

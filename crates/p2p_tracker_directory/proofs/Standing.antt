@@ -267,20 +267,20 @@ module _ {P : Type 0} {cmp : P → P → Ordering} (o : IsTotalOrder cmp) {kept 
     addressed = λ q. (stands-refused_listen p t j).addressed q;
   }
 
-  pub stands-connect : (p : P) (es : List (P × Recorded)) → is_reserved_in (lookup (is_at (cmp p)) kept.records) ≡ true
-      → es ≡ written cmp (lookup (is_at (cmp p)) kept.records) kept.records p connected → StandsFor cmp (record kept { records = es }) (call.Connect p None ∷ calls)
+  pub stands-connect : (p : P) (conn : ℕ) (es : List (P × Recorded)) → is_reserved_in (lookup (is_at (cmp p)) kept.records) ≡ true
+      → es ≡ written cmp (lookup (is_at (cmp p)) kept.records) kept.records p connected → StandsFor cmp (record kept { records = es }) (call.Connect p None conn ∷ calls)
   unfolding block_of kept_sets accepted_sets
-  stands-connect p es reserved e = record {
+  stands-connect p conn es reserved e = record {
     sets = s.sets;
     latest = s.latest;
     records = λ q. ap (lookup (is_at (cmp q))) e ∙ lookup-written o p q kept.records connected ∙ at_key connected q (is_at (cmp p) q)
-        ∙ sym (steps.record_of-connect cmp kept.rules calls q (s.addressed q) p
+        ∙ sym (steps.record_of-connect cmp kept.rules calls q (s.addressed q) p conn
         (λ b. (is_reserved_by q (alike (λ r. is_reserved_in r ≡ true) p q reserved b)).0)
         (λ b. (is_reserved_by q (alike (λ r. is_reserved_in r ≡ true) p q reserved b)).1)
         (λ b. (is_reserved_by q (alike (λ r. is_reserved_in r ≡ true) p q reserved b)).2));
     blocks = λ q. s.blocks q;
     ordered = s.ordered;
-    addressed = λ q. steps.addressed-connect cmp kept.rules calls q (s.addressed q) p;
+    addressed = λ q. steps.addressed-connect cmp kept.rules calls q (s.addressed q) p None conn;
   }
 
   pub stands-overwrite : (p : P) (given : PeerAddress) (es : List (P × Recorded))

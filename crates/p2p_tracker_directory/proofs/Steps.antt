@@ -229,11 +229,11 @@ module _ {P : Type 0} (cmp : P → P → Ordering) (rules : Rules P) (calls : Li
       (primary_sets cmp rules calls q) (secondary_sets cmp rules calls q) (is_connected cmp rules calls q) (is_stale cmp rules calls q)
       (last_grant cmp rules calls q) (address_of cmp rules calls q) given h
 
-  pub record_of-connect : (p : P) → (is_at (cmp p) q ≡ true → is_local cmp rules q ≡ false) → (is_at (cmp p) q ≡ true → is_held cmp calls q ≡ true)
+  pub record_of-connect : (p : P) (conn : ℕ) → (is_at (cmp p) q ≡ true → is_local cmp rules q ≡ false) → (is_at (cmp p) q ≡ true → is_held cmp calls q ≡ true)
       → (is_at (cmp p) q ≡ true → is_connected cmp rules calls q ≡ false)
-      → record_of cmp rules (call.Connect p None ∷ calls) q ≡ cond (is_at (cmp p) q) (option_map connected (record_of cmp rules calls q)) (record_of cmp rules calls q)
+      → record_of cmp rules (call.Connect p None conn ∷ calls) q ≡ cond (is_at (cmp p) q) (option_map connected (record_of cmp rules calls q)) (record_of cmp rules calls q)
   unfolding record_of address_of last_grant is_stale is_connected is_held is_tracked primary_sets secondary_sets kept_sets accepted_sets peer own
-  record_of-connect p o r j =
+  record_of-connect p conn o r j =
       connect_step (is_at (cmp p) q) (is_local cmp rules q) (is_tracked cmp rules calls q) (is_held cmp calls q) rules.cooldown
       (primary_sets cmp rules calls q) (secondary_sets cmp rules calls q) (is_connected cmp rules calls q) (is_stale cmp rules calls q)
       (last_grant cmp rules calls q) (address_of cmp rules calls q) o r j h
@@ -254,9 +254,9 @@ module _ {P : Type 0} (cmp : P → P → Ordering) (rules : Rules P) (calls : Li
   unfolding address_of is_held is_tracked kept_sets accepted_sets
   addressed-refused_listen p t j = λ o. has_address (is_alive cmp rules calls q) (is_local cmp rules q) None (address_of cmp rules calls q) o (λ e. sym (h o) ∙ e)
 
-  pub addressed-connect : (p : P) → IsAddressed cmp rules (call.Connect p None ∷ calls) q
+  pub addressed-connect : (p : P) (at : Option ℕ) (conn : ℕ) → IsAddressed cmp rules (call.Connect p at conn ∷ calls) q
   unfolding address_of is_held is_tracked kept_sets accepted_sets
-  addressed-connect p = λ o. has_address (is_alive cmp rules calls q) (is_local cmp rules q) None (address_of cmp rules calls q) o (λ e. sym (h o) ∙ e)
+  addressed-connect p at conn = λ o. has_address (is_alive cmp rules calls q) (is_local cmp rules q) None (address_of cmp rules calls q) o (λ e. sym (h o) ∙ e)
 
   pub addressed-overwrite : (p : P) (given : PeerAddress) → IsAddressed cmp rules (call.Overwrite p given ∷ calls) q
   unfolding address_of is_held is_tracked kept_sets accepted_sets

@@ -1,4 +1,6 @@
 pub mod Listed
 pub mod Recorded
+pub mod Reserved
 pub mod Stands
+pub mod Told
 pub mod Tracked

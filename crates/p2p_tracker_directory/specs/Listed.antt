@@ -1,32 +1,16 @@
 -- What the sets, the records and the blocks tell of who is tracked, of whom to dial, and of where peers come from.
 use Rattle.std.specs.Prelude.{ℕ, Bool, true, false, cond, not, ◌&&◌, ◌||◌, nat_lt, List, [], ◌∷◌, Option, Some, None}
-use Rattle.p2p_address.specs.Addresses.{is_global}
 use Rattle.p2p_address.specs.declared.ip.IpAddr.{IpAddr}
 use Rattle.p2p_tracker_calls.specs.Blocks.{lasts_at}
 use Rattle.p2p_tracker_calls.specs.Lives.{same_ip}
-use Rattle.p2p_tracker_calls.specs.Sets.{PeerSet}
-use Rattle.p2p_flow.specs.declared.tracked.TrackedPeers.{TrackedPeers}
+use Rattle.p2p_tracker_calls.specs.Heard.{if_allowed}
 use Rattle.p2p_tracker_directory.specs.Recorded.{Recorded, is_eligible, is_myself, egress_in, dial_status}
 use Rattle.p2p_tracker_directory.specs.declared.record.DialStatus.{DialStatus}
 use Rattle.p2p_tracker_directory.specs.declared.record.DialStatus.TheVariants as dial
 
--- the peers of a set that is kept
-abbrev pub peers_of : {P : Type 0} → PeerSet P → TrackedPeers P
-peers_of s = record { primary = s.primary; secondary = s.secondary }
-
--- the first of some sets, which stand newest first
-abbrev pub newest_of : {X : Type 0} → List X → Option X
-newest_of [] = None
-newest_of (x ∷ xs) = Some x
-
 -- the role of a peer that is primary in a set, or else of one that is primary in none and secondary in one
 abbrev pub has_role : Recorded → Bool → Bool
 has_role r primary = cond primary (nat_lt 0 r.primary) (not (nat_lt 0 r.primary) && nat_lt 0 r.secondary)
-
--- an IP address that is global, or any where private ones are allowed
-abbrev pub if_allowed : Bool → Option IpAddr → Option IpAddr
-if_allowed private None = None
-if_allowed private (Some ip) = cond (private || is_global ip) (Some ip) None
 
 -- the IP address that a peer may come from
 abbrev pub heard : Recorded → Bool → Bool → Option IpAddr
@@ -64,19 +48,3 @@ abbrev pub moment_of : DialStatus → Option ℕ
 moment_of dial.Now = None
 moment_of (dial.After t) = Some t
 moment_of dial.Unavailable = None
-
--- the lesser of two moments, or the one that there is
-abbrev pub earlier : Option ℕ → Option ℕ → Option ℕ
-earlier None b = b
-earlier (Some a) None = Some a
-earlier (Some a) (Some b) = Some (cond (nat_lt b a) b a)
-
--- the least moment that the elements give
-abbrev pub earliest : {X : Type 0} → (X → Option ℕ) → List X → Option ℕ
-earliest f [] = None
-earliest f (x ∷ xs) = earlier (f x) (earliest f xs)
-
--- there is a moment, and it comes no later than the one given
-abbrev pub comes_by : Option ℕ → ℕ → Bool
-comes_by None t = false
-comes_by (Some m) t = not (nat_lt t m)

@@ -2,10 +2,11 @@
 #![tactic(auto)]
 
 pub mod directory;
+pub mod metadata;
 pub mod record;
 pub mod reservation;
 
 pub use directory::{Config, Dialable, Directory};
-pub use p2p_tracker_mailbox::Metadata;
+pub use metadata::Metadata;
 pub use record::{Address, DialStatus, Record, ReserveResult, Status};
 pub use reservation::Reservation;

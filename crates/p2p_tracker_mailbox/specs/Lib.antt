@@ -1,4 +1,4 @@
 pub mod Desk
+pub mod Mailboxes
 pub mod OracleLaws
 pub mod Questions
-pub mod Reserved

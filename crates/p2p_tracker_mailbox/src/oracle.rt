@@ -1,14 +1,14 @@
 //! `Oracle`, which asks the tracker.
 ghost use Rattle.std.specs.Prelude.{◌≡◌};
 
-use crate::{Mailbox, Message};
+use crate::{Desk, Message};
 use p2p_base::{Feedback, PublicKey, Set};
 use p2p_flow::{Blocker, Ended, PeerSetUpdate, Polled, Provider, TrackedPeers};
 use std::alloc::{AllocError, Global};
 
 /// Says which peers are in the peer sets and where they are, asks for these sets, and blocks peers.
 ///
-/// It is a name, whose copies are alike: all that is asked stands in the tracker's mailbox.
+/// It is a name, whose copies are alike: all that is asked stands at the desk of the tracker's mailbox.
 ///
 /// Ports `Oracle` of commonware-p2p's lookup tracker.
 #[derive(Clone, Copy, PartialEq, Eq, Debug)]
@@ -37,7 +37,7 @@ impl<P: PublicKey> Provider for Oracle<P> {
 
     type PublicKey = P;
 
-    type Way = Mailbox<P>;
+    type Way = Desk<P>;
 
     ghost serves = { λ _ _. Unit {0} };
 
@@ -56,25 +56,21 @@ impl<P: PublicKey> Provider for Oracle<P> {
     fn peer_set(
         &mut self,
         alloc: Global,
-        way: &mut Mailbox<P>,
+        way: &mut Desk<P>,
         id: u64,
     ) -> Result<(u64, Feedback), AllocError> {
         let _ = alloc;
         way.ask(id)
     }
 
-    fn poll_peer_set(
-        &mut self,
-        way: &mut Mailbox<P>,
-        ticket: u64,
-    ) -> Polled<Option<TrackedPeers<P>>> {
+    fn poll_peer_set(&mut self, way: &mut Desk<P>, ticket: u64) -> Polled<Option<TrackedPeers<P>>> {
         way.take_answer(ticket)
     }
 
     fn subscribe(
         &mut self,
         alloc: Global,
-        way: &mut Mailbox<P>,
+        way: &mut Desk<P>,
     ) -> Result<(u64, Feedback), AllocError> {
         let _ = alloc;
         way.subscribe()
@@ -82,7 +78,7 @@ impl<P: PublicKey> Provider for Oracle<P> {
 
     fn poll_update(
         &mut self,
-        way: &mut Mailbox<P>,
+        way: &mut Desk<P>,
         ticket: u64,
     ) -> Result<Polled<PeerSetUpdate<P>>, Ended> {
         if let Some(update) = way.take_update(ticket) {
@@ -104,7 +100,7 @@ impl<P: PublicKey> Blocker for Oracle<P> {
 
     type PublicKey = P;
 
-    type Way = Mailbox<P>;
+    type Way = Desk<P>;
 
     ghost serves = { λ _ _. Unit {0} };
 
@@ -118,26 +114,17 @@ impl<P: PublicKey> Blocker for Oracle<P> {
 
     ghost after_poll_blocked = { λ _ d n. set_taken d n };
 
-    fn block(
-        &mut self,
-        alloc: Global,
-        way: &mut Mailbox<P>,
-        peer: P,
-    ) -> Result<Feedback, AllocError> {
+    fn block(&mut self, alloc: Global, way: &mut Desk<P>, peer: P) -> Result<Feedback, AllocError> {
         let _ = alloc;
         way.put(Message::Block { public_key: peer })
     }
 
-    fn blocked(
-        &mut self,
-        alloc: Global,
-        way: &mut Mailbox<P>,
-    ) -> Result<(u64, Feedback), AllocError> {
+    fn blocked(&mut self, alloc: Global, way: &mut Desk<P>) -> Result<(u64, Feedback), AllocError> {
         let _ = alloc;
         way.subscribe_blocked()
     }
 
-    fn poll_blocked(&mut self, way: &mut Mailbox<P>, ticket: u64) -> Result<Polled<Set<P>>, Ended> {
+    fn poll_blocked(&mut self, way: &mut Desk<P>, ticket: u64) -> Result<Polled<Set<P>>, Ended> {
         if let Some(set) = way.take_set(ticket) {
             return Ok(Polled::Ready(set));
         }

@@ -1,6 +1,6 @@
 //! How `Oracle` says who is in the peer sets.
 use crate::set_size::set_size;
-use crate::{Mailbox, Message, Oracle};
+use crate::{Desk, Message, Oracle};
 use p2p_address::Address;
 use p2p_base::{Feedback, Map, PublicKey};
 use p2p_flow::{AddressableManager, AddressableTrackedPeers, TrackError};
@@ -21,7 +21,7 @@ impl<P: PublicKey> AddressableManager for Oracle<P> {
     fn track_given(
         &mut self,
         alloc: Global,
-        way: &mut Mailbox<P>,
+        way: &mut Desk<P>,
         id: u64,
         given: &mut Option<AddressableTrackedPeers<P>>,
     ) -> Result<Feedback, TrackError> {
@@ -41,7 +41,7 @@ impl<P: PublicKey> AddressableManager for Oracle<P> {
     fn overwrite_given(
         &mut self,
         alloc: Global,
-        way: &mut Mailbox<P>,
+        way: &mut Desk<P>,
         given: &mut Option<Map<P, Address>>,
     ) -> Result<Feedback, AllocError> {
         let _ = alloc;

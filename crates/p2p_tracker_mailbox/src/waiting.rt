@@ -1,13 +1,13 @@
-//! `Waiting`, items that wait for whoever subscribed to them.
+//! `Waiting`, items that wait for whoever asked.
 ghost use Rattle.std.specs.Prelude.{◌≡◌, ◌∷◌, ◌++◌, [], drop, slice_get, slice_index_or, slice_set, IfOk, OnOk, OnErr};
 
 use std::alloc::{AllocError, Global};
 use std::collections::VecDeque;
 use std::marker::Model;
 
-/// The items that wait for a subscription, the oldest first. There may be any number of them.
+/// Items that wait for whoever asked, the oldest first. There may be any number of them.
 #[derive(Drop)]
-pub(crate) struct Waiting<T> {
+pub struct Waiting<T> {
     items: VecDeque<T>,
 }
 
@@ -43,8 +43,17 @@ impl<T> Waiting<T> {
         Ok(())
     }
 
-    // Removes the oldest item. `None` exactly where none waits.
-    pub(crate) fn take(&mut self) -> Option<T>
+    // Drops what waits.
+    pub(crate) fn clear(&mut self)
+    where
+        T: Drop,
+        ensures { self.new ≡ [] }
+    {
+        self.items.clear();
+    }
+
+    /// Removes the oldest item. `None` exactly where none waits.
+    pub fn take(&mut self) -> Option<T>
         ensures value { result ≡ slice_get self.old 0 }
         ensures after { self.new ≡ drop 1 self.old }
     {

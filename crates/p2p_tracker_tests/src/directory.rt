@@ -76,7 +76,7 @@ fn one_peer(alloc: Global, key: u64, host: u8) -> Result<AddressableTrackedPeers
         .push((Key(key), address(host)))
         .map_err(AllocError::from)?;
     let primary = Map::try_from(pairs)?;
-    Ok(AddressableTrackedPeers::primary(alloc, primary)?)
+    Ok(AddressableTrackedPeers::primary(alloc, primary))
 }
 
 fn track(
@@ -282,7 +282,7 @@ fn dial_and_give_back(
     let Some((reservation, _ingress)) = granted else {
         return Ok(None);
     };
-    match reservation.release(way) {
+    match way.release(reservation) {
         Ok(told) => Ok(Some(told)),
         Err(_kept) => Err(AllocError),
     }
@@ -390,4 +390,24 @@ fn listed(alloc: Global) -> Result<(bool, (bool, Option<u128>, usize), (bool, bo
 fn who_is_tracked_and_not_blocked_is_listed(rt: HostRuntime) {
     let wanted = (true, (true, Some(5), 2), (true, true));
     assert_eq!(rt; listed(rt.alloc()), Ok(wanted));
+}
+
+// The addresses from which peers may come, where the first host is that of the key 7, and the second that of the key 8.
+fn heard(alloc: Global, first: u8, second: u8) -> Result<Vec<IpAddr>, SetError> {
+    let mut directory = alone(alloc, 2)?;
+    track(&mut directory, alloc, 3, 7, first)?;
+    track(&mut directory, alloc, 5, 8, second)?;
+    Ok(directory.listenable(0)?)
+}
+
+// Whether two keys at one address are listed once, and two in falling order in rising order.
+fn are_in_order(alloc: Global) -> Result<(bool, bool), SetError> {
+    let once = heard(alloc, 7, 7)?.as_slice() == [ip(7)].as_slice();
+    let rising = heard(alloc, 9, 8)?.as_slice() == [ip(8), ip(9)].as_slice();
+    Ok((once, rising))
+}
+
+#[test]
+fn addresses_are_listed_once_in_their_order(rt: HostRuntime) {
+    assert_eq!(rt; are_in_order(rt.alloc()), Ok((true, true)));
 }

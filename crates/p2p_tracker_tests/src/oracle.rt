@@ -52,9 +52,9 @@ fn standing(alloc: Global, polled: Polled<Option<TrackedPeers<Key>>>) -> char {
 // What an oracle is told at a block and at a question, and how the question stands.
 fn asked(alloc: Global, way: &mut Mailbox<Key>) -> Result<([Feedback; 2], char), AllocError> {
     let mut oracle = Oracle::new(Key(1), 2);
-    let blocked = oracle.block(alloc, way, Key(2))?;
-    let (ticket, told) = oracle.peer_set(alloc, way, 7)?;
-    let answer = standing(alloc, oracle.poll_peer_set(way, ticket));
+    let blocked = oracle.block(alloc, &mut way.desk, Key(2))?;
+    let (ticket, told) = oracle.peer_set(alloc, &mut way.desk, 7)?;
+    let answer = standing(alloc, oracle.poll_peer_set(&mut way.desk, ticket));
     Ok(([blocked, told], answer))
 }
 
@@ -81,11 +81,11 @@ fn a_closed_mailbox_says_so(rt: HostRuntime) {
 fn answered(alloc: Global) -> Result<((u64, Feedback), [char; 2]), AllocError> {
     let mut way: Mailbox<Key> = Mailbox::new(alloc, 4)?;
     let mut oracle = Oracle::new(Key(1), 2);
-    let (ticket, told) = oracle.peer_set(alloc, &mut way, 7)?;
-    let before = standing(alloc, oracle.poll_peer_set(&mut way, ticket));
+    let (ticket, told) = oracle.peer_set(alloc, &mut way.desk, 7)?;
+    let before = standing(alloc, oracle.poll_peer_set(&mut way.desk, ticket));
     way.answer_peer_set(ticket, Some(TrackedPeers::empty(alloc)));
     way.answer_peer_set(ticket, None);
-    let after = standing(alloc, oracle.poll_peer_set(&mut way, ticket));
+    let after = standing(alloc, oracle.poll_peer_set(&mut way.desk, ticket));
     Ok(((ticket, told), [before, after]))
 }
 
@@ -95,25 +95,23 @@ fn a_question_is_answered_once(rt: HostRuntime) {
     assert_eq!(rt; answered(rt.alloc()), Ok(wanted));
 }
 
-// What is told at five messages.
-fn put_five(way: &mut Mailbox<Key>) -> Result<[Feedback; 5], AllocError> {
+// What is told at four messages.
+fn put_four(way: &mut Mailbox<Key>) -> Result<[Feedback; 4], AllocError> {
     Ok([
         way.connect(Key(2), 9)?,
         way.dial(Key(3))?,
         way.acceptable(Key(4), SOURCE, 5)?,
         way.listen(Key(4), SOURCE, 5)?,
-        way.release(Metadata::Dialer(Key(3)))?,
     ])
 }
 
 // The same at a mailbox of two places, and what is taken then.
-fn put_and_taken(alloc: Global) -> Result<([Feedback; 5], [(char, u64); 6]), AllocError> {
+fn put_and_taken(alloc: Global) -> Result<([Feedback; 4], [(char, u64); 5]), AllocError> {
     let mut way = Mailbox::new(alloc, 2)?;
-    let told = put_five(&mut way)?;
+    let told = put_four(&mut way)?;
     Ok((
         told,
         [
-            taken(&mut way),
             taken(&mut way),
             taken(&mut way),
             taken(&mut way),
@@ -130,9 +128,8 @@ fn messages_wait_in_their_order(rt: HostRuntime) {
         Feedback::Ok,
         Feedback::Backoff,
         Feedback::Backoff,
-        Feedback::Backoff,
     ];
-    let taken = [('c', 9), ('d', 3), ('a', 5), ('l', 5), ('g', 3), ('-', 0)];
+    let taken = [('c', 9), ('d', 3), ('a', 5), ('l', 5), ('-', 0)];
     assert_eq!(rt; put_and_taken(rt.alloc()), Ok((told, taken)));
 }
 
@@ -156,9 +153,9 @@ fn is_updated(alloc: Global, polled: Result<Polled<PeerSetUpdate<Key>>, Ended>) 
 fn updated(alloc: Global) -> Result<((char, u64), bool), AllocError> {
     let mut way = Mailbox::new(alloc, 4)?;
     let mut oracle = Oracle::new(Key(1), 2);
-    let (ticket, _) = oracle.subscribe(alloc, &mut way)?;
+    let (ticket, _) = oracle.subscribe(alloc, &mut way.desk)?;
     way.put_update(ticket, empty_update(alloc))?;
-    let given = is_updated(alloc, oracle.poll_update(&mut way, ticket));
+    let given = is_updated(alloc, oracle.poll_update(&mut way.desk, ticket));
     Ok((taken(&mut way), given))
 }
 
@@ -193,10 +190,10 @@ fn blocked(alloc: Global) -> Result<((char, u64), [Option<usize>; 2], bool), All
     let newer = one_key(alloc)?;
     let mut way = Mailbox::new(alloc, 4)?;
     let mut oracle = Oracle::new(Key(1), 2);
-    let (ticket, _) = oracle.blocked(alloc, &mut way)?;
+    let (ticket, _) = oracle.blocked(alloc, &mut way.desk)?;
     let first = dropped(way.put_blocked(ticket, Set::empty(alloc)));
     let second = dropped(way.put_blocked(ticket, newer));
-    let given = is_blocked(oracle.poll_blocked(&mut way, ticket));
+    let given = is_blocked(oracle.poll_blocked(&mut way.desk, ticket));
     Ok((taken(&mut way), [first, second], given))
 }
 

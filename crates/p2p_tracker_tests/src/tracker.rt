@@ -1,6 +1,6 @@
 //! Steps of a new tracker, with what they put worked out by hand.
 ghost use Rattle.std.specs.Prelude.{◌≡◌, IfOk};
-ghost use Rattle.p2p_tracker_mailbox.specs.Desk.{new_desk};
+ghost use Rattle.p2p_tracker_mailbox.specs.Mailboxes.{new_mailbox};
 
 use p2p_address::{Address, IpAddr, SocketAddr};
 use p2p_base::{Key, List, Map, PublicKey, SetError};
@@ -10,11 +10,11 @@ use std::alloc::{AllocError, Global};
 use std::test::Fail;
 
 // A tracker of this key.
-fn tracker<C: PublicKey>(
+pub fn tracker<C: PublicKey>(
     alloc: Global,
     public_key: C,
 ) -> Result<(Actor<C>, Mailbox<C>, Oracle<C>), AllocError>
-    ensures { IfOk result (λ r. r.1 ≡ new_desk 4) }
+    ensures { IfOk result (λ r. r.1 ≡ new_mailbox 4) }
 {
     Actor::new(
         alloc,
@@ -33,7 +33,7 @@ fn tracker<C: PublicKey>(
 }
 
 // This key alone, at the address of a host.
-fn at<C: PublicKey>(alloc: Global, key: C, host: u8) -> Result<Map<C, Address>, SetError> {
+pub fn at<C: PublicKey>(alloc: Global, key: C, host: u8) -> Result<Map<C, Address>, SetError> {
     let ip = IpAddr::V4([10, 0, 0, host]);
     let mut pairs = Vec::new(alloc);
     pairs
@@ -43,10 +43,9 @@ fn at<C: PublicKey>(alloc: Global, key: C, host: u8) -> Result<Map<C, Address>, 
 }
 
 // This key alone, as a primary peer.
-fn only<C: PublicKey>(alloc: Global, key: C) -> Result<AddressableTrackedPeers<C>, SetError> {
+pub fn only<C: PublicKey>(alloc: Global, key: C) -> Result<AddressableTrackedPeers<C>, SetError> {
     let primary = at(alloc, key, 7)?;
-    let secondary = Map::try_from(Vec::new(alloc))?;
-    Ok(AddressableTrackedPeers::new(primary, secondary))
+    Ok(AddressableTrackedPeers::primary(alloc, primary))
 }
 
 // What a step did.
@@ -73,8 +72,8 @@ fn outcome_of_put(put: List<Put<Key>>) -> Outcome {
     match put.as_slice() {
         [] => Outcome::Took,
         [Put::Dial(None)] => Outcome::RefusedDial,
-        [Put::Listenable(_)] => Outcome::ToldListener,
-        [Put::Listenable(_), Put::Update { ticket: 0 }] => Outcome::ToldBoth,
+        [Put::Listenable { .. }] => Outcome::ToldListener,
+        [Put::Listenable { .. }, Put::Update { ticket: 0, .. }] => Outcome::ToldBoth,
         _ => Outcome::Other,
     }
 }
@@ -117,9 +116,9 @@ fn block(
     way: &mut Mailbox<Key>,
     oracle: &mut Oracle<Key>,
 ) -> Result<[Outcome; 3], AllocError>
-    requires { way.old ≡ new_desk 4 }
+    requires { way.old ≡ new_mailbox 4 }
 {
-    oracle.block(alloc, way, Key(2))?;
+    oracle.block(alloc, &mut way.desk, Key(2))?;
     let Stepped::Message { put } = actor.step(way, 0, 0)? else {
         return Ok([Outcome::Other; 3]);
     };
@@ -151,14 +150,14 @@ fn track(
     way: &mut Mailbox<Key>,
     oracle: &mut Oracle<Key>,
 ) -> Result<[Outcome; 2], Fail>
-    requires { way.old ≡ new_desk 4 }
+    requires { way.old ≡ new_mailbox 4 }
 {
-    oracle.subscribe(alloc, way)?;
+    oracle.subscribe(alloc, &mut way.desk)?;
     let Stepped::Message { put } = actor.step(way, 0, 0)? else {
         return Ok([Outcome::Other; 2]);
     };
     let subscribed = outcome_of_put(put);
-    oracle.track(alloc, way, 3, only(alloc, Key(2))?)?;
+    oracle.track(alloc, &mut way.desk, 3, only(alloc, Key(2))?)?;
     Ok([subscribed, outcome_of(actor.step(way, 0, 0)?)])
 }
 
@@ -181,19 +180,19 @@ fn overwrite(
     way: &mut Mailbox<Key>,
     oracle: &mut Oracle<Key>,
 ) -> Result<[Outcome; 3], Fail>
-    requires { way.old ≡ new_desk 4 }
+    requires { way.old ≡ new_mailbox 4 }
 {
-    oracle.track(alloc, way, 3, only(alloc, Key(2))?)?;
+    oracle.track(alloc, &mut way.desk, 3, only(alloc, Key(2))?)?;
     let Stepped::Message { put } = actor.step(way, 0, 0)? else {
         return Ok([Outcome::Other; 3]);
     };
     let tracked = outcome_of_put(put);
-    oracle.overwrite(alloc, way, at(alloc, Key(2), 7)?)?;
+    oracle.overwrite(alloc, &mut way.desk, at(alloc, Key(2), 7)?)?;
     let Stepped::Message { put } = actor.step(way, 0, 0)? else {
         return Ok([Outcome::Other; 3]);
     };
     let known = outcome_of_put(put);
-    oracle.overwrite(alloc, way, at(alloc, Key(2), 8)?)?;
+    oracle.overwrite(alloc, &mut way.desk, at(alloc, Key(2), 8)?)?;
     Ok([tracked, known, outcome_of(actor.step(way, 0, 0)?)])
 }
 

@@ -31,7 +31,7 @@ fn tracked(
     let primary = at(alloc, primary)?;
     let secondary = at(alloc, secondary)?;
     let peers = AddressableTrackedPeers::new(primary, secondary);
-    Ok(Oracle::new(Key(1), 2).track(alloc, way, 6, peers))
+    Ok(Oracle::new(Key(1), 2).track(alloc, &mut way.desk, 6, peers))
 }
 
 // The same of two keys, which are three with its own, and what waits then.
@@ -50,7 +50,7 @@ fn a_set_with_too_many_keys_is_refused(rt: HostRuntime) {
 // What it is told at a new address of a key.
 fn overwritten(alloc: Global, way: &mut Mailbox<Key>) -> Result<Feedback, SetError> {
     let peers = at(alloc, &[Key(2)])?;
-    Ok(Oracle::new(Key(1), 2).overwrite(alloc, way, peers)?)
+    Ok(Oracle::new(Key(1), 2).overwrite(alloc, &mut way.desk, peers)?)
 }
 
 // What is told at a set that fits and at a new address, and what waits then.

@@ -1,14 +1,15 @@
 //! Blocks: one more, those that have ended, and who is told of them.
-ghost use Rattle.p2p_tracker_mailbox.specs.declared.message.Message.TheVariants as message;
-ghost use Rattle.p2p_tracker_mailbox.specs.Desk.{set_of};
-ghost use Rattle.p2p_tracker.specs.Putting.{IsPut, IsEnded};
-ghost use Rattle.p2p_tracker.specs.declared.stepped.Put.TheVariants as puts;
-ghost use Rattle.p2p_tracker.specs.Following.{Follows};
-ghost use Rattle.p2p_tracker.specs.Telling.{ChangesSets};
-ghost use Rattle.std.specs.Prelude.{◌≡◌, List, [], ◌∷◌, true, false, IfOk, OnOk};
+ghost use Rattle.std.specs.Prelude.{◌≡◌, List, [], ◌∷◌, ◌++◌, cond, true, false, Some, IfOk, OnOk};
 ghost use Rattle.p2p_tracker_calls.specs.declared.call.Call.{Call};
 ghost use Rattle.p2p_tracker_calls.specs.declared.call.Call.TheVariants as call;
 ghost use Rattle.p2p_tracker_directory.specs.Stands.{StandsFor};
+ghost use Rattle.p2p_tracker_directory.specs.Told.{addresses_in, blocked_in};
+ghost use Rattle.p2p_tracker_mailbox.specs.Desk.{set_of};
+ghost use Rattle.p2p_tracker.specs.Following.{Follows};
+ghost use Rattle.p2p_tracker_mailbox.specs.declared.message.Message.TheVariants as message;
+ghost use Rattle.p2p_tracker.specs.Putting.{IsPut};
+ghost use Rattle.p2p_tracker.specs.Telling.{after_puts, sets_put};
+ghost use Rattle.p2p_tracker.specs.declared.stepped.Put.TheVariants as puts;
 
 use super::Actor;
 use super::kills::kill;
@@ -24,11 +25,11 @@ impl<C: PublicKey> Actor<C> {
         way: &mut Mailbox<C>,
         now: u64,
     ) -> Result<List<Put<C>>, AllocError>
-        ensures desk { ChangesSets way.old way.new }
-        ensures put { IfOk result (λ p. (calls : List (Call C)) → StandsFor C.cmp self.now.directory calls → IsEnded C.cmp self.now.directory.rules calls now self.now.sets way.old p) }
+        ensures desk { IfOk result (λ p. way.new ≡ after_puts p way.old) }
+        ensures put { IfOk result (λ p. p ≡ puts.Listenable (addresses_in C.cmp self.now.directory now) way.old.heard ∷ sets_put way.old.desk.sets self.now.sets (blocked_in C.cmp self.now.directory now)) }
     {
         let mut put = Vec::new(self.alloc);
-        self.tell_listener(now, true, &mut put)?;
+        self.tell_listener(way, now, true, &mut put)?;
         let blocked = self.directory.blocked_peers(now)?;
         tell_blocked_all(way, self.sets.as_slice(), &blocked, &mut put)?;
         Ok(List::new(put))
@@ -46,8 +47,8 @@ impl<C: PublicKey> Actor<C> {
             → Follows C.cmp self.new.directory self.new.controls (call.Block public_key now ∷ calls)) }
         ensures rules { OnOk result (self.new.directory.rules ≡ self.old.directory.rules) }
         ensures rest { self.new ≡ record self.old { directory = self.new.directory; controls = self.new.controls } }
-        ensures desk { ChangesSets way.old way.new }
-        ensures put { IfOk result (λ p. (calls : List (Call C)) → StandsFor C.cmp self.old.directory calls → IsPut C.cmp self.old.directory.rules self.old.controls way.old.sets calls now (message.Block public_key) p) }
+        ensures desk { IfOk result (λ p. way.new ≡ after_puts p way.old) }
+        ensures put { IfOk result (λ p. IsPut C.cmp self.old self.new way.old.desk.sets way.old.heard now (message.Block public_key) p) }
     {
         let mut put = Vec::new(self.alloc);
         let is_new = self.directory.block(&public_key, now)?;
@@ -64,14 +65,17 @@ impl<C: PublicKey> Actor<C> {
         is_new: bool,
         put: &mut Vec<Put<C>>,
     ) -> Result<(), AllocError>
-        ensures desk { ChangesSets way.old way.new }
+        ensures desk { OnOk result (way.new ≡ cond is_new
+            (record (after_puts (sets_put way.old.desk.sets self.now.sets (blocked_in C.cmp self.now.directory now)) way.old) { heard = Some (addresses_in C.cmp self.now.directory now) }) way.old) }
+        ensures put { OnOk result (put.new.items ≡ cond is_new
+            ((put.old.items ++ sets_put way.old.desk.sets self.now.sets (blocked_in C.cmp self.now.directory now)) ++ puts.Listenable (addresses_in C.cmp self.now.directory now) way.old.heard ∷ []) put.old.items) }
     {
         if !is_new {
             return Ok(());
         }
         let blocked = self.directory.blocked_peers(now)?;
         tell_blocked_all(way, self.sets.as_slice(), &blocked, put)?;
-        self.tell_listener(now, true, put)?;
+        self.tell_listener(way, now, true, put)?;
         Ok(())
     }
 
@@ -83,8 +87,9 @@ impl<C: PublicKey> Actor<C> {
         ticket: u64,
     ) -> Result<List<Put<C>>, AllocError>
         ensures rest { self.new ≡ record self.old { sets = self.new.sets } }
-        ensures desk { ChangesSets way.old way.new }
-        ensures put { IfOk result (λ p. p ≡ puts.Blocked ticket (set_of way.old ticket) ∷ []) }
+        ensures kept { OnOk result (self.new.sets ≡ self.old.sets ++ ticket ∷ []) }
+        ensures desk { IfOk result (λ p. way.new ≡ after_puts p way.old) }
+        ensures put { IfOk result (λ p. p ≡ puts.Blocked ticket (blocked_in C.cmp self.old.directory now) (set_of way.old.desk ticket) ∷ []) }
     {
         let mut put = Vec::new(self.alloc);
         let blocked = self.directory.blocked_peers(now)?;

@@ -1,8 +1,11 @@
 //! Reservations: their grant, the connection that they are for, and their return.
 ghost use Rattle.p2p_tracker.specs.declared.stepped.Put.TheVariants as puts;
-ghost use Rattle.p2p_tracker.specs.Putting.{IsDialAnswer, IsListenAnswer};
+ghost use Rattle.p2p_tracker_mailbox.specs.declared.mailbox.Mailbox.{Mailbox as Mailboxed};
+ghost use Rattle.p2p_tracker_mailbox.specs.declared.message.Message.TheVariants as message;
+ghost use Rattle.p2p_tracker.specs.Putting.{IsPut};
 ghost use Rattle.p2p_tracker.specs.Following.{Follows};
-ghost use Rattle.std.specs.Prelude.{◌≡◌, cond, List, Some, None, [], ◌∷◌, true, false, IfOk, OnOk};
+ghost use Rattle.p2p_tracker.specs.Telling.{after_puts};
+ghost use Rattle.std.specs.Prelude.{◌≡◌, ℕ, cond, List, Some, None, [], ◌∷◌, true, false, IfOk, OnOk};
 ghost use Rattle.p2p_tracker_calls.specs.declared.call.Call.{Call};
 ghost use Rattle.p2p_tracker_calls.specs.declared.call.Call.TheVariants as call;
 ghost use Rattle.p2p_tracker_directory.specs.Stands.{StandsFor};
@@ -11,14 +14,14 @@ ghost use Rattle.std.specs.BTreeMap.{is_at};
 ghost use Rattle.p2p_tracker_calls.specs.Lives.{accepts};
 ghost use Rattle.p2p_tracker_calls.specs.Allows.{allows_dial, allows_listen};
 ghost use Rattle.p2p_tracker_directory.specs.Recorded.{is_reserved_in, is_held_or_unknown};
-ghost use Rattle.p2p_tracker_mailbox.specs.Reserved.{peer_of};
-ghost use Rattle.p2p_tracker.specs.Tracking.{jitter_of};
+ghost use Rattle.p2p_tracker_directory.specs.Reserved.{peer_of};
+ghost use Rattle.p2p_tracker_calls.specs.Jitter.{jitter_of};
 ghost use Rattle.p2p_tracker.specs.Serving.{IsEligible};
 
 use super::Actor;
 use super::kills::{forget, keep};
-use crate::{Metadata, Put};
-use p2p_address::IpAddr;
+use crate::{DialerAnswer, HandshakeAnswer, Mailbox, Metadata, Put, Reservation};
+use p2p_address::{Ingress, IpAddr};
 use p2p_base::{List, PublicKey};
 use p2p_runtime::Draws;
 use p2p_tracker_directory::Directory;
@@ -28,6 +31,7 @@ impl<C: PublicKey> Actor<C> {
     // Answers a dial by a reservation, where it is granted.
     pub(super) fn dial(
         &mut self,
+        way: &mut Mailbox<C>,
         now: u64,
         seed: u64,
         public_key: C,
@@ -37,16 +41,20 @@ impl<C: PublicKey> Actor<C> {
             → Follows C.cmp self.new.directory self.new.controls (call.Dial public_key now (jitter_of self.old.cooldown seed) (allows_dial C.cmp self.old.directory.rules calls public_key now) ∷ calls)) }
         ensures rules { OnOk result (self.new.directory.rules ≡ self.old.directory.rules) }
         ensures rest { self.new ≡ record self.old { directory = self.new.directory } }
-        ensures put { IfOk result (λ p. (calls : List (Call C)) → StandsFor C.cmp self.old.directory calls → IsDialAnswer C.cmp self.old.directory.rules calls now public_key p) }
+        ensures desk { IfOk result (λ p. way.new ≡ after_puts p way.old) }
+        ensures put { IfOk result (λ p. IsPut C.cmp self.old self.new way.old.desk.sets way.old.heard now (message.Dial public_key) p) }
     {
         let jitter = self.jitter(seed);
         let granted = self.directory.dial(&public_key, now, jitter)?;
-        Ok(self.only(Put::Dial(granted))?)
+        let told = told_of_dial(&granted)?;
+        way.answer_dialer(DialerAnswer::Dial(granted))?;
+        Ok(self.only(Put::Dial(told))?)
     }
 
     // Answers a handshake by a reservation, where it is granted.
     pub(super) fn listen(
         &mut self,
+        way: &mut Mailbox<C>,
         now: u64,
         seed: u64,
         public_key: C,
@@ -58,13 +66,16 @@ impl<C: PublicKey> Actor<C> {
             → Follows C.cmp self.new.directory self.new.controls (call.Listen public_key now (jitter_of self.old.cooldown seed) (allows_listen C.cmp self.old.directory.rules calls public_key source_ip now) ∷ calls)) }
         ensures rules { OnOk result (self.new.directory.rules ≡ self.old.directory.rules) }
         ensures rest { self.new ≡ record self.old { directory = self.new.directory } }
-        ensures put { IfOk result (λ p. (calls : List (Call C)) → StandsFor C.cmp self.old.directory calls → IsListenAnswer C.cmp self.old.directory.rules calls now public_key source_ip handshake p) }
+        ensures desk { IfOk result (λ p. way.new ≡ after_puts p way.old) }
+        ensures put { IfOk result (λ p. IsPut C.cmp self.old self.new way.old.desk.sets way.old.heard now (message.Listen public_key source_ip handshake) p) }
     {
         let jitter = self.jitter(seed);
         let reservation = self.directory.listen(&public_key, source_ip, now, jitter)?;
+        let reserved = told_of_listen(&reservation);
+        way.answer_handshake(handshake, HandshakeAnswer::Listen(reservation))?;
         Ok(self.only(Put::Listen {
             handshake,
-            reservation,
+            reserved,
         })?)
     }
 
@@ -83,12 +94,13 @@ impl<C: PublicKey> Actor<C> {
         conn: u64,
     ) -> Result<List<Put<C>>, AllocError>
         requires { IsEligible C.cmp self.old.directory public_key now → is_reserved_in (lookup (is_at (C.cmp public_key)) self.old.directory.records) ≡ true }
-        ensures stands { IfOk result (λ p. (calls : List (Call C)) → StandsFor C.cmp self.old.directory calls → StandsFor C.cmp self.new.directory (call.Connect public_key (Some now) ∷ calls)) }
+        ensures stands { IfOk result (λ p. (calls : List (Call C)) → StandsFor C.cmp self.old.directory calls → StandsFor C.cmp self.new.directory (call.Connect public_key (Some now) conn ∷ calls)) }
         ensures follows { IfOk result (λ p. (calls : List (Call C)) → Follows C.cmp self.old.directory self.old.controls calls
-            → Follows C.cmp self.new.directory self.new.controls (call.Connect public_key (Some now) ∷ calls)) }
+            → Follows C.cmp self.new.directory self.new.controls (call.Connect public_key (Some now) conn ∷ calls)) }
         ensures rules { OnOk result (self.new.directory.rules ≡ self.old.directory.rules) }
         ensures rest { self.new ≡ record self.old { directory = self.new.directory; controls = self.new.controls } }
-        ensures put { IfOk result (λ p. (calls : List (Call C)) → StandsFor C.cmp self.old.directory calls → p ≡ cond (accepts C.cmp self.old.directory.rules calls public_key (Some now)) [] (puts.Kill public_key conn ∷ [])) }
+        ensures put { IfOk result (λ p. (calls : List (Call C)) → Follows C.cmp self.old.directory self.old.controls calls → p ≡ cond (accepts C.cmp self.old.directory.rules calls public_key (Some now)) [] (puts.Kill public_key conn ∷ [])) }
+        ensures desk { IfOk result (λ p. (m : Mailboxed C) → after_puts p m ≡ m) }
     {
         if accept(&mut self.directory, now, &public_key) {
             keep(&mut self.controls, public_key, conn)?;
@@ -121,10 +133,35 @@ fn accept<C: PublicKey>(directory: &mut Directory<C>, now: u64, public_key: &C) 
     requires { IsEligible C.cmp directory.old public_key.now now → is_reserved_in (lookup (is_at (C.cmp public_key.now)) directory.old.records) ≡ true }
     ensures answer { (calls : List (Call C)) → StandsFor C.cmp directory.old calls → result ≡ accepts C.cmp directory.old.rules calls public_key.now (Some now) }
     ensures rules { directory.new.rules ≡ directory.old.rules }
-    ensures stands { (calls : List (Call C)) → StandsFor C.cmp directory.old calls → StandsFor C.cmp directory.new (call.Connect public_key.now (Some now) ∷ calls) }
+    ensures stands { (calls : List (Call C)) (conn : ℕ) → StandsFor C.cmp directory.old calls → StandsFor C.cmp directory.new (call.Connect public_key.now (Some now) conn ∷ calls) }
 {
     if !directory.eligible(public_key, now) {
         return false;
     }
     directory.connect(public_key)
+}
+
+// Who is reserved by the grant of a dial, and where to dial.
+fn told_of_dial<C: PublicKey>(
+    granted: &Option<(Reservation<C>, Ingress)>,
+) -> Result<Option<(Metadata<C>, Ingress)>, AllocError>
+    ensures { IfOk result (λ o. o ≡ granted.now) }
+{
+    match granted {
+        Some((reservation, ingress)) => {
+            let ingress = ingress.clone()?;
+            Ok(Some((*reservation.metadata(), ingress)))
+        }
+        None => Ok(None),
+    }
+}
+
+// Who is reserved by the grant of a listen.
+fn told_of_listen<C: PublicKey>(granted: &Option<Reservation<C>>) -> Option<Metadata<C>>
+    ensures { result ≡ granted.now }
+{
+    match granted {
+        Some(reservation) => Some(*reservation.metadata()),
+        None => None,
+    }
 }

@@ -1,18 +1,24 @@
 //! `Actor`, the tracker itself: the blocks that have ended, or one message, a step.
-ghost use Rattle.p2p_tracker.specs.Putting.{IsPut, IsPutBy};
-ghost use Rattle.p2p_tracker.specs.Following.{Follows};
-ghost use Rattle.std.specs.Prelude.{◌≡◌, ◌≤◌, List, [], true, false, is_some, IfOk, OnOk, OnErr, IsErr, IfSome};
+ghost use Rattle.std.specs.Prelude.{◌≡◌, ℕ, ◌≤◌, List, [], length, true, false, is_some, IfOk, OnOk, OnErr, IsErr, IfSome};
 ghost use Rattle.std.specs.Map.{lookup};
 ghost use Rattle.std.specs.BTreeMap.{is_at};
 ghost use Rattle.p2p_tracker_calls.specs.Blocks.{is_over, block_of};
+ghost use Rattle.p2p_tracker_calls.specs.Jitter.{jitter_of};
 ghost use Rattle.p2p_tracker_calls.specs.Keeping.{all_connect_by};
 ghost use Rattle.p2p_tracker_calls.specs.Lives.{is_eligible, is_stale};
+ghost use Rattle.p2p_tracker_calls.specs.Named.{EqualKeysAreOne};
 ghost use Rattle.p2p_tracker_calls.specs.Turns.{grants_none_held};
 ghost use Rattle.p2p_tracker_calls.specs.declared.call.Call.{Call};
 ghost use Rattle.p2p_tracker_directory.specs.Stands.{StandsFor};
-ghost use Rattle.p2p_tracker_mailbox.specs.Desk.{new_desk, next_message};
-ghost use Rattle.p2p_tracker.specs.Tracking.{new_tracking, jitter_of};
-ghost use Rattle.p2p_tracker.specs.Serving.{IsQuiet, IsQuietIn, ends, serves, left_by, MayTake, calls_after, calls_by};
+ghost use Rattle.p2p_tracker_mailbox.specs.Desk.{next_message, question_at};
+ghost use Rattle.p2p_flow.specs.Provided.{is_open};
+ghost use Rattle.p2p_tracker_mailbox.specs.Mailboxes.{new_mailbox};
+ghost use Rattle.p2p_tracker.specs.Following.{Follows};
+ghost use Rattle.p2p_tracker.specs.Putting.{IsPut, IsPutBy};
+ghost use Rattle.p2p_tracker.specs.Serving.{IsQuiet, IsQuietIn, ends, serves, puts_of, left_in, left_by, MayTake, calls_after, calls_by};
+ghost use Rattle.p2p_tracker.specs.Steps.{stepped_of, by_step, updates_for, sets_for};
+ghost use Rattle.p2p_tracker.specs.Telling.{after_puts};
+ghost use Rattle.p2p_tracker.specs.Tracking.{new_tracking, rules_for};
 
 mod blocks;
 mod grants;
@@ -72,14 +78,8 @@ impl<C: PublicKey> Actor<C> {
         requires tracked_peer_sets { 1 ≤ cfg.tracked_peer_sets }
         ensures stands { IfOk result (λ r. StandsFor C.cmp r.0.directory []) }
         ensures actor { IfOk result (λ r. r.0 ≡ new_tracking r.0.directory cfg.peer_connection_cooldown) }
-        ensures local { IfOk result (λ r. r.0.directory.rules.local ≡ cfg.public_key) }
-        ensures max_sets { IfOk result (λ r. r.0.directory.rules.max_sets ≡ cfg.tracked_peer_sets) }
-        ensures cooldown { IfOk result (λ r. r.0.directory.rules.cooldown ≡ cfg.peer_connection_cooldown) }
-        ensures block_duration { IfOk result (λ r. r.0.directory.rules.block_duration ≡ cfg.block_duration) }
-        ensures private { IfOk result (λ r. r.0.directory.rules.private ≡ cfg.allow_private_ips) }
-        ensures dns { IfOk result (λ r. r.0.directory.rules.dns ≡ cfg.allow_dns) }
-        ensures bypass { IfOk result (λ r. r.0.directory.rules.bypass ≡ cfg.bypass_ip_check) }
-        ensures mailbox { IfOk result (λ r. r.1 ≡ new_desk cfg.mailbox_size) }
+        ensures rules { IfOk result (λ r. r.0.directory.rules ≡ rules_for cfg) }
+        ensures mailbox { IfOk result (λ r. r.1 ≡ new_mailbox cfg.mailbox_size) }
         ensures oracle { IfOk result (λ r. r.2.local ≡ cfg.public_key) }
         ensures most { IfOk result (λ r. r.2.max_peers_per_set ≡ cfg.max_peers_per_set) }
     {
@@ -131,60 +131,70 @@ impl<C: PublicKey> Actor<C> {
         now: u64,
         seed: u64,
     ) -> Result<Stepped<C>, AllocError>
-        requires may_take { self.old.has_failed ≡ false → IsQuietIn C.cmp self.old.directory now → IfSome (next_message way.old) (λ m. MayTake C.cmp self.old.directory m now) }
+        requires may_take { self.old.has_failed ≡ false → IsQuietIn C.cmp self.old.directory now → IfSome (next_message way.old.desk) (λ m. MayTake C.cmp self.old.directory m now) }
         ensures stands { IfOk result (λ s. (calls : List (Call C)) → StandsFor C.cmp self.old.directory calls
-            → StandsFor C.cmp self.new.directory (calls_by C.cmp self.old.directory.rules s (next_message way.old) now (jitter_of self.old.cooldown seed) calls)) }
+            → StandsFor C.cmp self.new.directory (calls_by C.cmp self.old.directory.rules s (next_message way.old.desk) now (jitter_of self.old.cooldown seed) calls)) }
         ensures due { IfOk result (λ s. ends s ≡ true → (calls : List (Call C)) → StandsFor C.cmp self.old.directory calls
             → (q : C) × (is_over (block_of C.cmp self.old.directory.rules calls q) now ≡ true)) }
         ensures quiet { IfOk result (λ s. ends s ≡ false → (calls : List (Call C)) → StandsFor C.cmp self.old.directory calls
             → IsQuiet C.cmp self.old.directory.rules calls now) }
-        ensures served { IfOk result (λ s. ends s ≡ false → serves s ≡ is_some (next_message way.old)) }
-        ensures taken { IfOk result (λ s. way.new.messages ≡ left_by s way.old.messages) }
+        ensures served { IfOk result (λ s. ends s ≡ false → serves s ≡ is_some (next_message way.old.desk)) }
+        ensures taken { IfOk result (λ s. way.new.desk.messages ≡ left_by s way.old.desk.messages) }
         ensures follows { IfOk result (λ s. (calls : List (Call C)) → Follows C.cmp self.old.directory self.old.controls calls
-            → Follows C.cmp self.new.directory self.new.controls (calls_by C.cmp self.old.directory.rules s (next_message way.old) now (jitter_of self.old.cooldown seed) calls)) }
+            → Follows C.cmp self.new.directory self.new.controls (calls_by C.cmp self.old.directory.rules s (next_message way.old.desk) now (jitter_of self.old.cooldown seed) calls)) }
         ensures eligible { IfOk result (λ s. (calls : List (Call C)) → all_connect_by now calls ≡ true → Follows C.cmp self.old.directory self.old.controls calls
             → (q : C) → is_some (lookup (is_at (C.cmp q)) self.new.controls) ≡ true
-            → is_eligible C.cmp self.new.directory.rules (calls_by C.cmp self.old.directory.rules s (next_message way.old) now (jitter_of self.old.cooldown seed) calls) q now ≡ true) }
+            → is_eligible C.cmp self.new.directory.rules (calls_by C.cmp self.old.directory.rules s (next_message way.old.desk) now (jitter_of self.old.cooldown seed) calls) q now ≡ true) }
         ensures fresh { IfOk result (λ s. (calls : List (Call C)) → Follows C.cmp self.old.directory self.old.controls calls
             → (q : C) → is_some (lookup (is_at (C.cmp q)) self.new.controls) ≡ true
-            → is_stale C.cmp self.new.directory.rules (calls_by C.cmp self.old.directory.rules s (next_message way.old) now (jitter_of self.old.cooldown seed) calls) q ≡ false) }
+            → is_stale C.cmp self.new.directory.rules (calls_by C.cmp self.old.directory.rules s (next_message way.old.desk) now (jitter_of self.old.cooldown seed) calls) q ≡ false) }
         ensures turns { IfOk result (λ s. (calls : List (Call C)) → grants_none_held C.cmp calls ≡ true
-            → grants_none_held C.cmp (calls_by C.cmp self.old.directory.rules s (next_message way.old) now (jitter_of self.old.cooldown seed) calls) ≡ true) }
+            → grants_none_held C.cmp (calls_by C.cmp self.old.directory.rules s (next_message way.old.desk) now (jitter_of self.old.cooldown seed) calls) ≡ true) }
         ensures rules { OnOk result (self.new.directory.rules ≡ self.old.directory.rules) }
         ensures cooldown { self.new.cooldown ≡ self.old.cooldown }
         ensures memory { OnErr result (self.new.has_failed ≡ true) }
         ensures works { OnOk result (self.new.has_failed ≡ false) }
         ensures failed { self.old.has_failed ≡ true → IsErr result }
-        ensures put { IfOk result (λ s. (calls : List (Call C)) → StandsFor C.cmp self.old.directory calls
-            → IsPutBy C.cmp self.old.directory.rules self.old.controls self.old.sets way.old calls now s (next_message way.old)) }
+        ensures answer { IfOk result (λ s. (calls : List (Call C)) → EqualKeysAreOne C.cmp → Follows C.cmp self.old.directory self.old.controls calls
+            → s ≡ stepped_of C.cmp self.old.directory.rules self.old.updates self.old.sets way.old.desk.sets way.old.heard calls now (next_message way.old.desk)) }
+        ensures put { IfOk result (λ s. way.new ≡ after_puts (puts_of s) (left_in s way.old)) }
+        ensures updates { IfOk result (λ s. self.new.updates ≡ by_step s (next_message way.old.desk) updates_for self.old.updates) }
+        ensures sets { IfOk result (λ s. self.new.sets ≡ by_step s (next_message way.old.desk) sets_for self.old.sets) }
+        ensures subscribed { OnOk result (length way.new.desk.updates ≡ length way.old.desk.updates) }
+        ensures blocked_subscribed { OnOk result (length way.new.desk.sets ≡ length way.old.desk.sets) }
+        ensures open { OnOk result ((n : ℕ) → is_open (question_at way.old.desk n) ≡ true → is_open (question_at way.new.desk n) ≡ true) }
     {
         if self.has_failed {
             return Err(AllocError);
         }
         self.has_failed = true;
+        self.directory.stands_in_order();
         let stepped = self.work(way, now, seed)?;
+        self.directory.stands_in_order();
         self.has_failed = false;
         Ok(stepped)
     }
 
     // What a step does.
     fn work(&mut self, way: &mut Mailbox<C>, now: u64, seed: u64) -> Result<Stepped<C>, AllocError>
-        requires { IsQuietIn C.cmp self.old.directory now → IfSome (next_message way.old) (λ m. MayTake C.cmp self.old.directory m now) }
+        requires { IsQuietIn C.cmp self.old.directory now → IfSome (next_message way.old.desk) (λ m. MayTake C.cmp self.old.directory m now) }
         ensures stands { IfOk result (λ s. (calls : List (Call C)) → StandsFor C.cmp self.old.directory calls
-            → StandsFor C.cmp self.new.directory (calls_by C.cmp self.old.directory.rules s (next_message way.old) now (jitter_of self.old.cooldown seed) calls)) }
+            → StandsFor C.cmp self.new.directory (calls_by C.cmp self.old.directory.rules s (next_message way.old.desk) now (jitter_of self.old.cooldown seed) calls)) }
         ensures due { IfOk result (λ s. ends s ≡ true → (calls : List (Call C)) → StandsFor C.cmp self.old.directory calls
             → (q : C) × (is_over (block_of C.cmp self.old.directory.rules calls q) now ≡ true)) }
         ensures quiet { IfOk result (λ s. ends s ≡ false → (calls : List (Call C)) → StandsFor C.cmp self.old.directory calls
             → IsQuiet C.cmp self.old.directory.rules calls now) }
-        ensures served { IfOk result (λ s. ends s ≡ false → serves s ≡ is_some (next_message way.old)) }
-        ensures taken { IfOk result (λ s. way.new.messages ≡ left_by s way.old.messages) }
+        ensures served { IfOk result (λ s. ends s ≡ false → serves s ≡ is_some (next_message way.old.desk)) }
+        ensures taken { IfOk result (λ s. way.new.desk.messages ≡ left_by s way.old.desk.messages) }
         ensures follows { IfOk result (λ s. (calls : List (Call C)) → Follows C.cmp self.old.directory self.old.controls calls
-            → Follows C.cmp self.new.directory self.new.controls (calls_by C.cmp self.old.directory.rules s (next_message way.old) now (jitter_of self.old.cooldown seed) calls)) }
+            → Follows C.cmp self.new.directory self.new.controls (calls_by C.cmp self.old.directory.rules s (next_message way.old.desk) now (jitter_of self.old.cooldown seed) calls)) }
         ensures rules { OnOk result (self.new.directory.rules ≡ self.old.directory.rules) }
         ensures cooldown { self.new.cooldown ≡ self.old.cooldown }
         ensures has_failed { self.new.has_failed ≡ self.old.has_failed }
-        ensures put { IfOk result (λ s. (calls : List (Call C)) → StandsFor C.cmp self.old.directory calls
-            → IsPutBy C.cmp self.old.directory.rules self.old.controls self.old.sets way.old calls now s (next_message way.old)) }
+        ensures put { IfOk result (λ s. IsPutBy C.cmp self.old self.new way.old.desk.sets way.old.heard now s (next_message way.old.desk)) }
+        ensures desk { IfOk result (λ s. way.new ≡ after_puts (puts_of s) (left_in s way.old)) }
+        ensures updates { IfOk result (λ s. self.new.updates ≡ by_step s (next_message way.old.desk) updates_for self.old.updates) }
+        ensures sets { IfOk result (λ s. self.new.sets ≡ by_step s (next_message way.old.desk) sets_for self.old.sets) }
     {
         if self.directory.unblock_expired(now) {
             let put = self.ended_blocks(way, now)?;
@@ -213,32 +223,33 @@ impl<C: PublicKey> Actor<C> {
         ensures follows { IfOk result (λ p. (calls : List (Call C)) → Follows C.cmp self.old.directory self.old.controls calls
             → Follows C.cmp self.new.directory self.new.controls (calls_after C.cmp self.old.directory.rules message now (jitter_of self.old.cooldown seed) calls)) }
         ensures rules { OnOk result (self.new.directory.rules ≡ self.old.directory.rules) }
-        ensures messages { OnOk result (way.new.messages ≡ way.old.messages) }
         ensures cooldown { self.new.cooldown ≡ self.old.cooldown }
         ensures has_failed { self.new.has_failed ≡ self.old.has_failed }
-        ensures put { IfOk result (λ p. (calls : List (Call C)) → StandsFor C.cmp self.old.directory calls
-            → IsPut C.cmp self.old.directory.rules self.old.controls way.old.sets calls now message p) }
+        ensures put { IfOk result (λ p. IsPut C.cmp self.old self.new way.old.desk.sets way.old.heard now message p) }
+        ensures desk { IfOk result (λ p. way.new ≡ after_puts p way.old) }
+        ensures updates { OnOk result (self.new.updates ≡ updates_for message self.old.updates) }
+        ensures sets { OnOk result (self.new.sets ≡ sets_for message self.old.sets) }
     {
         match message {
             Message::Register { index, peers } => self.register(way, now, index, peers),
-            Message::Overwrite { peers } => self.overwrite(now, peers),
+            Message::Overwrite { peers } => self.overwrite(way, now, peers),
             Message::PeerSet { index, ticket } => self.peer_set(way, index, ticket),
             Message::Subscribe { ticket } => self.subscribe(way, ticket),
             Message::Block { public_key } => self.block(way, now, public_key),
             Message::SubscribeBlocked { ticket } => self.subscribe_blocked(way, now, ticket),
             Message::Connect { public_key, conn } => self.connect(now, public_key, conn),
-            Message::Dialable => self.dialable(now),
-            Message::Dial { public_key } => self.dial(now, seed, public_key),
+            Message::Dialable => self.dialable(way, now),
+            Message::Dial { public_key } => self.dial(way, now, seed, public_key),
             Message::Acceptable {
                 public_key,
                 source_ip,
                 handshake,
-            } => self.acceptable(now, public_key, source_ip, handshake),
+            } => self.acceptable(way, now, public_key, source_ip, handshake),
             Message::Listen {
                 public_key,
                 source_ip,
                 handshake,
-            } => self.listen(now, seed, public_key, source_ip, handshake),
+            } => self.listen(way, now, seed, public_key, source_ip, handshake),
             Message::Release { metadata } => Ok(self.release(metadata)),
         }
     }

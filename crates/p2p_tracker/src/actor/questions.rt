@@ -1,16 +1,13 @@
 //! Questions that change nothing, and subscriptions to peer sets.
-ghost use Rattle.p2p_tracker.specs.Putting.{IsDialableAnswer};
-ghost use Rattle.p2p_tracker_calls.specs.Allows.{is_acceptable};
-ghost use Rattle.p2p_tracker_calls.specs.Sets.{kept_sets, latest_index};
-ghost use Rattle.p2p_tracker_calls.specs.declared.call.Call.{Call};
-ghost use Rattle.p2p_tracker_directory.specs.Stands.{StandsFor};
+ghost use Rattle.std.specs.Prelude.{◌≡◌, [], ◌∷◌, ◌++◌, IfOk, OnOk};
+ghost use Rattle.p2p_tracker_directory.specs.Told.{dial_list_in, peer_set_in, update_in};
+ghost use Rattle.p2p_tracker_mailbox.specs.declared.message.Message.TheVariants as message;
+ghost use Rattle.p2p_tracker.specs.Putting.{IsPut};
+ghost use Rattle.p2p_tracker.specs.Telling.{after_puts, told_of_sets};
 ghost use Rattle.p2p_tracker.specs.declared.stepped.Put.TheVariants as puts;
-ghost use Rattle.p2p_tracker_mailbox.specs.Desk.{answered_at};
-ghost use Rattle.p2p_tracker.specs.Telling.{ChangesUpdates};
-ghost use Rattle.std.specs.Prelude.{◌≡◌, cond, is_some, List, [], ◌∷◌, IfOk};
 
 use super::Actor;
-use crate::{Mailbox, Put};
+use crate::{DialerAnswer, HandshakeAnswer, Mailbox, Put};
 use p2p_address::IpAddr;
 use p2p_base::{List, PublicKey};
 use std::alloc::AllocError;
@@ -23,12 +20,13 @@ impl<C: PublicKey> Actor<C> {
         index: u64,
         ticket: u64,
     ) -> Result<List<Put<C>>, AllocError>
-        ensures messages { way.new.messages ≡ way.old.messages }
-        ensures put { IfOk result (λ p. p ≡ puts.PeerSet ticket ∷ []) }
+        ensures desk { IfOk result (λ p. way.new ≡ after_puts p way.old) }
+        ensures put { IfOk result (λ p. p ≡ puts.PeerSet ticket (peer_set_in C.cmp self.now.directory index) ∷ []) }
     {
+        let told = self.directory.get_peer_set(index)?;
         let peers = self.directory.get_peer_set(index)?;
-        way.answer_peer_set(ticket, peers);
-        Ok(self.only(Put::PeerSet { ticket })?)
+        way.answer_peer_set(ticket, told);
+        Ok(self.only(Put::PeerSet { ticket, peers })?)
     }
 
     // Tells a new subscription the latest set, if there is one, and keeps it.
@@ -38,9 +36,9 @@ impl<C: PublicKey> Actor<C> {
         ticket: u64,
     ) -> Result<List<Put<C>>, AllocError>
         ensures rest { self.new ≡ record self.old { updates = self.new.updates } }
-        ensures desk { ChangesUpdates way.old way.new }
-        ensures put { IfOk result (λ p. (calls : List (Call C)) → StandsFor C.cmp self.old.directory calls
-            → p ≡ cond (is_some (latest_index (kept_sets C.cmp self.old.directory.rules calls))) (puts.Update ticket ∷ []) []) }
+        ensures kept { OnOk result (self.new.updates ≡ self.old.updates ++ ticket ∷ []) }
+        ensures desk { IfOk result (λ p. way.new ≡ after_puts p way.old) }
+        ensures put { IfOk result (λ p. p ≡ told_of_sets (ticket ∷ []) (update_in C.cmp self.old.directory)) }
     {
         let mut put = Vec::new(self.alloc);
         self.tell_latest(way, &[ticket], &mut put)?;
@@ -49,24 +47,34 @@ impl<C: PublicKey> Actor<C> {
     }
 
     // Answers whom to dial.
-    pub(super) fn dialable(&self, now: u64) -> Result<List<Put<C>>, AllocError>
-        ensures { IfOk result (λ p. (calls : List (Call C)) → StandsFor C.cmp self.now.directory calls → IsDialableAnswer C.cmp self.now.directory.rules calls now p) }
+    pub(super) fn dialable(
+        &self,
+        way: &mut Mailbox<C>,
+        now: u64,
+    ) -> Result<List<Put<C>>, AllocError>
+        ensures desk { IfOk result (λ p. way.new ≡ after_puts p way.old) }
+        ensures put { IfOk result (λ p. p ≡ puts.Dialable (dial_list_in C.cmp self.now.directory now) ∷ []) }
     {
         let dialable = self.directory.dialable(now)?;
-        Ok(self.only(Put::Dialable(dialable))?)
+        let told = dialable.try_clone(self.alloc)?;
+        way.answer_dialer(DialerAnswer::Dialable(dialable))?;
+        Ok(self.only(Put::Dialable(told))?)
     }
 
     // Answers whether a peer may connect from there.
     pub(super) fn acceptable(
         &self,
+        way: &mut Mailbox<C>,
         now: u64,
         public_key: C,
         source_ip: IpAddr,
         handshake: u64,
     ) -> Result<List<Put<C>>, AllocError>
-        ensures { IfOk result (λ p. (calls : List (Call C)) → StandsFor C.cmp self.now.directory calls → p ≡ puts.Acceptable handshake (is_acceptable C.cmp self.now.directory.rules calls public_key source_ip now) ∷ []) }
+        ensures desk { IfOk result (λ p. way.new ≡ after_puts p way.old) }
+        ensures put { IfOk result (λ p. IsPut C.cmp self.now self.now way.old.desk.sets way.old.heard now (message.Acceptable public_key source_ip handshake) p) }
     {
         let acceptable = self.directory.acceptable(&public_key, source_ip, now);
+        way.answer_handshake(handshake, HandshakeAnswer::Acceptable(acceptable))?;
         Ok(self.only(Put::Acceptable {
             handshake,
             acceptable,

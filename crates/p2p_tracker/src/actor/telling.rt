@@ -1,7 +1,8 @@
 //! How subscriptions are told.
 ghost use Rattle.std.specs.Prelude.{◌≡◌, [], ◌∷◌, ◌++◌, OnOk};
 ghost use Rattle.p2p_tracker_mailbox.specs.Desk.{with_update, with_set, set_of};
-ghost use Rattle.p2p_tracker.specs.Telling.{with_updates, updates_put, with_sets, sets_put, ChangesUpdates, ChangesSets};
+ghost use Rattle.p2p_tracker_mailbox.specs.Mailboxes.{with_desk};
+ghost use Rattle.p2p_tracker.specs.Telling.{after_puts, updates_put, sets_put};
 ghost use Rattle.p2p_tracker.specs.declared.stepped.Put.TheVariants as puts;
 
 use crate::{Mailbox, Put};
@@ -16,9 +17,8 @@ pub(super) fn tell_all<C: PublicKey>(
     update: &PeerSetUpdate<C>,
     put: &mut Vec<Put<C>>,
 ) -> Result<(), AllocError>
-    ensures put { OnOk result (put.new.items ≡ put.old.items ++ updates_put tickets.now) }
-    ensures desk { OnOk result (way.new ≡ with_updates way.old tickets.now update.now) }
-    ensures rest { ChangesUpdates way.old way.new }
+    ensures put { OnOk result (put.new.items ≡ put.old.items ++ updates_put tickets.now update.now) }
+    ensures desk { OnOk result (way.new ≡ after_puts (updates_put tickets.now update.now) way.old) }
 {
     for ticket in tickets {
         tell(way, *ticket, update, put)?;
@@ -33,13 +33,13 @@ fn tell<C: PublicKey>(
     update: &PeerSetUpdate<C>,
     put: &mut Vec<Put<C>>,
 ) -> Result<(), AllocError>
-    ensures put { OnOk result (put.new.items ≡ put.old.items ++ puts.Update ticket ∷ []) }
-    ensures desk { OnOk result (way.new ≡ with_update way.old ticket update.now) }
-    ensures rest { ChangesUpdates way.old way.new }
+    ensures put { OnOk result (put.new.items ≡ put.old.items ++ puts.Update ticket update.now ∷ []) }
+    ensures desk { OnOk result (way.new ≡ with_desk way.old (with_update way.old.desk ticket update.now)) }
 {
-    let copy = update.try_clone()?;
-    way.put_update(ticket, copy)?;
-    put.push(Put::Update { ticket })?;
+    let told = update.try_clone()?;
+    let update = update.try_clone()?;
+    way.put_update(ticket, told)?;
+    put.push(Put::Update { ticket, update })?;
     Ok(())
 }
 
@@ -50,9 +50,8 @@ pub(super) fn tell_blocked_all<C: PublicKey>(
     blocked: &Set<C>,
     put: &mut Vec<Put<C>>,
 ) -> Result<(), AllocError>
-    ensures put { OnOk result (put.new.items ≡ put.old.items ++ sets_put way.old tickets.now blocked.now) }
-    ensures desk { OnOk result (way.new ≡ with_sets way.old tickets.now blocked.now) }
-    ensures rest { ChangesSets way.old way.new }
+    ensures put { OnOk result (put.new.items ≡ put.old.items ++ sets_put way.old.desk.sets tickets.now blocked.now) }
+    ensures desk { OnOk result (way.new ≡ after_puts (sets_put way.old.desk.sets tickets.now blocked.now) way.old) }
 {
     for ticket in tickets {
         tell_blocked(way, *ticket, blocked, put)?;
@@ -67,12 +66,16 @@ pub(super) fn tell_blocked<C: PublicKey>(
     blocked: &Set<C>,
     put: &mut Vec<Put<C>>,
 ) -> Result<(), AllocError>
-    ensures put { OnOk result (put.new.items ≡ put.old.items ++ puts.Blocked ticket (set_of way.old ticket) ∷ []) }
-    ensures desk { OnOk result (way.new ≡ with_set way.old ticket blocked.now) }
-    ensures rest { ChangesSets way.old way.new }
+    ensures put { OnOk result (put.new.items ≡ put.old.items ++ puts.Blocked ticket blocked.now (set_of way.old.desk ticket) ∷ []) }
+    ensures desk { OnOk result (way.new ≡ with_desk way.old (with_set way.old.desk ticket blocked.now)) }
 {
-    let copy = blocked.try_clone()?;
-    let dropped = way.put_blocked(ticket, copy);
-    put.push(Put::Blocked { ticket, dropped })?;
+    let told = blocked.try_clone()?;
+    let blocked = blocked.try_clone()?;
+    let dropped = way.put_blocked(ticket, told);
+    put.push(Put::Blocked {
+        ticket,
+        blocked,
+        dropped,
+    })?;
     Ok(())
 }

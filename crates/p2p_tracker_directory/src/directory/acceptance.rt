@@ -81,6 +81,7 @@ impl<C: PublicKey> Directory<C> {
         ensures accepted { IfOk result (λ o. (calls : List (Call C)) → StandsFor C.cmp self.old calls → is_some o ≡ is_above index (accepted_sets C.cmp calls)) }
         ensures killed { IfOk result (λ o. IfSome o (λ k. (calls : List (Call C)) → StandsFor C.cmp self.old calls
             → (q : C) → is_among C.cmp k q ≡ is_killed C.cmp self.old.rules index primary.now secondary.now calls q)) }
+        ensures ordered { IfOk result (λ o. IfSome o (λ k. IsStrictlySortedBy C.cmp k)) }
         ensures rules { self.new.rules ≡ self.old.rules }
         ensures stands { IfOk result (λ o. (calls : List (Call C)) → StandsFor C.cmp self.old calls → StandsFor C.cmp self.new (call.Track index primary.now secondary.now ∷ calls)) }
         ensures memory { OnErr result ((calls : List (Call C)) → StandsFor C.cmp self.old calls → StandsFor C.cmp self.new calls) }

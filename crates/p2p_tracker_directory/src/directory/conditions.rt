@@ -1,13 +1,22 @@
 //! Whether the calls that have a condition may be made.
 ghost use Rattle.std.specs.Prelude.{◌≡◌};
-ghost use Rattle.std.specs.Map.{lookup};
+ghost use Rattle.std.specs.List.Sorted.{IsStrictlySortedBy};
+ghost use Rattle.std.specs.Map.{lookup, keys_of};
 ghost use Rattle.std.specs.BTreeMap.{is_at};
 ghost use Rattle.p2p_tracker_directory.specs.Recorded.{is_reserved_in, is_held_or_unknown};
 
-use crate::Directory;
+use crate::{Directory, Record};
 use p2p_base::PublicKey;
+use std::collections::BTreeMap;
 
 impl<C: PublicKey> Directory<C> {
+    /// States that the records stand in the order of their keys. It does nothing.
+    pub fn stands_in_order(&self)
+        ensures { IsStrictlySortedBy C.cmp (keys_of self.now.records) }
+    {
+        in_order(&self.records);
+    }
+
     /// Whether `connect` may be called for this peer: it is reserved, and its connection hasn't begun.
     pub fn may_connect(&self, peer: &C) -> bool
         ensures { result ≡ is_reserved_in (lookup (is_at (C.cmp peer.now)) self.now.records) }
@@ -27,4 +36,11 @@ impl<C: PublicKey> Directory<C> {
             None => true,
         }
     }
+}
+
+// States that a map's entries stand in the order of their keys. It does nothing.
+fn in_order<C: PublicKey>(records: &BTreeMap<C, Record>)
+    ensures { IsStrictlySortedBy C.cmp (keys_of records.now.entries) }
+{
+    let _ = records.iter();
 }

@@ -4,23 +4,38 @@ ghost use Rattle.std.specs.List.{filter};
 ghost use Rattle.std.specs.List.Sorted.{IsStrictlySortedBy};
 ghost use Rattle.std.specs.Map.{keys_of, lookup};
 ghost use Rattle.std.specs.BTreeMap.{is_at};
-ghost use Rattle.p2p_tracker_directory.specs.Listed.{outlook, is_now, moment_of, earlier, earliest};
+ghost use Rattle.p2p_tracker_directory.specs.Listed.{outlook, is_now, moment_of};
+ghost use Rattle.p2p_tracker_calls.specs.DialList.{earlier, earliest};
 
 use crate::directory::Config;
+use crate::directory::blocks::is_after;
 use crate::{DialStatus, Record};
-use p2p_base::{PrioritySet, PublicKey};
+use p2p_base::{List, PrioritySet, PublicKey};
 use std::alloc::{AllocError, Global};
 use std::collections::BTreeMap;
 
 /// Whom a directory lists for a dial.
 ///
 /// Ports `Dialable` of commonware-p2p's lookup tracker.
-#[derive(Drop)]
+#[derive(Drop, PartialEq, Eq, Debug)]
 pub struct Dialable<P> {
     /// The peers, in key order.
-    pub peers: Vec<P>,
+    pub peers: List<P>,
     /// The moment, in nanoseconds, at which more peers may be listed. `None` where time alone adds none.
     pub next_query_at: Option<u128>,
+}
+
+impl<P: Copy> Dialable<P> {
+    /// An equal list. `Err` only where memory runs out.
+    pub fn try_clone(&self, alloc: Global) -> Result<Dialable<P>, AllocError>
+        ensures { IfOk result (λ d. d ≡ self.now) }
+    {
+        let peers = self.peers.try_clone(alloc)?;
+        Ok(Dialable {
+            peers,
+            next_query_at: self.next_query_at,
+        })
+    }
 }
 
 // Whether a peer with this block is to be dialed.
@@ -30,7 +45,7 @@ fn outlook(known: &Record, block: Option<u128>, cfg: &Config, now: u64) -> DialS
     let Some(end) = block else {
         return known.dialable(now, cfg.allow_private_ips, cfg.allow_dns);
     };
-    if u128::from(now) >= end {
+    if !is_after(end, now) {
         return known.dialable(now, cfg.allow_private_ips, cfg.allow_dns);
     }
     if known.is_blockable() {

@@ -4,23 +4,16 @@ ghost use Rattle.std.specs.List.Sorted.{IsStrictlySortedBy};
 ghost use Rattle.std.specs.Map.{keys_of, lookup};
 ghost use Rattle.std.specs.BTreeMap.{is_at};
 ghost use Rattle.p2p_tracker_calls.specs.Blocks.{lasts_at};
+ghost use Rattle.p2p_base.specs.Sorted.{sorted_once};
+ghost use Rattle.p2p_tracker_calls.specs.Heard.{ip_cmp};
 ghost use Rattle.p2p_tracker_directory.specs.Listed.{heard};
 
 use crate::Record;
+use crate::directory::blocks::lasts;
 use p2p_address::{IpAddr, is_global};
 use p2p_base::{PrioritySet, PublicKey};
 use std::alloc::{AllocError, Global};
 use std::collections::BTreeMap;
-
-// Whether a block ends after `now`.
-fn lasts(block: Option<u128>, now: u64) -> bool
-    ensures { result ≡ lasts_at block now }
-{
-    match block {
-        Some(end) => u128::from(now) < end,
-        None => false,
-    }
-}
 
 // The IP address that a peer may come from, which is global or `private` ones are allowed.
 fn heard(known: &Record, is_blocked: bool, private: bool) -> Option<IpAddr>
@@ -36,6 +29,15 @@ fn heard(known: &Record, is_blocked: bool, private: bool) -> Option<IpAddr>
         return Some(address);
     }
     None
+}
+
+// The IP addresses that peers may come from, each once: IPv4 first, and each kind by its bytes.
+pub(super) fn in_order(mut found: Vec<IpAddr>) -> Result<Vec<IpAddr>, AllocError>
+    ensures { IfOk result (λ v. v.items ≡ sorted_once ip_cmp found.items) }
+{
+    found.sort()?;
+    found.dedup();
+    Ok(found)
 }
 
 // The IP addresses that peers may come from, in the order of their keys.

@@ -6,6 +6,7 @@ ghost use Rattle.std.specs.Map.{keys_of};
 ghost use Rattle.p2p_tracker_directory.specs.Listed.{has_role};
 
 use crate::Record;
+use crate::directory::blocks::is_after;
 use p2p_base::{PrioritySet, PublicKey};
 use std::alloc::{AllocError, Global};
 use std::collections::BTreeMap;
@@ -48,7 +49,7 @@ pub(super) fn blocked<C: PublicKey>(
 {
     let mut peers = Vec::new(alloc);
     for (peer, end) in blocks.iter() {
-        if u128::from(now) < *end {
+        if is_after(*end, now) {
             peers.push(*peer)?;
         }
     }

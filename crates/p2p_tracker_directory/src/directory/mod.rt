@@ -1,13 +1,21 @@
 //! `Directory`, which peers are known, tracked, held and blocked.
-ghost use Rattle.std.specs.Prelude.{◌≡◌, ◌+◌, ◌&&◌, [], ◌∷◌, List, Some, None, true, false, not, is_some, IfOk, OnErr, IfSome};
+ghost use Rattle.std.specs.Prelude.{◌≡◌, ℕ, ◌+◌, ◌&&◌, [], ◌∷◌, List, Some, None, true, false, not, is_some, IfOk, OnErr, IfSome};
 ghost use Rattle.std.specs.Map.{lookup};
 ghost use Rattle.std.specs.BTreeMap.{is_at};
 ghost use Rattle.p2p_tracker_calls.specs.Allows.{is_acceptable, allows_dial, allows_listen};
 ghost use Rattle.p2p_tracker_calls.specs.Blocks.{is_local, is_blockable, is_blocked, lasts_at, is_over, block_of};
 ghost use Rattle.p2p_tracker_calls.specs.Lives.{address_of, is_eligible, is_stale, is_overwritten};
-ghost use Rattle.p2p_tracker_calls.specs.Kills.{is_killed};
+ghost use Rattle.p2p_tracker_calls.specs.Kills.{is_killed, killed_keys};
+ghost use Rattle.p2p_tracker_calls.specs.Named.{EqualKeysAreOne};
+ghost use Rattle.p2p_tracker_calls.specs.BlockedKeys.{blocked_keys};
+ghost use Rattle.p2p_tracker_calls.specs.DialList.{dialable_keys, query_again_at};
+ghost use Rattle.p2p_tracker_calls.specs.Heard.{heard_addresses};
+ghost use Rattle.p2p_tracker_calls.specs.Rules.{rules_of};
+ghost use Rattle.p2p_tracker_directory.specs.Told.{blocked_in, dial_list_in, addresses_in, peer_set_in, all_in, update_in};
 ghost use Rattle.p2p_tracker_calls.specs.Lists.{is_dialable, next_query, is_listenable};
-ghost use Rattle.p2p_tracker_directory.specs.Listed.{is_heard, comes_by, peers_of, newest_of};
+ghost use Rattle.p2p_tracker_directory.specs.Listed.{is_heard};
+ghost use Rattle.p2p_tracker_calls.specs.Peers.{peers_of, newest_of, all_peers, latest_update};
+ghost use Rattle.p2p_tracker_calls.specs.DialList.{comes_by};
 ghost use Rattle.p2p_address.specs.declared.ip.IpAddr.{IpAddr};
 ghost use Rattle.std.specs.List.Sorted.{IsStrictlySortedBy};
 ghost use Rattle.p2p_tracker_calls.specs.Sets.{is_above, is_among, accepted_sets, kept_sets, latest_index, set_at, is_tracked, is_primary};
@@ -15,8 +23,8 @@ ghost use Rattle.p2p_tracker_calls.specs.declared.call.Call.{Call};
 ghost use Rattle.p2p_tracker_calls.specs.declared.call.Call.TheVariants as call;
 ghost use Rattle.p2p_tracker_directory.specs.Recorded.{is_eligible_in, is_acceptable_in, is_reserved_in, is_held_or_unknown, found_ingress};
 ghost use Rattle.p2p_tracker_directory.specs.Stands.{StandsFor};
-ghost use Rattle.p2p_tracker_mailbox.specs.Reserved.{peer_of};
-ghost use Rattle.p2p_tracker_mailbox.specs.declared.metadata.Metadata.TheVariants as side;
+ghost use Rattle.p2p_tracker_directory.specs.Reserved.{peer_of};
+ghost use Rattle.p2p_tracker_directory.specs.declared.metadata.Metadata.TheVariants as side;
 ghost use Rattle.p2p_address.specs.Addresses.{ingress_of};
 ghost use Rattle.std.specs.Option.{option_map};
 
@@ -24,7 +32,6 @@ mod acceptance;
 mod blocks;
 mod changes;
 mod conditions;
-mod config;
 mod dials;
 mod enrolment;
 mod entries;
@@ -36,16 +43,16 @@ mod newcomers;
 mod sets;
 
 use crate::{Metadata, Record, Reservation};
-use blocks::take_ended;
+use blocks::{lasts, take_ended};
 use changes::{begin, end_hold, grant_dial, grant_listen, readdress};
-pub use config::Config;
 pub use dials::Dialable;
 use dials::{dialable_peers, next_query};
-use listens::addresses;
+use listens::{addresses, in_order};
 use lists::{blocked, peers_with_role};
 use p2p_address::{Address, Ingress, IpAddr};
-use p2p_base::{PrioritySet, PublicKey, Set};
+use p2p_base::{List, PrioritySet, PublicKey, Set};
 use p2p_flow::{AddressableTrackedPeers, PeerSetUpdate, TrackedPeers};
+pub use p2p_tracker_calls::Config;
 use sets::{TrackedSet, find_set, newest, peers_of};
 use std::alloc::{AllocError, Global};
 use std::collections::{BTreeMap, VecDeque};
@@ -93,13 +100,7 @@ impl<C: PublicKey> Directory<C> {
     ///
     /// `Err` only where memory runs out.
     pub fn init(alloc: Global, local: C, cfg: Config) -> Result<Directory<C>, AllocError>
-        ensures local { IfOk result (λ d. d.rules.local ≡ local) }
-        ensures max_sets { IfOk result (λ d. d.rules.max_sets ≡ cfg.max_sets) }
-        ensures cooldown { IfOk result (λ d. d.rules.cooldown ≡ cfg.peer_connection_cooldown) }
-        ensures block_duration { IfOk result (λ d. d.rules.block_duration ≡ cfg.block_duration) }
-        ensures private { IfOk result (λ d. d.rules.private ≡ cfg.allow_private_ips) }
-        ensures dns { IfOk result (λ d. d.rules.dns ≡ cfg.allow_dns) }
-        ensures bypass { IfOk result (λ d. d.rules.bypass ≡ cfg.bypass_ip_check) }
+        ensures rules { IfOk result (λ d. d.rules ≡ rules_of local cfg) }
         ensures stands { IfOk result (λ d. StandsFor C.cmp d []) }
     {
         let mut records = BTreeMap::new(alloc);
@@ -126,8 +127,9 @@ impl<C: PublicKey> Directory<C> {
     ///
     /// `Err` only where memory runs out.
     pub fn get_peer_set(&self, index: u64) -> Result<Option<TrackedPeers<C>>, AllocError>
-        ensures { IfOk result (λ r. (calls : List (Call C)) → StandsFor C.cmp self.now calls
+        ensures peers { IfOk result (λ r. (calls : List (Call C)) → StandsFor C.cmp self.now calls
             → r ≡ option_map peers_of (set_at index (kept_sets C.cmp self.now.rules calls))) }
+        ensures value { IfOk result (λ r. r ≡ peer_set_in C.cmp self.now index) }
     {
         let Some(set) = find_set(&self.sets, index) else {
             return Ok(None);
@@ -144,6 +146,9 @@ impl<C: PublicKey> Directory<C> {
             → (q : C) → is_among C.cmp r.primary q ≡ is_primary C.cmp self.now.rules calls q) }
         ensures secondary { IfOk result (λ r. (calls : List (Call C)) → StandsFor C.cmp self.now calls
             → (q : C) → is_among C.cmp r.secondary q ≡ (is_tracked C.cmp self.now.rules calls q && not (is_primary C.cmp self.now.rules calls q))) }
+        ensures value { IfOk result (λ r. r ≡ all_in C.cmp self.now) }
+        ensures exactly { IfOk result (λ r. (calls : List (Call C)) → EqualKeysAreOne C.cmp → StandsFor C.cmp self.now calls
+            → r ≡ all_peers C.cmp self.now.rules calls) }
     {
         let first = peers_with_role(self.alloc, &self.records, true)?;
         let second = peers_with_role(self.alloc, &self.records, false)?;
@@ -164,6 +169,9 @@ impl<C: PublicKey> Directory<C> {
             → (q : C) → is_among C.cmp u.all.primary q ≡ is_primary C.cmp self.now.rules calls q)) }
         ensures secondary { IfOk result (λ o. IfSome o (λ u. (calls : List (Call C)) → StandsFor C.cmp self.now calls
             → (q : C) → is_among C.cmp u.all.secondary q ≡ (is_tracked C.cmp self.now.rules calls q && not (is_primary C.cmp self.now.rules calls q)))) }
+        ensures value { IfOk result (λ r. r ≡ update_in C.cmp self.now) }
+        ensures exactly { IfOk result (λ r. (calls : List (Call C)) → EqualKeysAreOne C.cmp → StandsFor C.cmp self.now calls
+            → r ≡ latest_update C.cmp self.now.rules calls) }
     {
         let Some(set) = newest(&self.sets) else {
             return Ok(None);
@@ -181,16 +189,19 @@ impl<C: PublicKey> Directory<C> {
     ///
     /// `Err` only where memory runs out.
     pub fn blocked_peers(&self, now: u64) -> Result<Set<C>, AllocError>
-        ensures { IfOk result (λ r. (calls : List (Call C)) → StandsFor C.cmp self.now calls
+        ensures each { IfOk result (λ r. (calls : List (Call C)) → StandsFor C.cmp self.now calls
             → (q : C) → is_among C.cmp r q ≡ is_blocked C.cmp self.now.rules calls q now) }
+        ensures value { IfOk result (λ r. r ≡ blocked_in C.cmp self.now now) }
+        ensures exactly { IfOk result (λ r. (calls : List (Call C)) → EqualKeysAreOne C.cmp → StandsFor C.cmp self.now calls
+            → r ≡ blocked_keys C.cmp self.now.rules calls now) }
     {
         let peers = blocked(self.alloc, &self.blocks, now)?;
         let keys = Set::from_iter_dedup(peers)?;
         Ok(keys)
     }
 
-    /// The IP addresses that eligible peers dial from at the moment `now`, in the order of their keys: those that are global, or all
-    /// where private ones are allowed.
+    /// The IP addresses that eligible peers dial from at the moment `now`, each once, IPv4 first and each kind by its bytes: those that
+    /// are global, or all where private ones are allowed.
     ///
     /// `Err` only where memory runs out.
     pub fn listenable(&self, now: u64) -> Result<Vec<IpAddr>, AllocError>
@@ -198,10 +209,14 @@ impl<C: PublicKey> Directory<C> {
             → (q : C) (source : IpAddr) → is_listenable C.cmp self.now.rules calls q source now ≡ true → is_heard v.items source ≡ true) }
         ensures only { IfOk result (λ v. (calls : List (Call C)) → StandsFor C.cmp self.now calls
             → (source : IpAddr) → is_heard v.items source ≡ true → (q : C) × (is_listenable C.cmp self.now.rules calls q source now ≡ true)) }
+        ensures value { IfOk result (λ r. r.items ≡ addresses_in C.cmp self.now now) }
+        ensures exactly { IfOk result (λ r. (calls : List (Call C)) → EqualKeysAreOne C.cmp → StandsFor C.cmp self.now calls
+            → r.items ≡ heard_addresses C.cmp self.now.rules calls now) }
     {
         let private = self.cfg.allow_private_ips;
         let found = addresses(self.alloc, &self.records, &self.blocks, private, now)?;
-        Ok(found)
+        let listed = in_order(found)?;
+        Ok(listed)
     }
 
     /// The peers to dial at the moment `now`, in key order, and when to ask again: the least moment at which a peer that waits for its
@@ -210,17 +225,20 @@ impl<C: PublicKey> Directory<C> {
     /// `Err` only where memory runs out.
     pub fn dialable(&self, now: u64) -> Result<Dialable<C>, AllocError>
         ensures peers { IfOk result (λ d. (calls : List (Call C)) → StandsFor C.cmp self.now calls
-            → (q : C) → is_among C.cmp d.peers.items q ≡ is_dialable C.cmp self.now.rules calls q now) }
-        ensures ordered { IfOk result (λ d. IsStrictlySortedBy C.cmp d.peers.items) }
+            → (q : C) → is_among C.cmp d.peers q ≡ is_dialable C.cmp self.now.rules calls q now) }
+        ensures ordered { IfOk result (λ d. IsStrictlySortedBy C.cmp d.peers) }
         ensures next { IfOk result (λ d. (calls : List (Call C)) → StandsFor C.cmp self.now calls
             → IfSome d.next_query_at (λ n. (q : C) × (next_query C.cmp self.now.rules calls q now ≡ Some n))) }
         ensures least { IfOk result (λ d. (calls : List (Call C)) → StandsFor C.cmp self.now calls
             → (q : C) → IfSome (next_query C.cmp self.now.rules calls q now) (λ t. comes_by d.next_query_at t ≡ true)) }
+        ensures value { IfOk result (λ r. r ≡ dial_list_in C.cmp self.now now) }
+        ensures exactly { IfOk result (λ r. (calls : List (Call C)) → EqualKeysAreOne C.cmp → StandsFor C.cmp self.now calls
+            → r ≡ record { peers = dialable_keys C.cmp self.now.rules calls now; next_query_at = query_again_at C.cmp self.now.rules calls now }) }
     {
         let peers = dialable_peers(self.alloc, &self.records, &self.blocks, &self.cfg, now)?;
         let next_query_at = next_query(&self.records, &self.blocks, &self.cfg, now);
         Ok(Dialable {
-            peers,
+            peers: List::new(peers),
             next_query_at,
         })
     }
@@ -239,6 +257,9 @@ impl<C: PublicKey> Directory<C> {
         ensures accepted { IfOk result (λ o. (calls : List (Call C)) → StandsFor C.cmp self.old calls → is_some o ≡ is_above index (accepted_sets C.cmp calls)) }
         ensures killed { IfOk result (λ o. IfSome o (λ k. (calls : List (Call C)) → StandsFor C.cmp self.old calls
             → (q : C) → is_among C.cmp k q ≡ is_killed C.cmp self.old.rules index peers.primary peers.secondary calls q)) }
+        ensures ordered { IfOk result (λ o. IfSome o (λ k. IsStrictlySortedBy C.cmp k)) }
+        ensures exactly { IfOk result (λ o. IfSome o (λ k. (calls : List (Call C)) → EqualKeysAreOne C.cmp → StandsFor C.cmp self.old calls
+            → k ≡ killed_keys C.cmp self.old.rules index peers.primary peers.secondary calls)) }
         ensures rules { self.new.rules ≡ self.old.rules }
         ensures stands { IfOk result (λ o. (calls : List (Call C)) → StandsFor C.cmp self.old calls → StandsFor C.cmp self.new (call.Track index peers.primary peers.secondary ∷ calls)) }
         ensures memory { OnErr result ((calls : List (Call C)) → StandsFor C.cmp self.old calls → StandsFor C.cmp self.new calls) }
@@ -250,10 +271,7 @@ impl<C: PublicKey> Directory<C> {
     fn is_blocked(&self, peer: &C, now: u64) -> bool
         ensures { result ≡ lasts_at (lookup (is_at (C.cmp peer.now)) self.now.blocks) now }
     {
-        match self.blocks.get(peer) {
-            Some(end) => u128::from(now) < end,
-            None => false,
-        }
+        lasts(self.blocks.get(peer), now)
     }
 
     /// Whether `peer` may connect at the moment `now`: it is another's key, in a set that is kept, and not blocked.
@@ -369,7 +387,7 @@ impl<C: PublicKey> Directory<C> {
         requires { is_reserved_in (lookup (is_at (C.cmp peer.now)) self.old.records) ≡ true }
         ensures answer { (calls : List (Call C)) → StandsFor C.cmp self.old calls → result ≡ not (is_stale C.cmp self.old.rules calls peer.now) }
         ensures rules { self.new.rules ≡ self.old.rules }
-        ensures stands { (calls : List (Call C)) → StandsFor C.cmp self.old calls → StandsFor C.cmp self.new (call.Connect peer.now None ∷ calls) }
+        ensures stands { (calls : List (Call C)) (conn : ℕ) → StandsFor C.cmp self.old calls → StandsFor C.cmp self.new (call.Connect peer.now None conn ∷ calls) }
     {
         begin(&mut self.records, peer)
     }

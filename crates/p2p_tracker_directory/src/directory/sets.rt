@@ -4,7 +4,7 @@ ghost use Rattle.std.specs.Option.{option_to_list, option_copied};
 ghost use Rattle.std.specs.List.{list_any};
 ghost use Rattle.std.specs.BTreeMap.{is_at};
 ghost use Rattle.p2p_tracker_calls.specs.Sets.{set_at};
-ghost use Rattle.p2p_tracker_directory.specs.Listed.{peers_of, newest_of};
+ghost use Rattle.p2p_tracker_calls.specs.Peers.{peers_of, newest_of};
 ghost use Rattle.p2p_tracker_directory.specs.Tracked.{oldest_of};
 
 use p2p_base::{PublicKey, Set};

@@ -1,8 +1,12 @@
 use Rattle.p2p_tracker.specs.declared.stepped.Put.{Put}
-use Rattle.p2p_tracker.specs.Telling.{kill_put}
+use Rattle.p2p_tracker.specs.Telling.{after_puts, kill_put, sets_put}
+use Rattle.p2p_tracker.specs.declared.stepped.Put.TheVariants as puts
+use Rattle.p2p_tracker_calls.specs.Blocks.{is_blockable}
+use Rattle.p2p_tracker_directory.specs.Told.{addresses_in, blocked_in}
+use Rattle.p2p_tracker.proofs.Told.{block-told, after-blocked}
 use Rattle.std.specs.BTreeMap.{is_at}
 use Rattle.std.specs.Map.{lookup}
-use Rattle.std.proofs.Common.{sym, ap, subst, ◌≡◌, ◌++◌, List, ◌∙◌}
+use Rattle.std.proofs.Common.{sym, ap, subst, cond, ◌≡◌, [], ◌∷◌, ◌++◌, List, ◌∙◌}
 use Rattle.p2p_tracker_directory.specs.Stands.{Kept, StandsFor}
 use Rattle.p2p_tracker.specs.Following.{Follows}
 use Rattle.p2p_tracker.specs.Tracking.{Tracking}
@@ -19,6 +23,25 @@ returns-clause-follows g c = λ calls f.
     c.args.public_key c.args.now (c.in_ok-is_new.ensures.stands calls kept.stands) c.kill.ensures.each
 
 pub returns-clause-put : goal.returns-clause-put
-returns-clause-put g c = λ calls s.
-    subst (λ (t : Tracking g.row.C.Denot). (told : List (Put g.row.C.Denot)) × (c.new.result ≡ told ++ kill_put c.args.public_key (lookup (is_at (g.C.Ord.cmp c.args.public_key)) t.controls))) c.self.view_is
-    (c.tell_of_block.new.put.items, c.new.ensures ∙ c.in_ok-kill.ensures.put)
+returns-clause-put g c = λ calls f.
+    let before = subst (λ (t : Tracking g.row.C.Denot). StandsFor g.C.Ord.cmp t.directory calls) (sym c.self.view_is) f.stands in
+    let lasts = λ (t : Tracking g.row.C.Denot). is_blockable g.C.Ord.cmp t.directory.rules calls c.args.public_key c.args.now in
+    let told = λ (t : Tracking g.row.C.Denot). let list : List (Put g.row.C.Denot) = sets_put c.args.way.now.desk.sets t.sets (blocked_in g.C.Ord.cmp c.block.new.self c.args.now)
+    ++ puts.Listenable (addresses_in g.C.Ord.cmp c.block.new.self c.args.now) c.args.way.now.heard ∷ [] in list in
+    let Before : Tracking g.row.C.Denot = record { directory = c.self.inside.directory; cooldown = c.self.inside.cooldown; updates = c.self.inside.updates.items; sets = c.self.inside.sets.items; controls = c.self.inside.controls.entries; has_failed = c.self.inside.has_failed } in
+    let first = block-told c.in_ok-is_new.is_new c.new-put.result.items (sets_put c.args.way.now.desk.sets c.self.inside.sets.items (blocked_in g.C.Ord.cmp c.block.new.self c.args.now))
+    (puts.Listenable (addresses_in g.C.Ord.cmp c.block.new.self c.args.now) c.args.way.now.heard ∷ []) c.new-put.ensures.items in
+    subst (λ (t : Tracking g.row.C.Denot). c.new.result ≡ cond (lasts t) (told t) [] ++ kill_put c.args.public_key (lookup (is_at (g.C.Ord.cmp c.args.public_key)) t.controls)) c.self.view_is
+    (c.new.ensures ∙ (c.in_ok-kill.ensures.put ∙ ap (λ (x : List (Put g.row.C.Denot)). x ++ kill_put c.args.public_key (lookup (is_at (g.C.Ord.cmp c.args.public_key)) c.self.inside.controls.entries))
+    (c.in_ok-tell_of_block.ensures.put ∙ (first ∙ ap (λ b. cond b (told Before) []) (c.in_ok-is_new.ensures.answer calls before)))))
+
+pub returns-clause-desk : goal.returns-clause-desk
+returns-clause-desk g c =
+    let heard = addresses_in g.C.Ord.cmp c.block.new.self c.args.now in
+    let sets : List (Put g.row.C.Denot) = sets_put c.args.way.now.desk.sets c.self.inside.sets.items (blocked_in g.C.Ord.cmp c.block.new.self c.args.now) in
+    let kept = lookup (is_at (g.C.Ord.cmp c.args.public_key)) c.self.inside.controls.entries in
+    let list = c.new.ensures ∙ (c.in_ok-kill.ensures.put ∙ ap (λ (x : List (Put g.row.C.Denot)). x ++ kill_put c.args.public_key kept)
+    (c.in_ok-tell_of_block.ensures.put ∙ block-told c.in_ok-is_new.is_new c.new-put.result.items sets (puts.Listenable heard c.args.way.now.heard ∷ []) c.new-put.ensures.items)) in
+    c.in_ok-tell_of_block.ensures.desk
+    ∙ (after-blocked c.in_ok-is_new.is_new sets heard c.args.way.now.heard c.args.public_key kept c.args.way.now
+    ∙ sym (ap (λ (x : List (Put g.row.C.Denot)). after_puts x c.args.way.now) list))

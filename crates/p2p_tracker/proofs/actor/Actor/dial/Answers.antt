@@ -1,15 +1,19 @@
 use Rattle.p2p_tracker.proofs.Putting.{some-told}
-use Rattle.p2p_tracker.specs.Putting.{IsDialAnswer}
+use Rattle.p2p_tracker.specs.Putting.{dial_grant}
+use Rattle.p2p_tracker.specs.declared.stepped.Put.{Put}
+use Rattle.p2p_tracker.specs.declared.stepped.Put.TheVariants as puts
+use Rattle.p2p_tracker.proofs.Told.{dial-granted}
 use Rattle.p2p_tracker_calls.specs.Lives.{address_of}
 use Rattle.p2p_tracker_calls.specs.declared.call.Call.{Call}
-use Rattle.p2p_tracker_mailbox.specs.declared.metadata.Metadata.{Metadata}
+use Rattle.p2p_tracker_directory.specs.declared.metadata.Metadata.{Metadata}
 use Rattle.p2p_address.specs.declared.peer.Ingress.{Ingress}
 use Rattle.p2p_address.specs.Addresses.{ingress_of}
 use Rattle.std.specs.Option.{option_map}
 use Rattle.p2p_tracker_directory.specs.Stands.{StandsFor}
-use Rattle.std.proofs.Common.{◌≡◌, sym, ap, subst, Some, List}
+use Rattle.std.proofs.Common.{◌≡◌, sym, ap, ◌∙◌, subst, Some, Option, List, [], ◌∷◌}
 use Rattle.std.specs.Prelude.{is_some}
-use Rattle.p2p_tracker.specs.Tracking.{Tracking, jitter_of}
+use Rattle.p2p_tracker_calls.specs.Jitter.{jitter_of}
+use Rattle.p2p_tracker.specs.Tracking.{Tracking}
 use Rattle.p2p_tracker_calls.specs.Allows.{allows_dial}
 use Rattle.p2p_tracker.specs.Following.{Follows}
 use Rattle.p2p_tracker.proofs.Following.{follows-dial}
@@ -31,15 +35,13 @@ returns-clause-follows g c = λ calls f.
     (returns-clause-stands g c calls f.stands)
 
 pub returns-clause-put : goal.returns-clause-put
-returns-clause-put g c = λ calls s.
-    let before = subst (λ (t : Tracking g.row.C.Denot). StandsFor g.C.Ord.cmp t.directory calls) (sym c.self.view_is) s in
-    subst (λ (t : Tracking g.row.C.Denot). IsDialAnswer g.C.Ord.cmp t.directory.rules calls c.args.now c.args.public_key c.in_ok-only.field-0) c.self.view_is (record {
-      grant = c.in_ok-granted.granted;
-      whole = c.in_ok-only.ensures;
-      granted = c.in_ok-granted.ensures.granted calls before;
-      metadata = c.in_ok-granted.ensures.metadata;
-      ingress = some-told c.in_ok-granted.granted
-          (λ (x : Metadata g.row.C.Denot × Ingress). (calls : List (Call g.row.C.Denot)) → StandsFor g.C.Ord.cmp c.self.inside.directory calls → option_map ingress_of (address_of g.C.Ord.cmp c.self.inside.directory.rules calls c.args.public_key) ≡ Some x.1)
-          (λ (x : Metadata g.row.C.Denot × Ingress). option_map ingress_of (address_of g.C.Ord.cmp c.self.inside.directory.rules calls c.args.public_key) ≡ Some x.1)
-          (λ x h. h calls before) c.in_ok-granted.ensures.ingress;
-    })
+returns-clause-put g c = λ calls f.
+    let before = subst (λ (t : Tracking g.row.C.Denot). StandsFor g.C.Ord.cmp t.directory calls) (sym c.self.view_is) f.stands in
+    let One : Option (Metadata g.row.C.Denot × Ingress) → List (Put g.row.C.Denot) = λ x. puts.Dial x ∷ [] in
+    let ingress = some-told c.in_ok-granted.granted
+    (λ (x : Metadata g.row.C.Denot × Ingress). (calls : List (Call g.row.C.Denot)) → StandsFor g.C.Ord.cmp c.self.inside.directory calls → option_map ingress_of (address_of g.C.Ord.cmp c.self.inside.directory.rules calls c.args.public_key) ≡ Some x.1)
+    (λ (x : Metadata g.row.C.Denot × Ingress). option_map ingress_of (address_of g.C.Ord.cmp c.self.inside.directory.rules calls c.args.public_key) ≡ Some x.1)
+    (λ x h. h calls before) c.in_ok-granted.ensures.ingress in
+    subst (λ (t : Tracking g.row.C.Denot). c.in_ok-only.field-0 ≡ One (dial_grant g.C.Ord.cmp t.directory.rules calls c.args.now c.args.public_key)) c.self.view_is
+    (c.in_ok-only.ensures ∙ ap One (c.in_ok-told.ensures ∙ dial-granted c.in_ok-granted.granted (allows_dial g.C.Ord.cmp c.self.inside.directory.rules calls c.args.public_key c.args.now) c.args.public_key
+    (address_of g.C.Ord.cmp c.self.inside.directory.rules calls c.args.public_key) (c.in_ok-granted.ensures.granted calls before) c.in_ok-granted.ensures.metadata ingress))

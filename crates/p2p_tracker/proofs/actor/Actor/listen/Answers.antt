@@ -1,8 +1,13 @@
-use Rattle.p2p_tracker.specs.Putting.{IsListenAnswer}
+use Rattle.p2p_tracker.specs.Putting.{listen_grant}
+use Rattle.p2p_tracker_directory.specs.declared.metadata.Metadata.{Metadata}
+use Rattle.p2p_tracker.specs.declared.stepped.Put.{Put}
+use Rattle.p2p_tracker.specs.declared.stepped.Put.TheVariants as puts
+use Rattle.p2p_tracker.proofs.Told.{listen-granted}
 use Rattle.p2p_tracker_directory.specs.Stands.{StandsFor}
-use Rattle.std.proofs.Common.{◌≡◌, sym, ap, subst}
+use Rattle.std.proofs.Common.{◌≡◌, List, [], ◌∷◌, Option, sym, ap, ◌∙◌, subst}
 use Rattle.std.specs.Prelude.{is_some}
-use Rattle.p2p_tracker.specs.Tracking.{Tracking, jitter_of}
+use Rattle.p2p_tracker_calls.specs.Jitter.{jitter_of}
+use Rattle.p2p_tracker.specs.Tracking.{Tracking}
 use Rattle.p2p_tracker_calls.specs.Allows.{allows_listen}
 use Rattle.p2p_tracker.specs.Following.{Follows}
 use Rattle.p2p_tracker.proofs.Following.{follows-listen}
@@ -24,11 +29,9 @@ returns-clause-follows g c = λ calls f.
     (returns-clause-stands g c calls f.stands)
 
 pub returns-clause-put : goal.returns-clause-put
-returns-clause-put g c = λ calls s.
-    let before = subst (λ (t : Tracking g.row.C.Denot). StandsFor g.C.Ord.cmp t.directory calls) (sym c.self.view_is) s in
-    subst (λ (t : Tracking g.row.C.Denot). IsListenAnswer g.C.Ord.cmp t.directory.rules calls c.args.now c.args.public_key c.args.source_ip c.args.handshake c.in_ok-only.field-0) c.self.view_is (record {
-      grant = c.in_ok-reservation.reservation;
-      whole = c.in_ok-only.ensures;
-      granted = c.in_ok-reservation.ensures.granted calls before;
-      metadata = c.in_ok-reservation.ensures.metadata;
-    })
+returns-clause-put g c = λ calls f.
+    let before = subst (λ (t : Tracking g.row.C.Denot). StandsFor g.C.Ord.cmp t.directory calls) (sym c.self.view_is) f.stands in
+    let One : Option (Metadata g.row.C.Denot) → List (Put g.row.C.Denot) = λ x. puts.Listen c.args.handshake x ∷ [] in
+    subst (λ (t : Tracking g.row.C.Denot). c.in_ok-only.field-0 ≡ One (listen_grant g.C.Ord.cmp t.directory.rules calls c.args.now c.args.public_key c.args.source_ip)) c.self.view_is
+    (c.in_ok-only.ensures ∙ ap One (c.told_of_listen-reserved.ensures ∙ listen-granted c.in_ok-reservation.reservation (allows_listen g.C.Ord.cmp c.self.inside.directory.rules calls c.args.public_key c.args.source_ip c.args.now)
+    c.args.public_key (c.in_ok-reservation.ensures.granted calls before) c.in_ok-reservation.ensures.metadata))

@@ -1,19 +1,20 @@
 use Rattle.p2p_tracker.specs.declared.stepped.Put.TheVariants as puts
 use Rattle.p2p_tracker.specs.declared.stepped.Put.{Put}
-use Rattle.p2p_tracker.specs.Telling.{kills_put, updates_put}
-use Rattle.p2p_tracker.specs.Putting.{IsRegistered}
-use Rattle.std.proofs.lemmas.Bool.{false≢true}
+use Rattle.p2p_tracker.specs.Telling.{after_puts, kills_put, told_of_sets}
+use Rattle.p2p_tracker.specs.Putting.{kills_of}
 use Rattle.std.proofs.Common.{◌≡◌, cond, List, Option, sym, ap, ◌∙◌, subst, ◌++◌, ◌∷◌, []}
 use Rattle.std.specs.Prelude.{is_some, IfSome}
-use Rattle.p2p_tracker_calls.specs.Kills.{is_killed}
-use Rattle.p2p_tracker_calls.specs.Sets.{is_among, kept_sets, latest_index}
+use Rattle.p2p_tracker_calls.specs.Kills.{is_killed, killed_keys}
+use Rattle.p2p_tracker_calls.specs.Named.{EqualKeysAreOne}
+use Rattle.p2p_tracker_calls.specs.Sets.{is_above, is_among, accepted_sets}
 use Rattle.p2p_tracker_calls.specs.declared.call.Call.{Call}
-use Rattle.p2p_tracker_calls.specs.declared.call.Call.TheVariants as call
 use Rattle.p2p_tracker_directory.specs.Stands.{Kept, StandsFor}
+use Rattle.p2p_tracker_directory.specs.Told.{addresses_in, update_in}
 use Rattle.p2p_tracker.specs.Following.{Follows}
 use Rattle.p2p_tracker.specs.Tracking.{Tracking}
 use Rattle.p2p_tracker.proofs.Following.{follows-refused, follows-track}
-use Rattle.p2p_tracker.proofs.Putting.{told-if}
+use Rattle.p2p_tracker.proofs.Putting.{after_puts-kills}
+use Rattle.p2p_tracker.proofs.Told.{unless, when, after-told, kills-kept}
 use Rattle.p2p_tracker.proofs.actor.Actor.register.Goals as goal
 
 pub returns-in_default-clause-stands : goal.returns-in_default-clause-stands
@@ -41,30 +42,40 @@ returns-clause-follows g c = λ calls f.
     (c.in_ok-killed.ensures.stands calls kept.stands) c.in_ok-kill_all.ensures.each
 
 pub returns-in_default-clause-put : goal.returns-in_default-clause-put
-returns-in_default-clause-put g c = λ calls s.
-    let before = subst (λ (t : Tracking g.row.C.Denot). StandsFor g.C.Ord.cmp t.directory calls) (sym c.self.view_is) s in
-    (λ a. absurd (false≢true (sym (sym (c.in_ok-killed.ensures.accepted calls before) ∙ ap is_some c.in_default.is) ∙ a)), λ a. c.new.ensures ∙ c.new-put.ensures.items)
+returns-in_default-clause-put g c = λ calls f one.
+    let kept = subst (λ (t : Tracking g.row.C.Denot). StandsFor g.C.Ord.cmp t.directory calls) (sym c.self.view_is) f.stands in
+    c.new.ensures ∙ (c.new-put.ensures.items
+    ∙ unless (is_above c.args.index (accepted_sets g.C.Ord.cmp calls)) _ [] (sym (c.in_ok-killed.ensures.accepted calls kept) ∙ ap is_some c.in_default.is))
+
+pub returns-in_default-clause-desk : goal.returns-in_default-clause-desk
+returns-in_default-clause-desk g c = ap (λ (x : List (Put g.row.C.Denot)). after_puts x c.args.way.now) (sym (c.new.ensures ∙ c.new-put.ensures.items))
 
 pub returns-clause-put : goal.returns-clause-put
-returns-clause-put g c = λ calls s.
-    let before = subst (λ (t : Tracking g.row.C.Denot). StandsFor g.C.Ord.cmp t.directory calls) (sym c.self.view_is) s in
-    let Dead : List g.row.C.Denot → Type 0 = λ ks. (calls : List (Call g.row.C.Denot)) → StandsFor g.C.Ord.cmp c.self.inside.directory calls
-    → (q : g.row.C.Denot) → is_among g.C.Ord.cmp ks q ≡ is_killed g.C.Ord.cmp c.self.inside.directory.rules c.args.index c.args.peers.primary c.args.peers.secondary calls q in
-    let dead : Dead c.in-Some.killed = subst (λ (o : Option (List g.row.C.Denot)). IfSome o Dead) c.in-Some.is c.in_ok-killed.ensures.killed in
+returns-clause-put g c = λ calls f one.
+    let follows = subst (λ (t : Tracking g.row.C.Denot). Follows g.C.Ord.cmp t.directory t.controls calls) (sym c.self.view_is) f in
+    let Known : List g.row.C.Denot → Type 0 = λ ks. (calls : List (Call g.row.C.Denot)) → EqualKeysAreOne g.C.Ord.cmp → StandsFor g.C.Ord.cmp c.self.inside.directory calls
+    → ks ≡ killed_keys g.C.Ord.cmp c.self.inside.directory.rules c.args.index c.args.peers.primary c.args.peers.secondary calls in
+    let known : Known c.in-Some.killed = subst (λ (o : Option (List g.row.C.Denot)). IfSome o Known) c.in-Some.is c.in_ok-killed.ensures.exactly in
+    let keys = c.as_slice.ensures.keys ∙ known calls one follows.stands in
+    let kills : c.kill_all.new.put.items ≡ kills_of g.C.Ord.cmp c.self.inside.directory.rules calls (killed_keys g.C.Ord.cmp c.self.inside.directory.rules c.args.index c.args.peers.primary c.args.peers.secondary calls) =
+    c.in_ok-kill_all.ensures.put ∙ (ap (λ (x : List (Put g.row.C.Denot)). x ++ kills_put g.C.Ord.cmp c.self.inside.controls.entries c.as_slice.result.now) c.new-put.ensures.items
+    ∙ (kills-kept g.met.C.Ord.total c.self.inside.directory.rules calls c.as_slice.result.now c.self.inside.controls.entries c.as_slice.ensures.sorted follows.exactly
+    ∙ ap (kills_of g.C.Ord.cmp c.self.inside.directory.rules calls) keys)) in
+    let heard = addresses_in g.C.Ord.cmp c.track.new.self c.args.now in
+    let told : List (Put g.row.C.Denot) = told_of_sets c.self.inside.updates.items (update_in g.C.Ord.cmp c.track.new.self) in
+    let With : List (Put g.row.C.Denot) → List (Put g.row.C.Denot) = λ x. (x ++ puts.Listenable heard c.args.way.now.heard ∷ []) ++ told in
+    subst (λ (t : Tracking g.row.C.Denot). c.new-2.result ≡ cond (is_above c.args.index (accepted_sets g.C.Ord.cmp calls))
+    ((kills_of g.C.Ord.cmp t.directory.rules calls (killed_keys g.C.Ord.cmp t.directory.rules c.args.index c.args.peers.primary c.args.peers.secondary calls) ++ puts.Listenable heard c.args.way.now.heard ∷ [])
+    ++ told_of_sets t.updates (update_in g.C.Ord.cmp c.track.new.self)) []) c.self.view_is
+    (c.new-2.ensures ∙ (c.in_ok-tell_of_sets.ensures.put ∙ (ap With kills
+    ∙ when (is_above c.args.index (accepted_sets g.C.Ord.cmp calls)) _ [] (sym (c.in_ok-killed.ensures.accepted calls follows.stands) ∙ ap is_some c.in-Some.is))))
+
+pub returns-clause-desk : goal.returns-clause-desk
+returns-clause-desk g c =
+    let heard = addresses_in g.C.Ord.cmp c.track.new.self c.args.now in
+    let told : List (Put g.row.C.Denot) = told_of_sets c.self.inside.updates.items (update_in g.C.Ord.cmp c.track.new.self) in
     let kills = c.in_ok-kill_all.ensures.put ∙ ap (λ (x : List (Put g.row.C.Denot)). x ++ kills_put g.C.Ord.cmp c.self.inside.controls.entries c.as_slice.result.now) c.new-put.ensures.items in
-    let heard = c.in_ok-tell_listener.ensures.put.0 in
-    let after : List (Call g.row.C.Denot) = call.Track c.args.index c.args.peers.primary c.args.peers.secondary ∷ calls in
-    let shown = is_some (latest_index (kept_sets g.C.Ord.cmp c.track.new.self.rules after)) in
-    let tickets = c.as_slice-2.result.now in
-    let told = cond shown tickets [] in
-    let updates = c.in_ok-tell_latest.ensures.put after (c.in_ok-killed.ensures.stands calls before) ∙ ap (λ (x : List (Put g.row.C.Denot)). c.tell_listener.new.put.items ++ x) (told-if shown tickets) in (
-      λ a. subst (λ (t : Tracking g.row.C.Denot). IsRegistered g.C.Ord.cmp t.directory.rules t.controls calls c.args.index c.args.peers.primary c.args.peers.secondary c.new-2.result) c.self.view_is (record {
-        killed = c.as_slice.result.now;
-        heard = heard;
-        told = told;
-        ordered = c.as_slice.ensures.sorted;
-        exactly = λ q. ap (λ ks. is_among g.C.Ord.cmp ks q) c.as_slice.ensures.keys ∙ dead calls before q;
-        whole = c.new-2.ensures ∙ (updates ∙ ap (λ (x : List (Put g.row.C.Denot)). x ++ updates_put told) (c.in_ok-tell_listener.ensures.put.1 ∙ ap (λ (x : List (Put g.row.C.Denot)). x ++ puts.Listenable heard ∷ []) kills));
-      }),
-      λ a. absurd (false≢true (sym a ∙ (sym (c.in_ok-killed.ensures.accepted calls before) ∙ ap is_some c.in-Some.is))),
-    )
+    let none = ap (λ (x : List (Put g.row.C.Denot)). after_puts x c.args.way.now) kills ∙ after_puts-kills g.C.Ord.cmp c.as_slice.result.now c.self.inside.controls.entries c.args.way.now in
+    c.in_ok-tell_of_sets.ensures.desk
+    ∙ (sym (after-told c.kill_all.new.put.items told heard c.args.way.now.heard c.args.way.now none)
+    ∙ ap (λ (x : List (Put g.row.C.Denot)). after_puts x c.args.way.now) (sym (c.new-2.ensures ∙ c.in_ok-tell_of_sets.ensures.put)))

@@ -1,7 +1,7 @@
 use Rattle.std.proofs.Common.{◌≡◌, cond, None, sym, subst}
 use Rattle.std.specs.Map.{lookup}
 use Rattle.std.specs.BTreeMap.{is_at}
-use Rattle.p2p_tracker_mailbox.specs.Reserved.{peer_of}
+use Rattle.p2p_tracker_directory.specs.Reserved.{peer_of}
 use Rattle.p2p_tracker.specs.Following.{Follows}
 use Rattle.p2p_tracker.specs.Tracking.{Tracking}
 use Rattle.p2p_tracker.proofs.Following.{follows-release}

@@ -1,21 +1,26 @@
 use Rattle.std.proofs.Common.{◌≡◌, ◌+◌, ◌<◌, ◌≤◌, ◌||◌, ◌++◌, List, length, get_or, take, drop, refl, sym, ap, ◌∙◌, subst, arith, append-nil}
 use Rattle.std.proofs.lemmas.List.{take_all, at_drop_all}
-use Rattle.std.specs.Map.{keys_of, values_of}
+use Rattle.std.specs.Map.{lookup, keys_of, values_of}
 use Rattle.p2p_address.specs.declared.peer.Address.{Address}
 use Rattle.p2p_tracker_calls.specs.declared.call.Call.{Call}
 use Rattle.p2p_tracker_directory.specs.Stands.{StandsFor}
 use Rattle.p2p_tracker.specs.Following.{Follows}
 use Rattle.p2p_tracker_calls.specs.Rules.{Rules}
 use Rattle.p2p_tracker_calls.specs.Lives.{is_overwritten}
-use Rattle.p2p_tracker.specs.Putting.{overwritten_keys}
-use Rattle.p2p_tracker.specs.Telling.{has_any, kills_put}
-use Rattle.p2p_tracker.specs.Serving.{overwritten}
-use Rattle.p2p_tracker.proofs.Readdressing.{overwritten-more, keys-more, any-more, killed-more, or_false}
+use Rattle.p2p_tracker_calls.specs.Overwrites.{overwritten_keys}
+use Rattle.p2p_tracker.specs.Telling.{has_any, kill_put}
+use Rattle.p2p_tracker.specs.Putting.{overwrite_kills}
+use Rattle.p2p_tracker.specs.declared.stepped.Put.{Put}
+use Rattle.p2p_tracker_calls.specs.Keeping.{kept_of}
+use Rattle.std.specs.BTreeMap.{is_at}
+use Rattle.p2p_tracker.proofs.Told.{after-kill_if}
+use Rattle.p2p_tracker_calls.specs.Overwrites.{overwritten}
+use Rattle.p2p_tracker.proofs.Readdressing.{overwritten-more, keys-more, kills-more, any-more, killed-more, or_false}
 use Rattle.p2p_tracker.proofs.actor.registering.readdress_all.Goals as goal
 
 pub loop-place-init : goal.loop-place-init
 unfolding overwritten
-loop-place-init g c = record { stands = λ calls s. s; follows = λ calls f. f; any = λ calls s. refl; put = λ calls s. refl; rules = refl }
+loop-place-init g c = record { stands = λ calls s. s; follows = λ calls f. f; any = λ calls s. refl; put = λ calls f. refl; desk = λ m. refl; rules = refl }
 
 pub loop-place-preserved : goal.loop-place-preserved
 loop-place-preserved g c =
@@ -25,6 +30,9 @@ loop-place-preserved g c =
     let found : c.index-values-place.result ≡ get_or (values_of c.args.peers.now) c.loop-place.place c.index-values-place.result = c.index-values-place.is ∙ ap (λ (xs : List Address). get_or xs c.loop-place.place c.index-values-place.result) c.values.ensures in
     let address : c.in_ok-address.address ≡ get_or (values_of c.args.peers.now) c.loop-place.place c.in_ok-address.address = subst (λ (x : Address). x ≡ get_or (values_of c.args.peers.now) c.loop-place.place x) (sym same) found in
     let left = λ (calls : List (Call g.row.C.Denot)). overwritten_keys g.C.Ord.cmp c.args.directory.now.rules (drop (c.loop-place.place + 1) c.args.peers.now) (overwritten (take (c.loop-place.place + 1) c.args.peers.now) calls) in
+    let changes = λ (calls : List (Call g.row.C.Denot)) (s : StandsFor g.C.Ord.cmp c.args.directory.now calls).
+    c.in_ok-changes.ensures.answer (overwritten (take c.loop-place.place c.args.peers.now) calls) (c.loop-place.invariant.stands calls s)
+    ∙ ap (λ (r : Rules g.row.C.Denot). is_overwritten g.C.Ord.cmp r (overwritten (take c.loop-place.place c.args.peers.now) calls) c.index-keys-place.result c.in_ok-address.address) c.loop-place.invariant.rules in
     let one = λ (calls : List (Call g.row.C.Denot)) (s : StandsFor g.C.Ord.cmp c.args.directory.now calls).
     keys-more g.C.Ord.cmp c.args.directory.now.rules c.args.peers.now c.loop-place.place c.index-keys-place.result c.in_ok-address.address calls c.in_ok-changes.changes
     (c.in_ok-changes.ensures.answer (overwritten (take c.loop-place.place c.args.peers.now) calls) (c.loop-place.invariant.stands calls s)
@@ -40,11 +48,17 @@ loop-place-preserved g c =
           let more = one calls s in
           any-more c.loop-place.has_changed c.in_ok-changes.changes c.index-keys-place.result (left calls)
           ∙ (ap (λ (ks : List g.row.C.Denot). c.loop-place.has_changed || has_any ks) more ∙ c.loop-place.invariant.any calls s);
-      put = λ calls s.
-          let more = one calls s in
-          killed-more g.C.Ord.cmp c.in_ok-changes.changes c.index-keys-place.result (left calls) c.loop-place.controls.entries c.readdress.new.controls.entries c.loop-place.put.items c.readdress.new.put.items
-          c.in_ok-changes.ensures.put c.in_ok-changes.ensures.controls
-          ∙ (ap (λ (ks : List g.row.C.Denot). c.loop-place.put.items ++ kills_put g.C.Ord.cmp c.loop-place.controls.entries ks) more ∙ c.loop-place.invariant.put calls s);
+      put = λ calls f.
+          let before = overwritten (take c.loop-place.place c.args.peers.now) calls in
+          let kept : lookup (is_at (g.C.Ord.cmp c.index-keys-place.result)) c.loop-place.controls.entries ≡ kept_of g.C.Ord.cmp c.args.directory.now.rules before c.index-keys-place.result =
+          (c.loop-place.invariant.follows calls f).exactly c.index-keys-place.result ∙ ap (λ (r : Rules g.row.C.Denot). kept_of g.C.Ord.cmp r before c.index-keys-place.result) c.loop-place.invariant.rules in
+          killed-more c.in_ok-changes.changes c.loop-place.put.items c.readdress.new.put.items (kill_put c.index-keys-place.result (lookup (is_at (g.C.Ord.cmp c.index-keys-place.result)) c.loop-place.controls.entries))
+          (overwrite_kills g.C.Ord.cmp c.args.directory.now.rules (drop (c.loop-place.place + 1) c.args.peers.now) (overwritten (take (c.loop-place.place + 1) c.args.peers.now) calls)) c.in_ok-changes.ensures.put
+          ∙ (ap (λ (x : List (Put g.row.C.Denot)). c.loop-place.put.items ++ x) (kills-more g.C.Ord.cmp c.args.directory.now.rules c.args.peers.now c.loop-place.place c.index-keys-place.result c.in_ok-address.address calls
+          c.in_ok-changes.changes (lookup (is_at (g.C.Ord.cmp c.index-keys-place.result)) c.loop-place.controls.entries) (changes calls f.stands) kept there key address)
+          ∙ c.loop-place.invariant.put calls f);
+      desk = λ m. after-kill_if c.in_ok-changes.changes c.index-keys-place.result (lookup (is_at (g.C.Ord.cmp c.index-keys-place.result)) c.loop-place.controls.entries) c.loop-place.put.items c.readdress.new.put.items m c.in_ok-changes.ensures.put
+          ∙ c.loop-place.invariant.desk m;
       rules = c.in_ok-changes.ensures.rules ∙ c.loop-place.invariant.rules;
     }
 
@@ -65,7 +79,7 @@ returns-clause-answer g c = λ calls s.
     sym (or_false c.loop-place.has_changed) ∙ (ap (λ b. c.loop-place.has_changed || b) (sym none) ∙ c.loop-place.invariant.any calls s)
 
 pub returns-clause-put : goal.returns-clause-put
-returns-clause-put g c = λ calls s.
+returns-clause-put g c = λ calls f.
     let all : length c.args.peers.now ≤ c.loop-place.place = omega arith in
-    let none = at_drop_all (λ es. c.loop-place.put.items ++ kills_put g.C.Ord.cmp c.loop-place.controls.entries (overwritten_keys g.C.Ord.cmp c.args.directory.now.rules es (overwritten (take c.loop-place.place c.args.peers.now) calls))) c.args.peers.now c.loop-place.place all in
-    sym (append-nil c.loop-place.put.items) ∙ (sym none ∙ c.loop-place.invariant.put calls s)
+    let none = at_drop_all (λ es. c.loop-place.put.items ++ overwrite_kills g.C.Ord.cmp c.args.directory.now.rules es (overwritten (take c.loop-place.place c.args.peers.now) calls)) c.args.peers.now c.loop-place.place all in
+    sym (append-nil c.loop-place.put.items) ∙ (sym none ∙ c.loop-place.invariant.put calls f)

@@ -1,14 +1,9 @@
-use Rattle.std.proofs.Common.{refl, ◌∙◌}
-use Rattle.p2p_tracker.proofs.Putting.{updates-next, with_updates-next}
+use Rattle.std.proofs.Common.{refl}
+use Rattle.p2p_tracker.proofs.Putting.{updates-next, after_updates-next}
 use Rattle.p2p_tracker.proofs.actor.telling.tell_all.Goals as goal
 
 pub loop-ticket-preserved : goal.loop-ticket-preserved
 loop-ticket-preserved g c = record {
-  put = updates-next c.args.tickets.now c.loop-ticket.ticket-index _ c.loop-ticket-test.true refl c.loop-ticket.put.items c.tell.new.put.items _ c.in_ok-tell.ensures.put c.loop-ticket.invariant.put;
-  desk = with_updates-next c.args.tickets.now c.loop-ticket.ticket-index _ c.loop-ticket-test.true refl c.args.update.now c.loop-ticket.way c.tell.new.way _ c.in_ok-tell.ensures.desk c.loop-ticket.invariant.desk;
-  rest = record {
-    messages = c.tell.ensures.rest.messages ∙ c.loop-ticket.invariant.rest.messages;
-    questions = c.tell.ensures.rest.questions ∙ c.loop-ticket.invariant.rest.questions;
-    sets = c.tell.ensures.rest.sets ∙ c.loop-ticket.invariant.rest.sets;
-  };
+  put = updates-next c.args.tickets.now c.loop-ticket.ticket-index _ c.loop-ticket-test.true refl c.args.update.now c.loop-ticket.put.items c.tell.new.put.items _ c.in_ok-tell.ensures.put c.loop-ticket.invariant.put;
+  desk = after_updates-next c.args.tickets.now c.loop-ticket.ticket-index _ c.loop-ticket-test.true refl c.args.update.now c.loop-ticket.way c.tell.new.way _ c.in_ok-tell.ensures.desk c.loop-ticket.invariant.desk;
 }

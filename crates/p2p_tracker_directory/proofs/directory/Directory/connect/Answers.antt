@@ -13,6 +13,6 @@ returns-clause-answer g c = λ calls s.
     ∙ ap not (stale-kept g.met.C.Ord.total s c.args.peer.now c.requires)
 
 pub returns-clause-stands : goal.returns-clause-stands
-returns-clause-stands g c = λ calls s.
-    stands-connect g.met.C.Ord.total (subst (λ k. StandsFor g.C.Ord.cmp k calls) (sym c.self.view_is) s) c.args.peer.now c.begin.new.records.entries
+returns-clause-stands g c = λ calls conn s.
+    stands-connect g.met.C.Ord.total (subst (λ k. StandsFor g.C.Ord.cmp k calls) (sym c.self.view_is) s) c.args.peer.now conn c.begin.new.records.entries
     (subst (λ k. is_reserved_in (lookup (is_at (g.C.Ord.cmp c.args.peer.now)) k.records) ≡ true) (sym c.self.view_is) c.requires) c.begin.ensures.after

@@ -1,7 +1,7 @@
 use Rattle.std.proofs.Common.{◌≡◌, cond, sym, subst}
 use Rattle.std.specs.Map.{lookup}
 use Rattle.std.specs.BTreeMap.{is_at}
-use Rattle.p2p_tracker_mailbox.specs.Reserved.{peer_of}
+use Rattle.p2p_tracker_directory.specs.Reserved.{peer_of}
 use Rattle.p2p_tracker_directory.specs.Recorded.{without_need}
 use Rattle.p2p_tracker_directory.specs.Stands.{StandsFor}
 use Rattle.p2p_tracker_directory.proofs.Standing.{stands-release}

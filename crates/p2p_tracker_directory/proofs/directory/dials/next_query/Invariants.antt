@@ -1,7 +1,8 @@
 use Rattle.std.proofs.Common.{◌≡◌}
 use Rattle.std.specs.Map.{lookup}
 use Rattle.std.specs.BTreeMap.{is_at}
-use Rattle.p2p_tracker_directory.specs.Listed.{outlook, moment_of, earlier, earliest}
+use Rattle.p2p_tracker_directory.specs.Listed.{outlook, moment_of}
+use Rattle.p2p_tracker_calls.specs.DialList.{earlier, earliest}
 use Rattle.p2p_tracker_directory.proofs.directory.dials.next_query.Given as goal
 
 abbrev pub invariant-loop-peer : goal.invariant-loop-peer

@@ -1,5 +1,4 @@
-use Rattle.std.proofs.Common.{◌<◌, ◌≤◌, subst}
-use Rattle.std.proofs.lemmas.Bool.{lt-ltb, le-ltb}
+use Rattle.std.proofs.Common.{sym, ◌∙◌}
 use Rattle.std.specs.Prelude.{nat_lt}
 use Rattle.p2p_tracker_directory.proofs.Entries.{listed, passed_over}
 use Rattle.p2p_tracker_directory.proofs.directory.lists.blocked.Goals as goal
@@ -7,9 +6,9 @@ use Rattle.p2p_tracker_directory.proofs.directory.lists.blocked.Goals as goal
 pub loop-peer-preserved-in-Continue-1 : goal.loop-peer-preserved-in-Continue-1
 loop-peer-preserved-in-Continue-1 g c =
     listed (λ e. nat_lt c.args.now e.1) _ c.loop-peer.peer-iterator c.next.new.self (c.in-Some.peer.now, c.in-Some.end.now) c.loop-peer.peers.items c.push.new.self.items c.in-Some.ensures.steps
-    (lt-ltb c.args.now c.in-Some.end.now (subst (λ n. n < c.in-Some.end.now) c.from.ensures c.if-from-end.true)) c.in_ok-push.ensures.items c.loop-peer.invariant
+    (sym c.is_after.ensures ∙ c.if-is_after.true) c.in_ok-push.ensures.items c.loop-peer.invariant
 
 pub loop-peer-preserved : goal.loop-peer-preserved
 loop-peer-preserved g c =
     passed_over (λ e. nat_lt c.args.now e.1) _ c.loop-peer.peer-iterator c.next.new.self (c.in-Some.peer.now, c.in-Some.end.now) c.loop-peer.peers.items c.in-Some.ensures.steps
-    (le-ltb c.args.now c.in-Some.end.now (subst (λ n. c.in-Some.end.now ≤ n) c.from.ensures c.if-from-end.false)) c.loop-peer.invariant
+    (sym c.is_after.ensures ∙ c.if-is_after.false) c.loop-peer.invariant

@@ -1,0 +1,2 @@
+//! What a directory is told when it is made.
+pub use p2p_tracker_directory::Config;
