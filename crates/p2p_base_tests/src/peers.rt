@@ -104,7 +104,7 @@ fn lengths(peers: &AddressableTrackedPeers<Key>) -> (usize, usize) {
 
 // The same of peers in the primary role, and whether a copy is equal to them before and after its roles are turned.
 fn addresses_compare(alloc: Global) -> Result<((usize, usize), bool, bool), SetError> {
-    let peers = AddressableTrackedPeers::primary(alloc, at(alloc, Key(2))?)?;
+    let peers = AddressableTrackedPeers::primary(alloc, at(alloc, Key(2))?);
     let copy = peers.try_clone()?;
     let is_copied = copy == peers;
     let turned = AddressableTrackedPeers::new(copy.secondary, copy.primary);
