@@ -2,13 +2,16 @@
 //! those crates once.
 //!
 //! Of `p2p_base` are `data`, `order` and `queues`; of `p2p_address` is `addresses`; of `p2p_runtime` are `draws`, `quotas`
-//! and `streams`; of `p2p_wire` is `frames`; and of `p2p_flow` are `blocking`, `peers` and `relays`.
+//! and `streams`; of `p2p_wire` is `frames`; of `p2p_flow` are `blocking`, `peers` and `relays`; and of `p2p_flow_connection` is
+//! `connection`.
 #![tactic(auto)]
 
 #[cfg(test)]
 mod addresses;
 #[cfg(test)]
 mod blocking;
+#[cfg(test)]
+mod connection;
 #[cfg(test)]
 mod data;
 #[cfg(test)]

@@ -1,0 +1,3 @@
+pub mod Batch
+pub mod Batching
+pub mod Throttled
