@@ -9,18 +9,19 @@ from judge import judge, status_now
 from spoil import spoil_bytes, spoil_value
 
 EACH = 20
+PROGRAM = os.environ.get('P2P_PROGRAM', os.path.join(TOP, 'p2p'))
 
 
 class Program(unittest.TestCase):
 
     def compare(self, name, data):
-        ran = subprocess.run([os.path.join(TOP, 'p2p'), 'run'], input=data, capture_output=True, check=False, timeout=60)
+        ran = subprocess.run([PROGRAM, 'run'], input=data, capture_output=True, check=False, timeout=60)
         with self.subTest(name):
             self.assertEqual((ran.returncode, ran.stderr), (status_now(judge(data)[1]), b''), data[:2000])
 
     @classmethod
     def setUpClass(cls):
-        subprocess.run([os.path.join(TOP, 'p2p'), 'run'], input=b'', stdout=subprocess.DEVNULL, check=False)
+        subprocess.run([PROGRAM, 'run'], input=b'', stdout=subprocess.DEVNULL, check=False)
 
     def test_each_script_has_the_status_that_is_told(self):
         for path in examples() + broken_scripts():
