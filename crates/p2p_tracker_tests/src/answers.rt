@@ -24,38 +24,31 @@ fn dialed(way: &mut Mailbox<Key>) -> Option<Option<u64>> {
     }
 }
 
-// What is answered to two dials of the key 2, which is in the set 3.
-fn dial_twice(
+// What is answered to a dial of the key 2, which is in the set 3.
+fn dial(
     alloc: Global,
     actor: &mut Actor<Key>,
     way: &mut Mailbox<Key>,
     oracle: &mut Oracle<Key>,
-) -> Result<[Option<Option<u64>>; 2], Fail>
+) -> Result<Option<Option<u64>>, Fail>
     requires { way.old ≡ new_mailbox 4 }
 {
     oracle.track(alloc, &mut way.desk, 3, only(alloc, Key(2))?)?;
     let Stepped::Message { .. } = actor.step(way, 0, 0)? else {
-        return Ok([None; 2]);
+        return Ok(None);
     };
     way.dial(Key(2))?;
     let Stepped::Message { .. } = actor.step(way, 0, 0)? else {
-        return Ok([None; 2]);
+        return Ok(None);
     };
-    let first = dialed(way);
-    way.dial(Key(2))?;
-    actor.step(way, 0, 0)?;
-    Ok([first, dialed(way)])
-}
-
-// The same of a new tracker.
-fn dialed_twice(alloc: Global) -> Result<[Option<Option<u64>>; 2], Fail> {
-    let (mut actor, mut way, mut oracle) = tracker(alloc, Key(1))?;
-    dial_twice(alloc, &mut actor, &mut way, &mut oracle)
+    Ok(dialed(way))
 }
 
 #[test]
-fn a_held_peer_is_dialed_once(rt: HostRuntime) -> Result<(), Fail> {
-    assert_eq!(rt; dialed_twice(rt.alloc())?, [Some(Some(2)), Some(None)]);
+fn a_tracked_peer_is_reserved_for_a_dial(rt: HostRuntime) -> Result<(), Fail> {
+    let (mut actor, mut way, mut oracle) = tracker(rt.alloc(), Key(1))?;
+    let found = dial(rt.alloc(), &mut actor, &mut way, &mut oracle)?;
+    assert_eq!(rt; found, Some(Some(2)));
     Ok(())
 }
 
@@ -71,40 +64,30 @@ fn listened(way: &mut Mailbox<Key>) -> Option<(u64, bool)> {
     }
 }
 
-// What is answered to two handshakes with the key 2, which is in the set 3.
-fn listen_twice(
+// What is answered to the handshake 5 with the key 2, which is in the set 3.
+fn listen(
     alloc: Global,
     actor: &mut Actor<Key>,
     way: &mut Mailbox<Key>,
     oracle: &mut Oracle<Key>,
-) -> Result<[Option<(u64, bool)>; 2], Fail>
+) -> Result<Option<(u64, bool)>, Fail>
     requires { way.old ≡ new_mailbox 4 }
 {
     oracle.track(alloc, &mut way.desk, 3, only(alloc, Key(2))?)?;
     let Stepped::Message { .. } = actor.step(way, 0, 0)? else {
-        return Ok([None; 2]);
+        return Ok(None);
     };
     way.listen(Key(2), SOURCE, 5)?;
     let Stepped::Message { .. } = actor.step(way, 0, 0)? else {
-        return Ok([None; 2]);
+        return Ok(None);
     };
-    let first = listened(way);
-    way.listen(Key(2), SOURCE, 6)?;
-    actor.step(way, 0, 0)?;
-    Ok([first, listened(way)])
-}
-
-// The same of a new tracker.
-fn listened_twice(alloc: Global) -> Result<[Option<(u64, bool)>; 2], Fail> {
-    let (mut actor, mut way, mut oracle) = tracker(alloc, Key(1))?;
-    listen_twice(alloc, &mut actor, &mut way, &mut oracle)
+    Ok(listened(way))
 }
 
 #[test]
-fn a_held_peer_is_taken_up_once(rt: HostRuntime) -> Result<(), Fail> {
-    assert_eq!(rt;
-        listened_twice(rt.alloc())?,
-        [Some((5, true)), Some((6, false))]
-    );
+fn a_tracked_peer_is_reserved_for_its_handshake(rt: HostRuntime) -> Result<(), Fail> {
+    let (mut actor, mut way, mut oracle) = tracker(rt.alloc(), Key(1))?;
+    let found = listen(rt.alloc(), &mut actor, &mut way, &mut oracle)?;
+    assert_eq!(rt; found, Some((5, true)));
     Ok(())
 }
