@@ -1,7 +1,7 @@
--- What stands for a log stands for it with one more entry.
-use Rattle.std.proofs.Common.{◌≡◌, List, [], ◌∷◌, ◌++◌, refl, ap, sym, subst, ◌∙◌}
+-- What a world keeps, with one more entry.
+use Rattle.std.proofs.Common.{◌≡◌, ℕ, ◌<◌, Bool, true, false, List, [], ◌∷◌, ◌++◌, length, refl, ap, sym, subst, ◌∙◌}
 use Rattle.std.proofs.lemmas.Bool.{and_parts}
-use Rattle.std.specs.Prelude.{true, nat_le}
+use Rattle.std.specs.Prelude.{nat_le, ◌&&◌}
 use Rattle.p2p_log.specs.declared.config.Config.{Config}
 use Rattle.p2p_log.specs.declared.event.Event.{Event}
 use Rattle.p2p_log.specs.declared.entry.Entry.{Entry}
@@ -10,34 +10,71 @@ use Rattle.p2p_log_rules.specs.Facts.{events_of}
 use Rattle.p2p_log_rules.specs.Effect.{row, entry_of, effect}
 use Rattle.p2p_log_rules.specs.Valid.{last_moment, may_act, is_valid_event}
 use Rattle.p2p_log_rules.proofs.Facts.{events_of-append}
-use Rattle.p2p_log.proofs.Lines.{live-append}
-use Rattle.p2p_log.specs.declared.item.Envelope.{Envelope}
-use Rattle.p2p_net_queues.specs.declared.board.Board.{Board}
-use Rattle.p2p_net_queues.specs.Stands.{Holds, Builds}
+use Rattle.p2p_net_links.specs.declared.links.Links.{Links}
 use Rattle.p2p_net.specs.declared.node.Node.{Node}
-use Rattle.p2p_net.specs.Stands.{NodesStand}
-use Rattle.p2p_net.specs.World.{PartsStand}
+use Rattle.p2p_net.specs.Ready as ready
+use Rattle.p2p_net.specs.Stands.{WorldStands}
+use Rattle.p2p_net.specs.World.{WorldView, KeptStands, IsRecorded}
+use Rattle.p2p_net.specs.Refusals.{ApplyRefused}
+use Rattle.p2p_net.specs.declared.error.RunError.{RunError}
+use Rattle.p2p_net.specs.declared.error.RunError.TheVariants as error
+use Rattle.p2p_net_links.specs.Links.{no_links}
+use Rattle.p2p_net.specs.Joining.{WorldDoes}
+use Rattle.p2p_net.proofs.Acting.{Simulates, simulates}
+use Rattle.p2p_net.proofs.Readying.{may_act-nodes}
 
-pub last_moment-append : (events : List Event) (v : Event) → last_moment (events ++ v ∷ []) ≡ v.at
+last_moment-append : (events : List Event) (v : Event) → last_moment (events ++ v ∷ []) ≡ v.at
 last_moment-append [] v = refl
 last_moment-append (w ∷ []) v = refl
 last_moment-append (w ∷ x ∷ ws) v = last_moment-append (x ∷ ws) v
+
+event-effect : (configs : List Config) (log : List Entry) (v : Event) → (effect configs log v).event ≡ v
+unfolding effect
+event-effect configs log v = refl
 
 -- an event that may be asked for has an act that may
 pub valid_act : (configs : List Config) (events : List Event) (v : Event) → is_valid_event configs events v ≡ true → may_act configs events v.act ≡ true
 unfolding is_valid_event
 valid_act configs events v h = (and_parts (nat_le (last_moment events) v.at) (may_act configs events v.act) h).1
 
+-- what the code tests of an event
+pub tested : (configs : List Config) (log : List Entry) (nodes : List Node) (links : Links) (last : ℕ) (v : Event) → KeptStands configs log nodes links last → ready.may_apply nodes log last v ≡ is_valid_event configs (events_of log) v
+unfolding is_valid_event
+tested configs log nodes links last v k =
+    ap (λ m. nat_le m v.at && ready.may_act nodes log v.act) k.last_is
+    ∙ ap (λ b. nat_le (last_moment (events_of log)) v.at && b) (may_act-nodes configs log nodes links v.act k.world)
+
+-- a world whose log has one more entry, and that was the last moment
+pub kept_more : (configs : List Config) (log later : List Entry) (nodes : List Node) (links : Links) (v : Event) → later ≡ log ++ effect configs log v ∷ [] → WorldStands configs later nodes links → KeptStands configs later nodes links v.at
+kept_more configs log later nodes links v is s = record {
+  world = s;
+  last_is =
+      sym
+      (ap (λ l. last_moment (events_of l)) is
+      ∙ (ap last_moment (events_of-append log (effect configs log v))
+      ∙ (ap (λ e. last_moment (events_of log ++ e ∷ [])) (event-effect configs log v) ∙ last_moment-append (events_of log) v)));
+}
+
 pub entry_of-effect : (configs : List Config) (log : List Entry) (v : Event) (r : Row) → r ≡ row configs log v.act → entry_of v r ≡ effect configs log v
 unfolding effect
 entry_of-effect configs log v r h = ap (entry_of v) h
 
--- the parts, after an act whose row was built
-pub PartsStand-append :
-    (configs : List Config) (log : List Entry) (v : Event) (r : Row) (board : Board Envelope) (nodes : List Node)
-    → Builds board log r → NodesStand configs (log ++ entry_of v r ∷ []) nodes → PartsStand configs (log ++ entry_of v r ∷ []) board nodes v.at
-PartsStand-append configs log v r board nodes builds stand = record {
-  holds = subst (λ xs. Holds board xs) (sym (live-append log (entry_of v r))) builds;
-  nodes_stand = stand;
-  last_is = sym (ap last_moment (events_of-append log (entry_of v r)) ∙ last_moment-append (events_of log) v);
-}
+-- what the code records of an event
+pub recorded : (configs : List Config) (log later : List Entry) (v kept : Event) (k : ℕ) (nodes new : List Node) (l links : Links) (r : Row) → WorldStands configs log nodes l → is_valid_event configs (events_of log) v ≡ true
+    → k ≡ length log → kept ≡ v → WorldDoes k v.act nodes new l links r → later ≡ log ++ entry_of kept r ∷ [] → IsRecorded configs log v later new links
+recorded configs log later v kept k nodes new l links r s valid at same does grown =
+    let h : Simulates configs log v new links r = simulates configs log v nodes new l links r s (valid_act configs (events_of log) v valid) (subst (λ i. WorldDoes i v.act nodes new l links r) at does) in
+    let log_is : later ≡ log ++ effect configs log v ∷ [] = grown ∙ (ap (λ w. log ++ entry_of w r ∷ []) same ∙ ap (λ e. log ++ e ∷ []) (entry_of-effect configs log v r h.row_is)) in
+    record { log_is = log_is; stands = subst (λ ls. WorldStands configs ls new links) (sym log_is) h.stands }
+
+-- an event that is refused leaves its world
+pub refused : (w : WorldView) (v : Event) (e : RunError) → e ≡ error.Event (length w.log) → is_valid_event w.configs (events_of w.log) v ≡ false → ApplyRefused w v e w
+refused w v e is invalid = subst (λ (r : RunError). ApplyRefused w v r w) (sym is) ((refl, invalid), refl)
+
+-- a world in which nothing was asked
+pub stands_new : (configs kept : List Config) (log : List Entry) (nodes : List Node) (links : Links) → kept ≡ configs → log ≡ [] → links ≡ no_links → WorldStands configs [] nodes no_links → WorldStands kept log nodes links
+stands_new configs kept log nodes links same none bare s =
+    subst (λ c. WorldStands c log nodes links) (sym same) (subst (λ l. WorldStands configs l nodes links) (sym none) (subst (WorldStands configs [] nodes) (sym bare) s))
+
+pub kept_new : (configs : List Config) (log : List Entry) (nodes : List Node) (links : Links) → log ≡ [] → WorldStands configs log nodes links → KeptStands configs log nodes links 0
+kept_new configs log nodes links none s = record { world = s; last_is = sym (ap (λ l. last_moment (events_of l)) none) }

@@ -9,24 +9,18 @@ use Rattle.std.proofs.lemmas.Bool.Decides.{nat_tests}
 use Rattle.p2p_base.specs.declared.key.Key.{Key}
 use Rattle.p2p_log.specs.declared.config.Config.{Config}
 use Rattle.p2p_log.specs.declared.entry.Entry.{Entry}
-use Rattle.p2p_log.specs.declared.event.Act.{Act}
-use Rattle.p2p_log.specs.declared.event.Act.TheVariants as act
 use Rattle.p2p_log_rules.specs.Facts.{key_at, starts, registers_at, steps_router, taken, joins, is_joined, is_up}
-use Rattle.p2p_log_rules.specs.Effect.{entry_of, row}
 use Rattle.p2p_log_rules.specs.Valid.{config_fault}
 use Rattle.p2p_log_rules.proofs.Facts.{is_joined-append}
 use Rattle.p2p_router.specs.Messenger.{is_bound, is_unbound}
 use Rattle.p2p_router.specs.declared.messenger.Binding.{Binding}
 use Rattle.p2p_router.specs.declared.messenger.Binding.TheVariants.{Unbound, Bound, Closed}
 use Rattle.p2p_net_router.specs.Holds.{IsStranger}
-use Rattle.p2p_net_router.specs.Passes.{passes}
 use Rattle.p2p_net_router.specs.Stands.{StandsFor, HasPlaces, IsBeside}
 use Rattle.p2p_net_router.specs.declared.router.Router.{Router}
 use Rattle.p2p_net_router.proofs.Aside.{stands_idle}
-use Rattle.p2p_net_router.proofs.Passing.{stands_passed}
 use Rattle.p2p_net.specs.Stands.{HearsOfJoins, RouterStands}
 use Rattle.p2p_net.proofs.Keys.{key_at-distinct}
-use Rattle.p2p_net.proofs.Takes.{taken-none}
 
 -- ---- what a router was told of
 
@@ -100,20 +94,6 @@ RouterStands-moved configs log e n old new h stands number peers = record {
   hears = subst (HearsOfJoins configs (log ++ e ∷ []) n) (sym peers) (HearsOfJoins-more configs log e n old.peers h.hears);
 }
 
--- the entry is that of this act
-abbrev pub IsMade : List Config → List Entry → Entry → Act → Type 0
-IsMade configs log e a = e ≡ entry_of e.event (row configs log a)
-
--- a router that has no part in an act
-pub RouterStands-passed :
-    (configs : List Config) (log : List Entry) (e : Entry) (a : Act) (n : ℕ) (router : Router) → e.event.act ≡ a → IsMade configs log e a
-    → passes n a ≡ true → RouterStands configs log n router → RouterStands configs (log ++ e ∷ []) n router
-RouterStands-passed configs log e a n router is made p h =
-    let whole : entry_of e.event (row configs log e.event.act) ≡ e = ap (λ x. entry_of e.event (row configs log x)) is ∙ sym made in
-    RouterStands-moved configs log e n router router h
-    (subst (λ (x : Entry). StandsFor configs (log ++ x ∷ []) router) whole
-    (stands_passed configs log e.event router (ap (λ k. passes k e.event.act) h.number ∙ (ap (passes n) is ∙ p)) h.stands)) refl refl
-
 -- an entry that moves nothing
 pub RouterStands-idle :
     (configs : List Config) (log : List Entry) (e : Entry) (n : ℕ) (router : Router) → IsBeside configs log e n → e.takes ≡ [] → e.puts ≡ [] → e.ends ≡ []
@@ -121,57 +101,6 @@ pub RouterStands-idle :
 RouterStands-idle configs log e n router b takes puts ends h =
     RouterStands-moved configs log e n router router h
     (stands_idle configs log e router h.stands (subst (IsBeside configs log e) (sym h.number) b) takes puts ends) refl refl
-
--- ---- acts beside a router's own
-
--- an act that is no step of a router, no registration and no start
-abbrev pub is_beside : Act → Bool
-is_beside (act.Register c m rate) = false
-is_beside (act.Start m) = false
-is_beside (act.Router m) = false
-is_beside _ = true
-
-pub IsBeside-act : (configs : List Config) (log : List Entry) (e : Entry) (n : ℕ) (a : Act) → e.event.act ≡ a → is_beside a ≡ true → IsBeside configs log e n
-IsBeside-act configs log e n (act.Join a b) is h = record {
-  no_step = ap (λ x. cond (steps_router n x) (taken log e) []) is;
-  no_channel = ap (registers_at configs n) is;
-  no_start = ap (starts n) is;
-}
-IsBeside-act configs log e n (act.Send bytes c m priority to) is h = record {
-  no_step = ap (λ x. cond (steps_router n x) (taken log e) []) is;
-  no_channel = ap (registers_at configs n) is;
-  no_start = ap (starts n) is;
-}
-IsBeside-act configs log e n (act.SendStep conn m) is h = record {
-  no_step = ap (λ x. cond (steps_router n x) (taken log e) []) is;
-  no_channel = ap (registers_at configs n) is;
-  no_start = ap (starts n) is;
-}
-IsBeside-act configs log e n (act.RecvStep conn m) is h = record {
-  no_step = ap (λ x. cond (steps_router n x) (taken log e) []) is;
-  no_channel = ap (registers_at configs n) is;
-  no_start = ap (starts n) is;
-}
-IsBeside-act configs log e n (act.Recv c m) is h = record {
-  no_step = ap (λ x. cond (steps_router n x) (taken log e) []) is;
-  no_channel = ap (registers_at configs n) is;
-  no_start = ap (starts n) is;
-}
-IsBeside-act configs log e n (act.Register c m rate) is h = absurd (false≢true h)
-IsBeside-act configs log e n (act.Start m) is h = absurd (false≢true h)
-IsBeside-act configs log e n (act.Router m) is h = absurd (false≢true h)
-
-either_nothing : {X : Type 0} (b : Bool) (xs : List X) → xs ≡ [] → cond b xs [] ≡ []
-either_nothing true xs h = h
-either_nothing false xs h = refl
-
--- a router's step that takes nothing
-pub IsBeside-idle : (configs : List Config) (log : List Entry) (e : Entry) (n m : ℕ) → e.event.act ≡ act.Router m → e.takes ≡ [] → IsBeside configs log e n
-IsBeside-idle configs log e n m is none = record {
-  no_step = ap (λ x. cond (steps_router n x) (taken log e) []) is ∙ either_nothing (m == n) (taken log e) (taken-none log e none);
-  no_channel = ap (registers_at configs n) is;
-  no_start = ap (starts n) is;
-}
 
 -- ---- mailboxes
 

@@ -12,7 +12,8 @@ use Rattle.p2p_log_rules.proofs.Facts.{events_of-append}
 use Rattle.p2p_log_rules.proofs.Lawful.{IsLawful-nil, IsLawful-append, IsLawful-unique}
 use Rattle.p2p_net.specs.declared.error.RunError.{RunError}
 use Rattle.p2p_net.specs.declared.error.RunError.TheVariants as error
-use Rattle.p2p_net.specs.World.{WorldView, with_entry}
+use Rattle.p2p_net.specs.World.{WorldView, Stands}
+use Rattle.p2p_net.specs.Stands.{WorldStands}
 use Rattle.p2p_net.specs.Refusals.{ApplyRefused, RunRefused}
 use Rattle.p2p_net.proofs.Faults.{take-step, event_fault-step, event_fault-end}
 
@@ -23,43 +24,45 @@ pub record RanFirst (configs : List Config) (script : List Event) (i : ℕ) (w :
   pub long : length w.log ≡ i
   pub asked : events_of w.log ≡ take i script
   pub lawful : IsLawful configs (take i script) w.log
+  pub stands : WorldStands w.configs w.log w.nodes w.links
   pub fault : event_fault configs script ≡ event_fault_from configs (take i script) (drop i script)
 
-pub RanFirst-none : (configs : List Config) (script : List Event) (w : WorldView) → w ≡ record { configs = configs; log = []; failed = false } → RanFirst configs script 0 w
-RanFirst-none configs script w h =
-    subst (λ (x : WorldView). RanFirst configs script 0 x) (sym h)
-    (record { same = refl; works = refl; long = refl; asked = refl; lawful = IsLawful-nil configs; fault = refl })
+pub RanFirst-none : (configs : List Config) (script : List Event) (w : WorldView) → w.configs ≡ configs → w.log ≡ [] → w.failed ≡ false → WorldStands w.configs w.log w.nodes w.links → RanFirst configs script 0 w
+RanFirst-none configs script w same none works stands = record {
+  same = same;
+  works = works;
+  long = ap length none;
+  asked = ap events_of none;
+  lawful = subst (λ l. IsLawful configs [] l) (sym none) (IsLawful-nil configs);
+  stands = stands;
+  fault = refl;
+}
 
 event_of-effect : (configs : List Config) (log : List Entry) (v : Event) → (effect configs log v).event ≡ v
 unfolding effect
 event_of-effect configs log v = refl
 
--- as the effect is of the world's own configurations
-stepped :
-    (configs : List Config) (script : List Event) (i : ℕ) (w : WorldView) (v : Event) → RanFirst configs script i w → slice_get script i ≡ Some v
-    → is_valid_event configs (take i script) v ≡ true → RanFirst configs script (suc i) (with_entry w (effect configs w.log v))
-stepped configs script i w v h s ok =
-    let e = effect configs w.log v in
-    let taken : take (suc i) script ≡ take i script ++ v ∷ [] = take-step script i v s in
-    record {
-      same = h.same;
-      works = refl;
-      long = length-append w.log (e ∷ []) ∙ (ap (λ k. k + 1) h.long ∙ add-one i);
-      asked = events_of-append w.log e ∙ (ap (λ l. l ++ e.event ∷ []) h.asked ∙ (ap (λ x. take i script ++ x ∷ []) (event_of-effect configs w.log v) ∙ sym taken));
-      lawful = subst (λ l. IsLawful configs l (w.log ++ e ∷ [])) (sym taken) (IsLawful-append configs (take i script) w.log v h.lawful);
-      fault = h.fault ∙ (event_fault-step configs script i v s ∙ ap (λ b. cond b (event_fault_from configs (take (suc i) script) (drop (suc i) script)) (Some i)) ok);
-    }
-
+-- one event more
 pub RanFirst-step :
     (configs : List Config) (script : List Event) (i : ℕ) (w new : WorldView) (v : Event) → RanFirst configs script i w → slice_get script i ≡ Some v
-    → new ≡ with_entry w (effect w.configs w.log v) → is_valid_event w.configs (events_of w.log) v ≡ true → RanFirst configs script (i + 1) new
-RanFirst-step configs script i w new v h s is ok =
+    → new.configs ≡ w.configs → new.log ≡ w.log ++ effect w.configs w.log v ∷ [] → new.failed ≡ false → Stands new → is_valid_event w.configs (events_of w.log) v ≡ true → RanFirst configs script (i + 1) new
+RanFirst-step configs script i w new v h s kept grown works stands ok =
     let allowed : is_valid_event configs (take i script) v ≡ true =
     ap (λ c. is_valid_event c (take i script) v) (sym h.same) ∙ (ap (λ l. is_valid_event w.configs l v) (sym h.asked) ∙ ok)
     in
-    let made : new ≡ with_entry w (effect configs w.log v) = is ∙ ap (λ c. with_entry w (effect c w.log v)) h.same in
-    subst (λ k. RanFirst configs script k new) (sym (add-one i))
-    (subst (λ (x : WorldView). RanFirst configs script (suc i) x) (sym made) (stepped configs script i w v h s allowed))
+    let e = effect configs w.log v in
+    let log_is : new.log ≡ w.log ++ e ∷ [] = grown ∙ ap (λ c. w.log ++ effect c w.log v ∷ []) h.same in
+    let taken : take (i + 1) script ≡ take i script ++ v ∷ [] = ap (λ k. take k script) (add-one i) ∙ take-step script i v s in
+    record {
+      same = kept ∙ h.same;
+      works = works;
+      long = ap length log_is ∙ (length-append w.log (e ∷ []) ∙ ap (λ k. k + 1) h.long);
+      asked = ap events_of log_is ∙ (events_of-append w.log e ∙ (ap (λ l. l ++ e.event ∷ []) h.asked ∙ (ap (λ x. take i script ++ x ∷ []) (event_of-effect configs w.log v) ∙ sym taken)));
+      lawful = subst (λ l. IsLawful configs (take (i + 1) script) l) (sym log_is)
+          (subst (λ l. IsLawful configs l (w.log ++ e ∷ [])) (sym taken) (IsLawful-append configs (take i script) w.log v h.lawful));
+      stands = stands works;
+      fault = h.fault ∙ (event_fault-step configs script i v s ∙ (ap (λ b. cond b (event_fault_from configs (take (suc i) script) (drop (suc i) script)) (Some i)) allowed ∙ ap (λ k. event_fault_from configs (take k script) (drop k script)) (sym (add-one i))));
+    }
 
 take-whole : {X : Type 0} (xs : List X) (i : ℕ) → length xs ≤ i → take i xs ≡ xs
 take-whole [] zero h = refl
@@ -74,6 +77,9 @@ pub only_run :
     (configs : List Config) (script : List Event) (i : ℕ) (w : WorldView) → RanFirst configs script i w → length script ≤ i
     → (log : List Entry) → IsLawful configs script log → log ≡ w.log
 only_run configs script i w h le log k = IsLawful-unique configs script log w.log k (lawful_run configs script i w h le)
+
+pub stands_run : (configs : List Config) (script : List Event) (i : ℕ) (w : WorldView) → RanFirst configs script i w → WorldStands configs w.log w.nodes w.links
+stands_run configs script i w h = subst (λ c. WorldStands c w.log w.nodes w.links) h.same h.stands
 
 pub no_fault : (configs : List Config) (script : List Event) (i : ℕ) (w : WorldView) → RanFirst configs script i w → length script ≤ i → event_fault configs script ≡ None
 no_fault configs script i w h le = h.fault ∙ event_fault-end configs script i le

@@ -1,4 +1,8 @@
+pub mod Acts
+pub mod Joining
+pub mod Places
+pub mod Ready
 pub mod Refusals
+pub mod Routing
 pub mod Stands
-pub mod Tells
 pub mod World

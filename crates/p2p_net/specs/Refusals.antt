@@ -14,12 +14,18 @@ StartRefused configs (error.Config i) = config_fault configs ≡ Some i
 StartRefused configs (error.Event i) = ⊥
 StartRefused configs error.Memory = Unit {0}
 
+-- want of memory leaves the configurations and the log, and a world that has failed
+pub record HasFailed (old new : WorldView) : Type 0 where
+  pub configs : new.configs ≡ old.configs
+  pub log : new.log ≡ old.log
+  pub failed : new.failed ≡ true
+
 -- an event is not applied to the old world, which leaves the new one
 abbrev pub ApplyRefused : WorldView → Event → RunError → WorldView → Type 0
 ApplyRefused old event (error.Config i) new = ⊥
 ApplyRefused old event (error.Event i) new =
     (i ≡ length old.log × is_valid_event old.configs (events_of old.log) event ≡ false) × new ≡ old
-ApplyRefused old event error.Memory new = new ≡ record old { failed = true }
+ApplyRefused old event error.Memory new = HasFailed old new
 
 -- a script is not run
 abbrev pub RunRefused : List Config → List Event → RunError → Type 0

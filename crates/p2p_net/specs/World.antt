@@ -2,27 +2,32 @@
 use Rattle.std.specs.Prelude.{◌≡◌, ℕ, Bool, false, List, [], ◌∷◌, ◌++◌}
 use Rattle.p2p_log.specs.declared.config.Config.{Config}
 use Rattle.p2p_log.specs.declared.entry.Entry.{Entry}
-use Rattle.p2p_log.specs.Lines.{live}
+use Rattle.p2p_log.specs.declared.event.Event.{Event}
+use Rattle.p2p_log_rules.specs.Effect.{effect}
 use Rattle.p2p_log_rules.specs.Facts.{events_of}
 use Rattle.p2p_log_rules.specs.Valid.{last_moment}
-use Rattle.p2p_log.specs.declared.item.Envelope.{Envelope}
-use Rattle.p2p_net_queues.specs.declared.board.Board.{Board}
-use Rattle.p2p_net_queues.specs.Stands.{Holds}
+use Rattle.p2p_net_links.specs.declared.links.Links.{Links}
 use Rattle.p2p_net.specs.declared.node.Node.{Node}
-use Rattle.p2p_net.specs.Stands.{NodesStand}
+use Rattle.p2p_net.specs.Stands.{WorldStands}
 
--- a world is its configurations and its log; one that found no memory has failed
+-- a world is its configurations, its nodes with their links, and its log; one that found no memory has failed
 pub record WorldView : Type 0 where
   pub configs : List Config
+  pub nodes : List Node
+  pub links : Links
   pub log : List Entry
   pub failed : Bool
 
--- the world with one more entry
-abbrev pub with_entry : WorldView → Entry → WorldView
-with_entry w e = record { configs = w.configs; log = w.log ++ e ∷ []; failed = false }
+-- a world that has not failed stands for its log
+abbrev pub Stands : WorldView → Type 0
+Stands w = w.failed ≡ false → WorldStands w.configs w.log w.nodes w.links
 
--- the parts of a world against its log
-pub record PartsStand (configs : List Config) (log : List Entry) (board : Board Envelope) (nodes : List Node) (last : ℕ) : Type 0 where
-  pub holds : Holds board (live log)
-  pub nodes_stand : NodesStand configs log nodes
+-- what a world keeps stands for its log
+pub record KeptStands (configs : List Config) (log : List Entry) (nodes : List Node) (links : Links) (last : ℕ) : Type 0 where
+  pub world : WorldStands configs log nodes links
   pub last_is : last ≡ last_moment (events_of log)
+
+-- what was recorded of an event after this log
+pub record IsRecorded (configs : List Config) (log : List Entry) (v : Event) (later : List Entry) (nodes : List Node) (links : Links) : Type 0 where
+  pub log_is : later ≡ log ++ effect configs log v ∷ []
+  pub stands : WorldStands configs later nodes links

@@ -2,17 +2,20 @@
 //! of its log.
 #![tactic(auto)]
 
-mod acts;
+mod calls;
 mod configs;
 mod error;
+mod joins;
 mod node;
-mod perform;
+mod steps;
 mod valid;
 mod world;
 
 pub use crate::error::RunError;
+pub use crate::node::Node;
 pub use crate::world::World;
 pub use p2p_log::{
     Act, Cause, Config, End, Entry, Envelope, Event, Fate, Item, Outcome, Queue, Rate, Recipients,
     Reply, Report, Side,
 };
+pub use p2p_net_links::Links;

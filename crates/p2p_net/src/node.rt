@@ -1,128 +1,90 @@
-//! A node: its router, and what it knows beside it.
-ghost use Rattle.std.specs.Prelude.{◌≡◌, ℕ, ◌+◌, ◌^◌, ◌<◌, ◌++◌, ◌∷◌, [], OnOk, IsTrue, Some, None, if◌then◌else◌, true, false};
-ghost use Rattle.std.specs.Ordering.{nat_cmp, is_eq};
+//! `Node`, the parts of a node, and what each act does at it.
+ghost use Rattle.std.specs.Prelude.{◌≡◌, ◌*◌, ◌<◌, ◌^◌, ℕ, [], IfOk, true, None};
+ghost use Rattle.std.specs.Ordering.{nat_cmp};
 ghost use Rattle.std.specs.BTreeMap as tree;
-ghost use Rattle.std.specs.BTreeSet as sorted;
-ghost use Rattle.p2p_log_rules.specs.Facts.{channels, capacity_in};
-ghost use Rattle.p2p_router.specs.Messenger.{is_unbound};
-ghost use Rattle.p2p_net_router.specs.Stands.{StandsFor, IsRegistration};
+ghost use Rattle.p2p_log_rules.specs.Valid.{fits};
+ghost use Rattle.p2p_net_channels.specs.Channels.{no_channels};
+ghost use Rattle.p2p_net_connections.specs.Connections.{no_connections};
+ghost use Rattle.p2p_net_router.specs.Stands.{StandsFor};
+ghost use Rattle.p2p_net.specs.Ready.{is_started as started_test, IsReady};
+ghost use Rattle.p2p_net.specs.Acts.{NodeDoes};
 
-use p2p_log_rules::Half;
+use crate::configs::retained;
+use p2p_log::{Act, Config, Reply};
+use p2p_log_rules::Row;
+use p2p_net_channels::Channels;
+use p2p_net_connections::Connections;
+use p2p_net_links::Links;
+use p2p_net_queues::{Turn, only};
 use p2p_net_router::Router;
 use std::alloc::{AllocError, Global};
-use std::collections::{BTreeMap, BTreeSet};
 
-/// A node: its router, and what it knows beside it.
+/// A node: what it is made of, and its parts.
 #[derive(Drop)]
 pub struct Node {
-    /// Its router, with the queues that only it and its connections use.
-    pub router: Router,
-    /// Whether it has started.
-    pub started: bool,
+    /// What it is made of.
+    pub config: Config,
     /// How many peers are retained.
     pub retained: usize,
-    /// Its channels with their capacities, in order of registration.
-    pub channels: Vec<(u64, usize)>,
-    /// The capacity of each channel.
-    pub capacities: BTreeMap<u64, usize>,
-    /// The sum of the capacities.
-    pub total: usize,
-    /// Its halves of connections.
-    pub halves: BTreeMap<u64, Half>,
-    /// The connections that took their router's answer.
-    pub running: BTreeSet<u64>,
-    /// The nodes that it was joined to.
-    pub partners: BTreeSet<u64>,
-    /// The events that asked to join it.
-    pub joins: BTreeSet<u64>,
+    /// Its router, with the mailbox, the relays and the lists of peers.
+    pub router: Router,
+    /// Its channels, and what waits in them.
+    pub channels: Channels,
+    /// Its connections, and the router's answers to them.
+    pub connections: Connections,
 }
 
 impl Node {
-    /// A node that was not yet started.
-    pub fn new(alloc: Global, number: u64, retained: usize) -> Node
+    /// A node that was asked for nothing.
+    pub fn new(alloc: Global, number: u64, config: Config) -> Node
+        requires { fits config ≡ true }
+        ensures config { result.config ≡ config }
+        ensures counted { config.mailbox_size < 2 ^ 64 }
+        ensures retained { result.retained ≡ config.max_peers_per_set * config.tracked_peer_sets }
         ensures number { result.router.number ≡ number }
         ensures router { (configs : _) → StandsFor configs [] result.router }
         ensures peers { (c : ℕ) → tree.get nat_cmp result.router.peers c ≡ None }
-        ensures started { result.started ≡ false }
-        ensures retained { result.retained ≡ retained }
-        ensures channels { result.channels.items ≡ [] }
-        ensures capacities { (c : ℕ) → tree.get nat_cmp result.capacities c ≡ None }
-        ensures total { result.total ≡ 0 }
-        ensures halves { (c : ℕ) → tree.get nat_cmp result.halves c ≡ None }
-        ensures running { (c : ℕ) → sorted.contains nat_cmp result.running c ≡ false }
-        ensures partners { (c : ℕ) → sorted.contains nat_cmp result.partners c ≡ false }
-        ensures joins { (c : ℕ) → sorted.contains nat_cmp result.joins c ≡ false }
+        ensures channels { result.channels ≡ no_channels }
+        ensures connections { result.connections ≡ no_connections }
     {
+        let size = config.mailbox_size;
+        prove!(size <= usize::MAX);
         Node {
+            config,
+            retained: retained(&config),
             router: Router::new(alloc, number),
-            started: false,
-            retained,
-            channels: Vec::new(alloc),
-            capacities: BTreeMap::new(alloc),
-            total: 0,
-            halves: BTreeMap::new(alloc),
-            running: BTreeSet::new(alloc),
-            partners: BTreeSet::new(alloc),
-            joins: BTreeSet::new(alloc),
+            channels: Channels::new(alloc),
+            connections: Connections::new(alloc),
         }
     }
 
-    /// Registers a channel, whose lists of peers the router is asked for.
-    pub fn register(
-        &mut self,
-        alloc: Global,
-        channel: u64,
-        capacity: usize,
-    ) -> Result<(), AllocError>
-        requires { self.old.total + capacity < 2 ^ 64 }
-        ensures channels { OnOk result (self.new.channels.items ≡ self.old.channels.items ++ (channel, capacity) ∷ []) }
-        ensures capacities { OnOk result ((c : ℕ) → tree.get nat_cmp self.new.capacities c
-            ≡ (if is_eq (nat_cmp channel c) then Some capacity else tree.get nat_cmp self.old.capacities c)) }
-        ensures rest { OnOk result (self.new ≡ record self.old
-            { router = self.new.router; channels = self.new.channels; capacities = self.new.capacities; total = self.old.total + capacity }) }
-        ensures router { OnOk result ((configs : _) (log : _) (e : _) → StandsFor configs log self.old.router
-            → IsTrue (is_unbound self.old.router.messenger.binding) → IsRegistration e self.old.router.number channel
-            → capacity_in (channels configs log self.old.router.number) channel ≡ None → StandsFor configs (log ++ e ∷ []) self.new.router) }
-        ensures number { OnOk result (self.new.router.number ≡ self.old.router.number) }
-        ensures peers { OnOk result (self.new.router.peers ≡ self.old.router.peers) }
+    /// Whether it has started.
+    pub fn is_started(&self) -> bool
+        ensures { result ≡ started_test self.now }
     {
-        self.channels.push((channel, capacity))?;
-        self.capacities.insert(channel, capacity)?;
-        self.total += capacity;
-        self.router.subscribe(alloc, channel)?;
-        Ok(())
+        self.router.messenger.bound()
     }
 
-    /// It is joined to a node by a connection.
-    pub fn join(&mut self, conn: u64, half: Half, partner: u64) -> Result<(), AllocError>
-        ensures halves { OnOk result ((c : ℕ) → tree.get nat_cmp self.new.halves c
-            ≡ (if is_eq (nat_cmp conn c) then Some half else tree.get nat_cmp self.old.halves c)) }
-        ensures partners { OnOk result ((c : ℕ) → sorted.contains nat_cmp self.new.partners c
-            ≡ (if is_eq (nat_cmp partner c) then true else sorted.contains nat_cmp self.old.partners c)) }
-        ensures rest { OnOk result (self.new ≡ record self.old { halves = self.new.halves; partners = self.new.partners }) }
+    /// Does this node's part of an act that names it alone.
+    pub fn apply(&mut self, turn: Turn, links: &mut Links, act: &Act) -> Result<Row, AllocError>
+        requires { IsReady act.now self.old }
+        ensures { IfOk result (λ r. NodeDoes turn.entry turn.node act.now self.old self.new links.old links.new r) }
     {
-        self.halves.insert(conn, half)?;
-        self.partners.insert(partner)?;
-        Ok(())
-    }
-
-    /// An event asked to join it.
-    pub fn name(&mut self, event: u64) -> Result<(), AllocError>
-        ensures joins { OnOk result ((c : ℕ) → sorted.contains nat_cmp self.new.joins c
-            ≡ (if is_eq (nat_cmp event c) then true else sorted.contains nat_cmp self.old.joins c)) }
-        ensures rest { OnOk result (self.new ≡ record self.old { joins = self.new.joins }) }
-    {
-        self.joins.insert(event)?;
-        Ok(())
-    }
-
-    /// A connection runs.
-    pub fn run(&mut self, conn: u64) -> Result<(), AllocError>
-        ensures running { OnOk result ((c : ℕ) → sorted.contains nat_cmp self.new.running c
-            ≡ (if is_eq (nat_cmp conn c) then true else sorted.contains nat_cmp self.old.running c)) }
-        ensures rest { OnOk result (self.new ≡ record self.old { running = self.new.running }) }
-    {
-        self.running.insert(conn)?;
-        Ok(())
+        match act {
+            Act::Register { channel, quota, .. } => Ok(self.register(turn, *channel, *quota)?),
+            Act::Start { .. } => Ok(self.start(turn)?),
+            Act::Send {
+                bytes,
+                channel,
+                priority,
+                to,
+                ..
+            } => Ok(self.send(turn, *channel, bytes, *priority, to)?),
+            Act::Router { .. } => Ok(self.route(turn)?),
+            Act::SendStep { conn, .. } => Ok(self.send_step(turn, links, *conn)?),
+            Act::RecvStep { conn, .. } => Ok(self.recv_step(turn, links, *conn)?),
+            Act::Recv { channel, .. } => Ok(self.read(turn, *channel)?),
+            Act::Join { .. } => Ok(only(turn.alloc, Reply::Idle)),
+        }
     }
 }

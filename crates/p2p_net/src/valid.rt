@@ -1,109 +1,69 @@
 //! Whether an event may be asked for, after those before it.
-ghost use Rattle.std.specs.Prelude.{◌≡◌, ℕ, ◌+◌, ◌<◌, ◌^◌, List, length, slice_get};
-ghost use Rattle.p2p_log.specs.declared.entry.Entry.{Entry};
-ghost use Rattle.std.specs.Prelude.{not};
-ghost use Rattle.p2p_log_rules.specs.Facts.{events_of, capacity_for, has_started};
-ghost use Rattle.p2p_log_rules.specs.Effect.{mailbox_size_at, limit_at};
-ghost use Rattle.p2p_log_rules.specs.Valid.{may_act as may_act_of, may_register as may_register_of, names_join, last_moment, is_valid_event};
-ghost use Rattle.p2p_net.specs.Stands.{NodesStand};
+ghost use Rattle.std.specs.Prelude.{◌≡◌, ◌<◌, ◌^◌, ◌&&◌, Some, slice_get, length, nat_le};
+ghost use Rattle.p2p_net.specs.Ready.{capacity_by, is_join_of as is_join_of_test, names_node, may_register as may_register_test, may_ask as may_ask_test, may_at as may_at_test, may_act as may_act_test};
 
+use crate::joins::{node_of, other_of};
 use crate::node::Node;
-use p2p_log::{Act, Config, Event, Rate};
+use p2p_log::{Act, Entry, Event, Rate};
 
-/// How many messages a mailbox of a node holds.
-pub fn mailbox_of(configs: &[Config], number: u64) -> usize
-    requires { number < length configs.now }
-    ensures { result ≡ mailbox_size_at configs.now number }
+/// Whether a channel may be registered at a node: it has not started, the channel is new, and what it would hold can be
+/// counted.
+fn may_register(node: &Node, channel: u64, quota: Rate) -> bool
+    ensures { result ≡ may_register_test node.now channel quota }
 {
-    configs[number as usize].mailbox_size
-}
-
-/// How many bytes a message of a node has at most.
-pub fn limit_of(configs: &[Config], number: u64) -> u32
-    requires { number < length configs.now }
-    ensures { result ≡ limit_at configs.now number }
-{
-    configs[number as usize].max_message_size
-}
-
-/// How many messages a channel of this rate holds at a node.
-pub fn capacity_of(configs: &[Config], nodes: &[Node], number: u64, quota: Rate) -> u128
-    ghost log: { List Entry }
-    requires nodes { NodesStand configs.now log nodes.now }
-    requires in_range { number < length nodes.now }
-    ensures { result ≡ capacity_for (slice_get configs.now number) quota }
-{
-    let node = &nodes[number as usize];
-    node.retained as u128 * quota.burst as u128
-}
-
-/// Whether a channel may be registered.
-fn may_register(configs: &[Config], nodes: &[Node], channel: u64, number: u64, quota: Rate) -> bool
-    ghost log: { List Entry }
-    requires nodes { NodesStand configs.now log nodes.now }
-    requires in_range { number < length nodes.now }
-    ensures { result ≡ may_register_of configs.now (events_of log) channel number quota }
-{
-    let capacity = capacity_of(configs, nodes, number, quota);
-    let node = &nodes[number as usize];
+    let capacity = node.retained as u128 * quota.burst as u128;
     let most = usize::MAX as u128;
-    (!node.started && !node.capacities.contains_key(&channel))
+    (!node.is_started() && !node.channels.capacities.has(channel))
         && (capacity <= most
-            && mailbox_of(configs, number) as u128 + (node.total as u128 + capacity) <= most)
+            && node.config.mailbox_size as u128 + (node.channels.total as u128 + capacity) <= most)
 }
 
-/// Whether an earlier event is a join of a node.
-fn is_named(configs: &[Config], nodes: &[Node], conn: u64, number: u64) -> bool
-    ghost log: { List Entry }
-    requires nodes { NodesStand configs.now log nodes.now }
-    requires in_range { number < length nodes.now }
-    ensures { result ≡ names_join (events_of log) number conn }
+/// Whether an act is a join of a node.
+fn is_join_of(act: &Act, number: u64) -> bool
+    ensures { result ≡ is_join_of_test number act.now }
 {
-    nodes[number as usize].joins.contains(&conn)
-}
-
-/// Whether a node has not started.
-fn may_start(configs: &[Config], nodes: &[Node], number: u64) -> bool
-    ghost log: { List Entry }
-    requires nodes { NodesStand configs.now log nodes.now }
-    requires in_range { number < length nodes.now }
-    ensures { result ≡ not (has_started (events_of log) number) }
-{
-    !nodes[number as usize].started
-}
-
-/// Whether an act may be asked for.
-fn may_act(configs: &[Config], nodes: &[Node], act: &Act) -> bool
-    ghost log: { List Entry }
-    requires { NodesStand configs.now log nodes.now }
-    ensures { result ≡ may_act_of configs.now (events_of log) act.now }
-{
-    let count = nodes.len() as u64;
     match act {
-        Act::Register {
-            channel,
-            node,
-            quota,
-        } => *node < count && may_register(configs, nodes, *channel, *node, *quota),
-        Act::Start { node } => *node < count && may_start(configs, nodes, *node),
-        Act::Join { a, b } => *a < count && *b < count,
-        Act::Send { bytes, node, .. } => {
-            *node < count && bytes.len() <= limit_of(configs, *node) as usize
-        }
-        Act::Router { node } => *node < count,
-        Act::SendStep { conn, node } => *node < count && is_named(configs, nodes, *conn, *node),
-        Act::RecvStep { conn, node } => *node < count && is_named(configs, nodes, *conn, *node),
-        Act::Recv { node, .. } => *node < count,
+        Act::Join { a, b } => *a == number || *b == number,
+        _ => false,
     }
 }
 
-/// Whether an event may be asked for, the moment of the last one being `last`.
-#[tactic(auto, unfolding(p2p_log_rules::specs::Valid::is_valid_event))]
-pub fn is_valid(configs: &[Config], nodes: &[Node], last: u64, event: &Event) -> bool
-    ghost log: { List Entry }
-    requires nodes { NodesStand configs.now log nodes.now }
-    requires last { last ≡ last_moment (events_of log) }
-    ensures { result ≡ is_valid_event configs.now (events_of log) event.now }
+/// Whether the entry of this number is of a join of a node.
+fn is_named(log: &[Entry], conn: u64, number: u64) -> bool
+    ensures { result ≡ names_node number (slice_get log.now conn) }
 {
-    last <= event.at && may_act(configs, nodes, &event.act)
+    match log.get(conn as usize) {
+        Some(entry) => is_join_of(&entry.event.act, number),
+        None => false,
+    }
+}
+
+/// Whether a node may be asked for an act, after these entries.
+fn may_ask(log: &[Entry], node: &Node, act: &Act) -> bool
+    ensures { result ≡ may_ask_test log.now node.now act.now }
+{
+    match act {
+        Act::Register { channel, quota, .. } => may_register(node, *channel, *quota),
+        Act::Start { .. } => !node.is_started(),
+        Act::Send { bytes, .. } => bytes.len() <= node.config.max_message_size as usize,
+        Act::SendStep { conn, node } => is_named(log, *conn, *node),
+        Act::RecvStep { conn, node } => is_named(log, *conn, *node),
+        Act::Join { .. } | Act::Router { .. } | Act::Recv { .. } => true,
+    }
+}
+
+/// Whether the nodes that an act names are there, and the first may be asked for it.
+fn may_act(nodes: &[Node], log: &[Entry], act: &Act) -> bool
+    ensures { result ≡ may_act_test nodes.now log.now act.now }
+{
+    let count = nodes.len() as u64;
+    let number = node_of(act);
+    number < count && other_of(act) < count && may_ask(log, &nodes[number as usize], act)
+}
+
+/// Whether an event may be asked for after these entries, of which the last was at the moment `last`.
+pub fn is_valid(nodes: &[Node], log: &[Entry], last: u64, event: &Event) -> bool
+    ensures { result ≡ (nat_le last event.now.at && may_act_test nodes.now log.now event.now.act) }
+{
+    last <= event.at && may_act(nodes, log, &event.act)
 }

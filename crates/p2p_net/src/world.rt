@@ -1,72 +1,75 @@
-//! The world: all nodes, with the log of what was asked of them and what came of it.
-ghost use Rattle.std.specs.Prelude.{◌≡◌, ℕ, ◌+◌, ◌<◌, ◌++◌, ◌∷◌, [], List, length, IfOk, OnOk, OnErr, IfErr, Err, true, false, Some, None};
+//! The world: all nodes and links, with the log of what was asked of them and what came of it.
+ghost use Rattle.std.specs.Prelude.{◌≡◌, ℕ, ◌+◌, ◌<◌, ◌≤◌, ◌++◌, ◌∷◌, [], List, length, slice_get, IfOk, OnOk, OnErr, IfErr, Err, true, false, Some, None};
+ghost use Rattle.std.specs.Option.{option_copied};
+ghost use Rattle.p2p_log.specs.declared.config.Config.{Config};
 ghost use Rattle.p2p_log.specs.declared.entry.Entry.{Entry};
 ghost use Rattle.p2p_log_rules.specs.Facts.{events_of};
 ghost use Rattle.p2p_log_rules.specs.Effect.{effect};
 ghost use Rattle.p2p_log_rules.specs.Lawful.{IsLawful};
-ghost use Rattle.p2p_log_rules.specs.Valid.{config_fault as config_fault_of, event_fault, is_valid_event, last_moment};
-ghost use Rattle.p2p_net.specs.Stands.{NodeStands, NodesStand};
-ghost use Rattle.p2p_net.specs.World.{with_entry, PartsStand};
+ghost use Rattle.p2p_log_rules.specs.Valid.{config_fault as config_fault_of, event_fault, is_valid_event};
+ghost use Rattle.p2p_net_links.specs.Links.{no_links};
+ghost use Rattle.p2p_net.specs.Ready.{may_apply, MayPerform};
+ghost use Rattle.p2p_net.specs.Stands.{WorldStands};
+ghost use Rattle.p2p_net.specs.World.{IsRecorded, Stands};
 ghost use Rattle.p2p_net.specs.Refusals.{StartRefused, ApplyRefused, RunRefused};
 ghost use Rattle.p2p_net.specs.declared.error.RunError.TheVariants as error;
 
-use crate::configs::{config_fault, retained};
+use crate::configs::config_fault;
 use crate::error::RunError;
+use crate::joins::perform;
 use crate::node::Node;
-use crate::perform::perform;
-use crate::valid::{is_valid, mailbox_of};
+use crate::valid::is_valid;
 use p2p_base::List;
-use p2p_log::{Config, Entry, Envelope, Event, Report};
+use p2p_log::{Config, Entry, Event, Report};
 use p2p_log_rules::Row;
-use p2p_net_queues::Board;
+use p2p_net_links::Links;
 use std::alloc::{AllocError, Global};
 use std::marker::Model;
 
-/// All nodes of a network, with the log of what was asked of them and what came of it.
+/// All nodes of a network and the links between them, with the log of what was asked of them and what came of it.
 ///
-/// A caller sees its configurations, its log, and whether it found no memory.
+/// A caller sees its configurations, its nodes and links, its log, and whether it found no memory.
 #[derive(Drop)]
 pub struct World {
     alloc: Global,
     configs: List<Config>,
-    report: Report,
-    board: Board<Envelope>,
     nodes: Vec<Node>,
+    links: Links,
+    report: Report,
     last: u64,
     failed: bool,
 }
 
 impl Model for World {
     ghost use Rattle.std.specs.Prelude.{◌≡◌, false};
-    ghost use Rattle.p2p_net.specs.World.{WorldView, PartsStand};
+    ghost use Rattle.std.specs.Coded.{codes};
+    ghost use Rattle.p2p_net.specs.contracts.node.Node as node_type;
+    ghost use Rattle.p2p_net.specs.World.{WorldView, KeptStands};
 
     ghost Value = { WorldView };
 
-    ghost view = { λ w. record { configs = w.configs; log = w.report.log; failed = w.failed } };
+    ghost coded = { Prim.hlevel (codes, node_type.the_row.coded) };
 
-    ghost invariant = { λ w. w.failed ≡ false → PartsStand w.configs w.report.log w.board w.nodes.items w.last };
+    ghost view = { λ w. record { configs = w.configs; nodes = w.nodes.items; links = w.links; log = w.report.log; failed = w.failed } };
+
+    ghost invariant = { λ w. w.failed ≡ false → KeptStands w.configs w.report.log w.nodes.items w.links w.last };
 }
 
 /// Asks for one event that may be asked for, and records what came of it.
 fn record(
     alloc: Global,
-    configs: &[Config],
-    board: &mut Board<Envelope>,
     nodes: &mut Vec<Node>,
+    links: &mut Links,
     report: &mut Report,
-    last: u64,
     event: &Event,
 ) -> Result<(), AllocError>
-    ghost log: { List Entry }
-    requires log { log ≡ report.old.log }
-    requires stands { PartsStand configs.now report.old.log board.old nodes.old.items last }
-    requires valid { is_valid_event configs.now (events_of report.old.log) event.now ≡ true }
-    ensures log { OnOk result (report.new.log ≡ report.old.log ++ effect configs.now report.old.log event.now ∷ []) }
-    ensures stands { OnOk result (PartsStand configs.now report.new.log board.new nodes.new.items event.now.at) }
+    requires { MayPerform nodes.old.items event.now.act }
+    ensures ok { OnOk result ((configs : List Config) → WorldStands configs report.old.log nodes.old.items links.old → is_valid_event configs (events_of report.old.log) event.now ≡ true
+        → IsRecorded configs report.old.log event.now report.new.log nodes.new.items links.new) }
     ensures err { OnErr result (report.new.log ≡ report.old.log) }
 {
     let entry = report.log.len() as u64;
-    let row = perform(alloc, configs, board, nodes, entry, &event.act)?;
+    let row = perform(alloc, nodes, links, entry, &event.act)?;
     let kept = event.try_clone(alloc)?;
     let Row {
         reply,
@@ -85,46 +88,24 @@ fn record(
 }
 
 /// Whether an event may be asked for, and else its place.
-fn allow(
-    configs: &[Config],
-    nodes: &[Node],
-    report: &Report,
-    last: u64,
-    event: &Event,
-) -> Result<(), RunError>
-    ghost log: { List Entry }
-    requires log { log ≡ report.now.log }
-    requires nodes { NodesStand configs.now log nodes.now }
-    requires last { last ≡ last_moment (events_of log) }
-    ensures ok { OnOk result (is_valid_event configs.now (events_of report.now.log) event.now ≡ true) }
-    ensures err { OnErr result (is_valid_event configs.now (events_of report.now.log) event.now ≡ false) }
-    ensures place { IfErr result (λ e. e ≡ RunError.Event (length report.now.log)) }
+fn allow(nodes: &[Node], report: &Report, last: u64, event: &Event) -> Result<(), RunError>
+    ensures ok { OnOk result (may_apply nodes.now report.now.log last event.now ≡ true) }
+    ensures err { IfErr result (λ e. (e ≡ RunError.Event (length report.now.log)) × (may_apply nodes.now report.now.log last event.now ≡ false)) }
 {
-    if !is_valid(configs, nodes, last, event) {
+    if !is_valid(nodes, report.log.as_slice(), last, event) {
         return Err(RunError::Event(report.log.len()));
     }
     Ok(())
 }
 
-/// A node that has not started.
-fn new_node(alloc: Global, configs: &[Config], number: usize) -> Node
-    requires valid { config_fault_of configs.now ≡ None }
-    requires in_range { number < length configs.now }
-    ensures { NodeStands configs.now [] number result }
-{
-    let mailbox = mailbox_of(configs, number as u64);
-    prove!(mailbox <= usize::MAX);
-    Node::new(alloc, number as u64, retained(&configs[number]))
-}
-
-/// The nodes of valid configurations, none of them started.
+/// The nodes of valid configurations, none of which was asked for anything.
 fn new_nodes(alloc: Global, configs: &[Config]) -> Result<Vec<Node>, AllocError>
     requires { config_fault_of configs.now ≡ None }
-    ensures { IfOk result (λ nodes. NodesStand configs.now [] nodes.items) }
+    ensures { IfOk result (λ nodes. WorldStands configs.now [] nodes.items no_links) }
 {
     let mut nodes = Vec::new(alloc);
     for number in 0..configs.len() {
-        nodes.push(new_node(alloc, configs, number))?;
+        nodes.push(Node::new(alloc, number as u64, configs[number]))?;
     }
     Ok(nodes)
 }
@@ -135,7 +116,10 @@ impl World {
     /// Where a configuration is not valid, `RunError::Config` has the place of the first one. Where there is no
     /// memory, the answer is `RunError::Memory`.
     pub fn new(alloc: Global, configs: &[Config]) -> Result<World, RunError>
-        ensures ok { IfOk result (λ w. w ≡ record { configs = configs.now; log = []; failed = false }) }
+        ensures configs { IfOk result (λ w. w.configs ≡ configs.now) }
+        ensures log { IfOk result (λ w. w.log ≡ []) }
+        ensures works { IfOk result (λ w. w.failed ≡ false) }
+        ensures stands { IfOk result (λ w. WorldStands w.configs w.log w.nodes w.links) }
         ensures valid { OnOk result (config_fault_of configs.now ≡ None) }
         ensures err { IfErr result (λ e. StartRefused configs.now e) }
     {
@@ -147,11 +131,11 @@ impl World {
         Ok(World {
             alloc,
             configs: kept,
+            nodes,
+            links: Links::new(alloc),
             report: Report {
                 log: List::empty(alloc),
             },
-            board: Board::new(alloc),
-            nodes,
             last: 0,
             failed: false,
         })
@@ -163,7 +147,10 @@ impl World {
     /// is no memory, the log is as before, and the answer is `RunError::Memory` then and at each later event, whether or
     /// not that may be asked for.
     pub fn apply(&mut self, event: &Event) -> Result<(), RunError>
-        ensures ok { OnOk result (self.new ≡ with_entry self.old (effect self.old.configs self.old.log event.now)) }
+        ensures configs { self.new.configs ≡ self.old.configs }
+        ensures ok { OnOk result (self.new.log ≡ self.old.log ++ effect self.old.configs self.old.log event.now ∷ []) }
+        ensures works { OnOk result (self.new.failed ≡ false) }
+        ensures stands { Stands self.new }
         ensures valid { OnOk result (is_valid_event self.old.configs (events_of self.old.log) event.now ≡ true) }
         ensures err { IfErr result (λ e. ApplyRefused self.old event.now e self.new) }
         ensures failed { self.old.failed ≡ true → (result ≡ Err error.Memory) × (self.new ≡ self.old) }
@@ -171,21 +158,13 @@ impl World {
         if self.failed {
             return Err(RunError::Memory);
         }
-        allow(
-            self.configs.as_slice(),
-            self.nodes.as_slice(),
-            &self.report,
-            self.last,
-            event,
-        )?;
+        allow(self.nodes.as_slice(), &self.report, self.last, event)?;
         self.failed = true;
         record(
             self.alloc,
-            self.configs.as_slice(),
-            &mut self.board,
             &mut self.nodes,
+            &mut self.links,
             &mut self.report,
-            self.last,
             event,
         )?;
         self.last = event.at;
@@ -195,14 +174,15 @@ impl World {
 
     /// Asks for all events of a script, in order.
     ///
-    /// The log of the world that comes back is the one log that is lawful for the configurations and the script.
-    /// Where a configuration is not valid, `RunError::Config` has the place of the first one; where each is, and an
-    /// event may not be asked for, `RunError::Event` has the place of the first one. Where there is no memory, the
-    /// answer is `RunError::Memory`.
+    /// The log of the world that comes back is the one log that is lawful for the configurations and the script, and its
+    /// nodes and links stand for it: every queue holds its line. Where a configuration is not valid, `RunError::Config` has
+    /// the place of the first one; where each is, and an event may not be asked for, `RunError::Event` has the place of the
+    /// first one. Where there is no memory, the answer is `RunError::Memory`.
     pub fn run(alloc: Global, configs: &[Config], script: &[Event]) -> Result<World, RunError>
         ensures configs { IfOk result (λ w. w.configs ≡ configs.now) }
         ensures lawful { IfOk result (λ w. IsLawful configs.now script.now w.log) }
         ensures only { IfOk result (λ w. (log : List Entry) → IsLawful configs.now script.now log → log ≡ w.log) }
+        ensures stands { IfOk result (λ w. WorldStands configs.now w.log w.nodes w.links) }
         ensures works { IfOk result (λ w. w.failed ≡ false) }
         ensures valid { OnOk result (config_fault_of configs.now ≡ None) }
         ensures allowed { OnOk result (event_fault configs.now script.now ≡ None) }
@@ -220,5 +200,12 @@ impl World {
         ensures { result.now.log ≡ self.now.log }
     {
         &self.report
+    }
+
+    /// The node of this number, where it is there.
+    pub fn node(&self, number: usize) -> Option<&Node>
+        ensures { option_copied result ≡ slice_get self.now.nodes number }
+    {
+        self.nodes.get(number)
     }
 }

@@ -1,5 +1,5 @@
-pub mod Building
+pub mod Going
 pub mod Kept
-pub mod Posted
-pub mod Queues
+pub mod Placing
 pub mod Steps
+pub mod Tables

@@ -1,3 +1,3 @@
 pub mod Board
 pub mod Rows
-pub mod Stands
+pub mod Tables

@@ -1,13 +1,16 @@
-//! What stands in the queues between nodes, and how rows move it.
+//! What the queues of nodes and links are made of: deques, tables of deques, and the rows that record what moves.
 #![tactic(auto)]
 
 pub mod board;
-pub mod draft;
+pub mod deque;
 pub mod ending;
-pub mod posting;
-pub mod reading;
+pub mod rows;
+pub mod table;
+pub mod turn;
 
 pub use board::Board;
+pub use deque::Deque;
 pub use ending::end_copies;
-pub use posting::post;
-pub use reading::read_message;
+pub use rows::{only, taking};
+pub use table::Table;
+pub use turn::Turn;

@@ -15,7 +15,7 @@ use Rattle.p2p_log.proofs.Filters.{filter-same}
 use Rattle.p2p_log.proofs.Queues.{same_queue-sym, same_queue-congr}
 use Rattle.p2p_log.specs.Apart.{AreApart}
 use Rattle.p2p_log.proofs.Names.{filter_stays-first}
-use Rattle.p2p_net_queues.proofs.Building.{placed-append}
+use Rattle.p2p_net_queues.proofs.Placing.{placed-append}
 use Rattle.p2p_net_router.specs.Names.{Agrees, is_routers}
 
 line_same : (p q : Queue) (items : List Envelope) → same_queue p q ≡ true → filter (stands_in q) items ≡ filter (stands_in p) items

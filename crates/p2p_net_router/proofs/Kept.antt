@@ -14,7 +14,7 @@ use Rattle.p2p_log_rules.specs.Effect.{entry_of, mailbox_size_at, router_capacit
 use Rattle.p2p_log_rules.proofs.Facts.{events_of-append, has_started-append, registered-append, subscribers-append, routes-append}
 use Rattle.p2p_log.proofs.Lines.{live-append}
 use Rattle.p2p_net_queues.specs.declared.board.Board.{Board}
-use Rattle.p2p_net_queues.specs.Stands.{row_goes}
+use Rattle.p2p_net_queues.specs.Rows.{row_goes}
 use Rattle.p2p_net_router.specs.Holds.{Holds, after}
 use Rattle.p2p_net_router.specs.Stands.{StandsFor, HasPlaces}
 use Rattle.p2p_net_router.specs.declared.router.Router.{Router}

@@ -15,7 +15,6 @@ pub mod Linking
 pub mod Numbers
 pub mod Others
 pub mod Overwritten
-pub mod Passing
 pub mod Readying
 pub mod Rings
 pub mod Routed

@@ -29,7 +29,7 @@ use Rattle.p2p_log_rules.proofs.Facts.{events_of-append, has_started-append, reg
 use Rattle.p2p_log.proofs.Lines.{live-append, filter_stays-nil}
 use Rattle.p2p_log_rules.proofs.Recorded.{item_named-first}
 use Rattle.p2p_net_queues.specs.declared.board.Board.{Board}
-use Rattle.p2p_net_queues.specs.Stands.{row_goes}
+use Rattle.p2p_net_queues.specs.Rows.{row_goes}
 use Rattle.p2p_net_router.specs.Names.{is_routers}
 use Rattle.p2p_net_router.specs.Items.{key_cmp, messages_in}
 use Rattle.p2p_net_router.specs.Sound.{IsSound, IsKnown, IsLinked, counted, told_times, subscription_in, numbers_from}

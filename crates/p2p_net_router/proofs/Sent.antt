@@ -39,7 +39,7 @@ use Rattle.p2p_log_rules.specs.Effect.{only, entry_of, copies_end, sent_row, mai
 use Rattle.p2p_log.proofs.Lines.{filter_stays-nil}
 use Rattle.p2p_net_queues.specs.declared.board.Board.{Board}
 use Rattle.p2p_net_queues.specs.Board.{held}
-use Rattle.p2p_net_queues.proofs.Building.{ended_item-copies}
+use Rattle.p2p_net_queues.proofs.Placing.{ended_item-copies}
 use Rattle.p2p_net_router.specs.Names.{Agrees, label, bare_item}
 use Rattle.p2p_net_router.specs.Building.{NamesBuild}
 use Rattle.p2p_net_router.specs.Frames.{refuses, frame_taken_in}

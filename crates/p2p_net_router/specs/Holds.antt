@@ -10,7 +10,7 @@ use Rattle.p2p_log.specs.declared.item.Envelope.{Envelope}
 use Rattle.p2p_log_rules.specs.declared.row.Row.{Row}
 use Rattle.p2p_log.specs.Lines.{name_of, stays, placed, stands_in}
 use Rattle.p2p_net_queues.specs.Board.{held}
-use Rattle.p2p_net_queues.specs.Stands.{row_goes}
+use Rattle.p2p_net_queues.specs.Rows.{row_goes}
 use Rattle.p2p_net_router.specs.Names.{Agrees, label, bare_item}
 use Rattle.p2p_net_router.specs.Items.{items_of, channel_of}
 use Rattle.p2p_net_router.specs.Sound.{IsSound}

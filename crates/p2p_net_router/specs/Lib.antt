@@ -6,7 +6,6 @@ pub mod Holds
 pub mod Items
 pub mod Names
 pub mod Oldest
-pub mod Passes
 pub mod Relays
 pub mod Sound
 pub mod Stands

@@ -22,8 +22,7 @@ use bytes::Bytes;
 use p2p_base::Key;
 use p2p_log::{Item, Queue, Reply};
 use p2p_log_rules::Row;
-use p2p_net_queues::Board;
-use p2p_net_queues::draft::only;
+use p2p_net_queues::{Board, only};
 use p2p_router::{Routed, Stepped, Told};
 use std::alloc::{AllocError, Global};
 

@@ -79,3 +79,18 @@ fn a_valid_script_is_run(rt: HostRuntime) {
     ];
     assert_eq!(rt; refusal(rt.alloc(), node(2), &script), None);
 }
+
+// How many messages a channel of a world's first node holds at most, once it was registered.
+fn capacity(alloc: Global) -> Result<Option<usize>, RunError> {
+    let script = [event(0, register(7, 3))];
+    let world = World::run(alloc, &[node(2)], &script)?;
+    match world.node(0) {
+        Some(first) => Ok(first.channels.capacity(7)),
+        None => Ok(None),
+    }
+}
+
+#[test]
+fn a_node_keeps_what_it_was_asked(rt: HostRuntime) {
+    assert_eq!(rt; capacity(rt.alloc()), Ok(Some(24)));
+}

@@ -14,6 +14,7 @@ use Rattle.p2p_log_laws.specs.Fates.{EachHasFate, WaitingIsTrue, DroppedIsTrue, 
 use Rattle.p2p_sim_script.specs.Form.{script_of}
 use Rattle.p2p_sim_script.specs.FirstForm.{is_first_form}
 use Rattle.p2p_sim_report.specs.ReportText.{report_text}
+use Rattle.p2p_net.specs.Stands.{WorldStands}
 use Rattle.p2p_net.specs.World.{WorldView}
 use Rattle.p2p_sim_command.specs.declared.program.Refusal.{Refusal}
 use Rattle.p2p_sim_command.specs.declared.program.Refusal.TheVariants as refusal
@@ -34,11 +35,13 @@ tree_refusal (Some s) = script_refusal s
 abbrev pub refusal_of : Data → Option Refusal
 refusal_of tree = tree_refusal (script_of tree)
 
--- the world's log is the one log that is lawful for the configurations and the script
+-- the world's log is the one log that is lawful for the configurations and the script, and its nodes and links stand for it: every
+-- queue holds what the log says
 pub record HasRunScript (configs : List Config) (script : List Event) (world : WorldView) : Type 0 where
   pub same : world.configs ≡ configs
   pub lawful : IsLawful configs script world.log
   pub only : (log : List Entry) → IsLawful configs script log → log ≡ world.log
+  pub stands : WorldStands configs world.log world.nodes world.links
 
 -- in the log, each copy of each accepted send has exactly one end: delivered once, or waiting in a queue, or dropped;
 -- what is delivered was sent, is read, and in order; each drop shows its cause; and the fate of each copy, which the

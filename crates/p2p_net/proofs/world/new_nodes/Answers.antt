@@ -1,20 +1,34 @@
-use Rattle.std.proofs.Common.{arith, ◌≡◌, ◌∙◌, ap, subst, sym, length, length-append, ◌+◌, ◌∷◌, []}
-use Rattle.std.specs.Prelude.{slice_get, Some}
+use Rattle.std.proofs.Common.{arith, ◌≡◌, ◌*◌, ◌<◌, ◌^◌, ◌∙◌, ap, subst, sym, length, length-append, ◌+◌, ◌∷◌, []}
+use Rattle.std.specs.Prelude.{slice_get, Some, slice_index_or}
+use Rattle.std.proofs.lemmas.Option.{slice_get-get_or}
+use Rattle.p2p_log.specs.declared.config.Config.{Config}
 use Rattle.p2p_net.specs.Stands.{NodeStands}
-use Rattle.p2p_net.proofs.Nodes.{NodesStand-each}
-use Rattle.p2p_net.proofs.Starts.{each-append}
+use Rattle.p2p_net.proofs.Starts.{absent, fits_there, each-append, node_new, links_new}
 use Rattle.p2p_net.proofs.world.new_nodes.Goals as goal
+
+pub new-requires : goal.new-requires
+new-requires c =
+    fits_there c.args.configs.now c.loop-number.number (slice_index_or c.args.configs.now c.loop-number.number absent) c.requires
+    (slice_get-get_or c.args.configs.now c.loop-number.number absent c.loop-number-test.true)
 
 pub loop-number-preserved : goal.loop-number-preserved
 loop-number-preserved c =
+    let configs = c.args.configs.now in
     let old = c.loop-number.nodes.items in
-    let new = c.new_node.result in
+    let n = c.loop-number.number in
+    let new = c.new.result in
+    let there = slice_get-get_or configs n absent c.loop-number-test.true ∙ ap Some (sym c.new.ensures.config) in
+    let stands : NodeStands configs [] n new =
+    node_new configs n new there (c.new.ensures.retained ∙ ap (λ (z : Config). z.max_peers_per_set * z.tracked_peer_sets) (sym c.new.ensures.config))
+    (subst (λ (z : Config). z.mailbox_size < 2 ^ 64) (sym c.new.ensures.config) c.new.ensures.counted) c.new.ensures.number (c.new.ensures.router configs) c.new.ensures.peers
+    c.new.ensures.channels c.new.ensures.connections
+    in
     record {
       long = ap length c.in_ok-push.ensures.items ∙ (length-append old (new ∷ []) ∙ ap (λ k. k + 1) c.loop-number.invariant.long);
-      each = λ n node s.
-          each-append (λ k x. NodeStands c.args.configs.now [] k x) old new c.loop-number.invariant.each
-          (subst (λ k. NodeStands c.args.configs.now [] k new) (sym c.loop-number.invariant.long) c.new_node.ensures) n node
-          (subst (λ l. slice_get l n ≡ Some node) c.in_ok-push.ensures.items s);
+      each = λ k x s.
+          each-append (λ m y. NodeStands configs [] m y) old new c.loop-number.invariant.each
+          (subst (λ m. NodeStands configs [] m new) (sym c.loop-number.invariant.long) stands) k x
+          (subst (λ l. slice_get l k ≡ Some x) c.in_ok-push.ensures.items s);
     }
 
 pub returns : goal.returns
@@ -22,4 +36,4 @@ returns c =
     let i = c.loop-number.invariant.long in
     let past = c.loop-number-test.false in
     let most = c.loop-number.auto.number-end in
-    NodesStand-each c.args.configs.now [] c.loop-number.nodes.items c.requires (omega (arith, i, past, most)) c.loop-number.invariant.each
+    record { valid = c.requires; long = omega (arith, i, past, most); each = c.loop-number.invariant.each; linked = links_new }

@@ -7,5 +7,5 @@ use Rattle.p2p_net.proofs.world.new_nodes.Given as goal
 abbrev pub invariant-loop-number : goal.invariant-loop-number
 invariant-loop-number l = record {
   long : length l.nodes.items ≡ l.number;
-  each : (n : ℕ) (node : Node) → slice_get l.nodes.items n ≡ Some node → NodeStands l.configs [] n node;
+  each : (n : ℕ) (x : Node) → slice_get l.nodes.items n ≡ Some x → NodeStands l.configs [] n x;
 }

@@ -1,0 +1,244 @@
+-- What the code computes of nodes and links is the effect that the log defines, and they stand for the log with it.
+use Rattle.std.proofs.Common.{◌≡◌, ℕ, ◌<◌, Bool, true, false, cond, List, [], ◌∷◌, ◌++◌, length, refl, ap, sym, subst, ◌∙◌, arith, Option, Some, None}
+use Rattle.std.specs.Prelude.{slice_get, slice_set, nat_lt, ◌==◌, ◌&&◌, ◌||◌}
+use Rattle.std.proofs.lemmas.Bool.{and_parts}
+use Rattle.std.proofs.lemmas.Bool.Decides.{nat_tests}
+use Rattle.p2p_base.specs.declared.key.Key.{Key}
+use Rattle.p2p_log.specs.declared.config.Config.{Config}
+use Rattle.p2p_log.specs.declared.queue.Side.TheVariants as side
+use Rattle.p2p_log.specs.declared.entry.Entry.{Entry}
+use Rattle.p2p_log.specs.declared.entry.Reply.TheVariants as reply
+use Rattle.p2p_log.specs.declared.event.Event.{Event}
+use Rattle.p2p_log.specs.declared.event.Act.{Act}
+use Rattle.p2p_log.specs.declared.event.Act.TheVariants as act
+use Rattle.p2p_log_rules.specs.declared.row.Half.{Half}
+use Rattle.p2p_log_rules.specs.declared.row.Row.{Row}
+use Rattle.p2p_log_rules.specs.Facts.{events_of, key_at}
+use Rattle.p2p_log_rules.specs.Effect.{only, row, effect, entry_of, may_join, join_row}
+use Rattle.p2p_log_rules.specs.Valid.{may_act}
+use Rattle.p2p_net_links.specs.Stands.{LinksStand}
+use Rattle.p2p_net_links.specs.declared.links.Links.{Links}
+use Rattle.p2p_net.specs.Places.{Part, Place, router, channels, connections, at, names, node_of, other_of}
+use Rattle.p2p_net.specs.Acts.{NodeDoes}
+use Rattle.p2p_net.specs.Joining.{Welcomes, Connects, JoinsBy, Joins, OneDoes, pair_of, DoesOn, WorldDoes, joined_row}
+use Rattle.p2p_net.specs.Joining as joining
+use Rattle.p2p_net.specs.Stands.{PartStands, IsSized, NodeStands, WorldStands}
+use Rattle.p2p_net.specs.declared.node.Node.{Node}
+use Rattle.p2p_net.proofs.Nodes.{slice_get-set, length-slice_set, below}
+use Rattle.p2p_net.proofs.Frames.{part_frame, links_kept}
+use Rattle.p2p_net.proofs.Performing.{asked, Performs, part_still, links_still, effect-still}
+use Rattle.p2p_net.proofs.Calling.{register_performs, start_performs, send_performs, read_performs}
+use Rattle.p2p_net.proofs.Stepping.{route_performs}
+use Rattle.p2p_net.proofs.Writing.{send_step_performs}
+use Rattle.p2p_net.proofs.Receiving.{recv_step_performs}
+use Rattle.p2p_net.proofs.Welcoming.{MayJoin, MayJoin-test, may_join-nodes, Told, ready_row, told_first, told_second, welcome_stands}
+
+-- the row is the act's, and the world stands for the log with its entry
+pub record Simulates (configs : List Config) (log : List Entry) (ev : Event) (nodes : List Node) (links : Links) (r : Row) : Type 0 where
+  pub row_is : r ≡ row configs log ev.act
+  pub stands : WorldStands configs (log ++ effect configs log ev ∷ []) nodes links
+
+-- ---- acts that name one node
+
+-- each of them, a line each
+node_performs : (configs : List Config) (log : List Entry) (moment seed : ℕ) (a : Act) (x y : Node) (l links : Links) (r : Row) → NodeStands configs log (node_of a) x → LinksStand log l
+    → may_act configs (events_of log) a ≡ true → pair_of a ≡ None → NodeDoes (length log) (node_of a) a x y l links r → Performs configs log (asked moment seed a) (node_of a) y links r
+node_performs configs log moment seed (act.Register c n rate) x y l links r s t valid one d = register_performs configs log moment seed n c rate x y l links r s t valid d.0 d.1
+node_performs configs log moment seed (act.Start n) x y l links r s t valid one d = start_performs configs log moment seed n x y l links r s t d.0 d.1
+node_performs configs log moment seed (act.Send bytes c n priority to) x y l links r s t valid one d = send_performs configs log moment seed n c bytes priority to x y l links r s t d.0 d.1
+node_performs configs log moment seed (act.Router n) x y l links r s t valid one d = route_performs configs log moment seed n x y l links r s t d.0 d.1
+node_performs configs log moment seed (act.SendStep conn n) x y l links r s t valid one d = send_step_performs configs log moment seed conn n x y l links r s t d
+node_performs configs log moment seed (act.RecvStep conn n) x y l links r s t valid one d = recv_step_performs configs log moment seed conn n x y l links r s t d
+node_performs configs log moment seed (act.Recv c n) x y l links r s t valid one d = read_performs configs log moment seed n c x y l links r s t d.0 d.1
+node_performs configs log moment seed (act.Join a b) x y l links r s t valid one d = cc
+
+-- the parts of the other nodes are not named
+others_unnamed : (a : Act) (p : Part) (m : ℕ) → pair_of a ≡ None → (node_of a == m) ≡ false → names a (at p m) ≡ false
+others_unnamed (act.Join a b) p m one ne = cc
+others_unnamed (act.Register c n rate) router m one ne = grind (arith, nat_tests)
+others_unnamed (act.Register c n rate) channels m one ne = grind (arith, nat_tests)
+others_unnamed (act.Register c n rate) connections m one ne = refl
+others_unnamed (act.Start n) router m one ne = grind (arith, nat_tests)
+others_unnamed (act.Start n) channels m one ne = refl
+others_unnamed (act.Start n) connections m one ne = refl
+others_unnamed (act.Send bytes c n priority to) router m one ne = grind (arith, nat_tests)
+others_unnamed (act.Send bytes c n priority to) channels m one ne = refl
+others_unnamed (act.Send bytes c n priority to) connections m one ne = refl
+others_unnamed (act.Router n) router m one ne = grind (arith, nat_tests)
+others_unnamed (act.Router n) channels m one ne = refl
+others_unnamed (act.Router n) connections m one ne = grind (arith, nat_tests)
+others_unnamed (act.SendStep conn n) router m one ne = grind (arith, nat_tests)
+others_unnamed (act.SendStep conn n) channels m one ne = refl
+others_unnamed (act.SendStep conn n) connections m one ne = grind (arith, nat_tests)
+others_unnamed (act.RecvStep conn n) router m one ne = refl
+others_unnamed (act.RecvStep conn n) channels m one ne = grind (arith, nat_tests)
+others_unnamed (act.RecvStep conn n) connections m one ne = refl
+others_unnamed (act.Recv c n) router m one ne = refl
+others_unnamed (act.Recv c n) channels m one ne = grind (arith, nat_tests)
+others_unnamed (act.Recv c n) connections m one ne = refl
+
+-- a node that an act does not name
+node_frame : (configs : List Config) (log : List Entry) (ev : Event) (m : ℕ) (z : Node) → NodeStands configs log m z → ((p : Part) → names ev.act (at p m) ≡ false) → NodeStands configs (log ++ effect configs log ev ∷ []) m z
+node_frame configs log ev m z s away = record { sized = s.sized; each = λ p. part_frame p configs log ev m z (s.each p) (away p) }
+
+one_each :
+    (configs : List Config) (log : List Entry) (ev : Event) (nodes : List Node) (n : ℕ) (y : Node) (l links : Links) (r : Row) → WorldStands configs log nodes l → Performs configs log ev n y links r
+    → ((p : Part) (m : ℕ) → (n == m) ≡ false → names ev.act (at p m) ≡ false)
+    → (m : ℕ) (z : Node) (b : Bool) → (n == m) ≡ b → cond b (Some y) (slice_get nodes m) ≡ Some z → NodeStands configs (log ++ effect configs log ev ∷ []) m z
+one_each configs log ev nodes n y l links r s h away m z true same g =
+    let here : n ≡ m = grind (arith, nat_tests) in
+    let it : y ≡ z = cc in
+    subst (λ (x : Node). NodeStands configs (log ++ effect configs log ev ∷ []) m x) it
+    (subst (λ i. NodeStands configs (log ++ effect configs log ev ∷ []) i y) here (record { sized = h.sized; each = h.each }))
+one_each configs log ev nodes n y l links r s h away m z false ne g = node_frame configs log ev m z (s.each m z g) (λ p. away p m ne)
+
+-- one node changed, as its act says
+one_simulates : (configs : List Config) (log : List Entry) (ev : Event) (nodes new : List Node) (l links : Links) (r : Row) → WorldStands configs log nodes l → may_act configs (events_of log) ev.act ≡ true
+    → pair_of ev.act ≡ None → OneDoes (length log) ev.act nodes new l links r → Simulates configs log ev new links r
+one_simulates configs log ev nodes new l links r s valid one d =
+    let x : Node = d.0 in
+    let y : Node = d.1.0 in
+    let n = node_of ev.act in
+    let there : slice_get nodes n ≡ Some x = d.1.1.0 in
+    let lt : n < length nodes = below nodes n x there in
+    let h : Performs configs log ev n y links r = node_performs configs log ev.at ev.seed ev.act x y l links r (s.each n x there) s.linked valid one d.1.1.1.1 in
+    record {
+      row_is = h.row_is;
+      stands = subst (λ (ns : List Node). WorldStands configs (log ++ effect configs log ev ∷ []) ns links) (sym d.1.1.1.0)
+          (record {
+            valid = s.valid;
+            long = length-slice_set nodes n y ∙ s.long;
+            each = λ m z g.
+                one_each configs log ev nodes n y l links r s h (λ p k ne. others_unnamed ev.act p k one ne) m z (n == m) refl (sym (slice_get-set nodes n m y lt) ∙ g);
+            linked = h.linked;
+          });
+    }
+
+-- ---- a join
+
+unjoined : (a b : ℕ) (p : Part) (m : ℕ) → (a == m) ≡ false → (b == m) ≡ false → names (act.Join a b) (at p m) ≡ false
+unjoined a b router m p q = grind (arith, nat_tests)
+unjoined a b channels m p q = refl
+unjoined a b connections m p q = grind (arith, nat_tests)
+
+both_each :
+    (configs : List Config) (log : List Entry) (ev : Event) (a b : ℕ) (nodes : List Node) (l : Links) (v w : Node) → ev.act ≡ act.Join a b → WorldStands configs log nodes l
+    → NodeStands configs (log ++ effect configs log ev ∷ []) a v → NodeStands configs (log ++ effect configs log ev ∷ []) b w
+    → (m : ℕ) (z : Node) (p q : Bool) → (b == m) ≡ p → (a == m) ≡ q → cond p (Some w) (cond q (Some v) (slice_get nodes m)) ≡ Some z → NodeStands configs (log ++ effect configs log ev ∷ []) m z
+both_each configs log ev a b nodes l v w is s hv hw m z true q i j g =
+    let same : b ≡ m = grind (arith, nat_tests) in
+    let it : w ≡ z = cc in
+    subst (λ (x : Node). NodeStands configs (log ++ effect configs log ev ∷ []) m x) it (subst (λ k. NodeStands configs (log ++ effect configs log ev ∷ []) k w) same hw)
+both_each configs log ev a b nodes l v w is s hv hw m z false true i j g =
+    let same : a ≡ m = grind (arith, nat_tests) in
+    let it : v ≡ z = cc in
+    subst (λ (x : Node). NodeStands configs (log ++ effect configs log ev ∷ []) m x) it (subst (λ k. NodeStands configs (log ++ effect configs log ev ∷ []) k v) same hv)
+both_each configs log ev a b nodes l v w is s hv hw m z false false i j g =
+    node_frame configs log ev m z (s.each m z g) (λ p. ap (λ c. names c (at p m)) is ∙ unjoined a b p m j i)
+
+-- the row of a join that comes about
+joined_is : (configs : List Config) (log : List Entry) (a b : ℕ) → may_join log a b ≡ true → ready_row configs log a b ≡ row configs log (act.Join a b)
+unfolding row
+joined_is configs log a b may = sym (ap (λ t. cond t (ready_row configs log a b) (only reply.Gone)) may)
+
+gone_is : (configs : List Config) (log : List Entry) (a b : ℕ) → may_join log a b ≡ false → row configs log (act.Join a b) ≡ only reply.Gone
+unfolding row
+gone_is configs log a b may = ap (λ t. cond t (ready_row configs log a b) (only reply.Gone)) may
+
+key_is : (configs : List Config) (n : ℕ) (x : Node) → IsSized configs n x → x.config.public_key ≡ key_at configs n
+key_is configs n x s = sym (ap (λ (o : Option Config). elim o [ None ↦ record { 0 = 0 } | Some c ↦ c.public_key ]) s.config)
+
+made_is : (configs : List Config) (log : List Entry) (moment seed a b : ℕ) → may_join log a b ≡ true → entry_of (asked moment seed (act.Join a b)) (ready_row configs log a b) ≡ effect configs log (asked moment seed (act.Join a b))
+unfolding effect
+made_is configs log moment seed a b may = ap (entry_of (asked moment seed (act.Join a b))) (joined_is configs log a b may)
+
+asks : (configs : List Config) (log : List Entry) (ev : Event) → (effect configs log ev).event.act ≡ ev.act
+unfolding effect
+asks configs log ev = refl
+
+join_by : (configs : List Config) (log : List Entry) (moment seed a b : ℕ) (t : Bool) (x y : Node) (nodes new : List Node) (l links : Links) (r : Row) → WorldStands configs log nodes l → slice_get nodes a ≡ Some x → slice_get nodes b ≡ Some y
+    → may_join log a b ≡ t → JoinsBy t (length log) a b x y nodes new r → links ≡ l → Simulates configs log (asked moment seed (act.Join a b)) new links r
+join_by configs log moment seed a b false x y nodes new l links r s first second may d kept =
+    let ev = asked moment seed (act.Join a b) in
+    let e = effect configs log ev in
+    let is = gone_is configs log a b may in
+    let still = effect-still configs log ev reply.Gone is in
+    record {
+      row_is = d.0 ∙ sym is;
+      stands = subst (λ (ns : List Node). WorldStands configs (log ++ e ∷ []) ns links) (sym d.1)
+          (subst (λ (ls : Links). WorldStands configs (log ++ e ∷ []) nodes ls) (sym kept)
+          (record {
+            valid = s.valid;
+            long = s.long;
+            each = λ m z g. let h = s.each m z g in record { sized = h.sized; each = λ p. part_still p configs log e m z (act.Join a b) reply.Gone (h.each p) (asks configs log ev) refl still };
+            linked = links_still log e reply.Gone l s.linked still;
+          }));
+    }
+join_by configs log moment seed a b true x y nodes new l links r s first second may d kept =
+    let ev = asked moment seed (act.Join a b) in
+    let e = effect configs log ev in
+    let both = MayJoin-test log a b may in
+    let c : Connects (length log) a b x.config.public_key y.config.public_key nodes new = d.1 in
+    let first_key : x.config.public_key ≡ key_at configs a = key_is configs a x (s.each a x first).sized in
+    let second_key : y.config.public_key ≡ key_at configs b = key_is configs b y (s.each b y second).sized in
+    let u : Node = c.0 in
+    let z : Node = c.1.0 in
+    let v : Node = c.1.1.0 in
+    let w : Node = c.1.1.1.0 in
+    let at_first : slice_get nodes a ≡ Some u = c.1.1.1.1.0 in
+    let at_second : slice_get nodes b ≡ Some z = c.1.1.1.1.1.0 in
+    let dials : Welcomes (length log) 0 (record { peer = y.config.public_key; writes = side.Out }) b u v = c.1.1.1.1.1.1.0 in
+    let listens : Welcomes (length log) 1 (record { peer = x.config.public_key; writes = side.In }) a z w = c.1.1.1.1.1.1.1.0 in
+    let set : new ≡ slice_set (slice_set nodes a v) b w = c.1.1.1.1.1.1.1.1 in
+    let la : a < length nodes = below nodes a u at_first in
+    let lb : b < length nodes = below nodes b z at_second in
+    let made = made_is configs log moment seed a b may in
+    let long = s.long in
+    let told_a = subst (λ (k : Entry). Told configs log k a 0 (record { peer = key_at configs b; writes = side.Out }) b a b) made (told_first configs log moment seed a b (omega (arith, long, lb)) both) in
+    let told_b = subst (λ (k : Entry). Told configs log k b 1 (record { peer = key_at configs a; writes = side.In }) a a b) made (told_second configs log moment seed a b (omega (arith, long, la)) both) in
+    let hv : NodeStands configs (log ++ e ∷ []) a v =
+    welcome_stands configs log ev a a b 0 b (record { peer = key_at configs b; writes = side.Out }) u v s.valid (s.each a u at_first) told_a refl
+    (subst (λ (k : Key). Welcomes (length log) 0 (record { peer = k; writes = side.Out }) b u v) second_key dials)
+    in
+    let hw : NodeStands configs (log ++ e ∷ []) b w =
+    welcome_stands configs log ev b a b 1 a (record { peer = key_at configs a; writes = side.In }) z w s.valid (s.each b z at_second) told_b refl
+    (subst (λ (k : Key). Welcomes (length log) 1 (record { peer = k; writes = side.In }) a z w) first_key listens)
+    in
+    let mid : length (slice_set nodes a v) ≡ length nodes = length-slice_set nodes a v in
+    record {
+      row_is = d.0 ∙ (ap (λ k. joined_row (length log) a b k y.config.public_key) first_key ∙ (ap (λ k. joined_row (length log) a b (key_at configs a) k) second_key ∙ joined_is configs log a b may));
+      stands = subst (λ (ns : List Node). WorldStands configs (log ++ e ∷ []) ns links) (sym set)
+          (record {
+            valid = s.valid;
+            long = length-slice_set (slice_set nodes a v) b w ∙ (mid ∙ s.long);
+            each = λ m q g.
+                both_each configs log ev a b nodes l v w refl s hv hw m q (b == m) (a == m) refl refl
+                (ap (λ o. cond (b == m) (Some w) o) (sym (slice_get-set nodes a m v la)) ∙ (sym (slice_get-set (slice_set nodes a v) b m w (omega (arith, mid, lb))) ∙ g));
+            linked = subst (LinksStand (log ++ e ∷ [])) (sym kept) (links_kept configs log ev l s.linked refl);
+          });
+    }
+
+join_simulates : (configs : List Config) (log : List Entry) (moment seed a b : ℕ) (nodes new : List Node) (l links : Links) (r : Row) → WorldStands configs log nodes l → Joins (length log) a b nodes new r → links ≡ l
+    → Simulates configs log (asked moment seed (act.Join a b)) new links r
+join_simulates configs log moment seed a b nodes new l links r s d kept =
+    let x : Node = d.0 in
+    let y : Node = d.1.0 in
+    join_by configs log moment seed a b (joining.may_join a b x y) x y nodes new l links r s d.1.1.0 d.1.1.1.0
+    (sym (may_join-nodes configs log a b x y (s.each a x d.1.1.0) (s.each b y d.1.1.1.0))) d.1.1.1.1 kept
+
+-- ---- all acts
+
+by_pair : (configs : List Config) (log : List Entry) (moment seed : ℕ) (a : Act) (nodes new : List Node) (l links : Links) (r : Row) → WorldStands configs log nodes l → may_act configs (events_of log) a ≡ true
+    → DoesOn (pair_of a) (length log) a nodes new l links r → Simulates configs log (asked moment seed a) new links r
+by_pair configs log moment seed (act.Join a b) nodes new l links r s valid d = join_simulates configs log moment seed a b nodes new l links r s d.0 d.1
+by_pair configs log moment seed (act.Register c n rate) nodes new l links r s valid d = one_simulates configs log (asked moment seed (act.Register c n rate)) nodes new l links r s valid refl d
+by_pair configs log moment seed (act.Start n) nodes new l links r s valid d = one_simulates configs log (asked moment seed (act.Start n)) nodes new l links r s valid refl d
+by_pair configs log moment seed (act.Send bytes c n priority to) nodes new l links r s valid d = one_simulates configs log (asked moment seed (act.Send bytes c n priority to)) nodes new l links r s valid refl d
+by_pair configs log moment seed (act.Router n) nodes new l links r s valid d = one_simulates configs log (asked moment seed (act.Router n)) nodes new l links r s valid refl d
+by_pair configs log moment seed (act.SendStep conn n) nodes new l links r s valid d = one_simulates configs log (asked moment seed (act.SendStep conn n)) nodes new l links r s valid refl d
+by_pair configs log moment seed (act.RecvStep conn n) nodes new l links r s valid d = one_simulates configs log (asked moment seed (act.RecvStep conn n)) nodes new l links r s valid refl d
+by_pair configs log moment seed (act.Recv c n) nodes new l links r s valid d = one_simulates configs log (asked moment seed (act.Recv c n)) nodes new l links r s valid refl d
+
+pub simulates : (configs : List Config) (log : List Entry) (ev : Event) (nodes new : List Node) (l links : Links) (r : Row) → WorldStands configs log nodes l → may_act configs (events_of log) ev.act ≡ true
+    → WorldDoes (length log) ev.act nodes new l links r → Simulates configs log ev new links r
+simulates configs log ev nodes new l links r s valid d = by_pair configs log ev.at ev.seed ev.act nodes new l links r s valid d

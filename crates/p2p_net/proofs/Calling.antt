@@ -1,0 +1,245 @@
+-- The calls of a node: registering, starting, sending and reading.
+use Rattle.std.proofs.Common.{◌≡◌, ℕ, ◌+◌, ◌*◌, ◌^◌, ◌<◌, Bool, true, false, cond, List, [], ◌∷◌, ◌++◌, length, drop, refl, ap, sym, subst, ◌∙◌, arith, append-nil, Option, Some, None}
+use Rattle.std.specs.Prelude.{map, filter, flat_map, slice_get, is_some, nat_le, nat_lt, not, ◌==◌, ◌&&◌}
+use Rattle.std.proofs.lemmas.Bool.{and_parts, not-true}
+use Rattle.std.proofs.lemmas.Bool.Decides.{nat_tests}
+use Rattle.p2p_log.specs.declared.config.Config.{Config}
+use Rattle.p2p_log.specs.declared.queue.Queue.{Queue}
+use Rattle.p2p_log.specs.declared.queue.Queue.TheVariants as queue
+use Rattle.p2p_log.specs.declared.item.Item.{Item}
+use Rattle.p2p_log.specs.declared.item.Item.TheVariants as item
+use Rattle.p2p_log.specs.declared.item.Envelope.{Envelope}
+use Rattle.p2p_log.specs.declared.entry.Entry.{Entry}
+use Rattle.p2p_log.specs.declared.entry.Reply.TheVariants as reply
+use Rattle.p2p_log.specs.declared.event.Event.{Event}
+use Rattle.p2p_log.specs.declared.event.Rate.{Rate}
+use Rattle.p2p_log.specs.declared.event.Recipients.{Recipients}
+use Rattle.p2p_log.specs.declared.event.Act.TheVariants as act
+use Rattle.p2p_log.specs.Copies.{keys_of_recipients}
+use Rattle.p2p_log.specs.QueueCode.{same_queue}
+use Rattle.p2p_log.specs.Lines.{line, name_of, live, placed, stands_in, ended_item}
+use Rattle.p2p_log_rules.specs.declared.row.Row.{Row}
+use Rattle.p2p_log_rules.specs.Frames.{frame_of}
+use Rattle.p2p_log_rules.specs.Facts.{events_of, has_started, registered, registers_at, capacity_for, channels, capacity_in, sum_capacities, is_up}
+use Rattle.p2p_log_rules.specs.Effect.{only, row, effect, entry_of, start_row, sent_row, send_row, read_row, oldest_read, recv_row, mailbox_size_at, router_capacity}
+use Rattle.p2p_log_rules.specs.Valid.{fits_usize, may_register, may_act}
+use Rattle.p2p_net_queues.specs.Tables.{waiting, popped_at}
+use Rattle.p2p_net_queues.proofs.Going.{put_in, line-kept, line-taken}
+use Rattle.p2p_net_router.specs.Stands.{StandsFor}
+use Rattle.p2p_net_router.specs.declared.router.Router.{Router}
+use Rattle.p2p_net_channels.specs.declared.channels.Channels.{Channels}
+use Rattle.p2p_net_channels.specs.Channels.{capacity_at, registered_with, is_message, read_on, read_from}
+use Rattle.p2p_net_channels.specs.Stands.{ChannelsStand}
+use Rattle.p2p_net_channels.proofs.Changes.{channels_moved, waits_taken}
+use Rattle.p2p_net_channels.proofs.Registering.{channels_registered}
+use Rattle.p2p_net_connections.specs.Stands.{ConnectionsStand}
+use Rattle.p2p_net_links.specs.Stands.{LinksStand}
+use Rattle.p2p_net_links.specs.declared.links.Links.{Links}
+use Rattle.p2p_net.specs.Places as place
+use Rattle.p2p_net.specs.Ready.{capacity_by}
+use Rattle.p2p_net.specs.Acts.{Registers, Starts, SendsOn, Sends, ReadsOn, Reads}
+use Rattle.p2p_net.specs.Stands.{RouterStands, PartStands, IsSized, NodeStands}
+use Rattle.p2p_net.specs.declared.node.Node.{Node}
+use Rattle.p2p_net.proofs.Touching.{line-unnamed}
+use Rattle.p2p_net.proofs.Frames.{part_frame, links_kept}
+use Rattle.p2p_net.proofs.Routers.{RouterStands-moved, is_unbound-before}
+use Rattle.p2p_net.proofs.Performing.{asked, Performs, sized_same, part_still, links_still, effect-still, stays_performs, line-still}
+
+-- ---- register
+
+pub register_performs : (configs : List Config) (log : List Entry) (at seed n c : ℕ) (rate : Rate) (x y : Node) (l links : Links) (r : Row) → NodeStands configs log n x → LinksStand log l
+    → may_act configs (events_of log) (act.Register c n rate) ≡ true → Registers c rate x y r → links ≡ l → Performs configs log (asked at seed (act.Register c n rate)) n y links r
+unfolding effect row
+register_performs configs log at seed n c rate x y l links r s t valid d kept =
+    let ev = asked at seed (act.Register c n rate) in
+    let e = effect configs log ev in
+    let k = capacity_by x rate in
+    let chan : ChannelsStand configs log n x.channels = s.each place.channels in
+    let rout : RouterStands configs log n x.router = s.each place.router in
+    let amount : k ≡ capacity_for (slice_get configs n) rate = ap (λ m. m * rate.burst) s.sized.retained ∙ sym (ap (λ o. capacity_for o rate) s.sized.config) in
+    let may : may_register configs (events_of log) c n rate ≡ true = (and_parts (nat_lt n (length configs)) (may_register configs (events_of log) c n rate) valid).1 in
+    let regs = registered configs (events_of log) n in
+    let capacity = capacity_for (slice_get configs n) rate in
+    let halves = and_parts (not (has_started (events_of log) n) && not (is_some (capacity_in regs c))) (fits_usize capacity && fits_usize (mailbox_size_at configs n + (sum_capacities regs + capacity))) may in
+    let fresh = and_parts (not (has_started (events_of log) n)) (not (is_some (capacity_in regs c))) halves.0 in
+    let early : is_up log n ≡ false = not-true (has_started (events_of log) n) fresh.0 in
+    let absent : capacity_in regs c ≡ None = none_in (capacity_in regs c) (not-true (is_some (capacity_in regs c)) fresh.1) in
+    let fit = (and_parts (fits_usize capacity) (fits_usize (mailbox_size_at configs n + (sum_capacities regs + capacity))) halves.1).1 in
+    let room : mailbox_size_at configs n + (x.channels.total + k) < 2 ^ 64 =
+    counted (mailbox_size_at configs n) (sum_capacities regs) capacity x.channels.total k chan.total amount fit
+    in
+    let parts : y ≡ record x { router = y.router; channels = registered_with x.channels c k } = d.1.0 in
+    let sub = d.1.1 in
+    let chan_is : y.channels ≡ registered_with x.channels c k = ap (λ (z : Node). z.channels) parts in
+    let conn_is : y.connections ≡ x.connections = ap (λ (z : Node). z.connections) parts in
+    let at_number : x.router.number ≡ n = rout.number in
+    record {
+      row_is = d.0 ∙ ap (λ j. only (reply.Capacity j)) amount;
+      sized = sized_same configs n x y s.sized (ap (λ (z : Node). z.config) parts) (ap (λ (z : Node). z.retained) parts);
+      each = λ p. elim p as (λ q. PartStands q configs (log ++ e ∷ []) n y) [
+        | place.router ↦
+            RouterStands-moved configs log e n x.router y.router rout
+            (sub.stands configs log e rout.stands (is_unbound-before configs log n x.router rout early)
+            (record { rate = rate; is = ap (λ j. act.Register c j rate) (sym at_number); takes = refl; puts = refl; ends = refl })
+            (ap (λ j. capacity_in (channels configs log j) c) at_number ∙ absent))
+            (ap (λ (z : Router). z.number) sub.rest) (ap (λ (z : Router). z.peers) sub.rest)
+        | place.channels ↦
+            subst (ChannelsStand configs (log ++ e ∷ []) n) (sym chan_is)
+            (channels_registered configs log e n c k rate x.channels chan refl amount (chan.capacities c ∙ absent) room (λ f. line-kept_all log e (queue.Channel n f) refl refl refl))
+        | place.connections ↦ subst (ConnectionsStand configs (log ++ e ∷ []) n) (sym conn_is) (part_frame place.connections configs log ev n x (s.each place.connections) refl)
+      ];
+      linked = subst (LinksStand (log ++ e ∷ [])) (sym kept) (links_kept configs log ev l t refl);
+    }
+  where
+    none_in : (o : Option ℕ) → is_some o ≡ false → o ≡ None
+    none_in None h = refl
+    none_in (Some k) h = cc
+
+    counted : (m t c total k : ℕ) → total ≡ t → k ≡ c → nat_lt (m + (t + c)) (2 ^ 64) ≡ true → m + (total + k) < 2 ^ 64
+    counted m t c total k a b h = grind (arith, nat_tests)
+
+    line-kept_all : (log : List Entry) (e : Entry) (q : Queue) → e.takes ≡ [] → e.puts ≡ [] → e.ends ≡ [] → line (log ++ e ∷ []) q ≡ line log q
+    line-kept_all log e q a b c = line-still log e e.reply q (record { reply = refl; takes = a; puts = b; ends = c })
+
+-- ---- start
+
+pub start_performs : (configs : List Config) (log : List Entry) (at seed n : ℕ) (x y : Node) (l links : Links) (r : Row) → NodeStands configs log n x → LinksStand log l
+    → Starts (length log) x y r → links ≡ l → Performs configs log (asked at seed (act.Start n)) n y links r
+unfolding effect row
+start_performs configs log at seed n x y l links r s t d kept =
+    let ev = asked at seed (act.Start n) in
+    let e = effect configs log ev in
+    let chan : ChannelsStand configs log n x.channels = s.each place.channels in
+    let rout : RouterStands configs log n x.router = s.each place.router in
+    let parts : y ≡ record x { router = y.router } = d.0 in
+    let calls = d.1 in
+    let at_number : x.router.number ≡ n = rout.number in
+    let row_is : r ≡ start_row configs log n = calls.row configs log rout.stands ∙ ap (start_row configs log) at_number in
+    let size : x.config.mailbox_size ≡ mailbox_size_at configs n = sym (ap (λ (o : Option Config). elim o [ None ↦ 0 | Some c ↦ c.mailbox_size ]) s.sized.config) in
+    let places : x.config.mailbox_size + x.channels.total ≡ router_capacity configs log x.router.number =
+    ap (λ k. k + x.channels.total) size
+    ∙ (ap (λ k. mailbox_size_at configs n + k) chan.total ∙ ap (router_capacity configs log) (sym at_number))
+    in
+    record {
+      row_is = row_is;
+      sized = sized_same configs n x y s.sized (ap (λ (z : Node). z.config) parts) (ap (λ (z : Node). z.retained) parts);
+      each = λ p. elim p as (λ q. PartStands q configs (log ++ e ∷ []) n y) [
+        | place.router ↦
+            RouterStands-moved configs log e n x.router y.router rout
+            (subst (λ (z : Row). StandsFor configs (log ++ entry_of ev z ∷ []) y.router) row_is (calls.stands configs log ev rout.stands refl (ap act.Start (sym at_number)) places))
+            (ap (λ (z : Router). z.number) calls.rest) (ap (λ (z : Router). z.peers) calls.rest)
+        | place.channels ↦ subst (ChannelsStand configs (log ++ e ∷ []) n) (sym (ap (λ (z : Node). z.channels) parts)) (part_frame place.channels configs log ev n x chan refl)
+        | place.connections ↦ subst (ConnectionsStand configs (log ++ e ∷ []) n) (sym (ap (λ (z : Node). z.connections) parts)) (part_frame place.connections configs log ev n x (s.each place.connections) refl)
+      ];
+      linked = subst (LinksStand (log ++ e ∷ [])) (sym kept) (links_kept configs log ev l t refl);
+    }
+
+-- ---- send
+
+send_on : (configs : List Config) (log : List Entry) (at seed n c : ℕ) (bytes : List ℕ) (priority : Bool) (to : Recipients) (o : Option ℕ) (x y : Node) (l links : Links) (r : Row) → NodeStands configs log n x → LinksStand log l
+    → capacity_at x.channels c ≡ o → SendsOn o (length log) c priority bytes to x y r → links ≡ l → Performs configs log (asked at seed (act.Send bytes c n priority to)) n y links r
+unfolding effect row
+send_on configs log at seed n c bytes priority to None x y l links r s t has d kept =
+    let chan : ChannelsStand configs log n x.channels = s.each place.channels in
+    let full = nat_le (router_capacity configs log n) (length (line log (queue.Router n))) in
+    let is : send_row configs log bytes c n priority to ≡ only reply.Gone =
+    ap (λ (o : Option ℕ). elim o [ None ↦ only reply.Gone | Some _ ↦ sent_row (is_up log n) full n (length log) c priority (frame_of c bytes) (keys_of_recipients to) ]) (sym (chan.capacities c) ∙ has)
+    in
+    stays_performs configs log (asked at seed (act.Send bytes c n priority to)) n x y l links r reply.Gone s t is refl d.0 d.1 kept
+send_on configs log at seed n c bytes priority to (Some k) x y l links r s t has d kept =
+    let ev = asked at seed (act.Send bytes c n priority to) in
+    let e = effect configs log ev in
+    let chan : ChannelsStand configs log n x.channels = s.each place.channels in
+    let rout : RouterStands configs log n x.router = s.each place.router in
+    let parts : y ≡ record x { router = y.router } = d.0 in
+    let calls = d.1 in
+    let at_number : x.router.number ≡ n = rout.number in
+    let keys = keys_of_recipients to in
+    let sent = λ (m : ℕ). sent_row (is_up log m) (nat_le (router_capacity configs log m) (length (line log (queue.Router m)))) m (length log) c priority (frame_of c bytes) keys in
+    let is : sent n ≡ send_row configs log bytes c n priority to = sym (ap (λ (o : Option ℕ). elim o [ None ↦ only reply.Gone | Some _ ↦ sent n ]) (sym (chan.capacities c) ∙ has)) in
+    let row_is : r ≡ send_row configs log bytes c n priority to = calls.row configs log rout.stands ∙ (ap sent at_number ∙ is) in
+    record {
+      row_is = row_is;
+      sized = sized_same configs n x y s.sized (ap (λ (z : Node). z.config) parts) (ap (λ (z : Node). z.retained) parts);
+      each = λ p. elim p as (λ q. PartStands q configs (log ++ e ∷ []) n y) [
+        | place.router ↦
+            RouterStands-moved configs log e n x.router y.router rout
+            (subst (λ (z : Row). StandsFor configs (log ++ entry_of ev z ∷ []) y.router) row_is (calls.stands configs log ev to rout.stands refl (ap (λ j. act.Send bytes c j priority to) (sym at_number))))
+            (ap (λ (z : Router). z.number) calls.rest) (ap (λ (z : Router). z.peers) calls.rest)
+        | place.channels ↦ subst (ChannelsStand configs (log ++ e ∷ []) n) (sym (ap (λ (z : Node). z.channels) parts)) (part_frame place.channels configs log ev n x chan refl)
+        | place.connections ↦ subst (ConnectionsStand configs (log ++ e ∷ []) n) (sym (ap (λ (z : Node). z.connections) parts)) (part_frame place.connections configs log ev n x (s.each place.connections) refl)
+      ];
+      linked = subst (LinksStand (log ++ e ∷ [])) (sym kept) (links_kept configs log ev l t refl);
+    }
+
+pub send_performs : (configs : List Config) (log : List Entry) (at seed n c : ℕ) (bytes : List ℕ) (priority : Bool) (to : Recipients) (x y : Node) (l links : Links) (r : Row) → NodeStands configs log n x → LinksStand log l
+    → Sends (length log) c priority bytes to x y r → links ≡ l → Performs configs log (asked at seed (act.Send bytes c n priority to)) n y links r
+send_performs configs log at seed n c bytes priority to x y l links r s t d kept = send_on configs log at seed n c bytes priority to (capacity_at x.channels c) x y l links r s t refl d kept
+
+-- ---- recv
+
+-- the row of a reader is that of its channel
+recv_is : (configs : List Config) (log : List Entry) (n c k : ℕ) (ch : Channels) → ChannelsStand configs log n ch → capacity_at ch c ≡ Some k → oldest_read (waiting ch.waiting c) ≡ recv_row configs log c n
+recv_is configs log n c k ch s has =
+    ap oldest_read (s.waits c) ∙ sym (ap (λ (o : Option ℕ). elim o [ None ↦ only reply.Gone | Some _ ↦ oldest_read (line log (queue.Channel n c)) ]) (sym (s.capacities c) ∙ has))
+
+-- the channels, once the first item of one was read
+read_stands : (configs : List Config) (log : List Entry) (e : Entry) (n c : ℕ) (ch : Channels) (xs : List Envelope) → ChannelsStand configs log n ch → waiting ch.waiting c ≡ xs → e.event.act ≡ act.Recv c n
+    → e.takes ≡ (oldest_read xs).takes → e.puts ≡ (oldest_read xs).puts → e.ends ≡ (oldest_read xs).ends → ChannelsStand configs (log ++ e ∷ []) n (read_on (slice_get xs 0) c ch)
+read_stands configs log e n c ch [] s is acts takes puts ends =
+    channels_moved configs log e n ch ch.waiting s (ap (registers_at configs n) acts)
+    (λ f. s.waits f ∙ sym (line-still log e e.reply (queue.Channel n f) (record { reply = refl; takes = takes; puts = puts; ends = ends })))
+read_stands configs log e n c ch (y ∷ ys) s is acts takes puts ends = read_first configs log e n c ch y ys s is acts y.item refl takes puts ends
+  where
+    still : (configs : List Config) (log : List Entry) (e : Entry) (n c : ℕ) (ch : Channels) → ChannelsStand configs log n ch → e.event.act ≡ act.Recv c n → e.takes ≡ [] → e.puts ≡ [] → e.ends ≡ [] → ChannelsStand configs (log ++ e ∷ []) n ch
+    still configs log e n c ch s acts takes puts ends =
+        channels_moved configs log e n ch ch.waiting s (ap (registers_at configs n) acts)
+        (λ f. s.waits f ∙ sym (line-still log e e.reply (queue.Channel n f) (record { reply = refl; takes = takes; puts = puts; ends = ends })))
+
+    read_first : (configs : List Config) (log : List Entry) (e : Entry) (n c : ℕ) (ch : Channels) (y : Envelope) (ys : List Envelope) → ChannelsStand configs log n ch → waiting ch.waiting c ≡ y ∷ ys → e.event.act ≡ act.Recv c n
+        → (i : Item) → y.item ≡ i → e.takes ≡ (read_row (name_of y) i).takes → e.puts ≡ (read_row (name_of y) i).puts → e.ends ≡ (read_row (name_of y) i).ends
+        → ChannelsStand configs (log ++ e ∷ []) n (cond (is_message i) (record ch { waiting = popped_at ch.waiting c }) ch)
+    read_first configs log e n c ch y ys s is acts (item.Message bytes copy from) it takes puts ends =
+        let first : line log (queue.Channel n c) ≡ y ∷ ys = sym (s.waits c) ∙ is in
+        channels_moved configs log e n ch (popped_at ch.waiting c) s (ap (registers_at configs n) acts)
+        (λ f.
+        waits_taken log n c y ys ch.waiting s.waits first f
+        ∙ sym
+        (line-taken log e (queue.Channel n c) y ys (queue.Channel n f) first (ap (λ t. t ++ flat_map ended_item e.ends) takes ∙ ap (λ d. name_of y ∷ flat_map ended_item d) ends)
+        ∙ (ap (λ p. cond (same_queue (queue.Channel n c) (queue.Channel n f)) ys (line log (queue.Channel n f)) ++ filter (stands_in (queue.Channel n f)) (placed (length log) 0 p)) puts ∙ append-nil (cond (same_queue (queue.Channel n c) (queue.Channel n f)) ys (line log (queue.Channel n f))))))
+    read_first configs log e n c ch y ys s is acts (item.Subscribe k) it takes puts ends = still configs log e n c ch s acts takes puts ends
+    read_first configs log e n c ch y ys s is acts (item.Ready k key) it takes puts ends = still configs log e n c ch s acts takes puts ends
+    read_first configs log e n c ch y ys s is acts (item.Content k f p d to) it takes puts ends = still configs log e n c ch s acts takes puts ends
+    read_first configs log e n c ch y ys s is acts (item.Peers ks) it takes puts ends = still configs log e n c ch s acts takes puts ends
+    read_first configs log e n c ch y ys s is acts item.Answer it takes puts ends = still configs log e n c ch s acts takes puts ends
+    read_first configs log e n c ch y ys s is acts (item.Frame k f) it takes puts ends = still configs log e n c ch s acts takes puts ends
+
+read_on_performs : (configs : List Config) (log : List Entry) (at seed n c : ℕ) (o : Option ℕ) (x y : Node) (l links : Links) (r : Row) → NodeStands configs log n x → LinksStand log l
+    → capacity_at x.channels c ≡ o → ReadsOn o c x y r → links ≡ l → Performs configs log (asked at seed (act.Recv c n)) n y links r
+unfolding effect row
+read_on_performs configs log at seed n c None x y l links r s t has d kept =
+    let chan : ChannelsStand configs log n x.channels = s.each place.channels in
+    stays_performs configs log (asked at seed (act.Recv c n)) n x y l links r reply.Gone s t
+    (ap (λ (o : Option ℕ). elim o [ None ↦ only reply.Gone | Some _ ↦ oldest_read (line log (queue.Channel n c)) ]) (sym (chan.capacities c) ∙ has)) refl d.0 d.1 kept
+read_on_performs configs log at seed n c (Some k) x y l links r s t has d kept =
+    let ev = asked at seed (act.Recv c n) in
+    let e = effect configs log ev in
+    let chan : ChannelsStand configs log n x.channels = s.each place.channels in
+    let parts : y ≡ record x { channels = read_from c x.channels } = d.1 in
+    let is = recv_is configs log n c k x.channels chan has in
+    record {
+      row_is = d.0 ∙ is;
+      sized = sized_same configs n x y s.sized (ap (λ (z : Node). z.config) parts) (ap (λ (z : Node). z.retained) parts);
+      each = λ p. elim p as (λ q. PartStands q configs (log ++ e ∷ []) n y) [
+        | place.router ↦ subst (RouterStands configs (log ++ e ∷ []) n) (sym (ap (λ (z : Node). z.router) parts)) (part_frame place.router configs log ev n x (s.each place.router) refl)
+        | place.channels ↦
+            subst (ChannelsStand configs (log ++ e ∷ []) n) (sym (ap (λ (z : Node). z.channels) parts))
+            (read_stands configs log e n c x.channels (waiting x.channels.waiting c) chan refl refl (ap (λ (z : Row). z.takes) (sym is)) (ap (λ (z : Row). z.puts) (sym is)) (ap (λ (z : Row). z.ends) (sym is)))
+        | place.connections ↦ subst (ConnectionsStand configs (log ++ e ∷ []) n) (sym (ap (λ (z : Node). z.connections) parts)) (part_frame place.connections configs log ev n x (s.each place.connections) refl)
+      ];
+      linked = subst (LinksStand (log ++ e ∷ [])) (sym kept) (links_kept configs log ev l t refl);
+    }
+
+pub read_performs : (configs : List Config) (log : List Entry) (at seed n c : ℕ) (x y : Node) (l links : Links) (r : Row) → NodeStands configs log n x → LinksStand log l
+    → Reads c x y r → links ≡ l → Performs configs log (asked at seed (act.Recv c n)) n y links r
+read_performs configs log at seed n c x y l links r s t d kept = read_on_performs configs log at seed n c (capacity_at x.channels c) x y l links r s t refl d kept

@@ -1,0 +1,65 @@
+-- Two nodes that a join names.
+use Rattle.std.proofs.Common.{◌≡◌, ℕ, Bool, true, false, ◌≤◌, List, refl, ap, sym, subst, ◌∙◌, Option, Some, None}
+use Rattle.std.specs.Prelude.{slice_get, ◌==◌, ◌&&◌, not, is_some, IsTrue}
+use Rattle.std.proofs.lemmas.Bool.{and_parts}
+use Rattle.p2p_log.specs.declared.event.Act.{Act}
+use Rattle.p2p_log_rules.specs.declared.row.Row.{Row}
+use Rattle.p2p_log_rules.specs.Effect.{only}
+use Rattle.p2p_log.specs.declared.entry.Reply.TheVariants as reply
+use Rattle.p2p_router.specs.Messenger.{is_bound}
+use Rattle.p2p_net_queues.specs.Tables as table
+use Rattle.p2p_net_links.specs.declared.links.Links.{Links}
+use Rattle.p2p_net.specs.Ready.{is_started}
+use Rattle.p2p_net.specs.Joining.{may_join, joined_row, Connects, JoinsBy, Joins, DoesOn, ends_by}
+use Rattle.p2p_net.specs.declared.node.Node.{Node}
+use Rattle.p2p_net.specs.declared.joins.Ends.{Ends}
+
+-- one place has one thing
+same_at : {X : Type 0} (xs : List X) (n : ℕ) (x y : X) → slice_get xs n ≡ Some x → slice_get xs n ≡ Some y → x ≡ y
+same_at xs n x y h k = let both : Some x ≡ Some y = sym h ∙ k in cc
+
+opposite : (t : Bool) → not t ≡ true → t ≡ false
+opposite true h = cc
+opposite false h = refl
+
+-- two nodes that may be joined are two, and both have started
+pub may_join-two : (a b : ℕ) (x y : Node) → may_join a b x y ≡ true → (a == b) ≡ false
+may_join-two a b x y h =
+    let late = (and_parts (is_started x && is_started y) (not (a == b) && not (is_some (table.at x.connections.partners b))) h).1 in
+    let two = (and_parts (not (a == b)) (not (is_some (table.at x.connections.partners b))) late).0 in
+    opposite (a == b) two
+
+pub may_join-started : (a b : ℕ) (x y : Node) → may_join a b x y ≡ true → (is_started x ≡ true) × (is_started y ≡ true)
+may_join-started a b x y h =
+    and_parts (is_started x) (is_started y) (and_parts (is_started x && is_started y) (not (a == b) && not (is_some (table.at x.connections.partners b))) h).0
+
+is_true : (t : Bool) → t ≡ true → IsTrue t
+is_true true h = refl
+is_true false h = cc
+
+-- what is asked of a node that a join finds
+pub found_ready : (nodes : List Node) (n : ℕ) (x : Node) → slice_get nodes n ≡ Some x → 1 ≤ x.config.mailbox_size → is_started x ≡ true
+    → (y : Node) → slice_get nodes n ≡ Some y → (1 ≤ y.config.mailbox_size) × IsTrue (is_bound y.router.messenger.binding)
+found_ready nodes n x at size started y s =
+    subst (λ (z : Node). (1 ≤ z.config.mailbox_size) × IsTrue (is_bound z.router.messenger.binding)) (same_at nodes n x y at s)
+    (size, is_true (is_started x) started)
+
+-- a join that is refused, and one that is not
+pub refused_joins : (k a b : ℕ) (nodes : List Node) (x y : Node) (t : Bool) (r : Row) → slice_get nodes a ≡ Some x → slice_get nodes b ≡ Some y
+    → t ≡ may_join a b x y → t ≡ false → r ≡ only reply.Gone → Joins k a b nodes nodes r
+refused_joins k a b nodes x y t r first second is refused row_is =
+    (x, (y, (first, (second, subst (λ m. JoinsBy m k a b x y nodes nodes r) (sym refused ∙ is) (row_is, refl)))))
+
+pub joins_both : (k a b : ℕ) (nodes new : List Node) (x y : Node) (t : Bool) (r : Row) → slice_get nodes a ≡ Some x → slice_get nodes b ≡ Some y
+    → t ≡ may_join a b x y → t ≡ true → r ≡ joined_row k a b x.config.public_key y.config.public_key
+    → Connects k a b x.config.public_key y.config.public_key nodes new → Joins k a b nodes new r
+joins_both k a b nodes new x y t r first second is allowed row_is connects =
+    (x, (y, (first, (second, subst (λ m. JoinsBy m k a b x y nodes new r) (sym allowed ∙ is) (row_is, connects)))))
+
+-- an act that has two nodes is their join
+pub does_join : (o : Option (ℕ × ℕ)) (ends : Ends) (k : ℕ) (a : Act) (old new : List Node) (l : Links) (r : Row) → ends_by o ≡ Some ends
+    → Joins k ends.dials ends.listens old new r → DoesOn o k a old new l l r
+does_join None ends k a old new l r is h = cc
+does_join (Some two) ends k a old new l r is h =
+    let same : ends ≡ record { dials = two.0; listens = two.1 } = cc in
+    (subst (λ (e : Ends). Joins k e.dials e.listens old new r) same h, refl)

@@ -1,0 +1,183 @@
+-- What an act has to show at a node, and acts that move nothing.
+use Rattle.std.proofs.Common.{◌≡◌, ℕ, Bool, true, false, cond, List, [], ◌∷◌, ◌++◌, length, refl, ap, sym, subst, ◌∙◌, append-nil, Some, None}
+use Rattle.std.specs.Prelude.{◌*◌, map, filter, flat_map, slice_get}
+use Rattle.std.specs.List.{list_any}
+use Rattle.p2p_log.specs.declared.config.Config.{Config}
+use Rattle.p2p_log.specs.declared.queue.Queue.{Queue}
+use Rattle.p2p_log.specs.declared.queue.Queue.TheVariants as queue
+use Rattle.p2p_log.specs.declared.entry.Entry.{Entry}
+use Rattle.p2p_log.specs.declared.entry.Reply.{Reply}
+use Rattle.p2p_log.specs.declared.entry.Reply.TheVariants as reply
+use Rattle.p2p_log.specs.declared.event.Event.{Event}
+use Rattle.p2p_log.specs.declared.event.Act.{Act}
+use Rattle.p2p_log.specs.declared.event.Act.TheVariants as act
+use Rattle.p2p_log.specs.Lines.{line, placed, goes, ended_item, stands_in}
+use Rattle.p2p_log_rules.specs.declared.row.Row.{Row}
+use Rattle.p2p_log_rules.specs.Facts.{starts, registers_at, taken, item_named, steps_router, steps_sender, is_answer, half_of, answers_by, joins}
+use Rattle.p2p_log_rules.specs.Effect.{only, row, effect, entry_of}
+use Rattle.p2p_net_router.specs.Stands.{IsBeside}
+use Rattle.p2p_net_queues.proofs.Going.{put_in, line-kept}
+use Rattle.p2p_net_channels.proofs.Changes.{channels_frame}
+use Rattle.p2p_net_connections.specs.Stands.{MakesNone}
+use Rattle.p2p_net_connections.proofs.Changes.{connections_frame}
+use Rattle.p2p_net_links.specs.Stands.{LinksStand}
+use Rattle.p2p_net_links.specs.declared.links.Links.{Links}
+use Rattle.p2p_net_links.proofs.Changes.{links_frame}
+use Rattle.p2p_net.specs.Places.{Part, router, channels, connections}
+use Rattle.p2p_net.specs.Stands.{PartStands, IsSized, NodeStands}
+use Rattle.p2p_net.specs.declared.node.Node.{Node}
+use Rattle.p2p_net.proofs.Routers.{RouterStands-idle}
+
+-- an event with this act
+abbrev pub asked : ℕ → ℕ → Act → Event
+asked at seed a = record { at = at; seed = seed; act = a }
+
+-- the row is the act's, and the node and the links stand for the log with its entry
+pub record Performs (configs : List Config) (log : List Entry) (ev : Event) (n : ℕ) (y : Node) (links : Links) (r : Row) : Type 0 where
+  pub row_is : r ≡ row configs log ev.act
+  pub sized : IsSized configs n y
+  pub each : (p : Part) → PartStands p configs (log ++ effect configs log ev ∷ []) n y
+  pub linked : LinksStand (log ++ effect configs log ev ∷ []) links
+
+-- a node that keeps its sizes
+pub sized_same : (configs : List Config) (n : ℕ) (x y : Node) → IsSized configs n x → y.config ≡ x.config → y.retained ≡ x.retained → IsSized configs n y
+sized_same configs n x y s c r = record {
+  config = s.config ∙ ap Some (sym c);
+  retained = r ∙ (s.retained ∙ ap (λ (z : Config). z.max_peers_per_set * z.tracked_peer_sets) (sym c));
+}
+
+-- ---- acts that move nothing
+
+-- whether an act with this reply registers nothing, starts nothing and joins nothing
+abbrev pub is_quiet : Act → Reply → Bool
+is_quiet (act.Register c n rate) r = false
+is_quiet (act.Start n) r = false
+is_quiet (act.Join a b) reply.Gone = true
+is_quiet (act.Join a b) r = false
+is_quiet a r = true
+
+quiet_registers : (configs : List Config) (n : ℕ) (a : Act) (r : Reply) → is_quiet a r ≡ true → registers_at configs n a ≡ []
+quiet_registers configs n (act.Register c m rate) r h = cc
+quiet_registers configs n (act.Start m) r h = refl
+quiet_registers configs n (act.Join a b) r h = refl
+quiet_registers configs n (act.Send bytes c m priority to) r h = refl
+quiet_registers configs n (act.Router m) r h = refl
+quiet_registers configs n (act.SendStep conn m) r h = refl
+quiet_registers configs n (act.RecvStep conn m) r h = refl
+quiet_registers configs n (act.Recv c m) r h = refl
+
+quiet_starts : (n : ℕ) (a : Act) (r : Reply) → is_quiet a r ≡ true → starts n a ≡ false
+quiet_starts n (act.Register c m rate) r h = refl
+quiet_starts n (act.Start m) r h = cc
+quiet_starts n (act.Join a b) r h = refl
+quiet_starts n (act.Send bytes c m priority to) r h = refl
+quiet_starts n (act.Router m) r h = refl
+quiet_starts n (act.SendStep conn m) r h = refl
+quiet_starts n (act.RecvStep conn m) r h = refl
+quiet_starts n (act.Recv c m) r h = refl
+
+quiet_half : (configs : List Config) (n : ℕ) (a : Act) (r : Reply) → is_quiet a r ≡ true → half_of configs n a r ≡ None
+quiet_half configs n (act.Join a b) reply.Ok h = cc
+quiet_half configs n (act.Join a b) reply.Idle h = refl
+quiet_half configs n (act.Join a b) reply.Pending h = refl
+quiet_half configs n (act.Join a b) reply.Gone h = refl
+quiet_half configs n (act.Join a b) (reply.Capacity k) h = refl
+quiet_half configs n (act.Join a b) (reply.Sent ks) h = refl
+quiet_half configs n (act.Join a b) (reply.Message bytes from) h = refl
+quiet_half configs n (act.Register c m rate) r h = refl
+quiet_half configs n (act.Start m) r h = refl
+quiet_half configs n (act.Send bytes c m priority to) r h = refl
+quiet_half configs n (act.Router m) r h = refl
+quiet_half configs n (act.SendStep conn m) r h = refl
+quiet_half configs n (act.RecvStep conn m) r h = refl
+quiet_half configs n (act.Recv c m) r h = refl
+
+quiet_joins : (n m : ℕ) (a : Act) (r : Reply) → is_quiet a r ≡ true → joins n m a r ≡ false
+quiet_joins n m (act.Join a b) reply.Ok h = cc
+quiet_joins n m (act.Join a b) reply.Idle h = refl
+quiet_joins n m (act.Join a b) reply.Pending h = refl
+quiet_joins n m (act.Join a b) reply.Gone h = refl
+quiet_joins n m (act.Join a b) (reply.Capacity k) h = refl
+quiet_joins n m (act.Join a b) (reply.Sent ks) h = refl
+quiet_joins n m (act.Join a b) (reply.Message bytes from) h = refl
+quiet_joins n m (act.Register c k rate) r h = refl
+quiet_joins n m (act.Start k) r h = refl
+quiet_joins n m (act.Send bytes c k priority to) r h = refl
+quiet_joins n m (act.Router k) r h = refl
+quiet_joins n m (act.SendStep conn k) r h = refl
+quiet_joins n m (act.RecvStep conn k) r h = refl
+quiet_joins n m (act.Recv c k) r h = refl
+
+pub taken-none : (log : List Entry) (e : Entry) → e.takes ≡ [] → taken log e ≡ []
+unfolding taken
+taken-none log e t = ap (flat_map (item_named log)) t
+
+either_nothing : {X : Type 0} (b : Bool) (xs : List X) → xs ≡ [] → cond b xs [] ≡ []
+either_nothing true xs h = h
+either_nothing false xs h = refl
+
+-- an entry that moves nothing
+pub record IsStill (e : Entry) (rep : Reply) : Type 0 where
+  pub reply : e.reply ≡ rep
+  pub takes : e.takes ≡ []
+  pub puts : e.puts ≡ []
+  pub ends : e.ends ≡ []
+
+pub line-still : (log : List Entry) (e : Entry) (rep : Reply) (q : Queue) → IsStill e rep → line (log ++ e ∷ []) q ≡ line log q
+line-still log e rep q h =
+    line-kept log e q (ap (λ t. t ++ flat_map ended_item e.ends) h.takes ∙ ap (flat_map ended_item) h.ends)
+    ∙ (ap (λ p. line log q ++ filter (stands_in q) (placed (length log) 0 p)) h.puts ∙ append-nil (line log q))
+
+pub part_still : (p : Part) (configs : List Config) (log : List Entry) (e : Entry) (n : ℕ) (x : Node) (a : Act) (rep : Reply) → PartStands p configs log n x → e.event.act ≡ a → is_quiet a rep ≡ true → IsStill e rep
+    → PartStands p configs (log ++ e ∷ []) n x
+part_still router configs log e n x a rep s is q h =
+    RouterStands-idle configs log e n x.router
+    (record {
+      no_step = ap (λ b. cond (steps_router n b) (taken log e) []) is ∙ either_nothing (steps_router n a) (taken log e) (taken-none log e h.takes);
+      no_channel = ap (registers_at configs n) is ∙ quiet_registers configs n a rep q;
+      no_start = ap (starts n) is ∙ quiet_starts n a rep q;
+    })
+    h.takes h.puts h.ends s
+part_still channels configs log e n x a rep s is q h =
+    channels_frame configs log e n x.channels s
+    (record { registers = ap (registers_at configs n) is ∙ quiet_registers configs n a rep q; lines = λ c. line-still log e rep (queue.Channel n c) h })
+part_still connections configs log e n x a rep s is q h =
+    connections_frame configs log e n x.connections s
+    (record {
+      makes = record {
+        no_half = ap (λ b. half_of configs n b e.reply) is ∙ (ap (half_of configs n a) h.reply ∙ quiet_half configs n a rep q);
+        no_partner = λ m. ap (λ b. joins n m b e.reply) is ∙ (ap (joins n m a) h.reply ∙ quiet_joins n m a rep q);
+      };
+      begins = λ conn. ap (λ b. cond (steps_sender n conn b) (map is_answer (taken log e)) []) is ∙ either_nothing (steps_sender n conn a) (map is_answer (taken log e)) (ap (map is_answer) (taken-none log e h.takes));
+      lines = λ conn. line-still log e rep (queue.Ready n conn) h;
+    })
+
+pub links_still : (log : List Entry) (e : Entry) (rep : Reply) (l : Links) → LinksStand log l → IsStill e rep → LinksStand (log ++ e ∷ []) l
+links_still log e rep l s h = links_frame log e l s (λ t link. line-still log e rep (queue.Link link t) h)
+
+-- the entry of an act whose row moves nothing
+pub effect-still : (configs : List Config) (log : List Entry) (ev : Event) (rep : Reply) → row configs log ev.act ≡ only rep → IsStill (effect configs log ev) rep
+unfolding effect
+effect-still configs log ev rep h = record {
+  reply = ap (λ (r : Row). r.reply) h;
+  takes = ap (λ (r : Row). r.takes) h;
+  puts = ap (λ (r : Row). r.puts) h;
+  ends = ap (λ (r : Row). r.ends) h;
+}
+
+effect-asks : (configs : List Config) (log : List Entry) (ev : Event) → (effect configs log ev).event.act ≡ ev.act
+unfolding effect
+effect-asks configs log ev = refl
+
+-- a node and links that stay as they were
+pub stays_performs : (configs : List Config) (log : List Entry) (ev : Event) (n : ℕ) (x y : Node) (l links : Links) (r : Row) (rep : Reply) → NodeStands configs log n x → LinksStand log l
+    → row configs log ev.act ≡ only rep → is_quiet ev.act rep ≡ true → r ≡ only rep → y ≡ x → links ≡ l → Performs configs log ev n y links r
+stays_performs configs log ev n x y l links r rep s t is quiet row_is same kept =
+    let e = effect configs log ev in
+    let still = effect-still configs log ev rep is in
+    record {
+      row_is = row_is ∙ sym is;
+      sized = subst (IsSized configs n) (sym same) s.sized;
+      each = λ p. subst (λ (z : Node). PartStands p configs (log ++ e ∷ []) n z) (sym same) (part_still p configs log e n x ev.act rep (s.each p) (effect-asks configs log ev) quiet still);
+      linked = subst (LinksStand (log ++ e ∷ [])) (sym kept) (links_still log e rep l t still);
+    }

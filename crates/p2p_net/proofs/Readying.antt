@@ -1,0 +1,186 @@
+-- An act that may be asked for finds its nodes ready.
+use Rattle.std.proofs.Common.{◌≡◌, ℕ, zero, suc, ◌+◌, ◌*◌, ◌^◌, ◌<◌, ◌≤◌, Bool, true, false, cond, List, [], ◌∷◌, length, refl, ap, sym, subst, ◌∙◌, arith, Option, Some, None}
+use Rattle.std.specs.Prelude.{slice_get, slice_index_or, map, nat_lt, nat_le, not, ◌==◌, ◌&&◌, ◌||◌, is_some, IsTrue}
+use Rattle.std.proofs.lemmas.Bool.{and_parts, not-true}
+use Rattle.std.proofs.lemmas.Bool.Decides.{nat_tests}
+use Rattle.p2p_log.specs.declared.config.Config.{Config}
+use Rattle.p2p_log.specs.declared.entry.Entry.{Entry}
+use Rattle.p2p_log.specs.declared.event.Event.{Event}
+use Rattle.p2p_log.specs.declared.event.Rate.{Rate}
+use Rattle.p2p_log.specs.declared.event.Act.{Act}
+use Rattle.p2p_log.specs.declared.event.Act.TheVariants as act
+use Rattle.p2p_log_rules.specs.Facts.{events_of, has_started, is_up, registered, capacity_for, capacity_in, sum_capacities}
+use Rattle.p2p_log_rules.specs.Effect.{mailbox_size_at, limit_at}
+use Rattle.p2p_log_rules.specs.Valid.{fits, fits_usize, config_fault, joins_node, names_join}
+use Rattle.p2p_log_rules.specs.Valid as valid
+use Rattle.p2p_net_router.specs.declared.router.Router.{Router}
+use Rattle.p2p_net_channels.specs.Channels.{capacity_at}
+use Rattle.p2p_net_channels.specs.Stands.{ChannelsStand}
+use Rattle.p2p_net_links.specs.declared.links.Links.{Links}
+use Rattle.p2p_net.specs.Places as place
+use Rattle.p2p_net.specs.Places.{node_of, other_of}
+use Rattle.p2p_net.specs.Ready.{is_started, capacity_by, may_register, is_join_of, names_node, may_ask, may_at, may_act, IsReady, MayPerform}
+use Rattle.p2p_net.specs.Stands.{RouterStands, IsSized, NodeStands, WorldStands}
+use Rattle.p2p_net.specs.declared.node.Node.{Node}
+use Rattle.p2p_net.proofs.Nodes.{some_at, below}
+use Rattle.p2p_net.proofs.Routers.{is_unbound-before}
+use Rattle.p2p_net.proofs.Starts.{fits_there}
+
+-- ---- what the code tests is what the log says
+
+started_is : (configs : List Config) (log : List Entry) (n : ℕ) (x : Node) → NodeStands configs log n x → is_started x ≡ has_started (events_of log) n
+started_is configs log n x s = let rout : RouterStands configs log n x.router = s.each place.router in rout.stands.bound ∙ ap (is_up log) rout.number
+
+size_is : (configs : List Config) (n : ℕ) (x : Node) → IsSized configs n x → x.config.mailbox_size ≡ mailbox_size_at configs n
+size_is configs n x s = sym (ap (λ (o : Option Config). elim o [ None ↦ 0 | Some c ↦ c.mailbox_size ]) s.config)
+
+limit_is : (configs : List Config) (n : ℕ) (x : Node) → IsSized configs n x → x.config.max_message_size ≡ limit_at configs n
+limit_is configs n x s = sym (ap (λ (o : Option Config). elim o [ None ↦ 0 | Some c ↦ c.max_message_size ]) s.config)
+
+capacity_is : (configs : List Config) (n : ℕ) (rate : Rate) (x : Node) → IsSized configs n x → capacity_by x rate ≡ capacity_for (slice_get configs n) rate
+capacity_is configs n rate x s = ap (λ m. m * rate.burst) s.retained ∙ sym (ap (λ o. capacity_for o rate) s.config)
+
+register_is : (configs : List Config) (log : List Entry) (n c : ℕ) (rate : Rate) (x : Node) → NodeStands configs log n x → may_register x c rate ≡ valid.may_register configs (events_of log) c n rate
+register_is configs log n c rate x s =
+    let chan : ChannelsStand configs log n x.channels = s.each place.channels in
+    let regs = registered configs (events_of log) n in
+    ap (λ b. (not b && not (is_some (capacity_at x.channels c))) && (fits_usize (capacity_by x rate) && fits_usize (x.config.mailbox_size + (x.channels.total + capacity_by x rate)))) (started_is configs log n x s)
+    ∙ (ap (λ o. (not (has_started (events_of log) n) && not (is_some o)) && (fits_usize (capacity_by x rate) && fits_usize (x.config.mailbox_size + (x.channels.total + capacity_by x rate)))) (chan.capacities c)
+    ∙ (ap (λ k. (not (has_started (events_of log) n) && not (is_some (capacity_in regs c))) && (fits_usize k && fits_usize (x.config.mailbox_size + (x.channels.total + k)))) (capacity_is configs n rate x s.sized)
+    ∙ (ap (λ k. (not (has_started (events_of log) n) && not (is_some (capacity_in regs c))) && (fits_usize (capacity_for (slice_get configs n) rate) && fits_usize (k + (x.channels.total + capacity_for (slice_get configs n) rate)))) (size_is configs n x s.sized)
+    ∙ ap (λ k. (not (has_started (events_of log) n) && not (is_some (capacity_in regs c))) && (fits_usize (capacity_for (slice_get configs n) rate) && fits_usize (mailbox_size_at configs n + (k + capacity_for (slice_get configs n) rate)))) chan.total)))
+
+named_by : (n : ℕ) (v : Event) (a : Act) → v.act ≡ a → is_join_of n v.act ≡ joins_node n (Some v)
+named_by n v (act.Join a b) h = ap (is_join_of n) h ∙ sym (ap (λ x. elim x [ act.Join a b ↦ (a == n) || (b == n) | _ ↦ false ]) h)
+named_by n v (act.Register c m rate) h = ap (is_join_of n) h ∙ sym (ap (λ x. elim x [ act.Join a b ↦ (a == n) || (b == n) | _ ↦ false ]) h)
+named_by n v (act.Start m) h = ap (is_join_of n) h ∙ sym (ap (λ x. elim x [ act.Join a b ↦ (a == n) || (b == n) | _ ↦ false ]) h)
+named_by n v (act.Send bytes c m priority to) h = ap (is_join_of n) h ∙ sym (ap (λ x. elim x [ act.Join a b ↦ (a == n) || (b == n) | _ ↦ false ]) h)
+named_by n v (act.Router m) h = ap (is_join_of n) h ∙ sym (ap (λ x. elim x [ act.Join a b ↦ (a == n) || (b == n) | _ ↦ false ]) h)
+named_by n v (act.SendStep conn m) h = ap (is_join_of n) h ∙ sym (ap (λ x. elim x [ act.Join a b ↦ (a == n) || (b == n) | _ ↦ false ]) h)
+named_by n v (act.RecvStep conn m) h = ap (is_join_of n) h ∙ sym (ap (λ x. elim x [ act.Join a b ↦ (a == n) || (b == n) | _ ↦ false ]) h)
+named_by n v (act.Recv c m) h = ap (is_join_of n) h ∙ sym (ap (λ x. elim x [ act.Join a b ↦ (a == n) || (b == n) | _ ↦ false ]) h)
+
+named_is : (log : List Entry) (n conn : ℕ) → names_node n (slice_get log conn) ≡ names_join (events_of log) n conn
+named_is [] n conn = refl
+named_is (e ∷ es) n zero = named_by n e.event e.event.act refl
+named_is (e ∷ es) n (suc i) = named_is es n i
+
+-- by whether the node is there
+there : (b : Bool) (at rest : Bool) → (b ≡ true → at ≡ rest) → (b && (b && at)) ≡ (b && rest)
+there true at rest h = h refl
+there false at rest h = refl
+
+there_plain : (b : Bool) (at : Bool) → (b ≡ true → at ≡ true) → (b && (b && at)) ≡ b
+there_plain true at h = h refl
+there_plain false at h = refl
+
+pair_there : (p q at : Bool) → (p ≡ true → at ≡ true) → (p && (q && at)) ≡ (p && q)
+pair_there true true at h = h refl
+pair_there true false at h = refl
+pair_there false q at h = refl
+
+module _ (configs : List Config) (log : List Entry) (nodes : List Node) (links : Links) (s : WorldStands configs log nodes links) where
+  -- what is asked of a node that is there
+  asked_at : (n : ℕ) (f : Node → Bool) (b : Bool) → nat_lt n (length nodes) ≡ true → ((x : Node) → NodeStands configs log n x → f x ≡ b) → elim (slice_get nodes n) [ None ↦ false | Some x ↦ f x ] ≡ b
+  asked_at n f b lt h =
+      let it = some_at nodes n (grind (arith, nat_tests)) in
+      ap (λ (o : Option Node). elim o [ None ↦ false | Some x ↦ f x ]) it.is ∙ h it.x (s.each n it.x it.is)
+
+  at_by : (a : Act) (o : Option Node) → may_at o log a ≡ elim o [ None ↦ false | Some x ↦ may_ask log x a ]
+  at_by a None = refl
+  at_by a (Some x) = refl
+
+  counted : (n : ℕ) → nat_lt n (length nodes) ≡ nat_lt n (length configs)
+  counted n = ap (nat_lt n) s.long
+
+  asks : (a : Act) (b : Bool) → nat_lt (node_of a) (length nodes) ≡ true → ((x : Node) → NodeStands configs log (node_of a) x → may_ask log x a ≡ b) → may_at (slice_get nodes (node_of a)) log a ≡ b
+  asks a b lt h = at_by a (slice_get nodes (node_of a)) ∙ asked_at (node_of a) (λ x. may_ask log x a) b lt h
+
+  may_by : (a : Act) → may_act nodes log a ≡ valid.may_act configs (events_of log) a
+  may_by (act.Register c n rate) =
+      there (nat_lt n (length nodes)) (may_at (slice_get nodes n) log (act.Register c n rate)) (valid.may_register configs (events_of log) c n rate)
+      (λ lt. asks (act.Register c n rate) (valid.may_register configs (events_of log) c n rate) lt (λ x t. register_is configs log n c rate x t))
+      ∙ ap (λ b. b && valid.may_register configs (events_of log) c n rate) (counted n)
+  may_by (act.Start n) =
+      there (nat_lt n (length nodes)) (may_at (slice_get nodes n) log (act.Start n)) (not (has_started (events_of log) n))
+      (λ lt. asks (act.Start n) (not (has_started (events_of log) n)) lt (λ x t. ap (λ b. not b) (started_is configs log n x t)))
+      ∙ ap (λ b. b && not (has_started (events_of log) n)) (counted n)
+  may_by (act.Join a b) =
+      pair_there (nat_lt a (length nodes)) (nat_lt b (length nodes)) (may_at (slice_get nodes a) log (act.Join a b)) (λ lt. asks (act.Join a b) true lt (λ x t. refl))
+      ∙ (ap (λ c. c && nat_lt b (length nodes)) (counted a) ∙ ap (λ c. nat_lt a (length configs) && c) (counted b))
+  may_by (act.Send bytes c n priority to) =
+      there (nat_lt n (length nodes)) (may_at (slice_get nodes n) log (act.Send bytes c n priority to)) (nat_le (length bytes) (limit_at configs n))
+      (λ lt. asks (act.Send bytes c n priority to) (nat_le (length bytes) (limit_at configs n)) lt (λ x t. ap (nat_le (length bytes)) (limit_is configs n x t.sized)))
+      ∙ ap (λ b. b && nat_le (length bytes) (limit_at configs n)) (counted n)
+  may_by (act.Router n) = there_plain (nat_lt n (length nodes)) (may_at (slice_get nodes n) log (act.Router n)) (λ lt. asks (act.Router n) true lt (λ x t. refl)) ∙ counted n
+  may_by (act.SendStep conn n) =
+      there (nat_lt n (length nodes)) (may_at (slice_get nodes n) log (act.SendStep conn n)) (names_join (events_of log) n conn)
+      (λ lt. asks (act.SendStep conn n) (names_join (events_of log) n conn) lt (λ x t. named_is log n conn))
+      ∙ ap (λ b. b && names_join (events_of log) n conn) (counted n)
+  may_by (act.RecvStep conn n) =
+      there (nat_lt n (length nodes)) (may_at (slice_get nodes n) log (act.RecvStep conn n)) (names_join (events_of log) n conn)
+      (λ lt. asks (act.RecvStep conn n) (names_join (events_of log) n conn) lt (λ x t. named_is log n conn))
+      ∙ ap (λ b. b && names_join (events_of log) n conn) (counted n)
+  may_by (act.Recv c n) = there_plain (nat_lt n (length nodes)) (may_at (slice_get nodes n) log (act.Recv c n)) (λ lt. asks (act.Recv c n) true lt (λ x t. refl)) ∙ counted n
+
+pub may_act-nodes : (configs : List Config) (log : List Entry) (nodes : List Node) (links : Links) (a : Act) → WorldStands configs log nodes links → may_act nodes log a ≡ valid.may_act configs (events_of log) a
+may_act-nodes configs log nodes links a s = may_by configs log nodes links s a
+
+-- ---- what a node that may be asked is ready for
+
+-- the sizes of a node of valid configurations
+pub sizes_there : (configs : List Config) (log : List Entry) (nodes : List Node) (links : Links) → WorldStands configs log nodes links → (n : ℕ) (x : Node) → slice_get nodes n ≡ Some x → fits x.config ≡ true
+sizes_there configs log nodes links s n x g = fits_there configs n x.config s.valid (s.each n x g).sized.config
+
+pub one_mailbox : (c : Config) → fits c ≡ true → 1 ≤ c.mailbox_size
+one_mailbox c fit =
+    let sizes = and_parts (((nat_lt 0 c.max_peers_per_set && nat_lt 0 c.mailbox_size) && (nat_lt 0 c.tracked_peer_sets && nat_lt 0 c.send_batch_size)) && nat_le c.max_message_size 16777200) (fits_usize (c.max_peers_per_set * c.tracked_peer_sets)) fit in
+    let four = and_parts ((nat_lt 0 c.max_peers_per_set && nat_lt 0 c.mailbox_size) && (nat_lt 0 c.tracked_peer_sets && nat_lt 0 c.send_batch_size)) (nat_le c.max_message_size 16777200) sizes.0 in
+    let two = and_parts (nat_lt 0 c.max_peers_per_set && nat_lt 0 c.mailbox_size) (nat_lt 0 c.tracked_peer_sets && nat_lt 0 c.send_batch_size) four.0 in
+    let one = (and_parts (nat_lt 0 c.max_peers_per_set) (nat_lt 0 c.mailbox_size) two.0).1 in
+    grind (arith, nat_tests)
+
+short_message : (c : Config) → fits c ≡ true → nat_le c.max_message_size 16777200 ≡ true
+short_message c fit =
+    let sizes = and_parts (((nat_lt 0 c.max_peers_per_set && nat_lt 0 c.mailbox_size) && (nat_lt 0 c.tracked_peer_sets && nat_lt 0 c.send_batch_size)) && nat_le c.max_message_size 16777200) (fits_usize (c.max_peers_per_set * c.tracked_peer_sets)) fit in
+    (and_parts ((nat_lt 0 c.max_peers_per_set && nat_lt 0 c.mailbox_size) && (nat_lt 0 c.tracked_peer_sets && nat_lt 0 c.send_batch_size)) (nat_le c.max_message_size 16777200) sizes.0).1
+
+fits_below : (m t k : ℕ) → nat_lt (m + (t + k)) (2 ^ 64) ≡ true → t + k < 2 ^ 64
+fits_below m t k h = grind (arith, nat_tests)
+
+short : (k m : ℕ) → nat_le k m ≡ true → nat_le m 16777200 ≡ true → k < 2 ^ 32
+short k m h g = grind (arith, nat_tests)
+
+ready_by : (configs : List Config) (log : List Entry) (n : ℕ) (a : Act) (x : Node) → NodeStands configs log n x → fits x.config ≡ true → may_ask log x a ≡ true → IsReady a x
+ready_by configs log n (act.Register c m rate) x s fit may =
+    let halves = and_parts (not (is_started x) && not (is_some (capacity_at x.channels c))) (fits_usize (capacity_by x rate) && fits_usize (x.config.mailbox_size + (x.channels.total + capacity_by x rate))) may in
+    fits_below x.config.mailbox_size x.channels.total (capacity_by x rate) (and_parts (fits_usize (capacity_by x rate)) (fits_usize (x.config.mailbox_size + (x.channels.total + capacity_by x rate))) halves.1).1
+ready_by configs log n (act.Start m) x s fit may =
+    let chan : ChannelsStand configs log n x.channels = s.each place.channels in
+    let off : is_up log n ≡ false = sym (started_is configs log n x s) ∙ not-true (is_started x) may in (
+      is_unbound-before configs log n x.router (s.each place.router) off,
+      (one_mailbox x.config fit, subst (λ k. k + x.channels.total < 2 ^ 64) (sym (size_is configs n x s.sized)) chan.room),
+    )
+ready_by configs log n (act.Send bytes c m priority to) x s fit may = short (length bytes) x.config.max_message_size may (short_message x.config fit)
+ready_by configs log n (act.Join a b) x s fit may = tt
+ready_by configs log n (act.Router m) x s fit may = tt
+ready_by configs log n (act.SendStep conn m) x s fit may = tt
+ready_by configs log n (act.RecvStep conn m) x s fit may = tt
+ready_by configs log n (act.Recv c m) x s fit may = tt
+
+-- an act that may be asked for finds its nodes there, and ready
+pub may_perform : (configs : List Config) (log : List Entry) (nodes : List Node) (links : Links) (a : Act) → WorldStands configs log nodes links → valid.may_act configs (events_of log) a ≡ true → MayPerform nodes a
+may_perform configs log nodes links a s may =
+    let test : may_act nodes log a ≡ true = may_act-nodes configs log nodes links a s ∙ may in
+    let one = and_parts (nat_lt (node_of a) (length nodes)) (nat_lt (other_of a) (length nodes) && may_at (slice_get nodes (node_of a)) log a) test in
+    let two = and_parts (nat_lt (other_of a) (length nodes)) (may_at (slice_get nodes (node_of a)) log a) one.1 in
+    let f = one.0 in
+    let g = two.0 in
+    record {
+      first = grind (arith, nat_tests);
+      second = grind (arith, nat_tests);
+      ready = λ x there.
+          ready_by configs log (node_of a) a x (s.each (node_of a) x there) (sizes_there configs log nodes links s (node_of a) x there)
+          (sym (ap (λ o. may_at o log a) there) ∙ two.1);
+      sizes = λ n x there. one_mailbox x.config (sizes_there configs log nodes links s n x there);
+    }

@@ -1,0 +1,126 @@
+-- A queue of a place that an act does not name stays as it was.
+use Rattle.std.proofs.Common.{◌≡◌, ℕ, Bool, true, false, List, [], ◌∷◌, ◌++◌, refl, ap, sym, ◌∙◌, arith}
+use Rattle.std.specs.Prelude.{◌==◌, ◌&&◌, ◌||◌}
+use Rattle.std.proofs.lemmas.Bool.Decides.{nat_tests}
+use Rattle.p2p_log.specs.declared.config.Config.{Config}
+use Rattle.p2p_log.specs.declared.queue.Queue.{Queue}
+use Rattle.p2p_log.specs.declared.queue.Queue.TheVariants as queue
+use Rattle.p2p_log.specs.declared.queue.Side.{Side}
+use Rattle.p2p_log.specs.declared.queue.Side.TheVariants as side
+use Rattle.p2p_log.specs.declared.entry.Entry.{Entry}
+use Rattle.p2p_log.specs.declared.event.Event.{Event}
+use Rattle.p2p_log.specs.declared.event.Act.{Act}
+use Rattle.p2p_log.specs.declared.event.Act.TheVariants as act
+use Rattle.p2p_log.specs.QueueCode.{same_queue}
+use Rattle.p2p_log.specs.Lines.{line}
+use Rattle.p2p_log_rules.specs.Effect.{effect}
+use Rattle.p2p_log_rules.proofs.Touches.{in_router, in_half, in_link, in_channels, reads, writes}
+use Rattle.p2p_log_laws.proofs.Untouched.{line-untouched}
+use Rattle.p2p_net.specs.Places.{home, names, at, router, channels, connections, links, same_place}
+
+-- ---- what the kinds of queues that an act reaches are of
+
+router_queue : (n : ℕ) (q : Queue) → same_place (at router n) (home q) ≡ false → same_queue (queue.Router n) q ≡ false
+router_queue n (queue.Router m) h = grind (arith, nat_tests)
+router_queue n (queue.Peers m c) h = refl
+router_queue n (queue.Ready m c) h = refl
+router_queue n (queue.High m c) h = refl
+router_queue n (queue.Low m c) h = refl
+router_queue n (queue.Link e side.Out) h = refl
+router_queue n (queue.Link e side.In) h = refl
+router_queue n (queue.Channel m c) h = refl
+
+router_kinds : (n : ℕ) (q : Queue) → same_place (at router n) (home q) ≡ false → same_place (at connections n) (home q) ≡ false → in_router n q ≡ false
+router_kinds n (queue.Router m) h k = grind (arith, nat_tests)
+router_kinds n (queue.Peers m c) h k = grind (arith, nat_tests)
+router_kinds n (queue.Ready m c) h k = grind (arith, nat_tests)
+router_kinds n (queue.High m c) h k = grind (arith, nat_tests)
+router_kinds n (queue.Low m c) h k = grind (arith, nat_tests)
+router_kinds n (queue.Link e s) h k = refl
+router_kinds n (queue.Channel m c) h k = refl
+
+half_kinds : (n conn : ℕ) (q : Queue) → same_place (at router n) (home q) ≡ false → same_place (at connections n) (home q) ≡ false → same_place links (home q) ≡ false → in_half n conn q ≡ false
+half_kinds n conn (queue.Router m) h k l = refl
+half_kinds n conn (queue.Peers m c) h k l = refl
+half_kinds n conn (queue.Ready m c) h k l = grind (arith, nat_tests)
+half_kinds n conn (queue.High m c) h k l = grind (arith, nat_tests)
+half_kinds n conn (queue.Low m c) h k l = grind (arith, nat_tests)
+half_kinds n conn (queue.Link e s) h k l = cc
+half_kinds n conn (queue.Channel m c) h k l = refl
+
+link_kinds : (conn : ℕ) (q : Queue) → same_place links (home q) ≡ false → in_link conn q ≡ false
+link_kinds conn (queue.Router m) h = refl
+link_kinds conn (queue.Peers m c) h = refl
+link_kinds conn (queue.Ready m c) h = refl
+link_kinds conn (queue.High m c) h = refl
+link_kinds conn (queue.Low m c) h = refl
+link_kinds conn (queue.Link e s) h = cc
+link_kinds conn (queue.Channel m c) h = refl
+
+channel_kinds : (n : ℕ) (q : Queue) → same_place (at channels n) (home q) ≡ false → in_channels n q ≡ false
+channel_kinds n (queue.Router m) h = refl
+channel_kinds n (queue.Peers m c) h = refl
+channel_kinds n (queue.Ready m c) h = refl
+channel_kinds n (queue.High m c) h = refl
+channel_kinds n (queue.Low m c) h = refl
+channel_kinds n (queue.Link e s) h = refl
+channel_kinds n (queue.Channel m c) h = grind (arith, nat_tests)
+
+channel_queue : (n c : ℕ) (q : Queue) → same_place (at channels n) (home q) ≡ false → same_queue (queue.Channel n c) q ≡ false
+channel_queue n c (queue.Router m) h = refl
+channel_queue n c (queue.Peers m d) h = refl
+channel_queue n c (queue.Ready m d) h = refl
+channel_queue n c (queue.High m d) h = refl
+channel_queue n c (queue.Low m d) h = refl
+channel_queue n c (queue.Link e side.Out) h = refl
+channel_queue n c (queue.Link e side.In) h = refl
+channel_queue n c (queue.Channel m d) h = grind (arith, nat_tests)
+
+-- ---- by the places that an act names
+
+pub first_false : (a b : Bool) → (a || b) ≡ false → a ≡ false
+first_false false b h = refl
+first_false true b h = h
+
+pub second_false : (a b : Bool) → (a || b) ≡ false → b ≡ false
+second_false false b h = h
+second_false true false h = refl
+second_false true true h = h
+
+reads-named : (configs : List Config) (log : List Entry) (a : Act) (q : Queue) → names a (home q) ≡ false → reads configs log a q ≡ false
+reads-named configs log (act.Register c n rate) q h = refl
+reads-named configs log (act.Start n) q h = refl
+reads-named configs log (act.Join a b) q h = refl
+reads-named configs log (act.Send bytes c n priority to) q h = refl
+reads-named configs log (act.Router n) q h = router_queue n q (first_false (same_place (at router n) (home q)) (same_place (at connections n) (home q) || false) h)
+reads-named configs log (act.SendStep conn n) q h =
+    let rest = second_false (same_place (at connections n) (home q)) (same_place (at router n) (home q) || (same_place links (home q) || false)) h in
+    half_kinds n conn q (first_false (same_place (at router n) (home q)) (same_place links (home q) || false) rest) (first_false (same_place (at connections n) (home q)) (same_place (at router n) (home q) || (same_place links (home q) || false)) h)
+    (first_false (same_place links (home q)) false (second_false (same_place (at router n) (home q)) (same_place links (home q) || false) rest))
+reads-named configs log (act.RecvStep conn n) q h =
+    link_kinds conn q (first_false (same_place links (home q)) false (second_false (same_place (at channels n) (home q)) (same_place links (home q) || false) h))
+reads-named configs log (act.Recv c n) q h = channel_queue n c q (first_false (same_place (at channels n) (home q)) false h)
+
+both_false : (a b : Bool) → a ≡ false → b ≡ false → (a || b) ≡ false
+both_false true b h k = h
+both_false false b h k = k
+
+writes-named : (configs : List Config) (log : List Entry) (a : Act) (q : Queue) → names a (home q) ≡ false → writes configs log a q ≡ false
+writes-named configs log (act.Register c n rate) q h = refl
+writes-named configs log (act.Start n) q h = router_queue n q (first_false (same_place (at router n) (home q)) false h)
+writes-named configs log (act.Join a b) q h =
+    let rest = second_false (same_place (at router a) (home q)) (same_place (at connections a) (home q) || (same_place (at router b) (home q) || (same_place (at connections b) (home q) || false))) h in
+    let more = second_false (same_place (at connections a) (home q)) (same_place (at router b) (home q) || (same_place (at connections b) (home q) || false)) rest in
+    both_false (same_queue (queue.Router a) q) (same_queue (queue.Router b) q)
+    (router_queue a q (first_false (same_place (at router a) (home q)) (same_place (at connections a) (home q) || (same_place (at router b) (home q) || (same_place (at connections b) (home q) || false))) h))
+    (router_queue b q (first_false (same_place (at router b) (home q)) (same_place (at connections b) (home q) || false) more))
+writes-named configs log (act.Send bytes c n priority to) q h = router_queue n q (first_false (same_place (at router n) (home q)) false h)
+writes-named configs log (act.Router n) q h =
+    router_kinds n q (first_false (same_place (at router n) (home q)) (same_place (at connections n) (home q) || false) h)
+    (first_false (same_place (at connections n) (home q)) false (second_false (same_place (at router n) (home q)) (same_place (at connections n) (home q) || false) h))
+writes-named configs log (act.SendStep conn n) q h = reads-named configs log (act.SendStep conn n) q h
+writes-named configs log (act.RecvStep conn n) q h = channel_kinds n q (first_false (same_place (at channels n) (home q)) (same_place links (home q) || false) h)
+writes-named configs log (act.Recv c n) q h = refl
+
+pub line-unnamed : (configs : List Config) (log : List Entry) (ev : Event) (q : Queue) → names ev.act (home q) ≡ false → line (log ++ effect configs log ev ∷ []) q ≡ line log q
+line-unnamed configs log ev q h = line-untouched configs log ev q (reads-named configs log ev.act q h) (writes-named configs log ev.act q h)

@@ -1,0 +1,370 @@
+-- A step of the sending half of a connection: its router's answer, or a batch.
+use Rattle.std.proofs.Common.{◌≡◌, ℕ, ◌+◌, Bool, true, false, cond, List, [], ◌∷◌, ◌++◌, length, take, refl, ap, sym, subst, ◌∙◌, arith, append-nil, Option, Some, None}
+use Rattle.std.specs.Prelude.{map, filter, flat_map, slice_get, ◌==◌, ◌&&◌, ◌||◌}
+use Rattle.std.specs.List.{list_any}
+use Rattle.std.specs.BTreeMap.{is_at}
+use Rattle.std.specs.Ordering.{nat_cmp}
+use Rattle.std.proofs.lemmas.Bool.Decides.{nat_tests}
+use Rattle.p2p_log.specs.declared.config.Config.{Config}
+use Rattle.p2p_log.specs.declared.queue.Queue.{Queue}
+use Rattle.p2p_log.specs.declared.queue.Queue.TheVariants as queue
+use Rattle.p2p_log.specs.declared.queue.Side.{Side}
+use Rattle.p2p_log.specs.declared.queue.Side.TheVariants as side
+use Rattle.p2p_log.specs.declared.item.Item.{Item}
+use Rattle.p2p_log.specs.declared.item.Envelope.{Envelope}
+use Rattle.p2p_log.specs.declared.entry.Entry.{Entry}
+use Rattle.p2p_log.specs.declared.entry.Reply.TheVariants as reply
+use Rattle.p2p_log.specs.declared.event.Event.{Event}
+use Rattle.p2p_log.specs.declared.event.Act.TheVariants as act
+use Rattle.p2p_log.specs.QueueCode.{same_queue}
+use Rattle.p2p_log.specs.Lines.{line, live, name_of, named, placed, goes, stays, stands_in, ended_item}
+use Rattle.p2p_log.proofs.Names.{AreApart-live_from}
+use Rattle.p2p_log.proofs.Queues.{same_queue-sym}
+use Rattle.p2p_log_rules.specs.declared.row.Half.{Half}
+use Rattle.p2p_log_rules.specs.declared.row.Row.{Row}
+use Rattle.p2p_log_rules.specs.Facts.{starts, registers_at, steps_router, half_at, is_running, is_answer, taken, item_named, steps_sender, answers_by}
+use Rattle.p2p_log_rules.specs.Effect.{only, row, effect, entry_of, begin_row, write_row, batch_size_at, batch, send_step_row, mailbox_size_at}
+use Rattle.p2p_log_rules.proofs.Facts.{is_running-append}
+use Rattle.p2p_log_rules.proofs.Recorded.{item_named-first}
+use Rattle.p2p_net_queues.specs.Tables as table
+use Rattle.p2p_net_queues.specs.Tables.{waiting, popped_at}
+use Rattle.p2p_net_queues.proofs.Going.{put_in, line-append, line-taken}
+use Rattle.p2p_net_router.specs.Batches.{batch_of}
+use Rattle.p2p_net_router.specs.Names.{is_routers}
+use Rattle.p2p_net_router.specs.Stands.{StandsFor, IsBeside, AreAway}
+use Rattle.p2p_net_router.specs.declared.router.Router.{Router}
+use Rattle.p2p_net_router.proofs.Aside.{stands_begun, same_queue-other}
+use Rattle.p2p_net_router.proofs.Batches.{batch_beside}
+use Rattle.p2p_net_channels.specs.Stands.{ChannelsStand}
+use Rattle.p2p_net_connections.specs.Connections.{half_on, runs_on, ran, begun_on, begun}
+use Rattle.p2p_net_connections.specs.Stands.{ConnectionsStand}
+use Rattle.p2p_net_connections.specs.declared.connections.Connection.{Connection}
+use Rattle.p2p_net_connections.specs.declared.connections.Connections.{Connections}
+use Rattle.p2p_net_connections.proofs.Changes.{connections_moved, half_on-ran, runs_on-ran, running-kept, waiting-begun, waiting-none}
+use Rattle.p2p_net_links.specs.Links.{way_of, with_way, written_way, write_frames_row}
+use Rattle.p2p_net_links.specs.Stands.{LinksStand}
+use Rattle.p2p_net_links.specs.declared.links.Links.{Links}
+use Rattle.p2p_net_links.proofs.Changes.{frames_put, links_frame, links_written}
+use Rattle.p2p_net.specs.Places as place
+use Rattle.p2p_net.specs.Acts.{Writes, Begins, WritesBy, WritesOn, SendSteps}
+use Rattle.p2p_net.specs.Stands.{RouterStands, PartStands, IsSized, NodeStands}
+use Rattle.p2p_net.specs.declared.node.Node.{Node}
+use Rattle.p2p_net.proofs.Frames.{part_frame, makes_none, beside_by}
+use Rattle.p2p_net.proofs.Routers.{RouterStands-moved}
+use Rattle.p2p_net.proofs.Performing.{asked, Performs, sized_same, part_still, links_still, line-still, stays_performs, IsStill}
+
+-- what a half's step comes to, by what stands of it
+abbrev stepped_row : List Config → List Entry → ℕ → ℕ → Option Half → Bool → Row
+stepped_row configs log conn n o runs = elim o [
+  | None ↦ only reply.Gone
+  | Some half ↦ cond runs (write_row (queue.Link conn half.writes) (batch configs log n conn)) (begin_row (line log (queue.Ready n conn)))
+]
+
+stepped_as : (configs : List Config) (log : List Entry) (conn n : ℕ) (cs : Connections) (o : Option Connection) → ConnectionsStand configs log n cs → table.at cs.halves conn ≡ o
+    → send_step_row configs log conn n ≡ stepped_row configs log conn n (half_on o) (runs_on o)
+stepped_as configs log conn n cs o s has =
+    ap (λ h. stepped_row configs log conn n h (is_running log n conn)) (sym (s.halves conn) ∙ ap half_on has)
+    ∙ ap (stepped_row configs log conn n (half_on o)) (sym (s.running conn) ∙ ap runs_on has)
+
+-- ---- the router's answer
+
+same_conn : (n conn c : ℕ) → ((n == n) && (conn == c)) ≡ is_at (nat_cmp c) conn
+same_conn n conn c = grind (arith, nat_tests)
+
+any_of : (b a : Bool) → list_any (λ t. t) (cond b (a ∷ []) []) ≡ (b && a)
+any_of true true = refl
+any_of true false = refl
+any_of false a = refl
+
+-- a connection that took an item runs where that was an answer
+runs_begun : (b at a : Bool) → (b || (at && a)) ≡ cond a (b || at) b
+runs_begun true true true = refl
+runs_begun true true false = refl
+runs_begun true false true = refl
+runs_begun true false false = refl
+runs_begun false true true = refl
+runs_begun false true false = refl
+runs_begun false false true = refl
+runs_begun false false false = refl
+
+ran_where : (a : Bool) (conn c : ℕ) (hs : List (ℕ × Connection)) (k : Connection) → table.at hs conn ≡ Some k → runs_on (table.at (cond a (ran conn hs) hs) c) ≡ cond a (runs_on (table.at hs c) || is_at (nat_cmp c) conn) (runs_on (table.at hs c))
+ran_where true conn c hs k there = runs_on-ran conn c hs k there
+ran_where false conn c hs k there = refl
+
+half_where : (a : Bool) (conn c : ℕ) (hs : List (ℕ × Connection)) → half_on (table.at (cond a (ran conn hs) hs) c) ≡ half_on (table.at hs c)
+half_where true conn c hs = half_on-ran conn c hs
+half_where false conn c hs = refl
+
+taken-first : (log : List Entry) (e : Entry) (q : Queue) (x : Envelope) (rest : List Envelope) → line log q ≡ x ∷ rest → e.takes ≡ name_of x ∷ [] → taken log e ≡ x.item ∷ []
+unfolding taken
+taken-first log e q x rest h t = ap (flat_map (item_named log)) t ∙ (append-nil (item_named log (name_of x)) ∙ item_named-first log q x rest h)
+
+link_other : (n conn link : ℕ) (t : Side) → same_queue (queue.Ready n conn) (queue.Link link t) ≡ false
+link_other n conn link side.Out = refl
+link_other n conn link side.In = refl
+
+-- an entry that takes the first answer of a connection, and does no more
+record Takes (log : List Entry) (e : Entry) (n conn : ℕ) (x : Envelope) (rest : List Envelope) : Type 0 where
+  first : line log (queue.Ready n conn) ≡ x ∷ rest
+  takes : e.takes ≡ name_of x ∷ []
+  puts : e.puts ≡ []
+  ends : e.ends ≡ []
+
+line_begun : (log : List Entry) (e : Entry) (n conn : ℕ) (x : Envelope) (rest : List Envelope) (q : Queue) → Takes log e n conn x rest → line (log ++ e ∷ []) q ≡ cond (same_queue (queue.Ready n conn) q) rest (line log q)
+line_begun log e n conn x rest q h =
+    line-taken log e (queue.Ready n conn) x rest q h.first (ap (λ t. t ++ flat_map ended_item e.ends) h.takes ∙ ap (λ d. name_of x ∷ flat_map ended_item d) h.ends)
+    ∙ (ap (λ p. cond (same_queue (queue.Ready n conn) q) rest (line log q) ++ filter (stands_in q) (placed (length log) 0 p)) h.puts ∙ append-nil (cond (same_queue (queue.Ready n conn) q) rest (line log q)))
+
+-- a step of a sending half is none of a router's
+step_beside : (configs : List Config) (log : List Entry) (e : Entry) (m conn n : ℕ) → e.event.act ≡ act.SendStep conn n → IsBeside configs log e m
+step_beside configs log e m conn n acts = record {
+  no_step = ap (λ b. cond (steps_router m b) (taken log e) []) acts;
+  no_channel = ap (registers_at configs m) acts;
+  no_start = ap (starts m) acts;
+}
+
+begun_stands : (configs : List Config) (log : List Entry) (e : Entry) (n conn : ℕ) (cs : Connections) (k : Connection) (x : Envelope) (rest : List Envelope) → ConnectionsStand configs log n cs → table.at cs.halves conn ≡ Some k
+    → e.event.act ≡ act.SendStep conn n → Takes log e n conn x rest → ConnectionsStand configs (log ++ e ∷ []) n (begun_on (Some x) conn cs)
+begun_stands configs log e n conn cs k x rest s there acts h =
+    let answer = is_answer x.item in
+    let took : taken log e ≡ x.item ∷ [] = taken-first log e (queue.Ready n conn) x rest h.first h.takes in
+    let answers : (c : ℕ) → answers_by n c log e ≡ cond (is_at (nat_cmp c) conn) (answer ∷ []) [] =
+    λ c.
+    ap (λ b. cond (steps_sender n c b) (map is_answer (taken log e)) []) acts
+    ∙ (ap (λ b. cond b (map is_answer (taken log e)) []) (same_conn n conn c) ∙ ap (λ t. cond (is_at (nat_cmp c) conn) (map is_answer t) []) took)
+    in
+    connections_moved configs log e n cs (cond answer (ran conn cs.halves) cs.halves) (popped_at cs.answers conn) s (makes_none configs log e n (act.SendStep conn n) acts refl)
+    (λ c. half_where answer conn c cs.halves)
+    (λ c.
+    ran_where answer conn c cs.halves k there
+    ∙ (ap (λ b. cond answer (b || is_at (nat_cmp c) conn) b) (s.running c)
+    ∙ (sym (runs_begun (is_running log n c) (is_at (nat_cmp c) conn) answer)
+    ∙ (ap (λ b. is_running log n c || b) (sym (ap (list_any (λ (t : Bool). t)) (answers c) ∙ any_of (is_at (nat_cmp c) conn) answer)) ∙ sym (is_running-append log e n c)))))
+    (λ c. waiting-begun log n conn x rest cs.answers s.waits h.first c ∙ sym (line_begun log e n conn x rest (queue.Ready n c) h))
+
+begin_on : (configs : List Config) (log : List Entry) (at seed conn n : ℕ) (k : Connection) (xs : List Envelope) (x y : Node) (l links : Links) (r : Row) → NodeStands configs log n x → LinksStand log l
+    → table.at x.connections.halves conn ≡ Some k → k.running ≡ false → waiting x.connections.answers conn ≡ xs → Begins conn x y l links r → Performs configs log (asked at seed (act.SendStep conn n)) n y links r
+unfolding effect row
+begin_on configs log at seed conn n k [] x y l links r s t there idle is d =
+    let ev = asked at seed (act.SendStep conn n) in
+    let e = effect configs log ev in
+    let cs : ConnectionsStand configs log n x.connections = s.each place.connections in
+    let row_is : send_step_row configs log conn n ≡ only reply.Idle =
+    stepped_as configs log conn n x.connections (Some k) cs there
+    ∙ (ap (λ b. stepped_row configs log conn n (Some k.half) b) idle ∙ ap begin_row (sym (cs.waits conn) ∙ is))
+    in
+    let still : IsStill e reply.Idle = record {
+      reply = ap (λ (z : Row). z.reply) row_is;
+      takes = ap (λ (z : Row). z.takes) row_is;
+      puts = ap (λ (z : Row). z.puts) row_is;
+      ends = ap (λ (z : Row). z.ends) row_is;
+    } in
+    let parts : y ≡ record x { connections = record x.connections { answers = popped_at x.connections.answers conn } } = d.1.0 ∙ ap (λ ws. record x { connections = begun_on (slice_get ws 0) conn x.connections }) is in
+    record {
+      row_is = d.0 ∙ (ap begin_row is ∙ sym row_is);
+      sized = sized_same configs n x y s.sized (ap (λ (z : Node). z.config) parts) (ap (λ (z : Node). z.retained) parts);
+      each = λ p. elim p as (λ q. PartStands q configs (log ++ e ∷ []) n y) [
+        | place.router ↦ subst (RouterStands configs (log ++ e ∷ []) n) (sym (ap (λ (z : Node). z.router) parts)) (part_still place.router configs log e n x (act.SendStep conn n) reply.Idle (s.each place.router) refl refl still)
+        | place.channels ↦ subst (ChannelsStand configs (log ++ e ∷ []) n) (sym (ap (λ (z : Node). z.channels) parts)) (part_still place.channels configs log e n x (act.SendStep conn n) reply.Idle (s.each place.channels) refl refl still)
+        | place.connections ↦
+            let kept : ConnectionsStand configs (log ++ e ∷ []) n x.connections = part_still place.connections configs log e n x (act.SendStep conn n) reply.Idle cs refl refl still in
+            subst (ConnectionsStand configs (log ++ e ∷ []) n) (sym (ap (λ (z : Node). z.connections) parts))
+            (record { halves = kept.halves; running = kept.running; partners = kept.partners; waits = λ c. waiting-none n conn x.connections.answers is c ∙ kept.waits c })
+      ];
+      linked = subst (LinksStand (log ++ e ∷ [])) (sym d.1.1) (links_still log e reply.Idle l t still);
+    }
+begin_on configs log at seed conn n k (w ∷ ws) x y l links r s t there idle is d =
+    let ev = asked at seed (act.SendStep conn n) in
+    let e = effect configs log ev in
+    let cs : ConnectionsStand configs log n x.connections = s.each place.connections in
+    let rout : RouterStands configs log n x.router = s.each place.router in
+    let first : line log (queue.Ready n conn) ≡ w ∷ ws = sym (cs.waits conn) ∙ is in
+    let row_is : send_step_row configs log conn n ≡ begin_row (w ∷ ws) =
+    stepped_as configs log conn n x.connections (Some k) cs there
+    ∙ (ap (λ b. stepped_row configs log conn n (Some k.half) b) idle ∙ ap begin_row first)
+    in
+    let takes : Takes log e n conn w ws = record { first = first; takes = ap (λ (z : Row). z.takes) row_is; puts = ap (λ (z : Row). z.puts) row_is; ends = ap (λ (z : Row). z.ends) row_is } in
+    let parts : y ≡ record x { connections = begun_on (Some w) conn x.connections } = d.1.0 ∙ ap (λ vs. record x { connections = begun_on (slice_get vs 0) conn x.connections }) is in
+    record {
+      row_is = d.0 ∙ (ap begin_row is ∙ sym row_is);
+      sized = sized_same configs n x y s.sized (ap (λ (z : Node). z.config) parts) (ap (λ (z : Node). z.retained) parts);
+      each = λ p. elim p as (λ q. PartStands q configs (log ++ e ∷ []) n y) [
+        | place.router ↦
+            subst (RouterStands configs (log ++ e ∷ []) n) (sym (ap (λ (z : Node). z.router) parts))
+            (RouterStands-moved configs log e n x.router x.router rout
+            (stands_begun configs log e x.router conn n rout.stands (step_beside configs log e x.router.number conn n refl) (takes.takes ∙ sym (ap (λ vs. (begin_row vs).takes) first)) takes.puts takes.ends) refl refl)
+        | place.channels ↦ subst (ChannelsStand configs (log ++ e ∷ []) n) (sym (ap (λ (z : Node). z.channels) parts)) (part_frame place.channels configs log ev n x (s.each place.channels) refl)
+        | place.connections ↦
+            subst (ConnectionsStand configs (log ++ e ∷ []) n) (sym (ap (λ (z : Node). z.connections) parts)) (begun_stands configs log e n conn x.connections k w ws cs there refl takes)
+      ];
+      linked = subst (LinksStand (log ++ e ∷ [])) (sym d.1.1)
+          (links_frame log e l t (λ u link. line_begun log e n conn w ws (queue.Link link u) takes ∙ ap (λ b. cond b ws (line log (queue.Link link u))) (link_other n conn link u)));
+    }
+
+-- ---- a batch
+
+-- an item, to a queue
+abbrev put_frame : Queue → (ℕ × ℕ) × Item → Queue × Item
+put_frame q f = (q, f.1)
+
+abbrev put_item : Queue → Envelope → Queue × Item
+put_item q y = (q, y.item)
+
+names_named : (ys : List Envelope) → map (λ (f : (ℕ × ℕ) × Item). f.0) (map named ys) ≡ map name_of ys
+names_named [] = refl
+names_named (y ∷ ys) = ap (λ t. name_of y ∷ t) (names_named ys)
+
+items_named : (q : Queue) (ys : List Envelope) → map (put_frame q) (map named ys) ≡ map (put_item q) ys
+items_named q [] = refl
+items_named q (y ∷ ys) = let z : Queue × Item = (q, y.item) in ap (λ t. z ∷ t) (items_named q ys)
+
+frames_row : (conn : ℕ) (s : Side) (xs : List Envelope) → write_frames_row conn s (map named xs) ≡ write_row (queue.Link conn s) xs
+frames_row conn s [] = refl
+frames_row conn s (x ∷ xs) =
+    let q = queue.Link conn s in
+    let z : Queue × Item = (q, x.item) in
+    ap (λ t. record { reply = reply.Ok; takes = name_of x ∷ t; puts = z ∷ map (put_frame q) (map named xs); ends = [] }) (names_named xs)
+    ∙ ap (λ t. record { reply = reply.Ok; takes = map name_of (x ∷ xs); puts = z ∷ t; ends = [] }) (items_named q xs)
+
+-- a batch takes these, and puts them
+write_takes : (conn : ℕ) (s : Side) (fs : List ((ℕ × ℕ) × Item)) → (write_frames_row conn s fs).takes ≡ map (λ (f : (ℕ × ℕ) × Item). f.0) fs
+write_takes conn s [] = refl
+write_takes conn s (f ∷ fs) = refl
+
+write_puts : (conn : ℕ) (s : Side) (fs : List ((ℕ × ℕ) × Item)) → (write_frames_row conn s fs).puts ≡ frames_put conn s fs
+write_puts conn s [] = refl
+write_puts conn s (f ∷ fs) = refl
+
+write_ends : (conn : ℕ) (s : Side) (fs : List ((ℕ × ℕ) × Item)) → (write_frames_row conn s fs).ends ≡ []
+write_ends conn s [] = refl
+write_ends conn s (f ∷ fs) = refl
+
+frames_away : (conn : ℕ) (s : Side) (q : Queue) (fs : List ((ℕ × ℕ) × Item)) → same_queue q (queue.Link conn s) ≡ false → AreAway q (frames_put conn s fs)
+frames_away conn s q [] h = tt
+frames_away conn s q (f ∷ fs) h = (h, frames_away conn s q fs h)
+
+filter-away : (q : Queue) (k p : ℕ) (puts : List (Queue × Item)) → AreAway q puts → filter (stands_in q) (placed k p puts) ≡ []
+filter-away q k p [] h = refl
+filter-away q k p (x ∷ xs) h = ap (λ b. cond b (record { entry = k; place = p; queue = x.0; item = x.1 } ∷ filter (stands_in q) (placed k (p + 1) xs)) (filter (stands_in q) (placed k (p + 1) xs))) h.0 ∙ filter-away q k (p + 1) xs h.1
+
+-- a line of neither lane, after a batch of a connection
+line_written : (log : List Entry) (e : Entry) (n conn size : ℕ) (s : Side) (fs : List ((ℕ × ℕ) × Item)) (q : Queue) → same_queue (queue.High n conn) q ≡ false → same_queue (queue.Low n conn) q ≡ false
+    → fs ≡ map named (batch_of n conn size (live log)) → e.takes ≡ map (λ (f : (ℕ × ℕ) × Item). f.0) fs → e.ends ≡ [] → e.puts ≡ frames_put conn s fs
+    → line (log ++ e ∷ []) q ≡ line log q ++ filter (stands_in q) (placed (length log) 0 (frames_put conn s fs))
+unfolding line
+line_written log e n conn size s fs q high low is takes ends puts =
+    let gone : goes e ≡ map name_of (batch_of n conn size (live log)) =
+    ap (λ d. e.takes ++ flat_map ended_item d) ends ∙ (append-nil e.takes ∙ (takes ∙ (ap (map (λ (f : (ℕ × ℕ) × Item). f.0)) is ∙ names_named (batch_of n conn size (live log)))))
+    in
+    line-append log e q
+    ∙ (ap (λ g. filter (stands_in q) (filter (stays g) (live log)) ++ put_in log e q) gone
+    ∙ (ap (λ t. t ++ put_in log e q) (batch_beside n conn size (live log) q (AreApart-live_from 0 log) high low)
+    ∙ ap (λ p. filter (stands_in q) (live log) ++ filter (stands_in q) (placed (length log) 0 p)) puts))
+
+batch_is : (configs : List Config) (log : List Entry) (n conn size : ℕ) → size ≡ batch_size_at configs n → batch_of n conn size (live log) ≡ batch configs log n conn
+unfolding line
+batch_is configs log n conn size h = ap (λ k. batch_of n conn k (live log)) h
+
+ready_apart : (n conn c : ℕ) (s : Side) → same_queue (queue.Ready n c) (queue.Link conn s) ≡ false
+ready_apart n conn c side.Out = refl
+ready_apart n conn c side.In = refl
+
+high_link : (n conn j : ℕ) (t : Side) → same_queue (queue.High n conn) (queue.Link j t) ≡ false
+high_link n conn j side.Out = refl
+high_link n conn j side.In = refl
+
+low_link : (n conn j : ℕ) (t : Side) → same_queue (queue.Low n conn) (queue.Link j t) ≡ false
+low_link n conn j side.Out = refl
+low_link n conn j side.In = refl
+
+-- a connection that runs goes on to run
+still_runs : (log : List Entry) (e : Entry) (n conn c : ℕ) → e.event.act ≡ act.SendStep conn n → is_running log n conn ≡ true → is_running (log ++ e ∷ []) n c ≡ is_running log n c
+still_runs log e n conn c acts runs =
+    is_running-append log e n c
+    ∙ (ap (λ b. is_running log n c || list_any (λ t. t) b) (ap (λ b. cond (steps_sender n c b) (map is_answer (taken log e)) []) acts ∙ ap (λ b. cond b (map is_answer (taken log e)) []) (same_conn n conn c))
+    ∙ by_conn (is_at (nat_cmp c) conn) refl)
+  where
+    or_nothing : (b : Bool) → (b || false) ≡ b
+    or_nothing true = refl
+    or_nothing false = refl
+
+    already : (b t : Bool) → b ≡ true → (b || t) ≡ b
+    already true t h = refl
+    already false t h = cc
+
+    by_conn : (b : Bool) → is_at (nat_cmp c) conn ≡ b → (is_running log n c || list_any (λ t. t) (cond b (map is_answer (taken log e)) [])) ≡ is_running log n c
+    by_conn true h = already (is_running log n c) (list_any (λ t. t) (map is_answer (taken log e))) (ap (is_running log n) (let f : c ≡ conn = grind (arith, nat_tests) in f) ∙ runs)
+    by_conn false h = or_nothing (is_running log n c)
+
+write_on : (configs : List Config) (log : List Entry) (at seed conn n : ℕ) (k : Connection) (x y : Node) (l links : Links) (r : Row) → NodeStands configs log n x → LinksStand log l
+    → table.at x.connections.halves conn ≡ Some k → k.running ≡ true → Writes (length log) conn k.half.writes x y l links r → Performs configs log (asked at seed (act.SendStep conn n)) n y links r
+unfolding effect row
+write_on configs log at seed conn n k x y l links r s t there runs d =
+    let ev = asked at seed (act.SendStep conn n) in
+    let e = effect configs log ev in
+    let cs : ConnectionsStand configs log n x.connections = s.each place.connections in
+    let rout : RouterStands configs log n x.router = s.each place.router in
+    let side_of = k.half.writes in
+    let frames : List ((ℕ × ℕ) × Item) = d.0 in
+    let calls = d.1.0 in
+    let parts : y ≡ record x { router = y.router } = d.1.1.0 in
+    let size = x.config.send_batch_size in
+    let size_is : size ≡ batch_size_at configs n = sym (ap (λ (o : Option Config). elim o [ None ↦ 0 | Some c ↦ c.send_batch_size ]) s.sized.config) in
+    let took : frames ≡ map named (batch_of n conn size (live log)) =
+    calls.taken (mailbox_size_at configs x.router.number) (live log) rout.stands.holds (AreApart-live_from 0 log)
+    ∙ ap (λ m. map named (batch_of m conn size (live log))) rout.number
+    in
+    let stepped : send_step_row configs log conn n ≡ write_row (queue.Link conn side_of) (batch configs log n conn) =
+    stepped_as configs log conn n x.connections (Some k) cs there ∙ ap (λ b. stepped_row configs log conn n (Some k.half) b) runs
+    in
+    let framed : write_frames_row conn side_of frames ≡ send_step_row configs log conn n =
+    ap (write_frames_row conn side_of) took
+    ∙ (frames_row conn side_of (batch_of n conn size (live log))
+    ∙ (ap (write_row (queue.Link conn side_of)) (batch_is configs log n conn size size_is) ∙ sym stepped))
+    in
+    let takes : e.takes ≡ map (λ (f : (ℕ × ℕ) × Item). f.0) frames = ap (λ (z : Row). z.takes) (sym framed) ∙ write_takes conn side_of frames in
+    let puts : e.puts ≡ frames_put conn side_of frames = ap (λ (z : Row). z.puts) (sym framed) ∙ write_puts conn side_of frames in
+    let ends : e.ends ≡ [] = ap (λ (z : Row). z.ends) (sym framed) ∙ write_ends conn side_of frames in
+    let running : is_running log n conn ≡ true = sym (cs.running conn) ∙ (ap runs_on there ∙ runs) in
+    record {
+      row_is = d.1.1.1.0 ∙ framed;
+      sized = sized_same configs n x y s.sized (ap (λ (z : Node). z.config) parts) (ap (λ (z : Node). z.retained) parts);
+      each = λ p. elim p as (λ q. PartStands q configs (log ++ e ∷ []) n y) [
+        | place.router ↦
+            RouterStands-moved configs log e n x.router y.router rout
+            (calls.stands configs log e rout.stands (step_beside configs log e x.router.number conn n refl) takes ends
+            (λ q own. subst (AreAway q) (sym puts) (frames_away conn side_of q frames (same_queue-sym q (queue.Link conn side_of) ∙ same_queue-other x.router.number (queue.Link conn side_of) q refl own))))
+            calls.kept.number calls.kept.peers
+        | place.channels ↦ subst (ChannelsStand configs (log ++ e ∷ []) n) (sym (ap (λ (z : Node). z.channels) parts)) (part_frame place.channels configs log ev n x (s.each place.channels) refl)
+        | place.connections ↦
+            subst (ConnectionsStand configs (log ++ e ∷ []) n) (sym (ap (λ (z : Node). z.connections) parts))
+            (connections_moved configs log e n x.connections x.connections.halves x.connections.answers cs (makes_none configs log e n (act.SendStep conn n) refl refl) (λ c. refl)
+            (λ c. cs.running c ∙ sym (still_runs log e n conn c refl running))
+            (λ c.
+            cs.waits c
+            ∙ sym
+            (line_written log e n conn size side_of frames (queue.Ready n c) refl refl took takes ends puts
+            ∙ (ap (λ w. line log (queue.Ready n c) ++ w) (filter-away (queue.Ready n c) (length log) 0 (frames_put conn side_of frames) (frames_away conn side_of (queue.Ready n c) frames (ready_apart n conn c side_of))) ∙ append-nil (line log (queue.Ready n c))))))
+      ];
+      linked = subst (LinksStand (log ++ e ∷ [])) (sym d.1.1.1.1)
+          (links_written log e l side_of conn (length log) frames t (λ u j. line_written log e n conn size side_of frames (queue.Link j u) (high_link n conn j u) (low_link n conn j u) took takes ends puts));
+    }
+
+-- ---- a step
+
+step_by : (configs : List Config) (log : List Entry) (at seed conn n : ℕ) (k : Connection) (b : Bool) (x y : Node) (l links : Links) (r : Row) → NodeStands configs log n x → LinksStand log l
+    → table.at x.connections.halves conn ≡ Some k → k.running ≡ b → WritesBy b (length log) conn k.half.writes x y l links r → Performs configs log (asked at seed (act.SendStep conn n)) n y links r
+step_by configs log at seed conn n k true x y l links r s t there runs d = write_on configs log at seed conn n k x y l links r s t there runs d
+step_by configs log at seed conn n k false x y l links r s t there runs d = begin_on configs log at seed conn n k (waiting x.connections.answers conn) x y l links r s t there runs refl d
+
+step_on : (configs : List Config) (log : List Entry) (at seed conn n : ℕ) (o : Option Connection) (x y : Node) (l links : Links) (r : Row) → NodeStands configs log n x → LinksStand log l
+    → table.at x.connections.halves conn ≡ o → WritesOn o (length log) conn x y l links r → Performs configs log (asked at seed (act.SendStep conn n)) n y links r
+unfolding row
+step_on configs log at seed conn n None x y l links r s t there d =
+    let cs : ConnectionsStand configs log n x.connections = s.each place.connections in
+    stays_performs configs log (asked at seed (act.SendStep conn n)) n x y l links r reply.Gone s t (stepped_as configs log conn n x.connections None cs there) refl d.0.0 d.0.1 d.1
+step_on configs log at seed conn n (Some k) x y l links r s t there d = step_by configs log at seed conn n k k.running x y l links r s t there refl d
+
+pub send_step_performs : (configs : List Config) (log : List Entry) (at seed conn n : ℕ) (x y : Node) (l links : Links) (r : Row) → NodeStands configs log n x → LinksStand log l
+    → SendSteps (length log) conn x y l links r → Performs configs log (asked at seed (act.SendStep conn n)) n y links r
+send_step_performs configs log at seed conn n x y l links r s t d = step_on configs log at seed conn n (table.at x.connections.halves conn) x y l links r s t refl d

@@ -1,0 +1,61 @@
+use Rattle.std.proofs.Common.{◌≡◌, true, false, ap, sym, subst, ◌∙◌, ◌++◌, ◌∷◌, [], rules}
+use Rattle.p2p_log_rules.specs.Facts.{events_of}
+use Rattle.p2p_log_rules.specs.Effect.{effect}
+use Rattle.p2p_log_rules.specs.Valid.{is_valid_event}
+use Rattle.p2p_net.specs.Ready.{may_apply}
+use Rattle.p2p_net.specs.Refusals.{ApplyRefused}
+use Rattle.p2p_net.specs.World.{WorldView, IsRecorded, KeptStands}
+use Rattle.p2p_net.proofs.Readying.{may_perform}
+use Rattle.p2p_net.proofs.Records.{valid_act, tested, kept_more, refused}
+use Rattle.p2p_net.proofs.world.World.apply.Goals as goal
+
+pub returns-in_err-allow-clause-err : goal.returns-in_err-allow-clause-err
+returns-in_err-allow-clause-err c =
+    let w = c.self.inside in
+    let v = c.args.event.now in
+    let kept = c.self.invariant c.if-self.false in
+    let invalid : is_valid_event w.configs (events_of w.report.log) v ≡ false =
+    sym (tested w.configs w.report.log w.nodes.items w.links w.last v kept)
+    ∙ (ap (λ nodes. may_apply nodes w.report.log w.last v) (sym c.as_slice.ensures.value) ∙ c.in_err-allow.ensures.err.1)
+    in
+    let told : ApplyRefused c.args.self.now v c.in_err-allow.field-0.0 c.args.self.now =
+    subst (λ (old : WorldView). ApplyRefused old v c.in_err-allow.field-0.0 old) c.self.view_is (refused _ v c.in_err-allow.field-0.0 c.in_err-allow.ensures.err.0 invalid)
+    in
+    search rules
+
+pub record-requires : goal.record-requires
+record-requires c =
+    let w = c.self.inside in
+    let v = c.args.event.now in
+    let kept = c.self.invariant c.if-self.false in
+    may_perform w.configs w.report.log w.nodes.items w.links v.act kept.world
+    (valid_act w.configs (events_of w.report.log) v
+    (sym (tested w.configs w.report.log w.nodes.items w.links w.last v kept) ∙ (ap (λ nodes. may_apply nodes w.report.log w.last v) (sym c.as_slice.ensures.value) ∙ c.in_ok-allow.ensures.ok)))
+
+-- what the log and the nodes are, where the event was recorded
+is_valid : (c : goal.After-self-3-1) → is_valid_event c.self.inside.configs (events_of c.self.inside.report.log) c.args.event.now ≡ true
+is_valid c =
+    let w = c.self.inside in
+    let v = c.args.event.now in
+    sym (tested w.configs w.report.log w.nodes.items w.links w.last v (c.self.invariant c.if-self.false))
+    ∙ (ap (λ nodes. may_apply nodes w.report.log w.last v) (sym c.as_slice.ensures.value) ∙ c.in_ok-allow.ensures.ok)
+
+is_recorded : (c : goal.After-self-3-1) → IsRecorded c.self.inside.configs c.self.inside.report.log c.args.event.now c.record.new.report.log c.record.new.nodes.items c.record.new.links
+is_recorded c = c.in_ok-record.ensures.ok c.self.inside.configs (c.self.invariant c.if-self.false).world (is_valid c)
+
+pub invariant_of-self-2 : goal.invariant_of-self-2
+invariant_of-self-2 c = λ _.
+    let w = c.self.inside in
+    let r = is_recorded c in
+    kept_more w.configs w.report.log c.record.new.report.log c.record.new.nodes.items c.record.new.links c.args.event.now r.log_is r.stands
+
+pub returns-clause-ok : goal.returns-clause-ok
+returns-clause-ok c =
+    subst (λ (old : WorldView). c.record.new.report.log ≡ old.log ++ effect old.configs old.log c.args.event.now ∷ []) c.self.view_is (is_recorded c).log_is
+
+pub returns-clause-stands : goal.returns-clause-stands
+returns-clause-stands c = λ _. (is_recorded c).stands
+
+pub returns-clause-valid : goal.returns-clause-valid
+returns-clause-valid c =
+    subst (λ (old : WorldView). is_valid_event old.configs (events_of old.log) c.args.event.now ≡ true) c.self.view_is (is_valid c)

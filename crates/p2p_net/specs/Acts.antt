@@ -1,0 +1,177 @@
+-- What each act comes to, and what it makes of a node and of the links. No log: of the router's calls the log is a matter of its own.
+use Rattle.std.specs.Prelude.{◌≡◌, ℕ, ◌+◌, Bool, true, false, List, [], length, Option, Some, None, slice_get, slice_set}
+use Rattle.p2p_base.specs.declared.key.Key.{Key}
+use Rattle.p2p_log.specs.declared.queue.Side.{Side}
+use Rattle.p2p_log.specs.declared.item.Item.{Item}
+use Rattle.p2p_log.specs.declared.item.Envelope.{Envelope}
+use Rattle.p2p_log.specs.declared.entry.Reply.TheVariants as reply
+use Rattle.p2p_log.specs.declared.event.Rate.{Rate}
+use Rattle.p2p_log.specs.declared.event.Recipients.{Recipients}
+use Rattle.p2p_log.specs.declared.event.Act.{Act}
+use Rattle.p2p_log.specs.declared.event.Act.TheVariants as act
+use Rattle.p2p_log.specs.Copies.{keys_of_recipients}
+use Rattle.p2p_log.specs.Lines.{name_of}
+use Rattle.p2p_log_rules.specs.declared.row.Half.{Half}
+use Rattle.p2p_log_rules.specs.declared.row.Row.{Row}
+use Rattle.p2p_log_rules.specs.Effect.{only, oldest_read, begin_row, other_side}
+use Rattle.p2p_net_queues.specs.Rows.{taken_row}
+use Rattle.p2p_net_queues.specs.Tables as table
+use Rattle.p2p_net_queues.specs.Tables.{waiting, popped_at}
+use Rattle.p2p_net_channels.specs.declared.arrival.Arrived.{Arrived}
+use Rattle.p2p_net_channels.specs.declared.channels.Channels.{Channels}
+use Rattle.p2p_net_channels.specs.Arrivals.{arrival_in, delivered}
+use Rattle.p2p_net_channels.specs.Channels.{capacity_at, registered_with, is_full, delivered_to, read_from}
+use Rattle.p2p_net_connections.specs.declared.connections.Connection.{Connection}
+use Rattle.p2p_net_connections.specs.Connections.{answered, begun}
+use Rattle.p2p_net_links.specs.declared.links.Links.{Links}
+use Rattle.p2p_net_links.specs.Links.{way_of, with_way, written_way, write_frames_row}
+use Rattle.p2p_net.specs.Ready.{is_started, capacity_by}
+use Rattle.p2p_net.specs.Routing as routing
+use Rattle.p2p_net.specs.declared.node.Node.{Node}
+use Rattle.p2p_net.specs.declared.steps.Arrival.{Arrival}
+
+-- the node is as it was
+abbrev pub Stays : Node → Node → Row → Row → Type 0
+Stays old new r s = (r ≡ s) × (new ≡ old)
+
+-- ---- calls
+
+abbrev pub Registers : ℕ → Rate → Node → Node → Row → Type 0
+Registers c rate old new r =
+    (r ≡ only (reply.Capacity (capacity_by old rate)))
+    × ((new ≡ record old { router = new.router; channels = registered_with old.channels c (capacity_by old rate) }) × routing.Subscribes c old.router new.router)
+
+abbrev pub Starts : ℕ → Node → Node → Row → Type 0
+Starts k old new r =
+    (new ≡ record old { router = new.router }) × routing.Starts k (old.config.mailbox_size + old.channels.total) old.router new.router r
+
+abbrev pub SendsOn : Option ℕ → ℕ → ℕ → Bool → List ℕ → Recipients → Node → Node → Row → Type 0
+SendsOn None k c priority bytes to old new r = Stays old new r (only reply.Gone)
+SendsOn (Some capacity) k c priority bytes to old new r =
+    (new ≡ record old { router = new.router }) × routing.Sends k c priority bytes (keys_of_recipients to) old.router new.router r
+
+abbrev pub Sends : ℕ → ℕ → Bool → List ℕ → Recipients → Node → Node → Row → Type 0
+Sends k c priority bytes to old new r = SendsOn (capacity_at old.channels c) k c priority bytes to old new r
+
+abbrev pub ReadsOn : Option ℕ → ℕ → Node → Node → Row → Type 0
+ReadsOn None c old new r = Stays old new r (only reply.Gone)
+ReadsOn (Some capacity) c old new r = (r ≡ oldest_read (waiting old.channels.waiting c)) × (new ≡ record old { channels = read_from c old.channels })
+
+abbrev pub Reads : ℕ → Node → Node → Row → Type 0
+Reads c old new r = ReadsOn (capacity_at old.channels c) c old new r
+
+-- ---- the router's step
+
+abbrev pub RoutesBy : Bool → ℕ → ℕ → Node → Node → Row → Type 0
+RoutesBy false k n old new r = Stays old new r (only reply.Gone)
+RoutesBy true k n old new r =
+    (new ≡ record old { router = new.router; connections = record old.connections { answers = answered k n 0 r.puts old.connections.answers } })
+    × routing.Steps k old.router new.router r
+
+abbrev pub Routes : ℕ → ℕ → Node → Node → Row → Type 0
+Routes k n old new r = RoutesBy (is_started old) k n old new r
+
+-- ---- a connection's sending half
+
+-- a batch is written to the link
+abbrev pub Writes : ℕ → ℕ → Side → Node → Node → Links → Links → Row → Type 0
+Writes k conn s old new l links r =
+    (frames : List ((ℕ × ℕ) × Item))
+    × (routing.Batches conn old.config.send_batch_size old.router new.router frames
+    × ((new ≡ record old { router = new.router })
+    × ((r ≡ write_frames_row conn s frames) × (links ≡ with_way l s (written_way k conn s 0 frames (way_of l s))))))
+
+abbrev pub Begins : ℕ → Node → Node → Links → Links → Row → Type 0
+Begins conn old new l links r =
+    (r ≡ begin_row (waiting old.connections.answers conn)) × ((new ≡ record old { connections = begun conn old.connections }) × (links ≡ l))
+
+abbrev pub WritesBy : Bool → ℕ → ℕ → Side → Node → Node → Links → Links → Row → Type 0
+WritesBy true k conn s old new l links r = Writes k conn s old new l links r
+WritesBy false k conn s old new l links r = Begins conn old new l links r
+
+abbrev pub WritesOn : Option Connection → ℕ → ℕ → Node → Node → Links → Links → Row → Type 0
+WritesOn None k conn old new l links r = Stays old new r (only reply.Gone) × (links ≡ l)
+WritesOn (Some c) k conn old new l links r = WritesBy c.running k conn c.half.writes old new l links r
+
+abbrev pub SendSteps : ℕ → ℕ → Node → Node → Links → Links → Row → Type 0
+SendSteps k conn old new l links r = WritesOn (table.at old.connections.halves conn) k conn old new l links r
+
+-- ---- a connection's receiving half
+
+-- what becomes of a message that arrived under this name, by the capacity of its channel
+abbrev pub accepted_row : Option ℕ → ℕ → ℕ × ℕ → Key → Arrived → Channels → Row
+accepted_row None n name from m ch = only reply.Idle
+accepted_row (Some capacity) n name from m ch = delivered (is_full ch capacity m.channel) n from m (taken_row name)
+
+abbrev pub accepted_into : Option ℕ → ℕ → ℕ → Key → Arrived → Channels → Channels
+accepted_into None k n from m ch = ch
+accepted_into (Some capacity) k n from m ch = delivered_to (is_full ch capacity m.channel) k 0 n from m ch
+
+abbrev pub accepted_off : Option ℕ → ℕ → Side → Links → Links
+accepted_off None conn s l = l
+accepted_off (Some capacity) conn s l = with_way l s (popped_at (way_of l s) conn)
+
+-- by the message in the first frame
+abbrev pub arrived_row : Option Arrived → ℕ → ℕ × ℕ → Key → Channels → Row
+arrived_row None n name from ch = only reply.Idle
+arrived_row (Some m) n name from ch = accepted_row (capacity_at ch m.channel) n name from m ch
+
+abbrev pub arrived_into : Option Arrived → ℕ → ℕ → Key → Channels → Channels
+arrived_into None k n from ch = ch
+arrived_into (Some m) k n from ch = accepted_into (capacity_at ch m.channel) k n from m ch
+
+abbrev pub arrived_off : Option Arrived → ℕ → Side → Channels → Links → Links
+arrived_off None conn s ch l = l
+arrived_off (Some m) conn s ch l = accepted_off (capacity_at ch m.channel) conn s l
+
+-- by the first frame
+abbrev pub received_row : ℕ → Option Envelope → ℕ → Key → Channels → Row
+received_row limit None n from ch = only reply.Idle
+received_row limit (Some x) n from ch = arrived_row (arrival_in limit x.item) n (name_of x) from ch
+
+abbrev pub received_into : ℕ → Option Envelope → ℕ → ℕ → Key → Channels → Channels
+received_into limit None k n from ch = ch
+received_into limit (Some x) k n from ch = arrived_into (arrival_in limit x.item) k n from ch
+
+abbrev pub received_off : ℕ → Option Envelope → ℕ → Side → Channels → Links → Links
+received_off limit None conn s ch l = l
+received_off limit (Some x) conn s ch l = arrived_off (arrival_in limit x.item) conn s ch l
+
+-- the first frame, by its name and the message in it
+abbrev pub frame_in : ℕ → Option Envelope → Option Arrival
+frame_in limit None = None
+frame_in limit (Some x) = Some (record { name = name_of x; message = arrival_in limit x.item })
+
+-- the first frame in one direction of a link
+abbrev pub first_in : Links → ℕ → Side → Option Envelope
+first_in l conn s = slice_get (waiting (way_of l s) conn) 0
+
+abbrev pub Receives : ℕ → ℕ → ℕ → Side → Key → Node → Node → Links → Links → Row → Type 0
+Receives k n conn s from old new l links r =
+    (r ≡ received_row old.config.max_message_size (first_in l conn s) n from old.channels)
+    × ((new ≡ record old { channels = received_into old.config.max_message_size (first_in l conn s) k n from old.channels })
+    × (links ≡ received_off old.config.max_message_size (first_in l conn s) conn s old.channels l))
+
+abbrev pub ReceivesBy : Bool → ℕ → ℕ → ℕ → Side → Key → Node → Node → Links → Links → Row → Type 0
+ReceivesBy true k n conn s from old new l links r = Receives k n conn s from old new l links r
+ReceivesBy false k n conn s from old new l links r = Stays old new r (only reply.Idle) × (links ≡ l)
+
+abbrev pub ReceivesOn : Option Connection → ℕ → ℕ → ℕ → Node → Node → Links → Links → Row → Type 0
+ReceivesOn None k n conn old new l links r = Stays old new r (only reply.Gone) × (links ≡ l)
+ReceivesOn (Some c) k n conn old new l links r = ReceivesBy c.running k n conn (other_side c.half.writes) c.half.peer old new l links r
+
+abbrev pub RecvSteps : ℕ → ℕ → ℕ → Node → Node → Links → Links → Row → Type 0
+RecvSteps k n conn old new l links r = ReceivesOn (table.at old.connections.halves conn) k n conn old new l links r
+
+-- ---- all acts that name one node
+
+-- what the entry k of an act comes to at the node n
+abbrev pub NodeDoes : ℕ → ℕ → Act → Node → Node → Links → Links → Row → Type 0
+NodeDoes k n (act.Register c m rate) old new l links r = Registers c rate old new r × (links ≡ l)
+NodeDoes k n (act.Start m) old new l links r = Starts k old new r × (links ≡ l)
+NodeDoes k n (act.Send bytes c m priority to) old new l links r = Sends k c priority bytes to old new r × (links ≡ l)
+NodeDoes k n (act.Router m) old new l links r = Routes k n old new r × (links ≡ l)
+NodeDoes k n (act.SendStep conn m) old new l links r = SendSteps k conn old new l links r
+NodeDoes k n (act.RecvStep conn m) old new l links r = RecvSteps k n conn old new l links r
+NodeDoes k n (act.Recv c m) old new l links r = Reads c old new r × (links ≡ l)
+NodeDoes k n (act.Join a b) old new l links r = Stays old new r (only reply.Idle) × (links ≡ l)

@@ -1,0 +1,79 @@
+-- What a join comes to, and all acts on all nodes.
+use Rattle.std.specs.Prelude.{◌≡◌, ℕ, Bool, true, false, ◌==◌, ◌&&◌, not, List, [], ◌∷◌, Option, Some, None, slice_get, slice_set, is_some}
+use Rattle.p2p_log.specs.declared.queue.Queue.TheVariants as queue
+use Rattle.p2p_log.specs.declared.queue.Side.TheVariants as side
+use Rattle.p2p_log.specs.declared.item.Item.TheVariants as item
+use Rattle.p2p_log.specs.declared.entry.Reply.TheVariants as reply
+use Rattle.p2p_log.specs.declared.event.Act.{Act}
+use Rattle.p2p_log.specs.declared.event.Act.TheVariants as act
+use Rattle.p2p_log_rules.specs.declared.row.Half.{Half}
+use Rattle.p2p_log_rules.specs.declared.row.Row.{Row}
+use Rattle.p2p_log_rules.specs.Effect.{only}
+use Rattle.p2p_base.specs.declared.key.Key.{Key}
+use Rattle.p2p_net_queues.specs.Tables as table
+use Rattle.p2p_net_connections.specs.Connections.{joined_with}
+use Rattle.p2p_net_links.specs.declared.links.Links.{Links}
+use Rattle.p2p_net.specs.Ready.{is_started}
+use Rattle.p2p_net.specs.Places.{node_of}
+use Rattle.p2p_net.specs.Acts.{NodeDoes}
+use Rattle.p2p_net.specs.Routing as routing
+use Rattle.p2p_net.specs.declared.node.Node.{Node}
+use Rattle.p2p_net.specs.declared.joins.Ends.{Ends}
+
+-- a node has this half of the connection k with its partner, of which its router is told as the put of this place
+abbrev pub Welcomes : ℕ → ℕ → Half → ℕ → Node → Node → Type 0
+Welcomes k place half partner old new =
+    (new ≡ record old { router = new.router; connections = joined_with k half partner old.connections })
+    × routing.Readies k place old.config.mailbox_size half.peer old.router new.router
+
+-- whether two nodes may be joined: both have started, they are two, and were not joined before
+abbrev pub may_join : ℕ → ℕ → Node → Node → Bool
+may_join a b x y = (is_started x && is_started y) && (not (a == b) && not (is_some (table.at x.connections.partners b)))
+
+-- the row of a join of two nodes with these keys
+abbrev pub joined_row : ℕ → ℕ → ℕ → Key → Key → Row
+joined_row k a b first second = record {
+  reply = reply.Ok;
+  takes = [];
+  puts = (queue.Router a, item.Ready k second) ∷ (queue.Router b, item.Ready k first) ∷ [];
+  ends = [];
+}
+
+-- two nodes have their halves of the connection k, by their keys
+abbrev pub Connects : ℕ → ℕ → ℕ → Key → Key → List Node → List Node → Type 0
+Connects k a b first second old new =
+    (x : Node) × ((y : Node) × ((v : Node) × ((w : Node) × ((slice_get old a ≡ Some x) × ((slice_get old b ≡ Some y)
+    × (Welcomes k 0 (record { peer = second; writes = side.Out }) b x v
+    × (Welcomes k 1 (record { peer = first; writes = side.In }) a y w × (new ≡ slice_set (slice_set old a v) b w))))))))
+
+abbrev pub JoinsBy : Bool → ℕ → ℕ → ℕ → Node → Node → List Node → List Node → Row → Type 0
+JoinsBy false k a b x y old new r = (r ≡ only reply.Gone) × (new ≡ old)
+JoinsBy true k a b x y old new r =
+    (r ≡ joined_row k a b x.config.public_key y.config.public_key) × Connects k a b x.config.public_key y.config.public_key old new
+
+-- what the entry k of a join comes to
+abbrev pub Joins : ℕ → ℕ → ℕ → List Node → List Node → Row → Type 0
+Joins k a b old new r =
+    (x : Node) × ((y : Node) × ((slice_get old a ≡ Some x) × ((slice_get old b ≡ Some y) × JoinsBy (may_join a b x y) k a b x y old new r)))
+
+-- what the entry k of an act that names one node comes to
+abbrev pub OneDoes : ℕ → Act → List Node → List Node → Links → Links → Row → Type 0
+OneDoes k a old new l links r =
+    (x : Node) × ((y : Node) × ((slice_get old (node_of a) ≡ Some x) × ((new ≡ slice_set old (node_of a) y) × NodeDoes k (node_of a) a x y l links r)))
+
+-- the two nodes of a join
+abbrev pub pair_of : Act → Option (ℕ × ℕ)
+pair_of (act.Join a b) = Some (a, b)
+pair_of _ = None
+
+abbrev pub ends_by : Option (ℕ × ℕ) → Option Ends
+ends_by None = None
+ends_by (Some ends) = Some (record { dials = ends.0; listens = ends.1 })
+
+abbrev pub DoesOn : Option (ℕ × ℕ) → ℕ → Act → List Node → List Node → Links → Links → Row → Type 0
+DoesOn None k a old new l links r = OneDoes k a old new l links r
+DoesOn (Some ends) k a old new l links r = Joins k ends.0 ends.1 old new r × (links ≡ l)
+
+-- what the entry k of an act comes to
+abbrev pub WorldDoes : ℕ → Act → List Node → List Node → Links → Links → Row → Type 0
+WorldDoes k a old new l links r = DoesOn (pair_of a) k a old new l links r

@@ -1,0 +1,69 @@
+-- When a node may be asked for an act, by what it is.
+use Rattle.std.specs.Prelude.{◌≡◌, ℕ, ◌+◌, ◌*◌, ◌^◌, ◌<◌, ◌≤◌, Bool, true, false, ◌&&◌, ◌||◌, ◌==◌, not, nat_lt, nat_le, List, length, Option, Some, None, IsTrue, is_some, slice_get}
+use Rattle.p2p_log.specs.declared.event.Rate.{Rate}
+use Rattle.p2p_log.specs.declared.entry.Entry.{Entry}
+use Rattle.p2p_log.specs.declared.event.Event.{Event}
+use Rattle.p2p_log.specs.declared.event.Act.{Act}
+use Rattle.p2p_log.specs.declared.event.Act.TheVariants as act
+use Rattle.p2p_log_rules.specs.Valid.{fits_usize}
+use Rattle.p2p_router.specs.Messenger.{is_unbound, is_bound}
+use Rattle.p2p_net_channels.specs.Channels.{capacity_at}
+use Rattle.p2p_net.specs.Places.{node_of, other_of}
+use Rattle.p2p_net.specs.declared.node.Node.{Node}
+
+-- whether a node has started
+abbrev pub is_started : Node → Bool
+is_started x = is_bound x.router.messenger.binding
+
+-- how many messages a channel of this rate holds at a node
+abbrev pub capacity_by : Node → Rate → ℕ
+capacity_by x rate = x.retained * rate.burst
+
+abbrev pub may_register : Node → ℕ → Rate → Bool
+may_register x c rate =
+    (not (is_started x) && not (is_some (capacity_at x.channels c)))
+    && (fits_usize (capacity_by x rate) && fits_usize (x.config.mailbox_size + (x.channels.total + capacity_by x rate)))
+
+abbrev pub is_join_of : ℕ → Act → Bool
+is_join_of n (act.Join a b) = (a == n) || (b == n)
+is_join_of n _ = false
+
+-- whether this entry is of a join of the node
+abbrev pub names_node : ℕ → Option Entry → Bool
+names_node n None = false
+names_node n (Some e) = is_join_of n e.event.act
+
+-- whether a node may be asked, after these entries
+abbrev pub may_ask : List Entry → Node → Act → Bool
+may_ask log x (act.Register c n rate) = may_register x c rate
+may_ask log x (act.Start n) = not (is_started x)
+may_ask log x (act.Send bytes c n priority to) = nat_le (length bytes) x.config.max_message_size
+may_ask log x (act.SendStep conn n) = names_node n (slice_get log conn)
+may_ask log x (act.RecvStep conn n) = names_node n (slice_get log conn)
+may_ask log x _ = true
+
+-- the sizes of a node, where it is asked for an act
+abbrev pub IsReady : Act → Node → Type 0
+IsReady (act.Register c n rate) x = x.channels.total + capacity_by x rate < 2 ^ 64
+IsReady (act.Start n) x = IsTrue (is_unbound x.router.messenger.binding) × ((1 ≤ x.config.mailbox_size) × (x.config.mailbox_size + x.channels.total < 2 ^ 64))
+IsReady (act.Send bytes c n priority to) x = length bytes < 2 ^ 32
+IsReady _ x = Unit {0}
+
+abbrev pub may_at : Option Node → List Entry → Act → Bool
+may_at None log a = false
+may_at (Some x) log a = may_ask log x a
+
+-- whether an act names nodes that are there, and its node may be asked
+abbrev pub may_act : List Node → List Entry → Act → Bool
+may_act nodes log a = nat_lt (node_of a) (length nodes) && (nat_lt (other_of a) (length nodes) && may_at (slice_get nodes (node_of a)) log a)
+
+-- whether an event may be asked for, after these entries and this last moment
+abbrev pub may_apply : List Node → List Entry → ℕ → Event → Bool
+may_apply nodes log last v = nat_le last v.at && may_act nodes log v.act
+
+-- an act finds its nodes there, and ready
+pub record MayPerform (nodes : List Node) (a : Act) : Type 0 where
+  pub first : node_of a < length nodes
+  pub second : other_of a < length nodes
+  pub ready : (x : Node) → slice_get nodes (node_of a) ≡ Some x → IsReady a x
+  pub sizes : (n : ℕ) (x : Node) → slice_get nodes n ≡ Some x → 1 ≤ x.config.mailbox_size

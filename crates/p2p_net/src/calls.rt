@@ -1,0 +1,81 @@
+//! The calls of a node: registering a channel, starting, sending and reading.
+ghost use Rattle.std.specs.Prelude.{◌≡◌, ◌+◌, ◌<◌, ◌≤◌, ◌^◌, length, IfOk, OnOk, IsTrue};
+ghost use Rattle.p2p_log.specs.Copies.{keys_of_recipients};
+ghost use Rattle.p2p_log_rules.specs.Effect.{oldest_read};
+ghost use Rattle.p2p_router.specs.Messenger.{is_unbound};
+ghost use Rattle.p2p_net.specs.Ready.{capacity_by};
+ghost use Rattle.p2p_net.specs.Acts.{Registers, Starts, Sends, Reads};
+
+use crate::node::Node;
+use bytes::Bytes;
+use p2p_log::{Rate, Recipients, Reply};
+use p2p_log_rules::Row;
+use p2p_net_queues::{Turn, only};
+use std::alloc::AllocError;
+
+impl Node {
+    /// Registers a channel: its queue holds the bursts of the retained peers, and the router is asked for its lists of peers.
+    pub(crate) fn register(
+        &mut self,
+        turn: Turn,
+        channel: u64,
+        quota: Rate,
+    ) -> Result<Row, AllocError>
+        requires { self.old.channels.total + capacity_by self.old quota < 2 ^ 64 }
+        ensures { IfOk result (λ r. Registers channel quota self.old self.new r) }
+    {
+        let capacity = self.retained * quota.burst as usize;
+        self.channels.register(channel, capacity)?;
+        self.router.subscribe(turn.alloc, channel)?;
+        Ok(only(turn.alloc, Reply::Capacity(capacity)))
+    }
+
+    /// Starts the node: the subscriptions that waited are put to its router, in order of registration.
+    pub(crate) fn start(&mut self, turn: Turn) -> Result<Row, AllocError>
+        requires unbound { IsTrue (is_unbound self.old.router.messenger.binding) }
+        requires size { 1 ≤ self.old.config.mailbox_size }
+        requires room { self.old.config.mailbox_size + self.old.channels.total < 2 ^ 64 }
+        ensures { IfOk result (λ r. Starts turn.entry self.old self.new r) }
+    {
+        let places = self.config.mailbox_size + self.channels.total;
+        let row = self.router.start(turn.alloc, turn.entry, places)?;
+        Ok(row)
+    }
+
+    /// Sends a message on a channel.
+    pub(crate) fn send(
+        &mut self,
+        turn: Turn,
+        channel: u64,
+        bytes: &Bytes,
+        priority: bool,
+        to: &Recipients,
+    ) -> Result<Row, AllocError>
+        requires { length bytes.now < 2 ^ 32 }
+        ensures { IfOk result (λ r. Sends turn.entry channel priority bytes.now to.now self.old self.new r) }
+    {
+        match self.channels.capacity(channel) {
+            None => Ok(only(turn.alloc, Reply::Gone)),
+            Some(_capacity) => {
+                let keys = to.keys(turn.alloc)?;
+                let row = self
+                    .router
+                    .send(turn.alloc, turn.entry, channel, priority, bytes, keys)?;
+                Ok(row)
+            }
+        }
+    }
+
+    /// Takes the oldest message of a channel.
+    pub(crate) fn read(&mut self, turn: Turn, channel: u64) -> Result<Row, AllocError>
+        ensures { IfOk result (λ r. Reads channel self.old self.new r) }
+    {
+        match self.channels.capacity(channel) {
+            None => Ok(only(turn.alloc, Reply::Gone)),
+            Some(_capacity) => {
+                let row = self.channels.read(turn.alloc, channel)?;
+                Ok(row)
+            }
+        }
+    }
+}

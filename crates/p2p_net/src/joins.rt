@@ -1,0 +1,211 @@
+//! Joining two nodes, and what each act does in a world.
+ghost use Rattle.std.specs.Prelude.{◌≡◌, ◌==◌, ℕ, ◌<◌, ◌≤◌, false, length, slice_get, IfOk, OnOk, IsTrue, Some};
+ghost use Rattle.p2p_router.specs.Messenger.{is_bound};
+ghost use Rattle.p2p_net.specs.Ready.{IsReady};
+ghost use Rattle.p2p_net.specs.Places.{node_of as node_of_act, other_of as other_of_act};
+ghost use Rattle.p2p_net.specs.Joining.{Welcomes, Connects, may_join as may_join_test, joined_row, Joins, pair_of, ends_by, OneDoes, WorldDoes};
+ghost use Rattle.p2p_net.specs.declared.node.Node.{Node};
+
+use crate::node::Node;
+use p2p_base::Key;
+use p2p_log::{Act, Item, Queue, Reply, Side};
+use p2p_log_rules::{Half, Row};
+use p2p_net_links::Links;
+use p2p_net_queues::{Turn, only};
+use std::alloc::{AllocError, Global};
+
+/// The two nodes that a join names: the one that dials, and the one that listens.
+#[derive(Clone, Copy)]
+pub struct Ends {
+    pub dials: u64,
+    pub listens: u64,
+}
+
+/// Whether two nodes may be joined: both have started, they are two, and were not joined before.
+fn may_join(ends: Ends, first: &Node, second: &Node) -> bool
+    ensures { result ≡ may_join_test ends.dials ends.listens first.now second.now }
+{
+    first.is_started()
+        && second.is_started()
+        && (ends.dials != ends.listens && !first.connections.is_joined(ends.listens))
+}
+
+/// The row of a join by this entry's connection, of which the two routers are told.
+fn ready_row(
+    alloc: Global,
+    entry: u64,
+    ends: Ends,
+    first: Key,
+    second: Key,
+) -> Result<Row, AllocError>
+    ensures { IfOk result (λ r. r ≡ joined_row entry ends.dials ends.listens first second) }
+{
+    let mut row = only(alloc, Reply::Ok);
+    let to_first = Item::Ready {
+        conn: entry,
+        key: second,
+    };
+    row.puts.push((Queue::Router(ends.dials), to_first))?;
+    let to_second = Item::Ready {
+        conn: entry,
+        key: first,
+    };
+    row.puts.push((Queue::Router(ends.listens), to_second))?;
+    Ok(row)
+}
+
+impl Node {
+    /// Gives the node its half of the entry's connection with a partner, of which its router is told as the put of this place.
+    pub(crate) fn welcome(
+        &mut self,
+        turn: Turn,
+        place: u64,
+        half: Half,
+        partner: u64,
+    ) -> Result<(), AllocError>
+        requires size { 1 ≤ self.old.config.mailbox_size }
+        requires bound { IsTrue (is_bound self.old.router.messenger.binding) }
+        ensures { OnOk result (Welcomes turn.entry place half partner self.old self.new) }
+    {
+        let size = self.config.mailbox_size;
+        self.router
+            .ready(turn.alloc, turn.entry, place, turn.entry, half.peer, size)?;
+        self.connections.join(turn, half, partner)?;
+        Ok(())
+    }
+}
+
+/// Joins two nodes that may be joined: each has its half of the entry's connection, of which its router is told.
+fn connect(
+    alloc: Global,
+    nodes: &mut Vec<Node>,
+    entry: u64,
+    ends: Ends,
+    first: Key,
+    second: Key,
+) -> Result<(), AllocError>
+    requires first_in_range { ends.dials < length nodes.old.items }
+    requires second_in_range { ends.listens < length nodes.old.items }
+    requires two { (ends.dials == ends.listens) ≡ false }
+    requires first_ready { (x : Node) → slice_get nodes.old.items ends.dials ≡ Some x → (1 ≤ x.config.mailbox_size) × IsTrue (is_bound x.router.messenger.binding) }
+    requires second_ready { (x : Node) → slice_get nodes.old.items ends.listens ≡ Some x → (1 ≤ x.config.mailbox_size) × IsTrue (is_bound x.router.messenger.binding) }
+    ensures { OnOk result (Connects entry ends.dials ends.listens first second nodes.old.items nodes.new.items) }
+{
+    let dialed = Half {
+        peer: second,
+        writes: Side::Out,
+    };
+    let listened = Half {
+        peer: first,
+        writes: Side::In,
+    };
+    let turn = Turn {
+        alloc,
+        entry,
+        node: ends.dials,
+    };
+    nodes[ends.dials as usize].welcome(turn, 0, dialed, ends.listens)?;
+    let turn = Turn {
+        alloc,
+        entry,
+        node: ends.listens,
+    };
+    nodes[ends.listens as usize].welcome(turn, 1, listened, ends.dials)?;
+    Ok(())
+}
+
+/// Joins two nodes, where they may be.
+fn join(alloc: Global, nodes: &mut Vec<Node>, entry: u64, ends: Ends) -> Result<Row, AllocError>
+    requires first_in_range { ends.dials < length nodes.old.items }
+    requires second_in_range { ends.listens < length nodes.old.items }
+    requires sizes { (n : ℕ) (x : Node) → slice_get nodes.old.items n ≡ Some x → 1 ≤ x.config.mailbox_size }
+    ensures { IfOk result (λ r. Joins entry ends.dials ends.listens nodes.old.items nodes.new.items r) }
+{
+    let first = &nodes[ends.dials as usize];
+    let second = &nodes[ends.listens as usize];
+    if !may_join(ends, first, second) {
+        return Ok(only(alloc, Reply::Gone));
+    }
+    let first_key = first.config.public_key;
+    let second_key = second.config.public_key;
+    let row = ready_row(alloc, entry, ends, first_key, second_key)?;
+    connect(alloc, nodes, entry, ends, first_key, second_key)?;
+    Ok(row)
+}
+
+/// The two nodes of a join.
+fn ends_of(act: &Act) -> Option<Ends>
+    ensures { result ≡ ends_by (pair_of act.now) }
+{
+    match act {
+        Act::Join { a, b } => Some(Ends {
+            dials: *a,
+            listens: *b,
+        }),
+        _ => None,
+    }
+}
+
+/// The node that an act names first.
+pub fn node_of(act: &Act) -> u64
+    ensures { result ≡ node_of_act act.now }
+{
+    match act {
+        Act::Register { node, .. } => *node,
+        Act::Start { node } => *node,
+        Act::Join { a, .. } => *a,
+        Act::Send { node, .. } => *node,
+        Act::Router { node } => *node,
+        Act::SendStep { node, .. } => *node,
+        Act::RecvStep { node, .. } => *node,
+        Act::Recv { node, .. } => *node,
+    }
+}
+
+/// The other node that an act names, or the same one.
+pub fn other_of(act: &Act) -> u64
+    ensures { result ≡ other_of_act act.now }
+{
+    match act {
+        Act::Join { b, .. } => *b,
+        _ => node_of(act),
+    }
+}
+
+/// Does an act at the one node that it names.
+fn apply_at(
+    alloc: Global,
+    nodes: &mut Vec<Node>,
+    links: &mut Links,
+    entry: u64,
+    act: &Act,
+) -> Result<Row, AllocError>
+    requires in_range { node_of_act act.now < length nodes.old.items }
+    requires ready { (x : Node) → slice_get nodes.old.items (node_of_act act.now) ≡ Some x → IsReady act.now x }
+    ensures { IfOk result (λ r. OneDoes entry act.now nodes.old.items nodes.new.items links.old links.new r) }
+{
+    let node = node_of(act);
+    let turn = Turn { alloc, entry, node };
+    let row = nodes[node as usize].apply(turn, links, act)?;
+    Ok(row)
+}
+
+/// Does an act: at the node that it names, or at the two nodes of a join, the dialing one first.
+pub fn perform(
+    alloc: Global,
+    nodes: &mut Vec<Node>,
+    links: &mut Links,
+    entry: u64,
+    act: &Act,
+) -> Result<Row, AllocError>
+    requires first_in_range { node_of_act act.now < length nodes.old.items }
+    requires second_in_range { other_of_act act.now < length nodes.old.items }
+    requires ready { (x : Node) → slice_get nodes.old.items (node_of_act act.now) ≡ Some x → IsReady act.now x }
+    requires sizes { (n : ℕ) (x : Node) → slice_get nodes.old.items n ≡ Some x → 1 ≤ x.config.mailbox_size }
+    ensures { IfOk result (λ r. WorldDoes entry act.now nodes.old.items nodes.new.items links.old links.new r) }
+{
+    match ends_of(act) {
+        Some(ends) => Ok(join(alloc, nodes, entry, ends)?),
+        None => Ok(apply_at(alloc, nodes, links, entry, act)?),
+    }
+}

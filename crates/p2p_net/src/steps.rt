@@ -1,0 +1,169 @@
+//! The steps of a node: of its router, and of the two halves of each connection.
+ghost use Rattle.std.specs.Prelude.{◌≡◌, ℕ, IfOk, OnOk, Option, slice_get};
+ghost use Rattle.p2p_log_rules.specs.Effect.{other_side as other_side_of};
+ghost use Rattle.p2p_log.specs.Lines.{name_of};
+ghost use Rattle.p2p_net_channels.specs.Arrivals.{arrival_in};
+ghost use Rattle.p2p_net.specs.Acts.{Routes, Writes, Begins, SendSteps, Receives, RecvSteps, arrived_row, arrived_into, arrived_off, accepted_row, accepted_into, accepted_off, first_in, frame_in};
+
+use crate::node::Node;
+use p2p_base::Key;
+use p2p_log::{Reply, Side};
+use p2p_log_rules::Row;
+use p2p_net_channels::{Arrived, open};
+use p2p_net_links::Links;
+use p2p_net_queues::{Turn, only, taking};
+use std::alloc::AllocError;
+
+/// The direction opposite to this one.
+fn other_side(side: Side) -> Side
+    ensures { result ≡ other_side_of side }
+{
+    match side {
+        Side::Out => Side::In,
+        Side::In => Side::Out,
+    }
+}
+
+/// A frame in flight: the name of its item, and the message in it where it holds one within the limit.
+#[derive(Drop)]
+pub struct Arrival {
+    pub name: (u64, u64),
+    pub message: Option<Arrived>,
+}
+
+/// The first frame in one direction of a link.
+fn look(links: &Links, conn: u64, side: Side, limit: u32) -> Result<Option<Arrival>, AllocError>
+    ensures { IfOk result (λ found. found ≡ frame_in limit (first_in links.now conn side)) }
+{
+    match links.front(conn, side) {
+        None => Ok(None),
+        Some(first) => {
+            let name = (first.entry, first.place);
+            let message = open(&first.item, limit as usize)?;
+            Ok(Some(Arrival { name, message }))
+        }
+    }
+}
+
+impl Node {
+    /// One step of the router. Its answers to connections wait for these.
+    pub(crate) fn route(&mut self, turn: Turn) -> Result<Row, AllocError>
+        ensures { IfOk result (λ r. Routes turn.entry turn.node self.old self.new r) }
+    {
+        if !self.is_started() {
+            return Ok(only(turn.alloc, Reply::Gone));
+        }
+        let row = self.router.step(turn.alloc, turn.entry)?;
+        self.connections.answer(turn, row.puts.as_slice())?;
+        Ok(row)
+    }
+
+    /// Writes a batch of a connection to its link.
+    fn write(
+        &mut self,
+        turn: Turn,
+        links: &mut Links,
+        conn: u64,
+        side: Side,
+    ) -> Result<Row, AllocError>
+        ensures { IfOk result (λ r. Writes turn.entry conn side self.old self.new links.old links.new r) }
+    {
+        let size = self.config.send_batch_size;
+        let frames = self.router.batch(turn.alloc, conn, size)?;
+        let row = links.write(turn, conn, side, frames)?;
+        Ok(row)
+    }
+
+    /// One step of the sending half of a connection: it takes its router's answer, and from then on writes batches.
+    pub(crate) fn send_step(
+        &mut self,
+        turn: Turn,
+        links: &mut Links,
+        conn: u64,
+    ) -> Result<Row, AllocError>
+        ensures { IfOk result (λ r. SendSteps turn.entry conn self.old self.new links.old links.new r) }
+    {
+        let Some(connection) = self.connections.get(conn) else {
+            return Ok(only(turn.alloc, Reply::Gone));
+        };
+        if connection.running {
+            let row = self.write(turn, links, conn, connection.half.writes)?;
+            return Ok(row);
+        }
+        let row = self.connections.begin(turn.alloc, conn)?;
+        Ok(row)
+    }
+
+    /// Takes a frame with a message off its link, and puts the message into its channel.
+    fn accept(
+        &mut self,
+        turn: Turn,
+        links: &mut Links,
+        conn: u64,
+        side: Side,
+        from: Key,
+        name: (u64, u64),
+        arrived: Arrived,
+    ) -> Result<Row, AllocError>
+        ensures row { IfOk result (λ r. r ≡ arrived_row (Some arrived) turn.node name from self.old.channels) }
+        ensures node { OnOk result (self.new ≡ record self.old { channels = arrived_into (Some arrived) turn.entry turn.node from self.old.channels }) }
+        ensures links { OnOk result (links.new ≡ arrived_off (Some arrived) conn side self.old.channels links.old) }
+    {
+        let Some(capacity) = self.channels.capacity(arrived.channel) else {
+            return Ok(only(turn.alloc, Reply::Idle));
+        };
+        let _ = links.take(conn, side);
+        let mut row = taking(turn.alloc, name)?;
+        self.channels
+            .deliver(turn, &mut row, capacity, from, arrived)?;
+        Ok(row)
+    }
+
+    /// Moves the first frame in one direction of a link to its channel, where it holds a message of a registered one.
+    fn receive(
+        &mut self,
+        turn: Turn,
+        links: &mut Links,
+        conn: u64,
+        side: Side,
+        from: Key,
+    ) -> Result<Row, AllocError>
+        ensures { IfOk result (λ r. Receives turn.entry turn.node conn side from self.old self.new links.old links.new r) }
+    {
+        match look(links, conn, side, self.config.max_message_size)? {
+            None => Ok(only(turn.alloc, Reply::Idle)),
+            Some(
+                Arrival {
+                    name,
+                    message: None,
+                },
+            ) => Ok(only(turn.alloc, Reply::Idle)),
+            Some(
+                Arrival {
+                    name,
+                    message: Some(arrived),
+                },
+            ) => Ok(self.accept(turn, links, conn, side, from, name, arrived)?),
+        }
+    }
+
+    /// One step of the receiving half of a connection that runs.
+    pub(crate) fn recv_step(
+        &mut self,
+        turn: Turn,
+        links: &mut Links,
+        conn: u64,
+    ) -> Result<Row, AllocError>
+        ensures { IfOk result (λ r. RecvSteps turn.entry turn.node conn self.old self.new links.old links.new r) }
+    {
+        let Some(connection) = self.connections.get(conn) else {
+            return Ok(only(turn.alloc, Reply::Gone));
+        };
+        if !connection.running {
+            return Ok(only(turn.alloc, Reply::Idle));
+        }
+        let side = other_side(connection.half.writes);
+        let row = self.receive(turn, links, conn, side, connection.half.peer)?;
+        Ok(row)
+    }
+}

@@ -1,0 +1,52 @@
+-- The channels of a node as values: what each call makes of them.
+use Rattle.std.specs.Prelude.{ℕ, ◌+◌, Bool, true, false, cond, nat_le, List, [], length, Option, Some, None, slice_get}
+use Rattle.std.specs.BTreeMap.{insert_entry}
+use Rattle.std.specs.Ordering.{nat_cmp}
+use Rattle.p2p_base.specs.declared.key.Key.{Key}
+use Rattle.p2p_log.specs.declared.queue.Queue.TheVariants as queue
+use Rattle.p2p_log.specs.declared.item.Item.{Item}
+use Rattle.p2p_log.specs.declared.item.Item.TheVariants as item
+use Rattle.p2p_log.specs.declared.item.Envelope.{Envelope}
+use Rattle.p2p_net_queues.specs.Tables.{at, waiting, pushed_at, popped_at}
+use Rattle.p2p_net_channels.specs.declared.arrival.Arrived.{Arrived}
+use Rattle.p2p_net_channels.specs.declared.channels.Channels.{Channels}
+
+abbrev pub no_channels : Channels
+no_channels = record { capacities = []; total = 0; waiting = [] }
+
+-- the capacity of a channel, where it is registered
+abbrev pub capacity_at : Channels → ℕ → Option ℕ
+capacity_at ch c = at ch.capacities c
+
+abbrev pub registered_with : Channels → ℕ → ℕ → Channels
+registered_with ch c k = record { capacities = insert_entry nat_cmp ch.capacities c k; total = ch.total + k; waiting = ch.waiting }
+
+-- whether a channel holds so many messages
+abbrev pub is_full : Channels → ℕ → ℕ → Bool
+is_full ch capacity c = nat_le capacity (length (waiting ch.waiting c))
+
+-- the message as the put of this entry at this place
+abbrev pub message_put : ℕ → ℕ → ℕ → Key → Arrived → Envelope
+message_put entry place n from m = record { entry = entry; place = place; queue = queue.Channel n m.channel; item = item.Message m.bytes m.copy from }
+
+-- the channels once a message came, by whether its channel is full
+abbrev pub delivered_to : Bool → ℕ → ℕ → ℕ → Key → Arrived → Channels → Channels
+delivered_to true entry place n from m ch = ch
+delivered_to false entry place n from m ch = record ch { waiting = pushed_at ch.waiting m.channel (message_put entry place n from m) }
+
+-- whether an item is a message for a reader
+abbrev pub is_message : Item → Bool
+is_message (item.Message bytes copy from) = true
+is_message _ = false
+
+abbrev pub has_message_first : Option Envelope → Bool
+has_message_first None = false
+has_message_first (Some x) = is_message x.item
+
+-- the channels once the first item of one was read, where it is a message
+abbrev pub read_on : Option Envelope → ℕ → Channels → Channels
+read_on None c ch = ch
+read_on (Some x) c ch = cond (is_message x.item) (record ch { waiting = popped_at ch.waiting c }) ch
+
+abbrev pub read_from : ℕ → Channels → Channels
+read_from c ch = read_on (slice_get (waiting ch.waiting c) 0) c ch

@@ -1,0 +1,3 @@
+pub mod Arrivals
+pub mod Channels
+pub mod Stands

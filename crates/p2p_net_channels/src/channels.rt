@@ -1,0 +1,183 @@
+//! `Channels`, the channels of a node and what waits in them.
+ghost use Rattle.std.specs.Prelude.{◌≡◌, ◌+◌, ◌<◌, ◌^◌, ◌++◌, ◌∷◌, [], false, length, slice_get, Option, Some, None, IfOk, OnOk};
+ghost use Rattle.p2p_log_rules.specs.Effect.{oldest_read, read_row as read_row_of};
+ghost use Rattle.p2p_log.specs.Lines.{name_of};
+ghost use Rattle.p2p_net_queues.specs.Tables.{waiting};
+ghost use Rattle.p2p_net_channels.specs.Arrivals.{delivered};
+ghost use Rattle.p2p_net_channels.specs.Channels.{no_channels, capacity_at, registered_with, is_full as full_test, delivered_to, is_message as message_test, has_message_first, read_from};
+
+use crate::arrival::Arrived;
+use p2p_base::Key;
+use p2p_log::{Cause, End, Envelope, Item, Outcome, Queue, Reply};
+use p2p_log_rules::Row;
+use p2p_net_queues::{Deque, Table, Turn, only, taking};
+use std::alloc::{AllocError, Global};
+
+/// The registered channels of a node, and the messages that wait in each for its reader.
+#[derive(Drop)]
+pub struct Channels {
+    /// How many messages each channel holds at most.
+    pub capacities: Table<usize>,
+    /// The sum of these.
+    pub total: usize,
+    /// The messages of each channel, the oldest first.
+    pub waiting: Table<Deque<Envelope>>,
+}
+
+/// Whether an item is a message for a reader.
+fn is_message(item: &Item) -> bool
+    ensures { result ≡ message_test item.now }
+{
+    match item {
+        Item::Message { .. } => true,
+        _ => false,
+    }
+}
+
+/// The row of a reader that took this item.
+fn read_row(alloc: Global, name: (u64, u64), item: Item) -> Result<Row, AllocError>
+    ensures { IfOk result (λ r. r ≡ read_row_of name item) }
+{
+    match item {
+        Item::Message { bytes, copy, from } => {
+            let mut row = taking(alloc, name)?;
+            row.ends
+                .push(End::Copy(copy.0, copy.1, Outcome::Delivered))?;
+            row.reply = Reply::Message { bytes, from };
+            Ok(row)
+        }
+        _other => Ok(only(alloc, Reply::Pending)),
+    }
+}
+
+/// The copy of a message ends, since its channel is full.
+fn drop_message(row: &mut Row, arrived: &Arrived) -> Result<(), AllocError>
+    ensures { OnOk result (row.new ≡ record row.old { ends = row.old.ends ++ End.Copy arrived.now.copy.0 arrived.now.copy.1 (Outcome.Dropped Cause.MailboxFull) ∷ [] }) }
+{
+    let dropped = Outcome::Dropped(Cause::MailboxFull);
+    row.ends
+        .push(End::Copy(arrived.copy.0, arrived.copy.1, dropped))?;
+    Ok(())
+}
+
+impl Channels {
+    /// No channels.
+    pub fn new(alloc: Global) -> Channels
+        ensures { result ≡ no_channels }
+    {
+        Channels {
+            capacities: Table::new(alloc),
+            total: 0,
+            waiting: Table::new(alloc),
+        }
+    }
+
+    /// How many messages a channel holds at most, where it is registered.
+    pub fn capacity(&self, channel: u64) -> Option<usize>
+        ensures { result ≡ capacity_at self.now channel }
+    {
+        self.capacities.get(channel)
+    }
+
+    /// Registers a channel of this capacity.
+    pub fn register(&mut self, channel: u64, capacity: usize) -> Result<(), AllocError>
+        requires { self.old.total + capacity < 2 ^ 64 }
+        ensures { OnOk result (self.new ≡ registered_with self.old channel capacity) }
+    {
+        self.capacities.insert(channel, capacity)?;
+        self.total += capacity;
+        Ok(())
+    }
+
+    /// Whether a channel holds so many messages.
+    fn is_full(&self, capacity: usize, channel: u64) -> bool
+        ensures { result ≡ full_test self.now capacity channel }
+    {
+        self.waiting.len_at(channel) >= capacity
+    }
+
+    /// Puts a message last in its channel.
+    fn keep(
+        &mut self,
+        turn: Turn,
+        row: &mut Row,
+        from: Key,
+        arrived: Arrived,
+    ) -> Result<(), AllocError>
+        ensures row { OnOk result (row.new ≡ delivered false turn.node from arrived row.old) }
+        ensures after { OnOk result (self.new ≡ delivered_to false turn.entry (length row.old.puts) turn.node from arrived self.old) }
+    {
+        let Arrived {
+            copy,
+            channel,
+            bytes,
+        } = arrived;
+        let queue = Queue::Channel {
+            node: turn.node,
+            channel,
+        };
+        let place = row.puts.len() as u64;
+        let item = Item::Message {
+            bytes: bytes.clone()?,
+            copy,
+            from,
+        };
+        self.waiting.push_at(
+            turn.alloc,
+            channel,
+            Envelope {
+                entry: turn.entry,
+                place,
+                queue,
+                item,
+            },
+        )?;
+        row.puts.push((queue, Item::Message { bytes, copy, from }))?;
+        Ok(())
+    }
+
+    /// Puts a message that arrived last in its channel, which holds at most `capacity`, or ends its copy where it holds so
+    /// many.
+    pub fn deliver(
+        &mut self,
+        turn: Turn,
+        row: &mut Row,
+        capacity: usize,
+        from: Key,
+        arrived: Arrived,
+    ) -> Result<(), AllocError>
+        ensures row { OnOk result (row.new ≡ delivered (full_test self.old capacity arrived.channel) turn.node from arrived row.old) }
+        ensures after { OnOk result (self.new ≡ delivered_to (full_test self.old capacity arrived.channel) turn.entry (length row.old.puts) turn.node from arrived self.old) }
+    {
+        if self.is_full(capacity, arrived.channel) {
+            drop_message(row, &arrived)?;
+            return Ok(());
+        }
+        self.keep(turn, row, from, arrived)?;
+        Ok(())
+    }
+
+    /// Whether the oldest item of a channel is a message.
+    fn has_message(&self, channel: u64) -> bool
+        ensures { result ≡ has_message_first (slice_get (waiting self.now.waiting channel) 0) }
+    {
+        match self.waiting.front_at(channel) {
+            Some(first) => is_message(&first.item),
+            None => false,
+        }
+    }
+
+    /// Takes the oldest message of a channel for its reader.
+    pub fn read(&mut self, alloc: Global, channel: u64) -> Result<Row, AllocError>
+        ensures row { IfOk result (λ r. r ≡ oldest_read (waiting self.old.waiting channel)) }
+        ensures after { OnOk result (self.new ≡ read_from channel self.old) }
+    {
+        if !self.has_message(channel) {
+            return Ok(only(alloc, Reply::Pending));
+        }
+        match self.waiting.pop_at(channel) {
+            None => Ok(only(alloc, Reply::Pending)),
+            Some(taken) => Ok(read_row(alloc, (taken.entry, taken.place), taken.item)?),
+        }
+    }
+}

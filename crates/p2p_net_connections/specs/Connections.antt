@@ -1,0 +1,61 @@
+-- The connections of a node as values: what each call makes of them.
+use Rattle.std.specs.Prelude.{ℕ, ◌+◌, Bool, true, false, ◌==◌, cond, List, [], ◌∷◌, Option, Some, None, slice_get}
+use Rattle.std.specs.BTreeMap.{insert_entry}
+use Rattle.std.specs.Ordering.{nat_cmp}
+use Rattle.p2p_log.specs.declared.queue.Queue.{Queue}
+use Rattle.p2p_log.specs.declared.queue.Queue.TheVariants as queue
+use Rattle.p2p_log.specs.declared.item.Item.{Item}
+use Rattle.p2p_log.specs.declared.item.Envelope.{Envelope}
+use Rattle.p2p_log_rules.specs.declared.row.Half.{Half}
+use Rattle.p2p_log_rules.specs.Facts.{is_answer}
+use Rattle.p2p_net_queues.specs.Tables.{at, waiting, pushed_at, popped_at}
+use Rattle.p2p_net_connections.specs.declared.connections.Connection.{Connection}
+use Rattle.p2p_net_connections.specs.declared.connections.Connections.{Connections}
+
+abbrev pub no_connections : Connections
+no_connections = record { halves = []; partners = []; answers = [] }
+
+abbrev pub half_on : Option Connection → Option Half
+half_on None = None
+half_on (Some c) = Some c.half
+
+abbrev pub runs_on : Option Connection → Bool
+runs_on None = false
+runs_on (Some c) = c.running
+
+abbrev pub joined_with : ℕ → Half → ℕ → Connections → Connections
+joined_with conn half partner cs = record {
+  halves = insert_entry nat_cmp cs.halves conn (record { half = half; running = false });
+  partners = insert_entry nat_cmp cs.partners partner conn;
+  answers = cs.answers;
+}
+
+-- the answers with one put more, where it is for a connection of the node
+abbrev pub answered_in : ℕ → ℕ → ℕ → Queue → Item → List (ℕ × List Envelope) → List (ℕ × List Envelope)
+answered_in entry n place (queue.Ready m conn) i answers =
+    cond (m == n) (pushed_at answers conn (record { entry = entry; place = place; queue = queue.Ready m conn; item = i })) answers
+answered_in entry n place _ i answers = answers
+
+abbrev pub answered_by : ℕ → ℕ → ℕ → Queue × Item → List (ℕ × List Envelope) → List (ℕ × List Envelope)
+answered_by entry n place x answers = answered_in entry n place x.0 x.1 answers
+
+-- the answers with the puts of an entry, from this place on
+abbrev pub answered : ℕ → ℕ → ℕ → List (Queue × Item) → List (ℕ × List Envelope) → List (ℕ × List Envelope)
+answered entry n place [] answers = answers
+answered entry n place (x ∷ xs) answers = answered entry n (place + 1) xs (answered_by entry n place x answers)
+
+abbrev pub ran_by : Option Connection → ℕ → List (ℕ × Connection) → List (ℕ × Connection)
+ran_by None conn halves = halves
+ran_by (Some c) conn halves = insert_entry nat_cmp halves conn (record { half = c.half; running = true })
+
+-- a connection runs from now on
+abbrev pub ran : ℕ → List (ℕ × Connection) → List (ℕ × Connection)
+ran conn halves = ran_by (at halves conn) conn halves
+
+abbrev pub begun_on : Option Envelope → ℕ → Connections → Connections
+begun_on None conn cs = record cs { answers = popped_at cs.answers conn }
+begun_on (Some x) conn cs = record { halves = cond (is_answer x.item) (ran conn cs.halves) cs.halves; partners = cs.partners; answers = popped_at cs.answers conn }
+
+-- the first answer of a connection was taken
+abbrev pub begun : ℕ → Connections → Connections
+begun conn cs = begun_on (slice_get (waiting cs.answers conn) 0) conn cs

@@ -1,0 +1,148 @@
+//! `Connections`, the connections of a node.
+ghost use Rattle.std.specs.Prelude.{◌≡◌, ◌++◌, [], is_some, slice_get, IfOk, OnOk};
+ghost use Rattle.p2p_log_rules.specs.Facts.{is_answer as answer_test};
+ghost use Rattle.p2p_log_rules.specs.Effect.{begin_row};
+ghost use Rattle.p2p_log.specs.Lines.{name_of};
+ghost use Rattle.p2p_net_queues.specs.Tables.{at, waiting};
+ghost use Rattle.p2p_net_connections.specs.Connections.{no_connections, joined_with, answered_by, answered, ran_by, ran, begun};
+
+use p2p_log::{Envelope, Item, Queue, Reply};
+use p2p_log_rules::{Half, Row};
+use p2p_net_queues::{Deque, Table, Turn, only, taking};
+use std::alloc::{AllocError, Global};
+
+/// A connection of a node: its half, and whether it took its router's answer.
+#[derive(Clone, Copy, Debug, PartialEq, Eq)]
+pub struct Connection {
+    pub half: Half,
+    pub running: bool,
+}
+
+/// The connections of a node, by the events that made them, and the router's answers that wait for them.
+#[derive(Drop)]
+pub struct Connections {
+    /// Each connection.
+    pub halves: Table<Connection>,
+    /// The nodes that this one was joined to, each with the connection.
+    pub partners: Table<u64>,
+    /// The answers that wait for each connection, the oldest first.
+    pub answers: Table<Deque<Envelope>>,
+}
+
+/// Whether an item is the router's answer.
+fn is_answer(item: &Item) -> bool
+    ensures { result ≡ answer_test item.now }
+{
+    match item {
+        Item::Answer => true,
+        _ => false,
+    }
+}
+
+impl Connections {
+    /// No connections.
+    pub fn new(alloc: Global) -> Connections
+        ensures { result ≡ no_connections }
+    {
+        Connections {
+            halves: Table::new(alloc),
+            partners: Table::new(alloc),
+            answers: Table::new(alloc),
+        }
+    }
+
+    /// The connection that an event made.
+    pub fn get(&self, conn: u64) -> Option<Connection>
+        ensures { result ≡ at self.now.halves conn }
+    {
+        self.halves.get(conn)
+    }
+
+    /// Whether the node was joined to this one.
+    pub fn is_joined(&self, partner: u64) -> bool
+        ensures { result ≡ is_some (at self.now.partners partner) }
+    {
+        self.partners.has(partner)
+    }
+
+    /// An event made a connection with a partner, of which this is the node's half.
+    pub fn join(&mut self, turn: Turn, half: Half, partner: u64) -> Result<(), AllocError>
+        ensures { OnOk result (self.new ≡ joined_with turn.entry half partner self.old) }
+    {
+        let connection = Connection {
+            half,
+            running: false,
+        };
+        self.halves.insert(turn.entry, connection)?;
+        self.partners.insert(partner, turn.entry)?;
+        Ok(())
+    }
+
+    /// Keeps an item, the put of this place, where it is for a connection of the node.
+    fn keep(&mut self, turn: Turn, place: u64, put: &(Queue, Item)) -> Result<(), AllocError>
+        ensures { OnOk result (self.new ≡ record self.old { answers = answered_by turn.entry turn.node place put.now self.old.answers }) }
+    {
+        match put.0 {
+            Queue::Ready { node, conn } => {
+                if node != turn.node {
+                    return Ok(());
+                }
+                let item = put.1.try_clone(turn.alloc)?;
+                self.answers.push_at(
+                    turn.alloc,
+                    conn,
+                    Envelope {
+                        entry: turn.entry,
+                        place,
+                        queue: put.0,
+                        item,
+                    },
+                )?;
+                Ok(())
+            }
+            _ => Ok(()),
+        }
+    }
+
+    /// Keeps those of the puts of an entry that are for a connection of the node: its router's answers.
+    pub fn answer(&mut self, turn: Turn, puts: &[(Queue, Item)]) -> Result<(), AllocError>
+        ensures { OnOk result (self.new ≡ record self.old { answers = answered turn.entry turn.node 0 puts.now self.old.answers }) }
+    {
+        for (place, put) in puts.iter().enumerate() {
+            self.keep(turn, place as u64, put)?;
+        }
+        Ok(())
+    }
+
+    /// A connection runs from now on.
+    fn run(&mut self, conn: u64) -> Result<(), AllocError>
+        ensures { OnOk result (self.new ≡ record self.old { halves = ran conn self.old.halves }) }
+    {
+        let Some(connection) = self.halves.get(conn) else {
+            return Ok(());
+        };
+        let running = Connection {
+            half: connection.half,
+            running: true,
+        };
+        self.halves.insert(conn, running)?;
+        Ok(())
+    }
+
+    /// Takes the router's answer to a connection, which runs from then on.
+    pub fn begin(&mut self, alloc: Global, conn: u64) -> Result<Row, AllocError>
+        ensures row { IfOk result (λ r. r ≡ begin_row (waiting self.old.answers conn)) }
+        ensures after { OnOk result (self.new ≡ begun conn self.old) }
+    {
+        match self.answers.pop_at(conn) {
+            None => Ok(only(alloc, Reply::Idle)),
+            Some(taken) => {
+                if is_answer(&taken.item) {
+                    self.run(conn)?;
+                }
+                let row = taking(alloc, (taken.entry, taken.place))?;
+                Ok(row)
+            }
+        }
+    }
+}

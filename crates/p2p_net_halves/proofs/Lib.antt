@@ -1,3 +1,0 @@
-pub mod Listing
-pub mod Receipts
-pub mod Writing

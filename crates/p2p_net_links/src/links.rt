@@ -1,0 +1,135 @@
+//! `Links`, the frames in flight.
+ghost use Rattle.std.specs.Prelude.{◌≡◌, ℕ, ◌++◌, ◌∷◌, [], length, map, slice_get, IfOk, OnOk};
+ghost use Rattle.std.specs.Option.{option_copied};
+ghost use Rattle.p2p_net_queues.specs.Tables.{waiting, popped_at};
+ghost use Rattle.p2p_net_links.specs.Links.{no_links, way_of, written_way, with_way, batch_row, write_frames_row};
+
+use p2p_base::List;
+use p2p_log::{Envelope, Item, Queue, Reply, Side};
+use p2p_log_rules::Row;
+use p2p_net_queues::{Deque, Table, Turn, only};
+use std::alloc::{AllocError, Global};
+
+/// The frames in flight over each link, the oldest first, by the direction in which they go.
+#[derive(Drop)]
+pub struct Links {
+    /// From the end that dialed.
+    pub outward: Table<Deque<Envelope>>,
+    /// From the end that listened.
+    pub inward: Table<Deque<Envelope>>,
+}
+
+/// Writes these frames, which have these names, to one direction of a link, in order, and adds to the row what was moved.
+fn write_all(
+    turn: Turn,
+    way: &mut Table<Deque<Envelope>>,
+    row: &mut Row,
+    link: u64,
+    side: Side,
+    frames: &[((u64, u64), Item)],
+) -> Result<(), AllocError>
+    ensures way { OnOk result (way.new ≡ written_way turn.entry link side (length row.old.puts) frames.now way.old) }
+    ensures row { OnOk result (row.new ≡ batch_row link side frames.now row.old) }
+{
+    let queue = Queue::Link { link, side };
+    for frame in frames {
+        let place = row.puts.len() as u64;
+        let item = frame.1.try_clone(turn.alloc)?;
+        way.push_at(
+            turn.alloc,
+            link,
+            Envelope {
+                entry: turn.entry,
+                place,
+                queue,
+                item,
+            },
+        )?;
+        row.takes.push(frame.0)?;
+        row.puts.push((queue, frame.1.try_clone(turn.alloc)?))?;
+    }
+    Ok(())
+}
+
+impl Links {
+    /// Links over which nothing is in flight.
+    pub fn new(alloc: Global) -> Links
+        ensures { result ≡ no_links }
+    {
+        Links {
+            outward: Table::new(alloc),
+            inward: Table::new(alloc),
+        }
+    }
+
+    /// One direction of the links.
+    fn way(&self, side: Side) -> &Table<Deque<Envelope>>
+        ensures { result.now ≡ way_of self.now side }
+    {
+        match side {
+            Side::Out => &self.outward,
+            Side::In => &self.inward,
+        }
+    }
+
+    /// The oldest frame in flight in one direction of a link.
+    pub fn front(&self, link: u64, side: Side) -> Option<&Envelope>
+        ensures { option_copied result ≡ slice_get (waiting (way_of self.now side) link) 0 }
+    {
+        self.way(side).front_at(link)
+    }
+
+    /// Takes the oldest frame in flight in one direction of a link.
+    pub fn take(&mut self, link: u64, side: Side) -> Option<Envelope>
+        ensures first { result ≡ slice_get (waiting (way_of self.old side) link) 0 }
+        ensures rest { self.new ≡ with_way self.old side (popped_at (way_of self.old side) link) }
+    {
+        match side {
+            Side::Out => self.outward.pop_at(link),
+            Side::In => self.inward.pop_at(link),
+        }
+    }
+
+    /// Writes these frames, which have these names, to one direction of a link, in order.
+    fn write_frames(
+        &mut self,
+        turn: Turn,
+        row: &mut Row,
+        link: u64,
+        side: Side,
+        frames: &[((u64, u64), Item)],
+    ) -> Result<(), AllocError>
+        ensures way { OnOk result (self.new ≡ with_way self.old side (written_way turn.entry link side (length row.old.puts) frames.now (way_of self.old side))) }
+        ensures row { OnOk result (row.new ≡ batch_row link side frames.now row.old) }
+    {
+        match side {
+            Side::Out => {
+                write_all(turn, &mut self.outward, row, link, side, frames)?;
+                Ok(())
+            }
+            Side::In => {
+                write_all(turn, &mut self.inward, row, link, side, frames)?;
+                Ok(())
+            }
+        }
+    }
+
+    /// Writes a batch to one direction of a link, in order: these frames, which were taken under these names.
+    pub fn write(
+        &mut self,
+        turn: Turn,
+        link: u64,
+        side: Side,
+        frames: List<((u64, u64), Item)>,
+    ) -> Result<Row, AllocError>
+        ensures row { IfOk result (λ r. r ≡ write_frames_row link side frames) }
+        ensures after { OnOk result (self.new ≡ with_way self.old side (written_way turn.entry link side 0 frames (way_of self.old side))) }
+    {
+        if frames.is_empty() {
+            return Ok(only(turn.alloc, Reply::Idle));
+        }
+        let mut row = only(turn.alloc, Reply::Ok);
+        self.write_frames(turn, &mut row, link, side, frames.as_slice())?;
+        Ok(row)
+    }
+}

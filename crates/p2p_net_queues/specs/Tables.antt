@@ -1,0 +1,34 @@
+-- Tables, as the lists of their entries.
+use Rattle.std.specs.Prelude.{ℕ, List, [], ◌∷◌, ◌++◌, drop, Option, Some, None}
+use Rattle.std.specs.Map.{lookup, set_value}
+use Rattle.std.specs.BTreeMap.{is_at, insert_entry}
+use Rattle.std.specs.Ordering.{nat_cmp}
+
+-- the value of a key
+abbrev pub at : {V : Type 0} → List (ℕ × V) → ℕ → Option V
+at m k = lookup (is_at (nat_cmp k)) m
+
+module _ {T : Type 0} where
+  abbrev pub items_in : Option (List T) → List T
+  items_in None = []
+  items_in (Some l) = l
+
+  -- what stands in the queue of a key
+  abbrev pub waiting : List (ℕ × List T) → ℕ → List T
+  waiting m k = items_in (at m k)
+
+  abbrev pub pushed_on : Option (List T) → List (ℕ × List T) → ℕ → T → List (ℕ × List T)
+  pushed_on None m k x = insert_entry nat_cmp m k (x ∷ [])
+  pushed_on (Some l) m k x = set_value (is_at (nat_cmp k)) m (l ++ x ∷ [])
+
+  -- one more item in the queue of a key
+  abbrev pub pushed_at : List (ℕ × List T) → ℕ → T → List (ℕ × List T)
+  pushed_at m k x = pushed_on (at m k) m k x
+
+  abbrev pub popped_on : Option (List T) → List (ℕ × List T) → ℕ → List (ℕ × List T)
+  popped_on None m k = m
+  popped_on (Some l) m k = set_value (is_at (nat_cmp k)) m (drop 1 l)
+
+  -- without the oldest item in the queue of a key
+  abbrev pub popped_at : List (ℕ × List T) → ℕ → List (ℕ × List T)
+  popped_at m k = popped_on (at m k) m k

@@ -1,0 +1,65 @@
+//! `Deque`, a queue that contracts see as the plain list of its items.
+ghost use Rattle.std.specs.Prelude.{◌≡◌, ℕ, [], ◌∷◌, ◌++◌, length, drop, slice_get, OnOk};
+ghost use Rattle.std.specs.Option.{option_copied};
+
+use std::alloc::{AllocError, Global};
+use std::collections::VecDeque;
+use std::marker::Model;
+
+/// The items of a queue, the oldest first.
+#[derive(Drop)]
+pub struct Deque<T> {
+    items: VecDeque<T>,
+}
+
+impl<T> Model for Deque<T> {
+    ghost use Rattle.std.specs.Prelude.{List as Seq};
+    ghost use Rattle.std.specs.Coded.{coded_list};
+
+    ghost Value = { Seq T };
+
+    ghost coded = { coded_list T.code };
+
+    ghost view = { λ d. d.items.items };
+}
+
+impl<T: Drop> Deque<T> {
+    /// An empty queue, which takes no memory.
+    pub fn new(alloc: Global) -> Deque<T>
+        ensures { result ≡ [] }
+    {
+        Deque {
+            items: VecDeque::new(alloc),
+        }
+    }
+
+    /// Puts an item last.
+    pub fn push(&mut self, item: T) -> Result<(), AllocError>
+        ensures { OnOk result (self.new ≡ self.old ++ item ∷ []) }
+    {
+        self.items.push_back(item)?;
+        Ok(())
+    }
+
+    /// Takes the oldest item.
+    pub fn pop(&mut self) -> Option<T>
+        ensures first { result ≡ slice_get self.old 0 }
+        ensures rest { self.new ≡ drop 1 self.old }
+    {
+        self.items.pop_front()
+    }
+
+    /// The oldest item.
+    pub fn front(&self) -> Option<&T>
+        ensures { option_copied result ≡ slice_get self.now 0 }
+    {
+        self.items.front()
+    }
+
+    /// How many items there are.
+    pub fn len(&self) -> usize
+        ensures { result ≡ length self.now }
+    {
+        self.items.len()
+    }
+}

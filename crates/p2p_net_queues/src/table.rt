@@ -1,0 +1,114 @@
+//! `Table`, a map from numbers that contracts see as the list of its entries.
+ghost use Rattle.std.specs.Prelude.{◌≡◌, ℕ, [], ◌∷◌, ◌++◌, length, slice_get, is_some, OnOk};
+ghost use Rattle.std.specs.BTreeMap.{insert_entry};
+ghost use Rattle.std.specs.Ordering.{nat_cmp};
+ghost use Rattle.std.specs.Option.{option_copied};
+ghost use Rattle.p2p_net_queues.specs.Tables.{at, waiting, pushed_at, popped_at};
+
+use crate::deque::Deque;
+use std::alloc::{AllocError, Global};
+use std::collections::BTreeMap;
+use std::marker::Model;
+
+/// A map from numbers to values.
+#[derive(Drop)]
+pub struct Table<V> {
+    tree: BTreeMap<u64, V>,
+}
+
+impl<V> Model for Table<V> {
+    ghost use Rattle.std.specs.Prelude.{ℕ, List as Seq};
+    ghost use Rattle.std.specs.Coded.{coded_list, coded×, coded_ℕ};
+
+    ghost Value = { Seq (ℕ × V) };
+
+    ghost coded = { coded_list (coded× coded_ℕ V.code) };
+
+    ghost view = { λ t. t.tree.entries };
+}
+
+impl<V: Drop> Table<V> {
+    /// An empty table, which takes no memory.
+    pub fn new(alloc: Global) -> Table<V>
+        ensures { result ≡ [] }
+    {
+        Table {
+            tree: BTreeMap::new(alloc),
+        }
+    }
+
+    /// Whether a key has a value.
+    pub fn has(&self, key: u64) -> bool
+        ensures { result ≡ is_some (at self.now key) }
+    {
+        self.tree.contains_key(&key)
+    }
+
+    /// Gives a key a value, in the place of what it had.
+    pub fn insert(&mut self, key: u64, value: V) -> Result<(), AllocError>
+        ensures { OnOk result (self.new ≡ insert_entry nat_cmp self.old key value) }
+    {
+        self.tree.insert(key, value)?;
+        Ok(())
+    }
+}
+
+impl<V: Copy> Table<V> {
+    /// The value of a key.
+    pub fn get(&self, key: u64) -> Option<V>
+        ensures { result ≡ at self.now key }
+    {
+        self.tree.get(&key).copied()
+    }
+}
+
+impl<T: Drop> Table<Deque<T>> {
+    /// Puts an item last in the queue of a key.
+    pub fn push_at(&mut self, alloc: Global, key: u64, item: T) -> Result<(), AllocError>
+        ensures { OnOk result (self.new ≡ pushed_at self.old key item) }
+    {
+        match self.tree.get_mut(&key) {
+            Some(line) => {
+                line.push(item)?;
+                Ok(())
+            }
+            None => {
+                let mut line = Deque::new(alloc);
+                line.push(item)?;
+                self.tree.insert(key, line)?;
+                Ok(())
+            }
+        }
+    }
+
+    /// Takes the oldest item of the queue of a key.
+    pub fn pop_at(&mut self, key: u64) -> Option<T>
+        ensures first { result ≡ slice_get (waiting self.old key) 0 }
+        ensures rest { self.new ≡ popped_at self.old key }
+    {
+        match self.tree.get_mut(&key) {
+            Some(line) => line.pop(),
+            None => None,
+        }
+    }
+
+    /// The oldest item of the queue of a key.
+    pub fn front_at(&self, key: u64) -> Option<&T>
+        ensures { option_copied result ≡ slice_get (waiting self.now key) 0 }
+    {
+        match self.tree.get(&key) {
+            Some(line) => line.front(),
+            None => None,
+        }
+    }
+
+    /// How many items the queue of a key holds.
+    pub fn len_at(&self, key: u64) -> usize
+        ensures { result ≡ length (waiting self.now key) }
+    {
+        match self.tree.get(&key) {
+            Some(line) => line.len(),
+            None => 0,
+        }
+    }
+}
