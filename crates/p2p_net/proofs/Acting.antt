@@ -1,6 +1,7 @@
 -- What the code computes of nodes and links is the effect that the log defines, and they stand for the log with it.
 use Rattle.std.proofs.Common.{◌≡◌, ℕ, ◌<◌, Bool, true, false, cond, List, [], ◌∷◌, ◌++◌, length, refl, ap, sym, subst, ◌∙◌, arith, Option, Some, None}
 use Rattle.std.specs.Prelude.{slice_get, slice_set, nat_lt, ◌==◌, ◌&&◌, ◌||◌}
+use Rattle.std.specs.List.{list_any}
 use Rattle.std.proofs.lemmas.Bool.{and_parts}
 use Rattle.std.proofs.lemmas.Bool.Decides.{nat_tests}
 use Rattle.p2p_base.specs.declared.key.Key.{Key}
@@ -18,7 +19,7 @@ use Rattle.p2p_log_rules.specs.Effect.{only, row, effect, entry_of, may_join, jo
 use Rattle.p2p_log_rules.specs.Valid.{may_act}
 use Rattle.p2p_net_links.specs.Stands.{LinksStand}
 use Rattle.p2p_net_links.specs.declared.links.Links.{Links}
-use Rattle.p2p_net.specs.Places.{Part, Place, router, channels, connections, at, names, node_of, other_of}
+use Rattle.p2p_net.specs.Places.{Part, Place, router, channels, connections, code, at, links as place_links, parts_of, same_place, names, node_of, other_of}
 use Rattle.p2p_net.specs.Acts.{NodeDoes}
 use Rattle.p2p_net.specs.Joining.{Welcomes, Connects, JoinsBy, Joins, OneDoes, pair_of, DoesOn, WorldDoes, joined_row}
 use Rattle.p2p_net.specs.Joining as joining
@@ -53,29 +54,33 @@ node_performs configs log moment seed (act.Recv c n) x y l links r s t valid one
 node_performs configs log moment seed (act.Join a b) x y l links r s t valid one d = cc
 
 -- the parts of the other nodes are not named
+part_elsewhere : (p q : Part) (n m : ℕ) → (n == m) ≡ false → same_place (at p n) (at q m) ≡ false
+part_elsewhere p q n m ne = ap (λ b. (code p == code q) && b) ne ∙ and-false (code p == code q)
+  where
+    and-false : (b : Bool) → (b && false) ≡ false
+    and-false true = refl
+    and-false false = refl
+
+parts_elsewhere : (parts : List Part) (q : Part) (n m : ℕ) → (n == m) ≡ false → list_any (λ p. same_place p (at q m)) (parts_of n parts) ≡ false
+parts_elsewhere [] q n m ne = refl
+parts_elsewhere (p ∷ ps) q n m ne = ap (λ b. b || list_any (λ p. same_place p (at q m)) (parts_of n ps)) (part_elsewhere p q n m ne) ∙ parts_elsewhere ps q n m ne
+
+links_apart : (q : Part) (m : ℕ) → same_place place_links (at q m) ≡ false
+links_apart router m = refl
+links_apart channels m = refl
+links_apart connections m = refl
+
 others_unnamed : (a : Act) (p : Part) (m : ℕ) → pair_of a ≡ None → (node_of a == m) ≡ false → names a (at p m) ≡ false
 others_unnamed (act.Join a b) p m one ne = cc
-others_unnamed (act.Register c n rate) router m one ne = grind (arith, nat_tests)
-others_unnamed (act.Register c n rate) channels m one ne = grind (arith, nat_tests)
-others_unnamed (act.Register c n rate) connections m one ne = refl
-others_unnamed (act.Start n) router m one ne = grind (arith, nat_tests)
-others_unnamed (act.Start n) channels m one ne = refl
-others_unnamed (act.Start n) connections m one ne = refl
-others_unnamed (act.Send bytes c n priority to) router m one ne = grind (arith, nat_tests)
-others_unnamed (act.Send bytes c n priority to) channels m one ne = refl
-others_unnamed (act.Send bytes c n priority to) connections m one ne = refl
-others_unnamed (act.Router n) router m one ne = grind (arith, nat_tests)
-others_unnamed (act.Router n) channels m one ne = refl
-others_unnamed (act.Router n) connections m one ne = grind (arith, nat_tests)
-others_unnamed (act.SendStep conn n) router m one ne = grind (arith, nat_tests)
-others_unnamed (act.SendStep conn n) channels m one ne = refl
-others_unnamed (act.SendStep conn n) connections m one ne = grind (arith, nat_tests)
-others_unnamed (act.RecvStep conn n) router m one ne = refl
-others_unnamed (act.RecvStep conn n) channels m one ne = grind (arith, nat_tests)
-others_unnamed (act.RecvStep conn n) connections m one ne = refl
-others_unnamed (act.Recv c n) router m one ne = refl
-others_unnamed (act.Recv c n) channels m one ne = grind (arith, nat_tests)
-others_unnamed (act.Recv c n) connections m one ne = refl
+others_unnamed (act.Register c n rate) p m one ne = parts_elsewhere (channels ∷ router ∷ []) p n m ne
+others_unnamed (act.Start n) p m one ne = parts_elsewhere (router ∷ []) p n m ne
+others_unnamed (act.Send bytes c n priority to) p m one ne = parts_elsewhere (router ∷ []) p n m ne
+others_unnamed (act.Router n) p m one ne = parts_elsewhere (router ∷ connections ∷ []) p n m ne
+others_unnamed (act.SendStep conn n) p m one ne =
+    ap (λ b. b || list_any (λ q. same_place q (at p m)) (parts_of n (connections ∷ router ∷ []))) (links_apart p m) ∙ parts_elsewhere (connections ∷ router ∷ []) p n m ne
+others_unnamed (act.RecvStep conn n) p m one ne =
+    ap (λ b. b || list_any (λ q. same_place q (at p m)) (parts_of n (channels ∷ []))) (links_apart p m) ∙ parts_elsewhere (channels ∷ []) p n m ne
+others_unnamed (act.Recv c n) p m one ne = parts_elsewhere (channels ∷ []) p n m ne
 
 -- a node that an act does not name
 node_frame : (configs : List Config) (log : List Entry) (ev : Event) (m : ℕ) (z : Node) → NodeStands configs log m z → ((p : Part) → names ev.act (at p m) ≡ false) → NodeStands configs (log ++ effect configs log ev ∷ []) m z
@@ -228,17 +233,15 @@ join_simulates configs log moment seed a b nodes new l links r s d kept =
 
 -- ---- all acts
 
-by_pair : (configs : List Config) (log : List Entry) (moment seed : ℕ) (a : Act) (nodes new : List Node) (l links : Links) (r : Row) → WorldStands configs log nodes l → may_act configs (events_of log) a ≡ true
-    → DoesOn (pair_of a) (length log) a nodes new l links r → Simulates configs log (asked moment seed a) new links r
-by_pair configs log moment seed (act.Join a b) nodes new l links r s valid d = join_simulates configs log moment seed a b nodes new l links r s d.0 d.1
-by_pair configs log moment seed (act.Register c n rate) nodes new l links r s valid d = one_simulates configs log (asked moment seed (act.Register c n rate)) nodes new l links r s valid refl d
-by_pair configs log moment seed (act.Start n) nodes new l links r s valid d = one_simulates configs log (asked moment seed (act.Start n)) nodes new l links r s valid refl d
-by_pair configs log moment seed (act.Send bytes c n priority to) nodes new l links r s valid d = one_simulates configs log (asked moment seed (act.Send bytes c n priority to)) nodes new l links r s valid refl d
-by_pair configs log moment seed (act.Router n) nodes new l links r s valid d = one_simulates configs log (asked moment seed (act.Router n)) nodes new l links r s valid refl d
-by_pair configs log moment seed (act.SendStep conn n) nodes new l links r s valid d = one_simulates configs log (asked moment seed (act.SendStep conn n)) nodes new l links r s valid refl d
-by_pair configs log moment seed (act.RecvStep conn n) nodes new l links r s valid d = one_simulates configs log (asked moment seed (act.RecvStep conn n)) nodes new l links r s valid refl d
-by_pair configs log moment seed (act.Recv c n) nodes new l links r s valid d = one_simulates configs log (asked moment seed (act.Recv c n)) nodes new l links r s valid refl d
+by_pair : (configs : List Config) (log : List Entry) (moment seed : ℕ) (a : Act) (o : Option (ℕ × ℕ)) (nodes new : List Node) (l links : Links) (r : Row) → WorldStands configs log nodes l → may_act configs (events_of log) a ≡ true
+    → pair_of a ≡ o → DoesOn o (length log) a nodes new l links r → Simulates configs log (asked moment seed a) new links r
+by_pair configs log moment seed a None nodes new l links r s valid is d = one_simulates configs log (asked moment seed a) nodes new l links r s valid is d
+by_pair configs log moment seed (act.Join m k) (Some ends) nodes new l links r s valid is d =
+    let one : m ≡ ends.0 = cc in
+    let two : k ≡ ends.1 = cc in
+    join_simulates configs log moment seed m k nodes new l links r s (subst (λ i. Joins (length log) i k nodes new r) (sym one) (subst (λ i. Joins (length log) ends.0 i nodes new r) (sym two) d.0)) d.1
+by_pair configs log moment seed a (Some ends) nodes new l links r s valid is d = cc
 
 pub simulates : (configs : List Config) (log : List Entry) (ev : Event) (nodes new : List Node) (l links : Links) (r : Row) → WorldStands configs log nodes l → may_act configs (events_of log) ev.act ≡ true
     → WorldDoes (length log) ev.act nodes new l links r → Simulates configs log ev new links r
-simulates configs log ev nodes new l links r s valid d = by_pair configs log ev.at ev.seed ev.act nodes new l links r s valid d
+simulates configs log ev nodes new l links r s valid d = by_pair configs log ev.at ev.seed ev.act (pair_of ev.act) nodes new l links r s valid refl d

@@ -10,6 +10,7 @@ use Rattle.p2p_log.specs.declared.entry.Entry.{Entry}
 use Rattle.p2p_log.specs.declared.entry.Reply.{Reply}
 use Rattle.p2p_log.specs.declared.entry.Reply.TheVariants as reply
 use Rattle.p2p_log.specs.declared.event.Event.{Event}
+use Rattle.p2p_log.specs.declared.event.Rate.{Rate}
 use Rattle.p2p_log.specs.declared.event.Act.{Act}
 use Rattle.p2p_log.specs.declared.event.Act.TheVariants as act
 use Rattle.p2p_log.specs.Lines.{live, line, stands_in}
@@ -29,6 +30,7 @@ use Rattle.p2p_net_links.proofs.Changes.{links_frame}
 use Rattle.p2p_net.specs.Places.{Part, router, channels, connections, links, home, names, at, same_place}
 use Rattle.p2p_net.specs.Stands.{RouterStands, PartStands}
 use Rattle.p2p_net.specs.declared.node.Node.{Node}
+use Rattle.p2p_net.proofs.ActKinds.{registers_unless, starts_unless, half_unless, joins_unless, routes_unless, sends_unless}
 use Rattle.p2p_net.proofs.Routers.{RouterStands-moved}
 use Rattle.p2p_net.proofs.Touching.{first_false, second_false, line-unnamed}
 
@@ -42,15 +44,11 @@ effect-act configs log ev = refl
 unregistered : (n m : ℕ) (cs : List (ℕ × ℕ)) → (m == n) ≡ false → cond (m == n) cs [] ≡ []
 unregistered n m cs h = ap (λ b. cond b cs []) h
 
-pub registers_none : (configs : List Config) (n : ℕ) (a : Act) → names a (at channels n) ≡ false → registers_at configs n a ≡ []
-registers_none configs n (act.Register c m rate) h = unregistered n m ((c, capacity_for (slice_get configs n) rate) ∷ []) (let e : (m == n) ≡ false = grind (arith, nat_tests) in e)
-registers_none configs n (act.Start m) h = refl
-registers_none configs n (act.Join a b) h = refl
-registers_none configs n (act.Send bytes c m priority to) h = refl
-registers_none configs n (act.Router m) h = refl
-registers_none configs n (act.SendStep conn m) h = refl
-registers_none configs n (act.RecvStep conn m) h = refl
-registers_none configs n (act.Recv c m) h = refl
+-- the entry registers no channel at a node whose part the act does not name, where a registration names it
+registers_none : (configs : List Config) (n : ℕ) (p : Part) (a : Act) → ((c m : ℕ) (rate : Rate) → names (act.Register c m rate) (at p n) ≡ false → (m == n) ≡ false) → names a (at p n) ≡ false → registers_at configs n a ≡ []
+registers_none configs n p a apart h =
+    registers_unless configs n a
+    (λ c m rate is. unregistered n m ((c, capacity_for (slice_get configs n) rate) ∷ []) (apart c m rate (sym (ap (λ x. names x (at p n)) is) ∙ h)))
 
 -- ---- connections
 
@@ -83,63 +81,33 @@ abbrev pub is_join : Act → Bool
 is_join (act.Join a b) = true
 is_join _ = false
 
-half_unjoined : (configs : List Config) (n : ℕ) (a : Act) (r : Reply) → is_join a ≡ false → half_of configs n a r ≡ None
-half_unjoined configs n (act.Join a b) r h = cc
-half_unjoined configs n (act.Register c m rate) r h = refl
-half_unjoined configs n (act.Start m) r h = refl
-half_unjoined configs n (act.Send bytes c m priority to) r h = refl
-half_unjoined configs n (act.Router m) r h = refl
-half_unjoined configs n (act.SendStep conn m) r h = refl
-half_unjoined configs n (act.RecvStep conn m) r h = refl
-half_unjoined configs n (act.Recv c m) r h = refl
-
-joins_unjoined : (n m : ℕ) (a : Act) (r : Reply) → is_join a ≡ false → joins n m a r ≡ false
-joins_unjoined n m (act.Join a b) r h = cc
-joins_unjoined n m (act.Register c k rate) r h = refl
-joins_unjoined n m (act.Start k) r h = refl
-joins_unjoined n m (act.Send bytes c k priority to) r h = refl
-joins_unjoined n m (act.Router k) r h = refl
-joins_unjoined n m (act.SendStep conn k) r h = refl
-joins_unjoined n m (act.RecvStep conn k) r h = refl
-joins_unjoined n m (act.Recv c k) r h = refl
-
 -- the entry of an act that joins no nodes
 pub makes_none : (configs : List Config) (log : List Entry) (e : Entry) (n : ℕ) (a : Act) → e.event.act ≡ a → is_join a ≡ false → MakesNone configs log e n
 makes_none configs log e n a is h = record {
-  no_half = ap (λ x. half_of configs n x e.reply) is ∙ half_unjoined configs n a e.reply h;
-  no_partner = λ m. ap (λ x. joins n m x e.reply) is ∙ joins_unjoined n m a e.reply h;
+  no_half = ap (λ x. half_of configs n x e.reply) is ∙ half_unless configs n a e.reply (λ l m j. let t : true ≡ false = sym (ap is_join j) ∙ h in cc);
+  no_partner = λ k. ap (λ x. joins n k x e.reply) is ∙ joins_unless n k a e.reply (λ l m j. let t : true ≡ false = sym (ap is_join j) ∙ h in cc);
 }
 
 join_ends : (n a b : ℕ) → names (act.Join a b) (at connections n) ≡ false → ((a == n) ≡ false) × ((b == n) ≡ false)
 join_ends n a b h = (grind (arith, nat_tests), grind (arith, nat_tests))
 
 makes_unnamed : (configs : List Config) (log : List Entry) (e : Entry) (n : ℕ) (a : Act) → e.event.act ≡ a → names a (at connections n) ≡ false → MakesNone configs log e n
-makes_unnamed configs log e n (act.Join a b) is h =
-    let ends = join_ends n a b h in
-    record {
-      no_half = ap (λ x. half_of configs n x e.reply) is ∙ half_other configs n a b e.reply ends.0 ends.1;
-      no_partner = λ m. ap (λ x. joins n m x e.reply) is ∙ joins_other n m a b e.reply ends.0 ends.1;
-    }
-makes_unnamed configs log e n (act.Register c m rate) is h = makes_none configs log e n (act.Register c m rate) is refl
-makes_unnamed configs log e n (act.Start m) is h = makes_none configs log e n (act.Start m) is refl
-makes_unnamed configs log e n (act.Send bytes c m priority to) is h = makes_none configs log e n (act.Send bytes c m priority to) is refl
-makes_unnamed configs log e n (act.Router m) is h = makes_none configs log e n (act.Router m) is refl
-makes_unnamed configs log e n (act.SendStep conn m) is h = makes_none configs log e n (act.SendStep conn m) is refl
-makes_unnamed configs log e n (act.RecvStep conn m) is h = makes_none configs log e n (act.RecvStep conn m) is refl
-makes_unnamed configs log e n (act.Recv c m) is h = makes_none configs log e n (act.Recv c m) is refl
+makes_unnamed configs log e n a is h = record {
+  no_half = ap (λ x. half_of configs n x e.reply) is
+      ∙ half_unless configs n a e.reply (λ l m j. let ends = away l m j in half_other configs n l m e.reply ends.0 ends.1);
+  no_partner = λ k. ap (λ x. joins n k x e.reply) is
+      ∙ joins_unless n k a e.reply (λ l m j. let ends = away l m j in joins_other n k l m e.reply ends.0 ends.1);
+}
+  where
+    away : (l m : ℕ) → a ≡ act.Join l m → ((l == n) ≡ false) × ((m == n) ≡ false)
+    away l m j = join_ends n l m (sym (ap (λ x. names x (at connections n)) j) ∙ h)
 
 steps_other : (n conn d m : ℕ) → names (act.SendStep d m) (at connections n) ≡ false → ((m == n) && (d == conn)) ≡ false
 steps_other n conn d m h = grind (arith, nat_tests)
 
 begins_none : (log : List Entry) (e : Entry) (n conn : ℕ) (a : Act) → names a (at connections n) ≡ false → cond (steps_sender n conn a) (map is_answer (taken log e)) [] ≡ []
-begins_none log e n conn (act.SendStep d m) h = ap (λ b. cond b (map is_answer (taken log e)) []) (steps_other n conn d m h)
-begins_none log e n conn (act.Register c m rate) h = refl
-begins_none log e n conn (act.Start m) h = refl
-begins_none log e n conn (act.Join a b) h = refl
-begins_none log e n conn (act.Send bytes c m priority to) h = refl
-begins_none log e n conn (act.Router m) h = refl
-begins_none log e n conn (act.RecvStep d m) h = refl
-begins_none log e n conn (act.Recv c m) h = refl
+begins_none log e n conn a h =
+    ap (λ b. cond b (map is_answer (taken log e)) []) (sends_unless n conn a (λ d m is. steps_other n conn d m (sym (ap (λ x. names x (at connections n)) is) ∙ h)))
 
 -- the entry begins no connection, where its act is no step of a sending half
 pub begins_by : (log : List Entry) (e : Entry) (n conn : ℕ) (a : Act) → e.event.act ≡ a → names a (at connections n) ≡ false → answers_by n conn log e ≡ []
@@ -148,39 +116,16 @@ begins_by log e n conn a is h = ap (λ x. cond (steps_sender n conn x) (map is_a
 -- ---- the router
 
 routed_none : (log : List Entry) (e : Entry) (n : ℕ) (a : Act) → names a (at router n) ≡ false → cond (steps_router n a) (taken log e) [] ≡ []
-routed_none log e n (act.Router m) h = ap (λ b. cond b (taken log e) []) (let f : (m == n) ≡ false = grind (arith, nat_tests) in f)
-routed_none log e n (act.Register c m rate) h = refl
-routed_none log e n (act.Start m) h = refl
-routed_none log e n (act.Join a b) h = refl
-routed_none log e n (act.Send bytes c m priority to) h = refl
-routed_none log e n (act.SendStep conn m) h = refl
-routed_none log e n (act.RecvStep conn m) h = refl
-routed_none log e n (act.Recv c m) h = refl
+routed_none log e n a h =
+    ap (λ b. cond b (taken log e) []) (routes_unless n a (λ m is. let f : names (act.Router m) (at router n) ≡ false = sym (ap (λ x. names x (at router n)) is) ∙ h in grind (arith, nat_tests)))
 
 starts_none : (n : ℕ) (a : Act) → names a (at router n) ≡ false → starts n a ≡ false
-starts_none n (act.Start m) h = grind (arith, nat_tests)
-starts_none n (act.Register c m rate) h = refl
-starts_none n (act.Join a b) h = refl
-starts_none n (act.Send bytes c m priority to) h = refl
-starts_none n (act.Router m) h = refl
-starts_none n (act.SendStep conn m) h = refl
-starts_none n (act.RecvStep conn m) h = refl
-starts_none n (act.Recv c m) h = refl
-
-registers_unrouted : (configs : List Config) (n : ℕ) (a : Act) → names a (at router n) ≡ false → registers_at configs n a ≡ []
-registers_unrouted configs n (act.Register c m rate) h = unregistered n m ((c, capacity_for (slice_get configs n) rate) ∷ []) (let e : (m == n) ≡ false = grind (arith, nat_tests) in e)
-registers_unrouted configs n (act.Start m) h = refl
-registers_unrouted configs n (act.Join a b) h = refl
-registers_unrouted configs n (act.Send bytes c m priority to) h = refl
-registers_unrouted configs n (act.Router m) h = refl
-registers_unrouted configs n (act.SendStep conn m) h = refl
-registers_unrouted configs n (act.RecvStep conn m) h = refl
-registers_unrouted configs n (act.Recv c m) h = refl
+starts_none n a h = starts_unless n a (λ m is. let f : names (act.Start m) (at router n) ≡ false = sym (ap (λ x. names x (at router n)) is) ∙ h in grind (arith, nat_tests))
 
 pub beside_by : (configs : List Config) (log : List Entry) (e : Entry) (n : ℕ) (a : Act) → e.event.act ≡ a → names a (at router n) ≡ false → IsBeside configs log e n
 beside_by configs log e n a is h = record {
   no_step = ap (λ x. cond (steps_router n x) (taken log e) []) is ∙ routed_none log e n a h;
-  no_channel = ap (registers_at configs n) is ∙ registers_unrouted configs n a h;
+  no_channel = ap (registers_at configs n) is ∙ registers_none configs n router a (λ c m rate k. grind (arith, nat_tests)) h;
   no_start = ap (starts n) is ∙ starts_none n a h;
 }
 
@@ -215,7 +160,7 @@ part_frame router configs log ev n x s h = router_frame configs log ev n x.route
 part_frame channels configs log ev n x s h =
     channels_frame configs log (effect configs log ev) n x.channels s
     (record {
-      registers = ap (registers_at configs n) (effect-act configs log ev) ∙ registers_none configs n ev.act h;
+      registers = ap (registers_at configs n) (effect-act configs log ev) ∙ registers_none configs n channels ev.act (λ c m rate k. grind (arith, nat_tests)) h;
       lines = λ c. line-unnamed configs log ev (queue.Channel n c) h;
     })
 part_frame connections configs log ev n x s h =

@@ -1,3 +1,4 @@
+pub mod ActKinds
 pub mod Acting
 pub mod Calling
 pub mod Faults

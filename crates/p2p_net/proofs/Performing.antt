@@ -26,6 +26,7 @@ use Rattle.p2p_net_links.proofs.Changes.{links_frame}
 use Rattle.p2p_net.specs.Places.{Part, router, channels, connections}
 use Rattle.p2p_net.specs.Stands.{PartStands, IsSized, NodeStands}
 use Rattle.p2p_net.specs.declared.node.Node.{Node}
+use Rattle.p2p_net.proofs.ActKinds.{registers_unless, starts_unless, half_unless, joins_unless}
 use Rattle.p2p_net.proofs.Routers.{RouterStands-idle}
 
 -- an event with this act
@@ -57,56 +58,35 @@ is_quiet (act.Join a b) r = false
 is_quiet a r = true
 
 quiet_registers : (configs : List Config) (n : ℕ) (a : Act) (r : Reply) → is_quiet a r ≡ true → registers_at configs n a ≡ []
-quiet_registers configs n (act.Register c m rate) r h = cc
-quiet_registers configs n (act.Start m) r h = refl
-quiet_registers configs n (act.Join a b) r h = refl
-quiet_registers configs n (act.Send bytes c m priority to) r h = refl
-quiet_registers configs n (act.Router m) r h = refl
-quiet_registers configs n (act.SendStep conn m) r h = refl
-quiet_registers configs n (act.RecvStep conn m) r h = refl
-quiet_registers configs n (act.Recv c m) r h = refl
+quiet_registers configs n a r h = registers_unless configs n a (λ c m rate is. let t : false ≡ true = sym (ap (λ x. is_quiet x r) is) ∙ h in cc)
 
 quiet_starts : (n : ℕ) (a : Act) (r : Reply) → is_quiet a r ≡ true → starts n a ≡ false
-quiet_starts n (act.Register c m rate) r h = refl
-quiet_starts n (act.Start m) r h = cc
-quiet_starts n (act.Join a b) r h = refl
-quiet_starts n (act.Send bytes c m priority to) r h = refl
-quiet_starts n (act.Router m) r h = refl
-quiet_starts n (act.SendStep conn m) r h = refl
-quiet_starts n (act.RecvStep conn m) r h = refl
-quiet_starts n (act.Recv c m) r h = refl
+quiet_starts n a r h = starts_unless n a (λ m is. let t : false ≡ true = sym (ap (λ x. is_quiet x r) is) ∙ h in cc)
+
+-- a join that is refused
+half_refused : (configs : List Config) (n l m : ℕ) (r : Reply) → is_quiet (act.Join l m) r ≡ true → half_of configs n (act.Join l m) r ≡ None
+half_refused configs n l m reply.Gone h = refl
+half_refused configs n l m reply.Ok h = cc
+half_refused configs n l m reply.Idle h = refl
+half_refused configs n l m reply.Pending h = refl
+half_refused configs n l m (reply.Capacity k) h = refl
+half_refused configs n l m (reply.Sent ks) h = refl
+half_refused configs n l m (reply.Message bytes from) h = refl
+
+joins_refused : (n k l m : ℕ) (r : Reply) → is_quiet (act.Join l m) r ≡ true → joins n k (act.Join l m) r ≡ false
+joins_refused n k l m reply.Gone h = refl
+joins_refused n k l m reply.Ok h = cc
+joins_refused n k l m reply.Idle h = refl
+joins_refused n k l m reply.Pending h = refl
+joins_refused n k l m (reply.Capacity c) h = refl
+joins_refused n k l m (reply.Sent ks) h = refl
+joins_refused n k l m (reply.Message bytes from) h = refl
 
 quiet_half : (configs : List Config) (n : ℕ) (a : Act) (r : Reply) → is_quiet a r ≡ true → half_of configs n a r ≡ None
-quiet_half configs n (act.Join a b) reply.Ok h = cc
-quiet_half configs n (act.Join a b) reply.Idle h = refl
-quiet_half configs n (act.Join a b) reply.Pending h = refl
-quiet_half configs n (act.Join a b) reply.Gone h = refl
-quiet_half configs n (act.Join a b) (reply.Capacity k) h = refl
-quiet_half configs n (act.Join a b) (reply.Sent ks) h = refl
-quiet_half configs n (act.Join a b) (reply.Message bytes from) h = refl
-quiet_half configs n (act.Register c m rate) r h = refl
-quiet_half configs n (act.Start m) r h = refl
-quiet_half configs n (act.Send bytes c m priority to) r h = refl
-quiet_half configs n (act.Router m) r h = refl
-quiet_half configs n (act.SendStep conn m) r h = refl
-quiet_half configs n (act.RecvStep conn m) r h = refl
-quiet_half configs n (act.Recv c m) r h = refl
+quiet_half configs n a r h = half_unless configs n a r (λ l m is. half_refused configs n l m r (sym (ap (λ x. is_quiet x r) is) ∙ h))
 
-quiet_joins : (n m : ℕ) (a : Act) (r : Reply) → is_quiet a r ≡ true → joins n m a r ≡ false
-quiet_joins n m (act.Join a b) reply.Ok h = cc
-quiet_joins n m (act.Join a b) reply.Idle h = refl
-quiet_joins n m (act.Join a b) reply.Pending h = refl
-quiet_joins n m (act.Join a b) reply.Gone h = refl
-quiet_joins n m (act.Join a b) (reply.Capacity k) h = refl
-quiet_joins n m (act.Join a b) (reply.Sent ks) h = refl
-quiet_joins n m (act.Join a b) (reply.Message bytes from) h = refl
-quiet_joins n m (act.Register c k rate) r h = refl
-quiet_joins n m (act.Start k) r h = refl
-quiet_joins n m (act.Send bytes c k priority to) r h = refl
-quiet_joins n m (act.Router k) r h = refl
-quiet_joins n m (act.SendStep conn k) r h = refl
-quiet_joins n m (act.RecvStep conn k) r h = refl
-quiet_joins n m (act.Recv c k) r h = refl
+quiet_joins : (n k : ℕ) (a : Act) (r : Reply) → is_quiet a r ≡ true → joins n k a r ≡ false
+quiet_joins n k a r h = joins_unless n k a r (λ l m is. joins_refused n k l m r (sym (ap (λ x. is_quiet x r) is) ∙ h))
 
 pub taken-none : (log : List Entry) (e : Entry) → e.takes ≡ [] → taken log e ≡ []
 unfolding taken

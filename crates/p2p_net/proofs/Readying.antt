@@ -50,19 +50,9 @@ register_is configs log n c rate x s =
     ∙ (ap (λ k. (not (has_started (events_of log) n) && not (is_some (capacity_in regs c))) && (fits_usize (capacity_for (slice_get configs n) rate) && fits_usize (k + (x.channels.total + capacity_for (slice_get configs n) rate)))) (size_is configs n x s.sized)
     ∙ ap (λ k. (not (has_started (events_of log) n) && not (is_some (capacity_in regs c))) && (fits_usize (capacity_for (slice_get configs n) rate) && fits_usize (mailbox_size_at configs n + (k + capacity_for (slice_get configs n) rate)))) chan.total)))
 
-named_by : (n : ℕ) (v : Event) (a : Act) → v.act ≡ a → is_join_of n v.act ≡ joins_node n (Some v)
-named_by n v (act.Join a b) h = ap (is_join_of n) h ∙ sym (ap (λ x. elim x [ act.Join a b ↦ (a == n) || (b == n) | _ ↦ false ]) h)
-named_by n v (act.Register c m rate) h = ap (is_join_of n) h ∙ sym (ap (λ x. elim x [ act.Join a b ↦ (a == n) || (b == n) | _ ↦ false ]) h)
-named_by n v (act.Start m) h = ap (is_join_of n) h ∙ sym (ap (λ x. elim x [ act.Join a b ↦ (a == n) || (b == n) | _ ↦ false ]) h)
-named_by n v (act.Send bytes c m priority to) h = ap (is_join_of n) h ∙ sym (ap (λ x. elim x [ act.Join a b ↦ (a == n) || (b == n) | _ ↦ false ]) h)
-named_by n v (act.Router m) h = ap (is_join_of n) h ∙ sym (ap (λ x. elim x [ act.Join a b ↦ (a == n) || (b == n) | _ ↦ false ]) h)
-named_by n v (act.SendStep conn m) h = ap (is_join_of n) h ∙ sym (ap (λ x. elim x [ act.Join a b ↦ (a == n) || (b == n) | _ ↦ false ]) h)
-named_by n v (act.RecvStep conn m) h = ap (is_join_of n) h ∙ sym (ap (λ x. elim x [ act.Join a b ↦ (a == n) || (b == n) | _ ↦ false ]) h)
-named_by n v (act.Recv c m) h = ap (is_join_of n) h ∙ sym (ap (λ x. elim x [ act.Join a b ↦ (a == n) || (b == n) | _ ↦ false ]) h)
-
 named_is : (log : List Entry) (n conn : ℕ) → names_node n (slice_get log conn) ≡ names_join (events_of log) n conn
 named_is [] n conn = refl
-named_is (e ∷ es) n zero = named_by n e.event e.event.act refl
+named_is (e ∷ es) n zero = refl
 named_is (e ∷ es) n (suc i) = named_is es n i
 
 -- by whether the node is there
@@ -96,6 +86,10 @@ module _ (configs : List Config) (log : List Entry) (nodes : List Node) (links :
   asks : (a : Act) (b : Bool) → nat_lt (node_of a) (length nodes) ≡ true → ((x : Node) → NodeStands configs log (node_of a) x → may_ask log x a ≡ b) → may_at (slice_get nodes (node_of a)) log a ≡ b
   asks a b lt h = at_by a (slice_get nodes (node_of a)) ∙ asked_at (node_of a) (λ x. may_ask log x a) b lt h
 
+  -- an act of which nothing is asked but its node
+  free : (a : Act) → ((x : Node) → may_ask log x a ≡ true) → nat_lt (node_of a) (length nodes) && (nat_lt (node_of a) (length nodes) && may_at (slice_get nodes (node_of a)) log a) ≡ nat_lt (node_of a) (length configs)
+  free a h = there_plain (nat_lt (node_of a) (length nodes)) (may_at (slice_get nodes (node_of a)) log a) (λ lt. asks a true lt (λ x t. h x)) ∙ counted (node_of a)
+
   may_by : (a : Act) → may_act nodes log a ≡ valid.may_act configs (events_of log) a
   may_by (act.Register c n rate) =
       there (nat_lt n (length nodes)) (may_at (slice_get nodes n) log (act.Register c n rate)) (valid.may_register configs (events_of log) c n rate)
@@ -112,7 +106,7 @@ module _ (configs : List Config) (log : List Entry) (nodes : List Node) (links :
       there (nat_lt n (length nodes)) (may_at (slice_get nodes n) log (act.Send bytes c n priority to)) (nat_le (length bytes) (limit_at configs n))
       (λ lt. asks (act.Send bytes c n priority to) (nat_le (length bytes) (limit_at configs n)) lt (λ x t. ap (nat_le (length bytes)) (limit_is configs n x t.sized)))
       ∙ ap (λ b. b && nat_le (length bytes) (limit_at configs n)) (counted n)
-  may_by (act.Router n) = there_plain (nat_lt n (length nodes)) (may_at (slice_get nodes n) log (act.Router n)) (λ lt. asks (act.Router n) true lt (λ x t. refl)) ∙ counted n
+  may_by (act.Router n) = free (act.Router n) (λ x. refl)
   may_by (act.SendStep conn n) =
       there (nat_lt n (length nodes)) (may_at (slice_get nodes n) log (act.SendStep conn n)) (names_join (events_of log) n conn)
       (λ lt. asks (act.SendStep conn n) (names_join (events_of log) n conn) lt (λ x t. named_is log n conn))
@@ -121,7 +115,7 @@ module _ (configs : List Config) (log : List Entry) (nodes : List Node) (links :
       there (nat_lt n (length nodes)) (may_at (slice_get nodes n) log (act.RecvStep conn n)) (names_join (events_of log) n conn)
       (λ lt. asks (act.RecvStep conn n) (names_join (events_of log) n conn) lt (λ x t. named_is log n conn))
       ∙ ap (λ b. b && names_join (events_of log) n conn) (counted n)
-  may_by (act.Recv c n) = there_plain (nat_lt n (length nodes)) (may_at (slice_get nodes n) log (act.Recv c n)) (λ lt. asks (act.Recv c n) true lt (λ x t. refl)) ∙ counted n
+  may_by (act.Recv c n) = free (act.Recv c n) (λ x. refl)
 
 pub may_act-nodes : (configs : List Config) (log : List Entry) (nodes : List Node) (links : Links) (a : Act) → WorldStands configs log nodes links → may_act nodes log a ≡ valid.may_act configs (events_of log) a
 may_act-nodes configs log nodes links a s = may_by configs log nodes links s a

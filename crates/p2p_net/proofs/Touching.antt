@@ -94,11 +94,13 @@ reads-named configs log (act.Join a b) q h = refl
 reads-named configs log (act.Send bytes c n priority to) q h = refl
 reads-named configs log (act.Router n) q h = router_queue n q (first_false (same_place (at router n) (home q)) (same_place (at connections n) (home q) || false) h)
 reads-named configs log (act.SendStep conn n) q h =
-    let rest = second_false (same_place (at connections n) (home q)) (same_place (at router n) (home q) || (same_place links (home q) || false)) h in
-    half_kinds n conn q (first_false (same_place (at router n) (home q)) (same_place links (home q) || false) rest) (first_false (same_place (at connections n) (home q)) (same_place (at router n) (home q) || (same_place links (home q) || false)) h)
-    (first_false (same_place links (home q)) false (second_false (same_place (at router n) (home q)) (same_place links (home q) || false) rest))
+    let rest = second_false (same_place links (home q)) (same_place (at connections n) (home q) || (same_place (at router n) (home q) || false)) h in
+    half_kinds n conn q
+    (first_false (same_place (at router n) (home q)) false (second_false (same_place (at connections n) (home q)) (same_place (at router n) (home q) || false) rest))
+    (first_false (same_place (at connections n) (home q)) (same_place (at router n) (home q) || false) rest)
+    (first_false (same_place links (home q)) (same_place (at connections n) (home q) || (same_place (at router n) (home q) || false)) h)
 reads-named configs log (act.RecvStep conn n) q h =
-    link_kinds conn q (first_false (same_place links (home q)) false (second_false (same_place (at channels n) (home q)) (same_place links (home q) || false) h))
+    link_kinds conn q (first_false (same_place links (home q)) (same_place (at channels n) (home q) || false) h)
 reads-named configs log (act.Recv c n) q h = channel_queue n c q (first_false (same_place (at channels n) (home q)) false h)
 
 both_false : (a b : Bool) → a ≡ false → b ≡ false → (a || b) ≡ false
@@ -119,7 +121,7 @@ writes-named configs log (act.Router n) q h =
     router_kinds n q (first_false (same_place (at router n) (home q)) (same_place (at connections n) (home q) || false) h)
     (first_false (same_place (at connections n) (home q)) false (second_false (same_place (at router n) (home q)) (same_place (at connections n) (home q) || false) h))
 writes-named configs log (act.SendStep conn n) q h = reads-named configs log (act.SendStep conn n) q h
-writes-named configs log (act.RecvStep conn n) q h = channel_kinds n q (first_false (same_place (at channels n) (home q)) (same_place links (home q) || false) h)
+writes-named configs log (act.RecvStep conn n) q h = channel_kinds n q (first_false (same_place (at channels n) (home q)) false (second_false (same_place links (home q)) (same_place (at channels n) (home q) || false) h))
 writes-named configs log (act.Recv c n) q h = refl
 
 pub line-unnamed : (configs : List Config) (log : List Entry) (ev : Event) (q : Queue) → names ev.act (home q) ≡ false → line (log ++ effect configs log ev ∷ []) q ≡ line log q

@@ -43,6 +43,8 @@ use Rattle.p2p_net.specs.Joining as joining
 use Rattle.p2p_net.specs.Stands.{RouterStands, PartStands, IsSized, NodeStands, WorldStands}
 use Rattle.p2p_net.specs.declared.node.Node.{Node}
 use Rattle.p2p_log_laws.proofs.Untouched.{line-untouched}
+use Rattle.p2p_net.proofs.ActKinds.{Kind, kind_of}
+use Rattle.p2p_net.proofs.ActKinds as kinds
 use Rattle.p2p_net.proofs.Frames.{part_frame}
 use Rattle.p2p_net.proofs.Routers.{IsStranger-apart, HearsOfJoins-told}
 use Rattle.p2p_net.proofs.Performing.{asked, sized_same}
@@ -57,27 +59,31 @@ pub record MayJoin (log : List Entry) (a b : ℕ) : Type 0 where
   pub apart : is_joined log a b ≡ false
   pub apart_too : is_joined log b a ≡ false
 
+or-turned : (p q : Bool) → (p || q) ≡ (q || p)
+or-turned true true = refl
+or-turned true false = refl
+or-turned false true = refl
+or-turned false false = refl
+
+joined-turned : (a b x y : ℕ) (r : Reply) → joins a b (act.Join x y) r ≡ joins b a (act.Join x y) r
+joined-turned a b x y reply.Ok = or-turned ((x == a) && (y == b)) ((x == b) && (y == a))
+joined-turned a b x y reply.Idle = refl
+joined-turned a b x y reply.Pending = refl
+joined-turned a b x y reply.Gone = refl
+joined-turned a b x y (reply.Capacity k) = refl
+joined-turned a b x y (reply.Sent ks) = refl
+joined-turned a b x y (reply.Message bytes from) = refl
+
 joins-turned : (a b : ℕ) (x : Act) (r : Reply) → joins a b x r ≡ joins b a x r
-joins-turned a b (act.Join x y) reply.Ok = or-turned ((x == a) && (y == b)) ((x == b) && (y == a))
+joins-turned a b x r = by (kind_of x)
   where
-    or-turned : (p q : Bool) → (p || q) ≡ (q || p)
-    or-turned true true = refl
-    or-turned true false = refl
-    or-turned false true = refl
-    or-turned false false = refl
-joins-turned a b (act.Join x y) reply.Idle = refl
-joins-turned a b (act.Join x y) reply.Pending = refl
-joins-turned a b (act.Join x y) reply.Gone = refl
-joins-turned a b (act.Join x y) (reply.Capacity k) = refl
-joins-turned a b (act.Join x y) (reply.Sent ks) = refl
-joins-turned a b (act.Join x y) (reply.Message bytes from) = refl
-joins-turned a b (act.Register c m rate) r = refl
-joins-turned a b (act.Start m) r = refl
-joins-turned a b (act.Send bytes c m priority to) r = refl
-joins-turned a b (act.Router m) r = refl
-joins-turned a b (act.SendStep conn m) r = refl
-joins-turned a b (act.RecvStep conn m) r = refl
-joins-turned a b (act.Recv c m) r = refl
+    by : Kind x → joins a b x r ≡ joins b a x r
+    by (kinds.registering c m rate is) = subst (λ z. joins a b z r ≡ joins b a z r) (sym is) refl
+    by (kinds.starting m is) = subst (λ z. joins a b z r ≡ joins b a z r) (sym is) refl
+    by (kinds.joining l m is) = subst (λ z. joins a b z r ≡ joins b a z r) (sym is) (joined-turned a b l m r)
+    by (kinds.routing m is) = subst (λ z. joins a b z r ≡ joins b a z r) (sym is) refl
+    by (kinds.sending conn m is) = subst (λ z. joins a b z r ≡ joins b a z r) (sym is) refl
+    by (kinds.plain p) = p.joins a b r ∙ sym (p.joins b a r)
 
 any_turned : (log : List Entry) (a b : ℕ) → list_any (λ (e : Entry). joins a b e.event.act e.reply) log ≡ list_any (λ (e : Entry). joins b a e.event.act e.reply) log
 any_turned [] a b = refl

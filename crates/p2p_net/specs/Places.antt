@@ -1,6 +1,6 @@
 -- The parts of a node, and which of them an act names: its entry moves items of their queues alone, and changes what stands of
 -- them alone.
-use Rattle.std.specs.Prelude.{ℕ, Bool, ◌==◌, ◌&&◌, List, [], ◌∷◌}
+use Rattle.std.specs.Prelude.{ℕ, Bool, ◌==◌, ◌&&◌, List, [], ◌∷◌, ◌++◌, map}
 use Rattle.std.specs.List.{list_any}
 use Rattle.p2p_log.specs.declared.queue.Queue.{Queue}
 use Rattle.p2p_log.specs.declared.queue.Queue.TheVariants as queue
@@ -38,16 +38,23 @@ home (queue.Ready n conn) = at connections n
 home (queue.Channel n c) = at channels n
 home (queue.Link link s) = links
 
+-- parts of one node, and the links
+abbrev pub parts_of : ℕ → List Part → List Place
+parts_of n parts = map (λ p. at p n) parts
+
+abbrev pub and_links : List Place → List Place
+and_links ps = links ∷ ps
+
 -- the places that an act names
 abbrev pub places : Act → List Place
-places (act.Register c n rate) = at channels n ∷ at router n ∷ []
-places (act.Start n) = at router n ∷ []
-places (act.Join a b) = at router a ∷ at connections a ∷ at router b ∷ at connections b ∷ []
-places (act.Send bytes c n priority to) = at router n ∷ []
-places (act.Router n) = at router n ∷ at connections n ∷ []
-places (act.SendStep conn n) = at connections n ∷ at router n ∷ links ∷ []
-places (act.RecvStep conn n) = at channels n ∷ links ∷ []
-places (act.Recv c n) = at channels n ∷ []
+places (act.Register c n rate) = parts_of n (channels ∷ router ∷ [])
+places (act.Start n) = parts_of n (router ∷ [])
+places (act.Join a b) = parts_of a (router ∷ connections ∷ []) ++ parts_of b (router ∷ connections ∷ [])
+places (act.Send bytes c n priority to) = parts_of n (router ∷ [])
+places (act.Router n) = parts_of n (router ∷ connections ∷ [])
+places (act.SendStep conn n) = and_links (parts_of n (connections ∷ router ∷ []))
+places (act.RecvStep conn n) = and_links (parts_of n (channels ∷ []))
+places (act.Recv c n) = parts_of n (channels ∷ [])
 
 abbrev pub same_place : Place → Place → Bool
 same_place p q = (p.kind == q.kind) && (p.node == q.node)

@@ -25,8 +25,7 @@ may_register x c rate =
     && (fits_usize (capacity_by x rate) && fits_usize (x.config.mailbox_size + (x.channels.total + capacity_by x rate)))
 
 abbrev pub is_join_of : ℕ → Act → Bool
-is_join_of n (act.Join a b) = (a == n) || (b == n)
-is_join_of n _ = false
+is_join_of n a = elim a [ act.Join m k ↦ (m == n) || (k == n) | _ ↦ false ]
 
 -- whether this entry is of a join of the node
 abbrev pub names_node : ℕ → Option Entry → Bool

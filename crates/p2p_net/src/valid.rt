@@ -48,7 +48,7 @@ fn may_ask(log: &[Entry], node: &Node, act: &Act) -> bool
         Act::Send { bytes, .. } => bytes.len() <= node.config.max_message_size as usize,
         Act::SendStep { conn, node } => is_named(log, *conn, *node),
         Act::RecvStep { conn, node } => is_named(log, *conn, *node),
-        Act::Join { .. } | Act::Router { .. } | Act::Recv { .. } => true,
+        _ => true,
     }
 }
 
