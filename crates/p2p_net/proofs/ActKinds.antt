@@ -1,16 +1,11 @@
 -- The kinds of acts: those that change which channels, nodes, connections and answers there are, and the plain ones.
-use Rattle.std.proofs.Common.{◌≡◌, ℕ, Bool, true, false, List, [], refl, ap, ◌∙◌, Option, Some, None}
-use Rattle.std.specs.Prelude.{◌==◌, ◌||◌, nat_lt, length}
-use Rattle.p2p_base.specs.declared.key.Key.{Key}
+use Rattle.std.proofs.Common.{◌≡◌, ℕ, false, List, [], refl, ap, ◌∙◌, None}
 use Rattle.p2p_log.specs.declared.config.Config.{Config}
-use Rattle.p2p_log.specs.declared.entry.Entry.{Entry}
 use Rattle.p2p_log.specs.declared.entry.Reply.{Reply}
-use Rattle.p2p_log.specs.declared.event.Event.{Event}
 use Rattle.p2p_log.specs.declared.event.Rate.{Rate}
 use Rattle.p2p_log.specs.declared.event.Act.{Act}
 use Rattle.p2p_log.specs.declared.event.Act.TheVariants as act
 use Rattle.p2p_log_rules.specs.Facts.{registers_at, starts, half_of, joins, steps_router, steps_sender}
-use Rattle.p2p_net.specs.Joining.{pair_of}
 
 -- an act that registers no channel, starts and joins no node, and steps no router and no sending half
 pub record IsPlain (a : Act) : Type 0 where

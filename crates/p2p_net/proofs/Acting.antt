@@ -1,8 +1,7 @@
 -- What the code computes of nodes and links is the effect that the log defines, and they stand for the log with it.
 use Rattle.std.proofs.Common.{◌≡◌, ℕ, ◌<◌, Bool, true, false, cond, List, [], ◌∷◌, ◌++◌, length, refl, ap, sym, subst, ◌∙◌, arith, Option, Some, None}
-use Rattle.std.specs.Prelude.{slice_get, slice_set, nat_lt, ◌==◌, ◌&&◌, ◌||◌}
+use Rattle.std.specs.Prelude.{slice_get, slice_set, ◌==◌, ◌&&◌, ◌||◌}
 use Rattle.std.specs.List.{list_any}
-use Rattle.std.proofs.lemmas.Bool.{and_parts}
 use Rattle.std.proofs.lemmas.Bool.Decides.{nat_tests}
 use Rattle.p2p_base.specs.declared.key.Key.{Key}
 use Rattle.p2p_log.specs.declared.config.Config.{Config}
@@ -12,18 +11,17 @@ use Rattle.p2p_log.specs.declared.entry.Reply.TheVariants as reply
 use Rattle.p2p_log.specs.declared.event.Event.{Event}
 use Rattle.p2p_log.specs.declared.event.Act.{Act}
 use Rattle.p2p_log.specs.declared.event.Act.TheVariants as act
-use Rattle.p2p_log_rules.specs.declared.row.Half.{Half}
 use Rattle.p2p_log_rules.specs.declared.row.Row.{Row}
 use Rattle.p2p_log_rules.specs.Facts.{events_of, key_at}
-use Rattle.p2p_log_rules.specs.Effect.{only, row, effect, entry_of, may_join, join_row}
+use Rattle.p2p_log_rules.specs.Effect.{only, row, effect, entry_of, may_join}
 use Rattle.p2p_log_rules.specs.Valid.{may_act}
 use Rattle.p2p_net_links.specs.Stands.{LinksStand}
 use Rattle.p2p_net_links.specs.declared.links.Links.{Links}
-use Rattle.p2p_net.specs.Places.{Part, Place, router, channels, connections, code, at, links as place_links, parts_of, same_place, names, node_of, other_of}
+use Rattle.p2p_net.specs.Places.{Part, router, channels, connections, code, at, links as place_links, parts_of, same_place, names, node_of}
 use Rattle.p2p_net.specs.Acts.{NodeDoes}
 use Rattle.p2p_net.specs.Joining.{Welcomes, Connects, JoinsBy, Joins, OneDoes, pair_of, DoesOn, WorldDoes, joined_row}
 use Rattle.p2p_net.specs.Joining as joining
-use Rattle.p2p_net.specs.Stands.{PartStands, IsSized, NodeStands, WorldStands}
+use Rattle.p2p_net.specs.Stands.{IsSized, NodeStands, WorldStands}
 use Rattle.p2p_net.specs.declared.node.Node.{Node}
 use Rattle.p2p_net.proofs.Nodes.{slice_get-set, length-slice_set, below}
 use Rattle.p2p_net.proofs.Frames.{part_frame, links_kept}
@@ -32,7 +30,7 @@ use Rattle.p2p_net.proofs.Calling.{register_performs, start_performs, send_perfo
 use Rattle.p2p_net.proofs.Stepping.{route_performs}
 use Rattle.p2p_net.proofs.Writing.{send_step_performs}
 use Rattle.p2p_net.proofs.Receiving.{recv_step_performs}
-use Rattle.p2p_net.proofs.Welcoming.{MayJoin, MayJoin-test, may_join-nodes, Told, ready_row, told_first, told_second, welcome_stands}
+use Rattle.p2p_net.proofs.Welcoming.{MayJoin-test, may_join-nodes, Told, ready_row, told_first, told_second, welcome_stands}
 
 -- the row is the act's, and the world stands for the log with its entry
 pub record Simulates (configs : List Config) (log : List Entry) (ev : Event) (nodes : List Node) (links : Links) (r : Row) : Type 0 where

@@ -1,6 +1,6 @@
 -- The calls of a node: registering, starting, sending and reading.
-use Rattle.std.proofs.Common.{◌≡◌, ℕ, ◌+◌, ◌*◌, ◌^◌, ◌<◌, Bool, true, false, cond, List, [], ◌∷◌, ◌++◌, length, drop, refl, ap, sym, subst, ◌∙◌, arith, append-nil, Option, Some, None}
-use Rattle.std.specs.Prelude.{map, filter, flat_map, slice_get, is_some, nat_le, nat_lt, not, ◌==◌, ◌&&◌}
+use Rattle.std.proofs.Common.{◌≡◌, ℕ, ◌+◌, ◌*◌, ◌^◌, ◌<◌, Bool, true, false, cond, List, [], ◌∷◌, ◌++◌, length, refl, ap, sym, subst, ◌∙◌, arith, append-nil, Option, Some, None}
+use Rattle.std.specs.Prelude.{filter, flat_map, slice_get, is_some, nat_le, nat_lt, not, ◌&&◌}
 use Rattle.std.proofs.lemmas.Bool.{and_parts, not-true}
 use Rattle.std.proofs.lemmas.Bool.Decides.{nat_tests}
 use Rattle.p2p_log.specs.declared.config.Config.{Config}
@@ -11,20 +11,19 @@ use Rattle.p2p_log.specs.declared.item.Item.TheVariants as item
 use Rattle.p2p_log.specs.declared.item.Envelope.{Envelope}
 use Rattle.p2p_log.specs.declared.entry.Entry.{Entry}
 use Rattle.p2p_log.specs.declared.entry.Reply.TheVariants as reply
-use Rattle.p2p_log.specs.declared.event.Event.{Event}
 use Rattle.p2p_log.specs.declared.event.Rate.{Rate}
 use Rattle.p2p_log.specs.declared.event.Recipients.{Recipients}
 use Rattle.p2p_log.specs.declared.event.Act.TheVariants as act
 use Rattle.p2p_log.specs.Copies.{keys_of_recipients}
 use Rattle.p2p_log.specs.QueueCode.{same_queue}
-use Rattle.p2p_log.specs.Lines.{line, name_of, live, placed, stands_in, ended_item}
+use Rattle.p2p_log.specs.Lines.{line, name_of, placed, stands_in, ended_item}
 use Rattle.p2p_log_rules.specs.declared.row.Row.{Row}
 use Rattle.p2p_log_rules.specs.Frames.{frame_of}
 use Rattle.p2p_log_rules.specs.Facts.{events_of, has_started, registered, registers_at, capacity_for, channels, capacity_in, sum_capacities, is_up}
 use Rattle.p2p_log_rules.specs.Effect.{only, row, effect, entry_of, start_row, sent_row, send_row, read_row, oldest_read, recv_row, mailbox_size_at, router_capacity}
 use Rattle.p2p_log_rules.specs.Valid.{fits_usize, may_register, may_act}
 use Rattle.p2p_net_queues.specs.Tables.{waiting, popped_at}
-use Rattle.p2p_net_queues.proofs.Going.{put_in, line-kept, line-taken}
+use Rattle.p2p_net_queues.proofs.Going.{line-taken}
 use Rattle.p2p_net_router.specs.Stands.{StandsFor}
 use Rattle.p2p_net_router.specs.declared.router.Router.{Router}
 use Rattle.p2p_net_channels.specs.declared.channels.Channels.{Channels}
@@ -38,12 +37,11 @@ use Rattle.p2p_net_links.specs.declared.links.Links.{Links}
 use Rattle.p2p_net.specs.Places as place
 use Rattle.p2p_net.specs.Ready.{capacity_by}
 use Rattle.p2p_net.specs.Acts.{Registers, Starts, SendsOn, Sends, ReadsOn, Reads}
-use Rattle.p2p_net.specs.Stands.{RouterStands, PartStands, IsSized, NodeStands}
+use Rattle.p2p_net.specs.Stands.{RouterStands, PartStands, NodeStands}
 use Rattle.p2p_net.specs.declared.node.Node.{Node}
-use Rattle.p2p_net.proofs.Touching.{line-unnamed}
 use Rattle.p2p_net.proofs.Frames.{part_frame, links_kept}
 use Rattle.p2p_net.proofs.Routers.{RouterStands-moved, is_unbound-before}
-use Rattle.p2p_net.proofs.Performing.{asked, Performs, sized_same, part_still, links_still, effect-still, stays_performs, line-still}
+use Rattle.p2p_net.proofs.Performing.{asked, Performs, sized_same, stays_performs, line-still}
 
 -- ---- register
 

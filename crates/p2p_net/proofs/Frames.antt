@@ -1,6 +1,6 @@
 -- A part of a node that an act does not name stands for the log with its entry.
 use Rattle.std.proofs.Common.{◌≡◌, ℕ, Bool, true, false, cond, List, [], ◌∷◌, ◌++◌, refl, ap, sym, subst, ◌∙◌, arith, Option, Some, None}
-use Rattle.std.specs.Prelude.{map, filter, slice_get, ◌==◌, ◌&&◌, ◌||◌}
+use Rattle.std.specs.Prelude.{map, filter, slice_get, ◌==◌, ◌&&◌}
 use Rattle.std.proofs.lemmas.Bool.Decides.{nat_tests}
 use Rattle.p2p_log.specs.declared.config.Config.{Config}
 use Rattle.p2p_log.specs.declared.queue.Queue.{Queue}
@@ -15,24 +15,24 @@ use Rattle.p2p_log.specs.declared.event.Act.{Act}
 use Rattle.p2p_log.specs.declared.event.Act.TheVariants as act
 use Rattle.p2p_log.specs.Lines.{live, line, stands_in}
 use Rattle.p2p_log_rules.specs.declared.row.Half.{Half}
-use Rattle.p2p_log_rules.specs.Facts.{starts, registers_at, capacity_for, taken, steps_router, steps_sender, is_answer, routed_by, half_of, key_at, answers_by, joins}
+use Rattle.p2p_log_rules.specs.Facts.{starts, registers_at, capacity_for, taken, steps_router, steps_sender, is_answer, half_of, key_at, answers_by, joins}
 use Rattle.p2p_log_rules.specs.Effect.{effect}
 use Rattle.p2p_net_router.specs.Names.{is_routers}
-use Rattle.p2p_net_router.specs.Stands.{StandsFor, IsBeside}
+use Rattle.p2p_net_router.specs.Stands.{IsBeside}
 use Rattle.p2p_net_router.specs.declared.router.Router.{Router}
-use Rattle.p2p_net_router.proofs.Beside.{LinesStay, stands_beside}
+use Rattle.p2p_net_router.proofs.Beside.{stands_beside}
 use Rattle.p2p_net_channels.proofs.Changes.{channels_frame}
 use Rattle.p2p_net_connections.specs.Stands.{MakesNone}
 use Rattle.p2p_net_connections.proofs.Changes.{connections_frame}
 use Rattle.p2p_net_links.specs.Stands.{LinksStand}
 use Rattle.p2p_net_links.specs.declared.links.Links.{Links}
 use Rattle.p2p_net_links.proofs.Changes.{links_frame}
-use Rattle.p2p_net.specs.Places.{Part, router, channels, connections, links, home, names, at, same_place}
+use Rattle.p2p_net.specs.Places.{Part, router, channels, connections, links, home, names, at}
 use Rattle.p2p_net.specs.Stands.{RouterStands, PartStands}
 use Rattle.p2p_net.specs.declared.node.Node.{Node}
 use Rattle.p2p_net.proofs.ActKinds.{registers_unless, starts_unless, half_unless, joins_unless, routes_unless, sends_unless}
 use Rattle.p2p_net.proofs.Routers.{RouterStands-moved}
-use Rattle.p2p_net.proofs.Touching.{first_false, second_false, line-unnamed}
+use Rattle.p2p_net.proofs.Touching.{line-unnamed}
 
 -- the event of an effect, and its act
 pub effect-act : (configs : List Config) (log : List Entry) (ev : Event) → (effect configs log ev).event.act ≡ ev.act

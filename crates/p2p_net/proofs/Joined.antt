@@ -1,5 +1,5 @@
 -- Two nodes that a join names.
-use Rattle.std.proofs.Common.{◌≡◌, ℕ, Bool, true, false, ◌≤◌, List, refl, ap, sym, subst, ◌∙◌, Option, Some, None}
+use Rattle.std.proofs.Common.{◌≡◌, ℕ, Bool, true, false, ◌≤◌, List, refl, sym, subst, ◌∙◌, Option, Some, None}
 use Rattle.std.specs.Prelude.{slice_get, ◌==◌, ◌&&◌, not, is_some, IsTrue}
 use Rattle.std.proofs.lemmas.Bool.{and_parts}
 use Rattle.p2p_log.specs.declared.event.Act.{Act}

@@ -1,28 +1,26 @@
 -- An act that may be asked for finds its nodes ready.
-use Rattle.std.proofs.Common.{◌≡◌, ℕ, zero, suc, ◌+◌, ◌*◌, ◌^◌, ◌<◌, ◌≤◌, Bool, true, false, cond, List, [], ◌∷◌, length, refl, ap, sym, subst, ◌∙◌, arith, Option, Some, None}
-use Rattle.std.specs.Prelude.{slice_get, slice_index_or, map, nat_lt, nat_le, not, ◌==◌, ◌&&◌, ◌||◌, is_some, IsTrue}
+use Rattle.std.proofs.Common.{◌≡◌, ℕ, zero, suc, ◌+◌, ◌*◌, ◌^◌, ◌<◌, ◌≤◌, Bool, true, false, List, [], ◌∷◌, length, refl, ap, sym, subst, ◌∙◌, arith, Option, Some, None}
+use Rattle.std.specs.Prelude.{slice_get, nat_lt, nat_le, not, ◌&&◌, is_some}
 use Rattle.std.proofs.lemmas.Bool.{and_parts, not-true}
 use Rattle.std.proofs.lemmas.Bool.Decides.{nat_tests}
 use Rattle.p2p_log.specs.declared.config.Config.{Config}
 use Rattle.p2p_log.specs.declared.entry.Entry.{Entry}
-use Rattle.p2p_log.specs.declared.event.Event.{Event}
 use Rattle.p2p_log.specs.declared.event.Rate.{Rate}
 use Rattle.p2p_log.specs.declared.event.Act.{Act}
 use Rattle.p2p_log.specs.declared.event.Act.TheVariants as act
-use Rattle.p2p_log_rules.specs.Facts.{events_of, has_started, is_up, registered, capacity_for, capacity_in, sum_capacities}
+use Rattle.p2p_log_rules.specs.Facts.{events_of, has_started, is_up, registered, capacity_for, capacity_in}
 use Rattle.p2p_log_rules.specs.Effect.{mailbox_size_at, limit_at}
 use Rattle.p2p_log_rules.specs.Valid.{fits, fits_usize, config_fault, joins_node, names_join}
 use Rattle.p2p_log_rules.specs.Valid as valid
-use Rattle.p2p_net_router.specs.declared.router.Router.{Router}
 use Rattle.p2p_net_channels.specs.Channels.{capacity_at}
 use Rattle.p2p_net_channels.specs.Stands.{ChannelsStand}
 use Rattle.p2p_net_links.specs.declared.links.Links.{Links}
 use Rattle.p2p_net.specs.Places as place
 use Rattle.p2p_net.specs.Places.{node_of, other_of}
-use Rattle.p2p_net.specs.Ready.{is_started, capacity_by, may_register, is_join_of, names_node, may_ask, may_at, may_act, IsReady, MayPerform}
+use Rattle.p2p_net.specs.Ready.{is_started, capacity_by, may_register, names_node, may_ask, may_at, may_act, IsReady, MayPerform}
 use Rattle.p2p_net.specs.Stands.{RouterStands, IsSized, NodeStands, WorldStands}
 use Rattle.p2p_net.specs.declared.node.Node.{Node}
-use Rattle.p2p_net.proofs.Nodes.{some_at, below}
+use Rattle.p2p_net.proofs.Nodes.{some_at}
 use Rattle.p2p_net.proofs.Routers.{is_unbound-before}
 use Rattle.p2p_net.proofs.Starts.{fits_there}
 

@@ -1,7 +1,6 @@
 -- A step of the receiving half of a connection: a frame is taken off its link, and its message enters its channel.
-use Rattle.std.proofs.Common.{◌≡◌, ℕ, ◌+◌, Bool, true, false, cond, List, [], ◌∷◌, ◌++◌, length, refl, ap, sym, subst, ◌∙◌, arith, append-nil, Option, Some, None}
-use Rattle.std.specs.Prelude.{map, filter, flat_map, slice_get, nat_le, ◌==◌, ◌&&◌}
-use Rattle.std.proofs.lemmas.Bool.Decides.{nat_tests}
+use Rattle.std.proofs.Common.{◌≡◌, ℕ, Bool, true, false, cond, List, [], ◌∷◌, ◌++◌, length, refl, ap, sym, subst, ◌∙◌, append-nil, Option, Some, None}
+use Rattle.std.specs.Prelude.{filter, flat_map, slice_get, nat_le}
 use Rattle.p2p_base.specs.declared.key.Key.{Key}
 use Rattle.p2p_log.specs.declared.config.Config.{Config}
 use Rattle.p2p_log.specs.declared.queue.Queue.{Queue}
@@ -13,14 +12,13 @@ use Rattle.p2p_log.specs.declared.item.Item.TheVariants as item
 use Rattle.p2p_log.specs.declared.item.Envelope.{Envelope}
 use Rattle.p2p_log.specs.declared.entry.Entry.{Entry}
 use Rattle.p2p_log.specs.declared.entry.Reply.TheVariants as reply
-use Rattle.p2p_log.specs.declared.event.Event.{Event}
 use Rattle.p2p_log.specs.declared.event.Act.TheVariants as act
 use Rattle.p2p_log.specs.QueueCode.{same_queue}
 use Rattle.p2p_log.specs.Lines.{line, name_of, placed, stands_in, ended_item}
 use Rattle.p2p_log_rules.specs.declared.row.Half.{Half}
 use Rattle.p2p_log_rules.specs.declared.row.Row.{Row}
 use Rattle.p2p_log_rules.specs.Frames.{message_in}
-use Rattle.p2p_log_rules.specs.Facts.{registers_at, channels, capacity_in, half_at, is_running}
+use Rattle.p2p_log_rules.specs.Facts.{registers_at, channels, capacity_in, is_running}
 use Rattle.p2p_log_rules.specs.Effect.{only, row, effect, deliver_row, message_row, frame_row, receive_row, limit_at, other_side, recv_step_row}
 use Rattle.p2p_net_queues.specs.Rows.{taken_row}
 use Rattle.p2p_net_queues.specs.Tables as table
@@ -41,8 +39,8 @@ use Rattle.p2p_net_links.specs.Stands.{LinksStand}
 use Rattle.p2p_net_links.specs.declared.links.Links.{Links}
 use Rattle.p2p_net_links.proofs.Changes.{links_taken}
 use Rattle.p2p_net.specs.Places as place
-use Rattle.p2p_net.specs.Acts.{accepted_row, accepted_into, accepted_off, arrived_row, arrived_into, arrived_off, received_row, received_into, received_off, first_in, Receives, ReceivesBy, ReceivesOn, RecvSteps}
-use Rattle.p2p_net.specs.Stands.{RouterStands, PartStands, IsSized, NodeStands}
+use Rattle.p2p_net.specs.Acts.{accepted_row, accepted_into, accepted_off, arrived_row, arrived_into, arrived_off, received_row, received_into, received_off, first_in, ReceivesBy, ReceivesOn, RecvSteps}
+use Rattle.p2p_net.specs.Stands.{RouterStands, PartStands, NodeStands}
 use Rattle.p2p_net.specs.declared.node.Node.{Node}
 use Rattle.p2p_net.proofs.Frames.{part_frame}
 use Rattle.p2p_net.proofs.Performing.{asked, Performs, sized_same, stays_performs}

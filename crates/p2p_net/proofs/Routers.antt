@@ -1,6 +1,6 @@
 -- What acts make of the router of a node.
 use Rattle.std.proofs.Common.{◌≡◌, ℕ, ◌+◌, ◌<◌, Bool, true, false, cond, List, [], ◌∷◌, ◌++◌, length, length-append, refl, ap, sym, subst, ◌∙◌, arith, Option, Some, None}
-use Rattle.std.specs.Prelude.{◌==◌, ◌||◌, IsTrue}
+use Rattle.std.specs.Prelude.{◌||◌, IsTrue}
 use Rattle.std.specs.BTreeMap as tree
 use Rattle.std.specs.BTreeMap.{BTreeMap}
 use Rattle.std.specs.Ordering.{nat_cmp, is_eq}
@@ -9,7 +9,7 @@ use Rattle.std.proofs.lemmas.Bool.Decides.{nat_tests}
 use Rattle.p2p_base.specs.declared.key.Key.{Key}
 use Rattle.p2p_log.specs.declared.config.Config.{Config}
 use Rattle.p2p_log.specs.declared.entry.Entry.{Entry}
-use Rattle.p2p_log_rules.specs.Facts.{key_at, starts, registers_at, steps_router, taken, joins, is_joined, is_up}
+use Rattle.p2p_log_rules.specs.Facts.{key_at, joins, is_joined, is_up}
 use Rattle.p2p_log_rules.specs.Valid.{config_fault}
 use Rattle.p2p_log_rules.proofs.Facts.{is_joined-append}
 use Rattle.p2p_router.specs.Messenger.{is_bound, is_unbound}

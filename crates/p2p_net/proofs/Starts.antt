@@ -1,6 +1,6 @@
 -- A world in which nothing was asked.
-use Rattle.std.proofs.Common.{◌≡◌, ℕ, zero, suc, ◌+◌, ◌*◌, ◌<◌, ◌≤◌, ◌^◌, Bool, true, false, cond, List, [], ◌∷◌, ◌++◌, length, refl, ap, sym, subst, ◌∙◌, arith, Option, Some, None}
-use Rattle.std.specs.Prelude.{slice_get, nat_lt, nat_le, ◌==◌, not, ◌&&◌}
+use Rattle.std.proofs.Common.{◌≡◌, ℕ, zero, suc, ◌*◌, ◌<◌, ◌^◌, Bool, true, false, cond, List, [], ◌∷◌, ◌++◌, length, refl, ap, sym, subst, ◌∙◌, arith, Option, Some, None}
+use Rattle.std.specs.Prelude.{slice_get, nat_lt, ◌==◌, not}
 use Rattle.std.specs.List.{list_any}
 use Rattle.std.specs.BTreeMap as tree
 use Rattle.std.specs.Ordering.{nat_cmp}
@@ -11,7 +11,7 @@ use Rattle.p2p_log.specs.declared.queue.Side.TheVariants as side
 use Rattle.p2p_log.specs.Lines.{live_from, line}
 use Rattle.p2p_log_rules.specs.Facts.{registered, history_from, half_at, is_running, is_joined}
 use Rattle.p2p_log_rules.specs.Effect.{mailbox_size_at}
-use Rattle.p2p_log_rules.specs.Valid.{fits, fits_usize, has_key, is_valid_config, config_fault_from, config_fault}
+use Rattle.p2p_log_rules.specs.Valid.{fits, has_key, is_valid_config, config_fault_from, config_fault}
 use Rattle.p2p_log.proofs.Places.{slice_get-append}
 use Rattle.p2p_net_router.specs.Stands.{StandsFor}
 use Rattle.p2p_net_channels.specs.Channels.{no_channels}
@@ -21,7 +21,7 @@ use Rattle.p2p_net_connections.specs.Stands.{ConnectionsStand}
 use Rattle.p2p_net_links.specs.Links.{no_links}
 use Rattle.p2p_net_links.specs.Stands.{LinksStand}
 use Rattle.p2p_net.specs.Places as place
-use Rattle.p2p_net.specs.Stands.{RouterStands, PartStands, IsSized, NodeStands}
+use Rattle.p2p_net.specs.Stands.{PartStands, NodeStands}
 use Rattle.p2p_net.specs.declared.node.Node.{Node}
 
 none_there : (b : Bool) (rest : Option ℕ) (k : ℕ) → cond b rest (Some k) ≡ None → b ≡ true × rest ≡ None

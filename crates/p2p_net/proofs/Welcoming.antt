@@ -1,10 +1,9 @@
 -- A join of two nodes: each has its half of the connection, of which its router is told.
 use Rattle.std.proofs.Common.{◌≡◌, ℕ, ◌<◌, Bool, true, false, cond, List, [], ◌∷◌, ◌++◌, length, refl, ap, sym, subst, ◌∙◌, arith, Option, Some, None}
-use Rattle.std.specs.Prelude.{map, filter, flat_map, ◌==◌, ◌||◌, ◌&&◌, not, slice_get, slice_set, is_some}
+use Rattle.std.specs.Prelude.{map, ◌==◌, ◌||◌, ◌&&◌, not, is_some}
 use Rattle.std.specs.List.{list_any}
-use Rattle.std.proofs.lemmas.Bool.{and_parts, not-true, false≢true}
+use Rattle.std.proofs.lemmas.Bool.{and_parts, not-true}
 use Rattle.std.proofs.lemmas.Bool.Decides.{nat_tests}
-use Rattle.p2p_base.specs.declared.key.Key.{Key}
 use Rattle.p2p_log.specs.declared.config.Config.{Config}
 use Rattle.p2p_log.specs.declared.queue.Queue.{Queue}
 use Rattle.p2p_log.specs.declared.queue.Queue.TheVariants as queue
@@ -17,30 +16,27 @@ use Rattle.p2p_log.specs.declared.event.Event.{Event}
 use Rattle.p2p_log.specs.declared.event.Act.{Act}
 use Rattle.p2p_log.specs.declared.event.Act.TheVariants as act
 use Rattle.p2p_log.specs.QueueCode.{same_queue}
-use Rattle.p2p_log.specs.Lines.{line, placed, stands_in}
 use Rattle.p2p_log.proofs.Queues.{same_queue-sym}
 use Rattle.p2p_log_rules.specs.declared.row.Half.{Half}
 use Rattle.p2p_log_rules.specs.declared.row.Row.{Row}
 use Rattle.p2p_log_rules.specs.Facts.{half_of, key_at, joins, is_joined, is_up, starts, registers_at, steps_router, steps_sender, taken, is_answer}
-use Rattle.p2p_log_rules.specs.Effect.{only, row, effect, may_join, join_row, mailbox_size_at, entry_of}
+use Rattle.p2p_log_rules.specs.Effect.{effect, may_join, mailbox_size_at, entry_of}
 use Rattle.p2p_log_rules.specs.Valid.{config_fault}
 use Rattle.p2p_log_rules.proofs.Touches.{reads, writes}
 use Rattle.p2p_net_queues.specs.Tables as table
 use Rattle.p2p_net_router.specs.Names.{is_routers}
-use Rattle.p2p_net_router.specs.Stands.{StandsFor, IsBeside, IsReadied}
+use Rattle.p2p_net_router.specs.Stands.{IsBeside, IsReadied}
 use Rattle.p2p_net_router.specs.declared.router.Router.{Router}
 use Rattle.p2p_net_router.proofs.Aside.{same_queue-other}
 use Rattle.p2p_net_channels.specs.Stands.{ChannelsStand}
 use Rattle.p2p_net_connections.specs.Connections.{joined_with}
 use Rattle.p2p_net_connections.specs.Stands.{ConnectionsStand}
 use Rattle.p2p_net_connections.proofs.Joining.{connections_joined}
-use Rattle.p2p_net_links.specs.Stands.{LinksStand}
-use Rattle.p2p_net_links.specs.declared.links.Links.{Links}
 use Rattle.p2p_net.specs.Places as place
 use Rattle.p2p_net.specs.Ready.{is_started}
 use Rattle.p2p_net.specs.Joining.{Welcomes, joined_row}
 use Rattle.p2p_net.specs.Joining as joining
-use Rattle.p2p_net.specs.Stands.{RouterStands, PartStands, IsSized, NodeStands, WorldStands}
+use Rattle.p2p_net.specs.Stands.{RouterStands, PartStands, NodeStands}
 use Rattle.p2p_net.specs.declared.node.Node.{Node}
 use Rattle.p2p_log_laws.proofs.Untouched.{line-untouched}
 use Rattle.p2p_net.proofs.ActKinds.{Kind, kind_of}

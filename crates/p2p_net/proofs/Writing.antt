@@ -1,5 +1,5 @@
 -- A step of the sending half of a connection: its router's answer, or a batch.
-use Rattle.std.proofs.Common.{◌≡◌, ℕ, ◌+◌, Bool, true, false, cond, List, [], ◌∷◌, ◌++◌, length, take, refl, ap, sym, subst, ◌∙◌, arith, append-nil, Option, Some, None}
+use Rattle.std.proofs.Common.{◌≡◌, ℕ, ◌+◌, Bool, true, false, cond, List, [], ◌∷◌, ◌++◌, length, refl, ap, sym, subst, ◌∙◌, arith, append-nil, Option, Some, None}
 use Rattle.std.specs.Prelude.{map, filter, flat_map, slice_get, ◌==◌, ◌&&◌, ◌||◌}
 use Rattle.std.specs.List.{list_any}
 use Rattle.std.specs.BTreeMap.{is_at}
@@ -14,7 +14,6 @@ use Rattle.p2p_log.specs.declared.item.Item.{Item}
 use Rattle.p2p_log.specs.declared.item.Envelope.{Envelope}
 use Rattle.p2p_log.specs.declared.entry.Entry.{Entry}
 use Rattle.p2p_log.specs.declared.entry.Reply.TheVariants as reply
-use Rattle.p2p_log.specs.declared.event.Event.{Event}
 use Rattle.p2p_log.specs.declared.event.Act.TheVariants as act
 use Rattle.p2p_log.specs.QueueCode.{same_queue}
 use Rattle.p2p_log.specs.Lines.{line, live, name_of, named, placed, goes, stays, stands_in, ended_item}
@@ -22,36 +21,34 @@ use Rattle.p2p_log.proofs.Names.{AreApart-live_from}
 use Rattle.p2p_log.proofs.Queues.{same_queue-sym}
 use Rattle.p2p_log_rules.specs.declared.row.Half.{Half}
 use Rattle.p2p_log_rules.specs.declared.row.Row.{Row}
-use Rattle.p2p_log_rules.specs.Facts.{starts, registers_at, steps_router, half_at, is_running, is_answer, taken, item_named, steps_sender, answers_by}
-use Rattle.p2p_log_rules.specs.Effect.{only, row, effect, entry_of, begin_row, write_row, batch_size_at, batch, send_step_row, mailbox_size_at}
+use Rattle.p2p_log_rules.specs.Facts.{starts, registers_at, steps_router, is_running, is_answer, taken, item_named, steps_sender, answers_by}
+use Rattle.p2p_log_rules.specs.Effect.{only, row, effect, begin_row, write_row, batch_size_at, batch, send_step_row, mailbox_size_at}
 use Rattle.p2p_log_rules.proofs.Facts.{is_running-append}
 use Rattle.p2p_log_rules.proofs.Recorded.{item_named-first}
 use Rattle.p2p_net_queues.specs.Tables as table
 use Rattle.p2p_net_queues.specs.Tables.{waiting, popped_at}
 use Rattle.p2p_net_queues.proofs.Going.{put_in, line-append, line-taken}
 use Rattle.p2p_net_router.specs.Batches.{batch_of}
-use Rattle.p2p_net_router.specs.Names.{is_routers}
-use Rattle.p2p_net_router.specs.Stands.{StandsFor, IsBeside, AreAway}
-use Rattle.p2p_net_router.specs.declared.router.Router.{Router}
+use Rattle.p2p_net_router.specs.Stands.{IsBeside, AreAway}
 use Rattle.p2p_net_router.proofs.Aside.{stands_begun, same_queue-other}
 use Rattle.p2p_net_router.proofs.Batches.{batch_beside}
 use Rattle.p2p_net_channels.specs.Stands.{ChannelsStand}
-use Rattle.p2p_net_connections.specs.Connections.{half_on, runs_on, ran, begun_on, begun}
+use Rattle.p2p_net_connections.specs.Connections.{half_on, runs_on, ran, begun_on}
 use Rattle.p2p_net_connections.specs.Stands.{ConnectionsStand}
 use Rattle.p2p_net_connections.specs.declared.connections.Connection.{Connection}
 use Rattle.p2p_net_connections.specs.declared.connections.Connections.{Connections}
-use Rattle.p2p_net_connections.proofs.Changes.{connections_moved, half_on-ran, runs_on-ran, running-kept, waiting-begun, waiting-none}
-use Rattle.p2p_net_links.specs.Links.{way_of, with_way, written_way, write_frames_row}
+use Rattle.p2p_net_connections.proofs.Changes.{connections_moved, half_on-ran, runs_on-ran, waiting-begun, waiting-none}
+use Rattle.p2p_net_links.specs.Links.{write_frames_row}
 use Rattle.p2p_net_links.specs.Stands.{LinksStand}
 use Rattle.p2p_net_links.specs.declared.links.Links.{Links}
 use Rattle.p2p_net_links.proofs.Changes.{frames_put, links_frame, links_written}
 use Rattle.p2p_net.specs.Places as place
 use Rattle.p2p_net.specs.Acts.{Writes, Begins, WritesBy, WritesOn, SendSteps}
-use Rattle.p2p_net.specs.Stands.{RouterStands, PartStands, IsSized, NodeStands}
+use Rattle.p2p_net.specs.Stands.{RouterStands, PartStands, NodeStands}
 use Rattle.p2p_net.specs.declared.node.Node.{Node}
-use Rattle.p2p_net.proofs.Frames.{part_frame, makes_none, beside_by}
+use Rattle.p2p_net.proofs.Frames.{part_frame, makes_none}
 use Rattle.p2p_net.proofs.Routers.{RouterStands-moved}
-use Rattle.p2p_net.proofs.Performing.{asked, Performs, sized_same, part_still, links_still, line-still, stays_performs, IsStill}
+use Rattle.p2p_net.proofs.Performing.{asked, Performs, sized_same, part_still, links_still, stays_performs, IsStill}
 
 -- what a half's step comes to, by what stands of it
 abbrev stepped_row : List Config → List Entry → ℕ → ℕ → Option Half → Bool → Row

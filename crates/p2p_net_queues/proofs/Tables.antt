@@ -6,7 +6,7 @@ use Rattle.std.specs.Map.{lookup, set_value}
 use Rattle.std.specs.BTreeMap.{is_at, insert_entry}
 use Rattle.std.specs.Ordering.{nat_cmp, is_eq, match_ordering}
 use Rattle.std.proofs.lemmas.Bool.Decides.{nat_tests}
-use Rattle.p2p_net_queues.specs.Tables.{at, items_in, waiting, pushed_on, pushed_at, popped_on, popped_at}
+use Rattle.p2p_net_queues.specs.Tables.{items_in, waiting, pushed_on, pushed_at, popped_on, popped_at}
 
 same_at : (q k x : ℕ) → nat_cmp k x ≡ Equal → is_eq (nat_cmp q x) ≡ is_eq (nat_cmp q k)
 same_at q k x h = grind (arith, nat_tests)
