@@ -1,1 +1,3 @@
-pub mod Filling
+mod Filling
+mod Limiters
+mod Unchanged
