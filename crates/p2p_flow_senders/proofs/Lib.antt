@@ -1,0 +1,2 @@
+mod Admitting
+mod Known
