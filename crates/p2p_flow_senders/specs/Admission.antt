@@ -1,5 +1,5 @@
 -- The check of a list of keys: each entry is tested by the law of the quota, in order, each after the ones before it.
-use Rattle.std.specs.Prelude.{◌≡◌, ℕ, max, Bool, true, cond, List, [], ◌∷◌, Result, Ok, Err}
+use Rattle.std.specs.Prelude.{◌≡◌, ℕ, max, true, cond, List, [], ◌∷◌, Result, Ok, Err}
 use Rattle.std.specs.declared.cmp.Ordering.{Ordering}
 use Rattle.p2p_runtime.specs.QuotaLaw.{Rate, admits, retry}
 use Rattle.p2p_runtime.specs.QuotaKeys.{KeptByKey, is_known, with_admission}

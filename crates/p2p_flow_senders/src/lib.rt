@@ -2,3 +2,12 @@
 #![tactic(auto)]
 
 mod admission;
+pub mod channels;
+pub mod limited;
+pub mod send_error;
+pub mod sender;
+pub mod way;
+
+pub use send_error::SendError;
+pub use sender::{CheckedSender, LimitedSender, UnlimitedSender};
+pub use way::Way;

@@ -34,6 +34,7 @@ impl<K: Ord> Model for KeyedRateLimiter<K> {
 impl<K: Ord + Copy> KeyedRateLimiter<K> {
     /// Has admitted nothing for any key, and stands at the moment 0.
     pub fn new(alloc: Global, quota: Quota) -> KeyedRateLimiter<K>
+        ensures fresh { result ≡ record { rate = quota; arrivals = []; latest = 0 } }
         ensures rate { result.rate ≡ quota }
         ensures empty { StandsForEach K.cmp result (λ _. []) 0 }
     {

@@ -1,7 +1,5 @@
-use Rattle.std.proofs.Common.{◌≡◌, ℕ, List, Result, true, false, length, refl, sym, ap, subst, ◌∙◌, arith}
-use Rattle.p2p_runtime.specs.QuotaLaw.{Rate}
-use Rattle.p2p_runtime.specs.QuotaKeys.{StandsForEach}
-use Rattle.p2p_flow_senders.proofs.Admitting.{IsUnderWay, IsChecked, begins, one_more, at_end, on_err}
+use Rattle.std.proofs.Common.{List, sym, subst, ◌∙◌, arith}
+use Rattle.p2p_flow_senders.proofs.Admitting.{IsUnderWay, begins, one_more, at_end, on_err}
 use Rattle.p2p_flow_senders.proofs.Known.{known-next, known-keeps}
 use Rattle.p2p_flow_senders.proofs.admission.admit_all.Goals as goal
 

@@ -1,4 +1,4 @@
-use Rattle.std.proofs.Common.{◌≡◌, ◌≤◌, ◌+◌, ℕ, List, drop, length, vec_len, vec_capacity}
+use Rattle.std.proofs.Common.{◌≡◌, ◌≤◌, ℕ, List, drop, length, vec_len, vec_capacity}
 use Rattle.p2p_runtime.specs.QuotaKeys.{StandsForEach}
 use Rattle.p2p_flow_senders.specs.Admission.{AllKnown}
 use Rattle.p2p_flow_senders.proofs.Admitting.{IsUnderWay}
