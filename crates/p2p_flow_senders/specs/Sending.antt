@@ -21,6 +21,13 @@ IsCauseAfter passed due send_error.Memory = Unit {0}
 IsCauseAfter passed due (send_error.MessageTooLarge size limit) = (passed ≡ true) × (due ≡ Some (send_error.MessageTooLarge size limit))
 IsCauseAfter passed due send_error.NoSubchannel = (passed ≡ true) × (due ≡ Some send_error.NoSubchannel)
 
+-- the fact holds, unless memory ran out
+abbrev pub UnlessMemory : {X : Type 0} → Result X SendError → Type 0 → Type 0
+UnlessMemory (Ok x) fact = fact
+UnlessMemory (Err send_error.Memory) fact = Unit {0}
+UnlessMemory (Err (send_error.MessageTooLarge size limit)) fact = fact
+UnlessMemory (Err send_error.NoSubchannel) fact = fact
+
 module _ {K : Type 0} where
   -- the keys of a checked value, or the moment from which a check passes
   abbrev pub keys_checked : {C : Type 0} → (C → List K) → Result C ℕ → Result (List K) ℕ

@@ -4,10 +4,14 @@
 mod admission;
 pub mod channels;
 pub mod limited;
+pub mod receiver;
 pub mod send_error;
 pub mod sender;
+pub mod sending;
 pub mod way;
 
+pub use receiver::Receiver;
 pub use send_error::SendError;
 pub use sender::{CheckedSender, LimitedSender, UnlimitedSender};
+pub use sending::Sender;
 pub use way::Way;

@@ -119,6 +119,8 @@ impl<P: PublicKey, M: Carrier<P>> LimitedSender<P, M> {
     }
 }
 
+impl<P: PublicKey, M: Carrier<P>> crate::Sender for LimitedSender<P, M> {}
+
 // Takes the list of peers that waits for a limit, if there is one.
 fn refresh<P: PublicKey, M: Carrier<P>>(limit: &mut Limit<P>, messenger: &mut M)
     requires { limit.old.subscription < M.subscriptions messenger.old }
