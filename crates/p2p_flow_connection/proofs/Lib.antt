@@ -1,3 +1,4 @@
 mod Filling
 mod Limiters
+pub mod Registration
 mod Unchanged

@@ -1,7 +1,7 @@
 -- The messages that arrived for the channels of a node, as contracts see them, and what their calls answer and leave.
-use Rattle.std.specs.Prelude.{ℕ, Bool, true, false, List, [], Option, Some, None}
+use Rattle.std.specs.Prelude.{ℕ, Bool, false, List, [], Option, Some, None}
 use Rattle.std.specs.BTreeMap.{is_at, insert_entry}
-use Rattle.std.specs.Map.{lookup, set_value}
+use Rattle.std.specs.Map.{lookup, set_value, remove_entry}
 use Rattle.std.specs.Ordering.{nat_cmp}
 use Rattle.p2p_base.specs.Queue.{Queue, empty_queue, enqueue_answer, enqueued, oldest, without_oldest, closed_queue}
 use Rattle.p2p_base.specs.declared.policy.Keep.TheVariants.{Refuse}
@@ -27,6 +27,10 @@ module _ {P : Type 0} where
   -- after the registration of a channel with so many places
   abbrev pub with_channel : Arrived P → ℕ → ℕ → Arrived P
   with_channel a channel places = record { mailboxes = insert_entry nat_cmp a.mailboxes channel (empty_queue places); ended = a.ended }
+
+  -- after that was taken back
+  abbrev pub without_channel : Arrived P → ℕ → Arrived P
+  without_channel a channel = record { mailboxes = remove_entry (is_at (nat_cmp channel)) a.mailboxes; ended = a.ended }
 
   -- after its mailbox, if there is one, was changed
   abbrev pub changed : (Queue (P × List ℕ) → Queue (P × List ℕ)) → Option (Queue (P × List ℕ)) → List (ℕ × Queue (P × List ℕ)) → ℕ → List (ℕ × Queue (P × List ℕ))

@@ -1,11 +1,11 @@
 -- What becomes of a message that came over a connection: its channel's quota decides, and then its channel's mailbox.
-use Rattle.std.specs.Prelude.{◌≡◌, ℕ, max, Bool, true, false, List, [], ◌∷◌, ◌++◌, Option, Some, None, is_ok, refl}
+use Rattle.std.specs.Prelude.{◌≡◌, ℕ, max, Bool, true, false, List, [], ◌∷◌, ◌++◌, Option, Some, None, is_ok}
 use Rattle.std.specs.BTreeMap.{is_at}
 use Rattle.std.specs.Map.{lookup, set_value}
 use Rattle.std.specs.Ordering.{nat_cmp}
 use Rattle.p2p_base.specs.declared.outcome.Sent.{Sent}
 use Rattle.p2p_base.specs.declared.outcome.Sent.TheVariants as sent
-use Rattle.p2p_runtime.specs.QuotaLaw.{Rate, admits}
+use Rattle.p2p_runtime.specs.QuotaLaw.{admits}
 use Rattle.p2p_runtime.specs.QuotaKept.{Kept, StandsFor}
 use Rattle.p2p_runtime.specs.QuotaCheck.{rate_answer, after_rate}
 use Rattle.p2p_wire.specs.declared.frame.Data.{Data}

@@ -1,11 +1,12 @@
 //! `Inbounds`, the mailboxes of a node's channels.
 ghost use Rattle.std.specs.Prelude.{◌≡◌, ◌≤◌, true, IfOk, IfErr, OnOk, OnErr};
 ghost use Rattle.std.specs.Option.{is_some};
-ghost use Rattle.std.specs.BTreeMap.{insert_entry};
+ghost use Rattle.std.specs.BTreeMap.{insert_entry, is_at};
+ghost use Rattle.std.specs.Map.{remove_entry};
 ghost use Rattle.std.specs.Ordering.{nat_cmp};
 ghost use Rattle.p2p_base.specs.Queue.{empty_queue, enqueued, without_oldest, closed_queue};
 ghost use Rattle.p2p_base.specs.declared.policy.Keep.TheVariants as keep;
-ghost use Rattle.p2p_flow_connection.specs.Arriving.{nothing_arrived, mailbox_in, mailbox_of, changed_at, answered_by, oldest_of, with_channel, arrival_answer, with_arrival, arrival_waiting, without_arrival, without_receiver};
+ghost use Rattle.p2p_flow_connection.specs.Arriving.{nothing_arrived, mailbox_in, mailbox_of, without_channel, changed_at, answered_by, oldest_of, with_channel, arrival_answer, with_arrival, arrival_waiting, without_arrival, without_receiver};
 
 use p2p_base::{Mailbox, NoRoom, Sent};
 use p2p_flow::{Channel, Message, Refusing, refusing};
@@ -59,6 +60,13 @@ impl<P: Drop> Inbounds<P> {
     {
         register_in(alloc, &mut self.mailboxes, channel, places)?;
         Ok(())
+    }
+
+    /// Takes back the registration of a channel, with what waits there.
+    pub fn deregister(&mut self, channel: Channel)
+        ensures { self.new ≡ without_channel self.old channel }
+    {
+        deregister_in(&mut self.mailboxes, channel);
     }
 
     /// Whether a channel is registered.
@@ -128,6 +136,13 @@ fn register_in<P: Drop>(
     let mailbox = Mailbox::new(alloc, places)?;
     mailboxes.insert(channel, mailbox)?;
     Ok(())
+}
+
+// Drops the mailbox of a channel, where there is one.
+fn deregister_in<P: Drop>(mailboxes: &mut Mailboxes<P>, channel: Channel)
+    ensures { mailboxes.new.entries ≡ remove_entry (is_at (nat_cmp channel)) mailboxes.old.entries }
+{
+    let _ = mailboxes.remove(&channel);
 }
 
 // Whether a channel has a mailbox.

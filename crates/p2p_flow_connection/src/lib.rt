@@ -1,4 +1,4 @@
-//! What one connection keeps beside its queues: the batch that it writes, and how often it may do a thing.
+//! What one connection keeps beside its queues: the batch that it writes, how often it may do a thing, and what it received.
 #![tactic(auto)]
 
 pub mod control;

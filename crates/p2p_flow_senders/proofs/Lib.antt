@@ -1,2 +1,3 @@
 mod Admitting
 mod Known
+mod Places

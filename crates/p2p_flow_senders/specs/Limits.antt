@@ -35,6 +35,10 @@ pub record Checked (P : Type 0) : Type 0 where
   pub recipients : List P
 
 module _ {P : Type 0} where
+  -- a limit that admitted nothing
+  abbrev pub fresh_limit : ℕ → Rate → ℕ → List P → Limit P
+  fresh_limit channel rate subscription known = record { channel = channel; kept = record { rate = rate; arrivals = []; latest = 0 }; subscription = subscription; known = known }
+
   abbrev pub rate_in : Option (Limit P) → Rate
   rate_in None = rate_of 0 0
   rate_in (Some l) = l.kept.rate

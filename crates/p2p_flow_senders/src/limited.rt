@@ -3,7 +3,7 @@ ghost use Rattle.std.specs.Prelude.{◌≡◌, ◌≢◌, ◌<◌, ◌∷◌, �
 ghost use Rattle.p2p_runtime.specs.QuotaKeys.{StandsForEach};
 ghost use Rattle.p2p_flow.specs.declared.plain.Recipients.TheVariants as to;
 ghost use Rattle.p2p_flow_senders.specs.Admission.{check_by_law, past_after, moment_after};
-ghost use Rattle.p2p_flow_senders.specs.Limits.{known_of, offered_by, known_after, messenger_by, HasLimit, IsHeard, named_in, limit_at, rate_in, StandsIn, offered_in, messenger_in, known_in, known_at, with_messenger};
+ghost use Rattle.p2p_flow_senders.specs.Limits.{fresh_limit, known_of, offered_by, known_after, messenger_by, HasLimit, IsHeard, named_in, limit_at, rate_in, StandsIn, offered_in, messenger_in, known_in, known_at, with_messenger};
 ghost use Rattle.p2p_flow_senders.specs.Sending.{keys_checked, size_refusal, IsCause};
 
 use crate::admission::admit_all;
@@ -92,12 +92,7 @@ impl<P: PublicKey, M: Carrier<P>> LimitedSender<P, M> {
     ) -> Result<LimitedSender<P, M>, AllocError>
         ensures value { IfOk result (λ s. s ≡ record { channel = sender.channel; max_size = sender.max_size; place = length way.old.limits }) }
         ensures messenger { OnOk result (way.new.messenger ≡ M.after_subscribe way.old.messenger) }
-        ensures limits { OnOk result (way.new.limits ≡ way.old.limits ++ record {
-          channel = sender.channel;
-          kept = record { rate = quota; arrivals = []; latest = 0 };
-          subscription = M.subscriptions way.old.messenger;
-          known = M.known way.old.messenger;
-        } ∷ []) }
+        ensures limits { OnOk result (way.new.limits ≡ way.old.limits ++ fresh_limit sender.channel quota (M.subscriptions way.old.messenger) (M.known way.old.messenger) ∷ []) }
         ensures memory { OnErr result (way.new ≡ way.old) }
     {
         let known = way.messenger.peers(alloc)?;
