@@ -92,6 +92,7 @@ impl<P: PublicKey, M: Carrier<P>> LimitedSender<P, M> {
     ) -> Result<LimitedSender<P, M>, AllocError>
         ensures value { IfOk result (λ s. s ≡ record { channel = sender.channel; max_size = sender.max_size; place = length way.old.limits }) }
         ensures messenger { OnOk result (way.new.messenger ≡ M.after_subscribe way.old.messenger) }
+        ensures serves { IfOk result (λ s. HasLimit M.subscriptions s way.new) }
         ensures limits { OnOk result (way.new.limits ≡ way.old.limits ++ fresh_limit sender.channel quota (M.subscriptions way.old.messenger) (M.known way.old.messenger) ∷ []) }
         ensures memory { OnErr result (way.new ≡ way.old) }
     {

@@ -3,7 +3,7 @@ ghost use Rattle.std.specs.Prelude.{◌≡◌, ◌≤◌, ◌<◌, ◌+◌, ◌*
 ghost use Rattle.std.specs.List.Sorted.{IsPermutation, IsSortedByKey};
 ghost use Rattle.std.specs.Ordering.{nat_cmp};
 ghost use Rattle.p2p_flow_connection.specs.Arriving.{mailbox_of, with_channel};
-ghost use Rattle.p2p_flow_senders.specs.Limits.{fresh_limit};
+ghost use Rattle.p2p_flow_senders.specs.Limits.{fresh_limit, HasLimit};
 ghost use Rattle.p2p_flow_senders.specs.Registering.{places_of, places_in, has_channel, within, refusal_of, register_refusal, IsRegisterCause};
 
 use crate::channels::{Receiver, Sender, UnlimitedSender};
@@ -75,6 +75,7 @@ impl<P: PublicKey> Channels<P> {
     ) -> Result<(Sender<P, M>, Receiver<P>), RegisterError>
         requires { mailbox_of inbounds.old channel ≡ None }
         ensures sender { IfOk result (λ r. r.0 ≡ record { channel = channel; max_size = self.old.max_size; place = length way.old.limits }) }
+        ensures serves { IfOk result (λ r. HasLimit M.subscriptions r.0 way.new) }
         ensures receiver { IfOk result (λ r. r.1 ≡ record { channel = channel; capacity = places_of self.old.max_peers quota }) }
         ensures fits { OnOk result (register_refusal self.old channel quota ≡ None) }
         ensures refused { IfErr result (IsRegisterCause (register_refusal self.old channel quota)) }
@@ -180,6 +181,7 @@ fn make<P: PublicKey, M: Carrier<P>>(
     requires places { 1 ≤ places }
     requires new { mailbox_of inbounds.old channel ≡ None }
     ensures sender { IfOk result (λ s. s ≡ record { channel = channel; max_size = max_size; place = length way.old.limits }) }
+    ensures serves { IfOk result (λ s. HasLimit M.subscriptions s way.new) }
     ensures inbounds { OnOk result (inbounds.new ≡ with_channel inbounds.old channel places) }
     ensures messenger { OnOk result (way.new.messenger ≡ M.after_subscribe way.old.messenger) }
     ensures limits { OnOk result (way.new.limits ≡ way.old.limits ++ fresh_limit channel quota (M.subscriptions way.old.messenger) (M.known way.old.messenger) ∷ []) }

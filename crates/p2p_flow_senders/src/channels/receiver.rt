@@ -10,7 +10,10 @@ use std::marker::{Model, PhantomData};
 
 /// Receives the messages of one channel, from the mailboxes that it is lent.
 ///
+/// Dropping it closes nothing: `Inbounds::close` closes its mailbox.
+///
 /// Ports `Receiver` of commonware-p2p's `channels`, which owns the mailbox.
+#[derive(Drop)]
 pub struct Receiver<P> {
     channel: Channel,
     capacity: usize,
