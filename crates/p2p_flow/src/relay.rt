@@ -1,10 +1,10 @@
 //! `Relay`, the two queues of messages towards one connection.
 ghost use Rattle.std.specs.Prelude.{◌≡◌, ◌≤◌, length, IfOk, IfErr, OnOk, OnErr, IsTrue};
-ghost use Rattle.p2p_base.specs.Queue.{oldest, without_oldest, enqueue_answer, enqueued, keeps};
-ghost use Rattle.p2p_base.specs.declared.policy.Keep.TheVariants as keep;
+ghost use Rattle.p2p_base.specs.Queue.{oldest, without_oldest};
 ghost use Rattle.p2p_flow.specs.Lanes.{empty_lanes, send_answer, sent_on, takes_in, closed_lanes};
 
-use p2p_base::{Keep, Mailbox, NoRoom, Sent, UnreliablePolicy};
+use crate::refusing::{self, Refusing};
+use p2p_base::{Mailbox, NoRoom, Sent};
 use std::alloc::{AllocError, Global};
 use std::marker::Model;
 
@@ -30,30 +30,6 @@ impl<T> Model for Relay<T> {
     ghost view = { λ r. record { high = r.high; low = r.low } };
 
     ghost invariant = { λ r. (r.low.capacity ≡ r.high.capacity) × (r.low.closed ≡ r.high.closed) };
-}
-
-// A message that no full mailbox takes.
-#[derive(Drop)]
-struct Refusing<T> {
-    message: T,
-}
-
-impl<T> Model for Refusing<T> {
-    ghost Value = { T };
-
-    ghost coded = { T.code };
-
-    ghost view = { λ r. r.message };
-}
-
-impl<T: Drop> UnreliablePolicy for Refusing<T> {
-    ghost use Rattle.p2p_base.specs.declared.policy.Keep.TheVariants as keep;
-
-    ghost keep_of = { λ _. keep.Refuse };
-
-    fn keep(&self) -> Keep {
-        Keep::Refuse
-    }
 }
 
 impl<T> Relay<T> {
@@ -92,7 +68,7 @@ impl<T> Relay<T> {
         ensures value { result ≡ oldest self.old.high }
         ensures after { self.new ≡ record self.old { high = without_oldest self.old.high } }
     {
-        plain(self.high.take())
+        refusing::take(&mut self.high)
     }
 
     /// Removes the oldest message without priority. `None` exactly where none waits.
@@ -100,7 +76,7 @@ impl<T> Relay<T> {
         ensures value { result ≡ oldest self.old.low }
         ensures after { self.new ≡ record self.old { low = without_oldest self.old.low } }
     {
-        plain(self.low.take())
+        refusing::take(&mut self.low)
     }
 }
 
@@ -125,9 +101,9 @@ impl<T: Drop> Relay<T> {
         ensures memory { OnErr result (IsTrue (takes_in self.old priority)) }
     {
         if priority {
-            put(&mut self.high, message)
+            refusing::put(&mut self.high, message)
         } else {
-            put(&mut self.low, message)
+            refusing::put(&mut self.low, message)
         }
     }
 
@@ -137,31 +113,5 @@ impl<T: Drop> Relay<T> {
     {
         self.high.close();
         self.low.close();
-    }
-}
-
-// The message without its policy.
-fn plain<T>(message: Option<Refusing<T>>) -> Option<T>
-    ensures { result ≡ message }
-{
-    match message {
-        Some(Refusing { message }) => Some(message),
-        None => None,
-    }
-}
-
-// Puts a message last, where there is a place.
-fn put<T: Drop>(lane: &mut Mailbox<Refusing<T>>, message: T) -> Result<Sent<T>, NoRoom<T>>
-    ensures answer { IfOk result (λ s. s ≡ enqueue_answer keep.Refuse lane.old message) }
-    ensures after { OnOk result (lane.new ≡ enqueued keep.Refuse lane.old message) }
-    ensures no_room { IfErr result (λ e. (e.0 ≡ message) × (lane.new ≡ lane.old)) }
-    ensures memory { OnErr result (IsTrue (keeps keep.Refuse lane.old)) }
-{
-    match lane.enqueue(Refusing { message }) {
-        Ok(Sent::Ok) => Ok(Sent::Ok),
-        Ok(Sent::Backoff) => Ok(Sent::Backoff),
-        Ok(Sent::Rejected(Refusing { message })) => Ok(Sent::Rejected(message)),
-        Ok(Sent::Closed(Refusing { message })) => Ok(Sent::Closed(message)),
-        Err(NoRoom(Refusing { message })) => Err(NoRoom(message)),
     }
 }

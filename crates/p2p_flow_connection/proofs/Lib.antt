@@ -1,1 +1,4 @@
-pub mod Filling
+mod Filling
+mod Limiters
+pub mod Registration
+mod Unchanged

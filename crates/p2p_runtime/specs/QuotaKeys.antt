@@ -1,5 +1,5 @@
 -- What a limiter of many keys keeps, and when that stands for the admissions of each key.
-use Rattle.std.specs.Prelude.{◌≡◌, ℕ, ◌<◌, List, [], ◌∷◌, ◌++◌, Option, IfSome, unwrap_or, if◌then◌else◌}
+use Rattle.std.specs.Prelude.{◌≡◌, ℕ, ◌<◌, Bool, List, [], ◌∷◌, ◌++◌, Option, IfSome, is_some, unwrap_or, if◌then◌else◌}
 use Rattle.std.specs.declared.cmp.Ordering.{Ordering}
 use Rattle.std.specs.BTreeMap.{is_at}
 use Rattle.std.specs.Map.{lookup}
@@ -17,6 +17,10 @@ module _ {K : Type 0} (cmp : K → K → Ordering) where
   -- The arrival time that is kept for a key, if one is.
   abbrev pub found_arrival : KeptByKey K → K → Option ℕ
   found_arrival kept key = lookup (is_at (cmp key)) kept.arrivals
+
+  -- Something is kept for a key.
+  abbrev pub is_known : KeptByKey K → K → Bool
+  is_known kept key = is_some (found_arrival kept key)
 
   -- The arrival time of a key: 0 where none is kept.
   abbrev pub arrival_at : KeptByKey K → K → ℕ

@@ -1,7 +1,7 @@
 // A limiter that gives each key the same quota, and keeps one arrival time for each.
-ghost use Rattle.std.specs.Prelude.{◌≡◌, ℕ, max, List, [], is_ok, IfOk, IfErr, OnOk, OnErr};
+ghost use Rattle.std.specs.Prelude.{◌≡◌, ℕ, max, List, [], true, false, is_ok, IfOk, IfErr, OnOk, OnErr};
 ghost use Rattle.p2p_runtime.specs.QuotaLaw.{admits, retry};
-ghost use Rattle.p2p_runtime.specs.QuotaKeys.{StandsForEach, with_admission, KeepsOnlyRecent};
+ghost use Rattle.p2p_runtime.specs.QuotaKeys.{StandsForEach, with_admission, KeepsOnlyRecent, is_known};
 ghost use Rattle.p2p_runtime.specs.QuotaCheck.{check_answer, after_check};
 
 use super::Quota;
@@ -34,6 +34,7 @@ impl<K: Ord> Model for KeyedRateLimiter<K> {
 impl<K: Ord + Copy> KeyedRateLimiter<K> {
     /// Has admitted nothing for any key, and stands at the moment 0.
     pub fn new(alloc: Global, quota: Quota) -> KeyedRateLimiter<K>
+        ensures fresh { result ≡ record { rate = quota; arrivals = []; latest = 0 } }
         ensures rate { result.rate ≡ quota }
         ensures empty { StandsForEach K.cmp result (λ _. []) 0 }
     {
@@ -66,6 +67,8 @@ impl<K: Ord + Copy> KeyedRateLimiter<K> {
         ensures refused { (past : K → List ℕ) (latest : ℕ) → StandsForEach K.cmp self.old past latest →
             IfOk result (λ answer. OnErr answer (StandsForEach K.cmp self.new past (max latest now))) }
         ensures err { OnErr result (self.new ≡ self.old) }
+        ensures known { OnErr result (is_known K.cmp self.old key.now ≡ false) }
+        ensures keeps { (q : K) → is_known K.cmp self.old q ≡ true → is_known K.cmp self.new q ≡ true }
     {
         let at = self.latest.max(now);
         let arrival = self.arrivals.get(key).copied().unwrap_or(0);
@@ -80,6 +83,23 @@ impl<K: Ord + Copy> KeyedRateLimiter<K> {
                 Ok(Err(retry))
             }
         }
+    }
+
+    /// Makes room for `key`, so that its checks take no memory while nothing is forgotten; no later answer changes.
+    ///
+    /// `Err` only where memory runs out: then the limiter is as it was before.
+    pub fn reserve_key(&mut self, key: &K) -> Result<(), AllocError>
+        ensures rate { self.new.rate ≡ self.old.rate }
+        ensures latest { self.new.latest ≡ self.old.latest }
+        ensures same { (past : K → List ℕ) (latest : ℕ) → StandsForEach K.cmp self.old past latest →
+            StandsForEach K.cmp self.new past latest }
+        ensures known { OnOk result (is_known K.cmp self.new key.now ≡ true) }
+        ensures keeps { (q : K) → is_known K.cmp self.old q ≡ true → is_known K.cmp self.new q ≡ true }
+    {
+        if !self.arrivals.contains_key(key) {
+            self.arrivals.insert(*key, 0)?;
+        }
+        Ok(())
     }
 
     /// Forgets each key whose admissions no longer matter; no later answer changes.

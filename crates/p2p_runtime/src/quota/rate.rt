@@ -2,6 +2,7 @@
 ghost use Rattle.std.specs.Prelude.{◌≡◌, ℕ, max, List, [], ◌∷◌, ◌++◌, is_ok, IfErr, OnOk, OnErr};
 ghost use Rattle.p2p_runtime.specs.QuotaLaw.{admits, retry};
 ghost use Rattle.p2p_runtime.specs.QuotaKept.{StandsFor};
+ghost use Rattle.p2p_runtime.specs.QuotaCheck.{rate_answer, after_rate};
 
 use super::Quota;
 use super::arrival::check_arrival;
@@ -31,6 +32,7 @@ impl Model for RateLimiter {
 impl RateLimiter {
     /// Has admitted nothing, and stands at the moment 0.
     pub fn new(quota: Quota) -> RateLimiter
+        ensures fresh { result ≡ record { rate = quota; arrival = 0; latest = 0 } }
         ensures rate { result.rate ≡ quota }
         ensures empty { StandsFor result [] 0 }
     {
@@ -48,6 +50,8 @@ impl RateLimiter {
     /// `Err` holds the first moment at which it passes. A refused check takes no cell. A moment
     /// before the latest one that was handed in counts as that one.
     pub fn check(&mut self, now: u64) -> Result<(), u128>
+        ensures answer { result ≡ rate_answer self.old now }
+        ensures after { self.new ≡ after_rate self.old now }
         ensures rate { self.new.rate ≡ self.old.rate }
         ensures law { (past : List ℕ) (latest : ℕ) → StandsFor self.old past latest →
             is_ok result ≡ admits self.old.rate past (max latest now) }

@@ -1,0 +1,3 @@
+mod Admitting
+mod Known
+mod Places

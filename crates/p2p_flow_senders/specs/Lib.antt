@@ -1,0 +1,5 @@
+pub mod Admission
+pub mod Limits
+pub mod Receiving
+pub mod Registering
+pub mod Sending

@@ -1,0 +1,21 @@
+//! `Config`, the sizes and quotas of a connection.
+use p2p_base::List;
+use p2p_flow::Channel;
+use p2p_runtime::Quota;
+
+/// The sizes and quotas of a connection.
+///
+/// Ports `Config` of commonware-p2p's peer.
+#[derive(Drop, Debug)]
+pub struct Config {
+    /// The channels with their quotas, no channel twice.
+    pub channels: List<(Channel, Quota)>,
+    /// How many places its control has, and each of its relay's two queues: 1 or more.
+    pub mailbox_size: usize,
+    /// How many frames a batch has at most: 1 or more.
+    pub send_batch_size: usize,
+    /// How long after its last ping the next one goes out, in nanoseconds.
+    pub ping_frequency: u64,
+    /// How many bytes a message has at most.
+    pub max_message_size: u32,
+}
