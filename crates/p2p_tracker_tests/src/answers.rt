@@ -6,7 +6,7 @@ use crate::tracker::{only, tracker};
 use p2p_address::IpAddr;
 use p2p_base::Key;
 use p2p_flow::AddressableManager;
-use p2p_tracker::{Actor, DialerAnswer, HandshakeAnswer, Mailbox, Metadata, Oracle, Stepped};
+use p2p_tracker::{Actor, DialerAnswer, HandshakeItem, Mailbox, Metadata, Oracle, Stepped};
 use std::alloc::Global;
 use std::test::Fail;
 
@@ -52,14 +52,13 @@ fn a_tracked_peer_is_reserved_for_a_dial(rt: HostRuntime) -> Result<(), Fail> {
     Ok(())
 }
 
-// The handshake of the oldest answer, and whether it reserves its peer as a listener.
-fn listened(way: &mut Mailbox<Key>) -> Option<(u64, bool)> {
-    match way.handshakes.take() {
-        Some((handshake, HandshakeAnswer::Listen(Some(reservation)))) => {
-            let is_listener = matches!(reservation.metadata(), Metadata::Listener(_));
-            Some((handshake, is_listener))
+// Whether the oldest answer to the handshake 5 reserves its peer as a listener, or `None` where no answer to a listen waits for it.
+fn listened(way: &mut Mailbox<Key>) -> Option<bool> {
+    match way.handshakes.take(5) {
+        Some(HandshakeItem::Listen(Some(reservation))) => {
+            Some(matches!(reservation.metadata(), Metadata::Listener(_)))
         }
-        Some((handshake, HandshakeAnswer::Listen(None))) => Some((handshake, false)),
+        Some(HandshakeItem::Listen(None)) => Some(false),
         _ => None,
     }
 }
@@ -70,13 +69,14 @@ fn listen(
     actor: &mut Actor<Key>,
     way: &mut Mailbox<Key>,
     oracle: &mut Oracle<Key>,
-) -> Result<Option<(u64, bool)>, Fail>
+) -> Result<Option<bool>, Fail>
     requires { way.old ≡ new_mailbox 4 }
 {
     oracle.track(alloc, &mut way.desk, 3, only(alloc, Key(2))?)?;
     let Stepped::Message { .. } = actor.step(way, 0, 0)? else {
         return Ok(None);
     };
+    way.handshakes.begin(5)?;
     way.listen(Key(2), SOURCE, 5)?;
     let Stepped::Message { .. } = actor.step(way, 0, 0)? else {
         return Ok(None);
@@ -88,6 +88,6 @@ fn listen(
 fn a_tracked_peer_is_reserved_for_its_handshake(rt: HostRuntime) -> Result<(), Fail> {
     let (mut actor, mut way, mut oracle) = tracker(rt.alloc(), Key(1))?;
     let found = listen(rt.alloc(), &mut actor, &mut way, &mut oracle)?;
-    assert_eq!(rt; found, Some((5, true)));
+    assert_eq!(rt; found, Some(true));
     Ok(())
 }
