@@ -2,13 +2,15 @@
 //! those crates once.
 //!
 //! Of `p2p_tracker_mailbox` are `handshakes`, `oracle` and `tracking`, of `p2p_tracker_directory` is `directory`, and of `p2p_tracker` are
-//! `answers`, `polls` and `tracker`.
+//! `answers`, `grants`, `polls` and `tracker`.
 #![tactic(auto)]
 
 #[cfg(test)]
 mod answers;
 #[cfg(test)]
 mod directory;
+#[cfg(test)]
+mod grants;
 #[cfg(test)]
 mod handshakes;
 #[cfg(test)]

@@ -21,6 +21,7 @@ ghost use Rattle.p2p_tracker.specs.Telling.{after_puts};
 ghost use Rattle.p2p_tracker.specs.Tracking.{new_tracking, rules_for};
 
 mod blocks;
+mod conditions;
 mod grants;
 mod kills;
 mod questions;

@@ -1,0 +1,240 @@
+//! Reservations, from their grant to their return.
+ghost use Rattle.std.specs.Prelude.{◌≡◌, true, is_some, IfOk};
+ghost use Rattle.p2p_base.specs.Queue.{empty_queue};
+
+use crate::tracker::{only, tracker};
+use p2p_address::IpAddr;
+use p2p_base::Key;
+use p2p_flow::{AddressableManager, Blocker};
+use p2p_tracker::{Actor, DialerAnswer, HandshakeItem, Mailbox, Oracle, Put, Reservation, Stepped};
+use std::alloc::{AllocError, Global};
+use std::test::Fail;
+
+// The address of the key 2.
+const SOURCE: IpAddr = IpAddr::V4([10, 0, 0, 7]);
+
+// Puts the key 2 into the set 3. False where the step took no message.
+fn track(
+    alloc: Global,
+    actor: &mut Actor<Key>,
+    way: &mut Mailbox<Key>,
+    oracle: &mut Oracle<Key>,
+) -> Result<bool, Fail>
+    requires { way.old.desk.messages ≡ empty_queue 4 }
+    ensures { IfOk result (λ b. b ≡ true → way.new.desk.messages ≡ empty_queue 4) }
+{
+    oracle.track(alloc, &mut way.desk, 3, only(alloc, Key(2))?)?;
+    let Stepped::Message { .. } = actor.step(way, 0, 0)? else {
+        return Ok(false);
+    };
+    Ok(true)
+}
+
+// The reservation of the dialer's oldest answer.
+fn dialed(way: &mut Mailbox<Key>) -> Option<Reservation<Key>>
+    ensures { way.new.desk ≡ way.old.desk }
+{
+    match way.dialer.take() {
+        Some(DialerAnswer::Dial(Some((reservation, _ingress)))) => Some(reservation),
+        _ => None,
+    }
+}
+
+// Dials the key 2. False where the step took no message.
+fn dial(actor: &mut Actor<Key>, way: &mut Mailbox<Key>, now: u64) -> Result<bool, AllocError>
+    requires { way.old.desk.messages ≡ empty_queue 4 }
+    ensures { IfOk result (λ b. b ≡ true → way.new.desk.messages ≡ empty_queue 4) }
+{
+    way.dial(Key(2))?;
+    let Stepped::Message { .. } = actor.step(way, now, 0)? else {
+        return Ok(false);
+    };
+    Ok(true)
+}
+
+// Whether the oldest item of the handshake 5 is a reservation.
+fn listened(way: &mut Mailbox<Key>) -> bool
+    ensures { way.new.desk ≡ way.old.desk }
+{
+    matches!(way.handshakes.take(5), Some(HandshakeItem::Listen(Some(_))))
+}
+
+// Asks for the key 2, for the handshake 5. False where the step took no message.
+fn listen(actor: &mut Actor<Key>, way: &mut Mailbox<Key>, now: u64) -> Result<bool, AllocError>
+    requires { way.old.desk.messages ≡ empty_queue 4 }
+    ensures { IfOk result (λ b. b ≡ true → way.new.desk.messages ≡ empty_queue 4) }
+{
+    way.handshakes.begin(5)?;
+    way.listen(Key(2), SOURCE, 5)?;
+    let Stepped::Message { .. } = actor.step(way, now, 0)? else {
+        return Ok(false);
+    };
+    Ok(true)
+}
+
+// Whether the connection 9 of the key 2 is kept. `None` where its connect may not be taken, or the step took no message.
+fn connect(actor: &mut Actor<Key>, way: &mut Mailbox<Key>) -> Result<Option<bool>, AllocError>
+    requires { way.old.desk.messages ≡ empty_queue 4 }
+    ensures { IfOk result (λ o. is_some o ≡ true → way.new.desk.messages ≡ empty_queue 4) }
+{
+    if !actor.may_connect(&Key(2)) {
+        return Ok(None);
+    }
+    way.connect(Key(2), 9)?;
+    let Stepped::Message { put } = actor.step(way, 0, 0)? else {
+        return Ok(None);
+    };
+    Ok(Some(put.as_slice().is_empty()))
+}
+
+// Gives a reservation back. False where it may not be, or the step took no message.
+fn give_back(
+    actor: &mut Actor<Key>,
+    way: &mut Mailbox<Key>,
+    reservation: Reservation<Key>,
+) -> Result<bool, AllocError>
+    requires { way.old.desk.messages ≡ empty_queue 4 }
+    ensures { IfOk result (λ b. b ≡ true → way.new.desk.messages ≡ empty_queue 4) }
+{
+    if !actor.may_release(reservation.metadata().public_key()) {
+        return Ok(false);
+    }
+    if way.release(reservation).is_err() {
+        return Err(AllocError);
+    }
+    let Stepped::Message { .. } = actor.step(way, 0, 0)? else {
+        return Ok(false);
+    };
+    Ok(true)
+}
+
+// The connection that a block of the key 2 kills, where it puts a kill last.
+fn killed(
+    alloc: Global,
+    actor: &mut Actor<Key>,
+    way: &mut Mailbox<Key>,
+    oracle: &mut Oracle<Key>,
+) -> Result<Option<u64>, AllocError>
+    requires { way.old.desk.messages ≡ empty_queue 4 }
+{
+    oracle.block(alloc, &mut way.desk, Key(2))?;
+    let Stepped::Message { put } = actor.step(way, 0, 0)? else {
+        return Ok(None);
+    };
+    match put.as_slice().last() {
+        Some(Put::Kill { peer: Key(2), conn }) => Ok(Some(*conn)),
+        _ => Ok(None),
+    }
+}
+
+// Whether a dial at the moment 0 gets a reservation, and one so late that no cooldown lasts.
+fn dialed_twice(alloc: Global) -> Result<Option<[bool; 2]>, Fail> {
+    let (mut actor, mut way, mut oracle) = tracker(alloc, Key(1))?;
+    if !track(alloc, &mut actor, &mut way, &mut oracle)? || !dial(&mut actor, &mut way, 0)? {
+        return Ok(None);
+    }
+    let first = dialed(&mut way).is_some();
+    if !dial(&mut actor, &mut way, u64::MAX)? {
+        return Ok(None);
+    }
+    Ok(Some([first, dialed(&mut way).is_some()]))
+}
+
+#[test]
+fn a_dialed_key_is_not_granted_again(rt: HostRuntime) -> Result<(), Fail> {
+    assert_eq!(rt; dialed_twice(rt.alloc())?, Some([true, false]));
+    Ok(())
+}
+
+// The same of two handshakes.
+fn listened_twice(alloc: Global) -> Result<Option<[bool; 2]>, Fail> {
+    let (mut actor, mut way, mut oracle) = tracker(alloc, Key(1))?;
+    if !track(alloc, &mut actor, &mut way, &mut oracle)? || !listen(&mut actor, &mut way, 0)? {
+        return Ok(None);
+    }
+    let first = listened(&mut way);
+    if !listen(&mut actor, &mut way, u64::MAX)? {
+        return Ok(None);
+    }
+    Ok(Some([first, listened(&mut way)]))
+}
+
+#[test]
+fn a_listened_key_is_not_granted_again(rt: HostRuntime) -> Result<(), Fail> {
+    assert_eq!(rt; listened_twice(rt.alloc())?, Some([true, false]));
+    Ok(())
+}
+
+// Whether the connection of a dialed key is kept, and which one a block of the key kills.
+fn connected(alloc: Global) -> Result<Option<(bool, Option<u64>)>, Fail> {
+    let (mut actor, mut way, mut oracle) = tracker(alloc, Key(1))?;
+    if !track(alloc, &mut actor, &mut way, &mut oracle)? || !dial(&mut actor, &mut way, 0)? {
+        return Ok(None);
+    }
+    let Some(kept) = connect(&mut actor, &mut way)? else {
+        return Ok(None);
+    };
+    Ok(Some((kept, killed(alloc, &mut actor, &mut way, &mut oracle)?)))
+}
+
+#[test]
+fn a_block_kills_the_connection_by_its_number(rt: HostRuntime) -> Result<(), Fail> {
+    assert_eq!(rt; connected(rt.alloc())?, Some((true, Some(9))));
+    Ok(())
+}
+
+// Whether a key gets a reservation at this moment that was dialed at the moment 0 and given back.
+fn given_back(alloc: Global, now: u64) -> Result<Option<bool>, Fail> {
+    let (mut actor, mut way, mut oracle) = tracker(alloc, Key(1))?;
+    if !track(alloc, &mut actor, &mut way, &mut oracle)? || !dial(&mut actor, &mut way, 0)? {
+        return Ok(None);
+    }
+    let Some(held) = dialed(&mut way) else {
+        return Ok(None);
+    };
+    if !give_back(&mut actor, &mut way, held)? || !dial(&mut actor, &mut way, now)? {
+        return Ok(None);
+    }
+    Ok(Some(dialed(&mut way).is_some()))
+}
+
+#[test]
+fn a_key_that_was_given_back_is_granted_after_its_cooldown(rt: HostRuntime) -> Result<(), Fail> {
+    assert_eq!(rt; given_back(rt.alloc(), 999_999_999)?, Some(false));
+    assert_eq!(rt; given_back(rt.alloc(), 1_000_000_000)?, Some(true));
+    Ok(())
+}
+
+// What a step puts where it is asked whether an unknown key may connect: nothing, one answer of no, or something else.
+fn asked(actor: &mut Actor<Key>, way: &mut Mailbox<Key>) -> Result<char, AllocError>
+    requires { way.old.desk.messages ≡ empty_queue 4 }
+{
+    way.acceptable(Key(2), SOURCE, 5)?;
+    let Stepped::Message { put } = actor.step(way, 0, 0)? else {
+        return Ok('?');
+    };
+    match put.as_slice() {
+        [] => Ok('-'),
+        [
+            Put::Acceptable {
+                handshake: 5,
+                acceptable: false,
+            },
+        ] => Ok('n'),
+        _ => Ok('?'),
+    }
+}
+
+// The same for a handshake that runs, and for none.
+fn asked_twice(alloc: Global) -> Result<[char; 2], AllocError> {
+    let (mut actor, mut way, _) = tracker(alloc, Key(1))?;
+    let none = asked(&mut actor, &mut way)?;
+    let (mut actor, mut way, _) = tracker(alloc, Key(1))?;
+    way.handshakes.begin(5)?;
+    Ok([none, asked(&mut actor, &mut way)?])
+}
+
+#[test]
+fn an_answer_is_put_where_its_handshake_runs(rt: HostRuntime) {
+    assert_eq!(rt; asked_twice(rt.alloc()), Ok(['-', 'n']));
+}
