@@ -1,5 +1,7 @@
 //! `Handshakes`, what waits for each handshake.
-ghost use Rattle.std.specs.Prelude.{◌≡◌, ◌∷◌, ◌++◌, [], drop, is_some, cond, IfOk, OnOk, OnErr};
+ghost use Rattle.std.specs.Prelude.{◌≡◌, ℕ, [], drop, is_some, cond, Some, None, IfOk, OnOk, OnErr};
+ghost use Rattle.std.specs.BTreeMap.{is_at};
+ghost use Rattle.std.specs.Ordering.{nat_cmp};
 ghost use Rattle.p2p_tracker_mailbox.specs.Lines.{line_of, first_of, with_line, with_item, begun, ended};
 
 use crate::{HandshakeItem, Waiting};
@@ -54,6 +56,8 @@ impl<P: PublicKey> Handshakes<P> {
     /// `Err` only where memory runs out, and nothing changes then.
     pub fn begin(&mut self, handshake: u64) -> Result<(), AllocError>
         ensures after { OnOk result (self.new ≡ begun self.old handshake) }
+        ensures each { OnOk result (line_of self.old handshake ≡ None
+            → (q : ℕ) → line_of self.new q ≡ cond (is_at (nat_cmp handshake) q) (Some []) (line_of self.old q)) }
         ensures memory { OnErr result (self.new ≡ self.old) }
     {
         if self.lines.contains_key(&handshake) {
@@ -67,6 +71,7 @@ impl<P: PublicKey> Handshakes<P> {
     pub fn end(&mut self, handshake: u64) -> Option<Waiting<HandshakeItem<P>>>
         ensures value { result ≡ line_of self.old handshake }
         ensures after { self.new ≡ ended self.old handshake }
+        ensures each { (q : ℕ) → line_of self.new q ≡ cond (is_at (nat_cmp handshake) q) None (line_of self.old q) }
     {
         self.lines.remove(&handshake)
     }
