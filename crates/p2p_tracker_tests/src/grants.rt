@@ -6,7 +6,9 @@ use crate::tracker::{only, tracker};
 use p2p_address::IpAddr;
 use p2p_base::Key;
 use p2p_flow::{AddressableManager, Blocker};
-use p2p_tracker::{Actor, DialerAnswer, HandshakeItem, Mailbox, Oracle, Put, Reservation, Stepped};
+use p2p_tracker::{
+    Actor, DialerAnswer, HandshakeItem, Mailbox, Metadata, Oracle, Put, Reservation, Stepped,
+};
 use std::alloc::{AllocError, Global};
 use std::test::Fail;
 
@@ -40,6 +42,27 @@ fn dialed(way: &mut Mailbox<Key>) -> Option<Reservation<Key>>
     }
 }
 
+// The reservation of the oldest item of the handshake 5.
+fn listened(way: &mut Mailbox<Key>) -> Option<Reservation<Key>>
+    ensures { way.new.desk ≡ way.old.desk }
+{
+    match way.handshakes.take(5) {
+        Some(HandshakeItem::Listen(reservation)) => reservation,
+        _ => None,
+    }
+}
+
+// Which side began, in one letter, and the key.
+fn named(reservation: Option<Reservation<Key>>) -> (char, u64) {
+    match reservation {
+        Some(reservation) => match reservation.metadata() {
+            Metadata::Dialer(key) => ('d', key.0),
+            Metadata::Listener(key) => ('l', key.0),
+        },
+        None => ('-', 0),
+    }
+}
+
 // Dials the key 2. False where the step took no message.
 fn dial(actor: &mut Actor<Key>, way: &mut Mailbox<Key>, now: u64) -> Result<bool, AllocError>
     requires { way.old.desk.messages ≡ empty_queue 4 }
@@ -50,13 +73,6 @@ fn dial(actor: &mut Actor<Key>, way: &mut Mailbox<Key>, now: u64) -> Result<bool
         return Ok(false);
     };
     Ok(true)
-}
-
-// Whether the oldest item of the handshake 5 is a reservation.
-fn listened(way: &mut Mailbox<Key>) -> bool
-    ensures { way.new.desk ≡ way.old.desk }
-{
-    matches!(way.handshakes.take(5), Some(HandshakeItem::Listen(Some(_))))
 }
 
 // Asks for the key 2, for the handshake 5. False where the step took no message.
@@ -72,23 +88,39 @@ fn listen(actor: &mut Actor<Key>, way: &mut Mailbox<Key>, now: u64) -> Result<bo
     Ok(true)
 }
 
-// Whether the connection 9 of the key 2 is kept. `None` where its connect may not be taken, or the step took no message.
-fn connect(actor: &mut Actor<Key>, way: &mut Mailbox<Key>) -> Result<Option<bool>, AllocError>
+// Puts the key 2 into a set and dials it. False where a step took no message.
+fn hold(
+    alloc: Global,
+    actor: &mut Actor<Key>,
+    way: &mut Mailbox<Key>,
+    oracle: &mut Oracle<Key>,
+) -> Result<bool, Fail>
     requires { way.old.desk.messages ≡ empty_queue 4 }
-    ensures { IfOk result (λ o. is_some o ≡ true → way.new.desk.messages ≡ empty_queue 4) }
+    ensures { IfOk result (λ b. b ≡ true → way.new.desk.messages ≡ empty_queue 4) }
+{
+    if !track(alloc, actor, way, oracle)? {
+        return Ok(false);
+    }
+    Ok(dial(actor, way, 0)?)
+}
+
+// Whether the connection 9 of the key 2 is kept. False also where its connect may not be taken, or the step took no message.
+fn connect(actor: &mut Actor<Key>, way: &mut Mailbox<Key>) -> Result<bool, AllocError>
+    requires { way.old.desk.messages ≡ empty_queue 4 }
+    ensures { IfOk result (λ b. b ≡ true → way.new.desk.messages ≡ empty_queue 4) }
 {
     if !actor.may_connect(&Key(2)) {
-        return Ok(None);
+        return Ok(false);
     }
     way.connect(Key(2), 9)?;
     let Stepped::Message { put } = actor.step(way, 0, 0)? else {
-        return Ok(None);
+        return Ok(false);
     };
-    Ok(Some(put.as_slice().is_empty()))
+    Ok(put.as_slice().is_empty())
 }
 
 // Gives a reservation back. False where it may not be, or the step took no message.
-fn give_back(
+fn release(
     actor: &mut Actor<Key>,
     way: &mut Mailbox<Key>,
     reservation: Reservation<Key>,
@@ -106,6 +138,17 @@ fn give_back(
         return Ok(false);
     };
     Ok(true)
+}
+
+// Gives back the reservation of the dialer's oldest answer. False where there is none, or it may not be, or the step took no message.
+fn give_back(actor: &mut Actor<Key>, way: &mut Mailbox<Key>) -> Result<bool, AllocError>
+    requires { way.old.desk.messages ≡ empty_queue 4 }
+    ensures { IfOk result (λ b. b ≡ true → way.new.desk.messages ≡ empty_queue 4) }
+{
+    match dialed(way) {
+        Some(reservation) => release(actor, way, reservation),
+        None => Ok(false),
+    }
 }
 
 // The connection that a block of the key 2 kills, where it puts a kill last.
@@ -127,81 +170,124 @@ fn killed(
     }
 }
 
-// Whether a dial at the moment 0 gets a reservation, and one so late that no cooldown lasts.
-fn dialed_twice(alloc: Global) -> Result<Option<[bool; 2]>, Fail> {
+// Who is reserved by a dial at the moment 0, and by one so late that no cooldown lasts.
+fn dial_twice(
+    alloc: Global,
+    actor: &mut Actor<Key>,
+    way: &mut Mailbox<Key>,
+    oracle: &mut Oracle<Key>,
+) -> Result<Option<[(char, u64); 2]>, Fail>
+    requires { way.old.desk.messages ≡ empty_queue 4 }
+{
+    if !hold(alloc, actor, way, oracle)? {
+        return Ok(None);
+    }
+    let first = named(dialed(way));
+    if !dial(actor, way, u64::MAX)? {
+        return Ok(None);
+    }
+    Ok(Some([first, named(dialed(way))]))
+}
+
+// The same of a new tracker.
+fn dialed_twice(alloc: Global) -> Result<Option<[(char, u64); 2]>, Fail> {
     let (mut actor, mut way, mut oracle) = tracker(alloc, Key(1))?;
-    if !track(alloc, &mut actor, &mut way, &mut oracle)? || !dial(&mut actor, &mut way, 0)? {
-        return Ok(None);
-    }
-    let first = dialed(&mut way).is_some();
-    if !dial(&mut actor, &mut way, u64::MAX)? {
-        return Ok(None);
-    }
-    Ok(Some([first, dialed(&mut way).is_some()]))
+    dial_twice(alloc, &mut actor, &mut way, &mut oracle)
 }
 
 #[test]
-fn a_dialed_key_is_not_granted_again(rt: HostRuntime) -> Result<(), Fail> {
-    assert_eq!(rt; dialed_twice(rt.alloc())?, Some([true, false]));
+fn a_tracked_key_is_reserved_for_one_dial(rt: HostRuntime) -> Result<(), Fail> {
+    assert_eq!(rt; dialed_twice(rt.alloc())?, Some([('d', 2), ('-', 0)]));
     Ok(())
 }
 
-// The same of two handshakes.
-fn listened_twice(alloc: Global) -> Result<Option<[bool; 2]>, Fail> {
+// The same of a handshake that asks twice.
+fn listen_twice(
+    alloc: Global,
+    actor: &mut Actor<Key>,
+    way: &mut Mailbox<Key>,
+    oracle: &mut Oracle<Key>,
+) -> Result<Option<[(char, u64); 2]>, Fail>
+    requires { way.old.desk.messages ≡ empty_queue 4 }
+{
+    if !track(alloc, actor, way, oracle)? || !listen(actor, way, 0)? {
+        return Ok(None);
+    }
+    let first = named(listened(way));
+    if !listen(actor, way, u64::MAX)? {
+        return Ok(None);
+    }
+    Ok(Some([first, named(listened(way))]))
+}
+
+// The same of a new tracker.
+fn listened_twice(alloc: Global) -> Result<Option<[(char, u64); 2]>, Fail> {
     let (mut actor, mut way, mut oracle) = tracker(alloc, Key(1))?;
-    if !track(alloc, &mut actor, &mut way, &mut oracle)? || !listen(&mut actor, &mut way, 0)? {
-        return Ok(None);
-    }
-    let first = listened(&mut way);
-    if !listen(&mut actor, &mut way, u64::MAX)? {
-        return Ok(None);
-    }
-    Ok(Some([first, listened(&mut way)]))
+    listen_twice(alloc, &mut actor, &mut way, &mut oracle)
 }
 
 #[test]
-fn a_listened_key_is_not_granted_again(rt: HostRuntime) -> Result<(), Fail> {
-    assert_eq!(rt; listened_twice(rt.alloc())?, Some([true, false]));
+fn a_tracked_key_is_reserved_for_one_handshake(rt: HostRuntime) -> Result<(), Fail> {
+    assert_eq!(rt; listened_twice(rt.alloc())?, Some([('l', 2), ('-', 0)]));
     Ok(())
 }
 
-// Whether the connection of a dialed key is kept, and which one a block of the key kills.
-fn connected(alloc: Global) -> Result<Option<(bool, Option<u64>)>, Fail> {
-    let (mut actor, mut way, mut oracle) = tracker(alloc, Key(1))?;
-    if !track(alloc, &mut actor, &mut way, &mut oracle)? || !dial(&mut actor, &mut way, 0)? {
+// The connection that a block of the key 2 kills, once it was dialed and its connection is kept.
+fn connect_and_kill(
+    alloc: Global,
+    actor: &mut Actor<Key>,
+    way: &mut Mailbox<Key>,
+    oracle: &mut Oracle<Key>,
+) -> Result<Option<u64>, Fail>
+    requires { way.old.desk.messages ≡ empty_queue 4 }
+{
+    if !hold(alloc, actor, way, oracle)? || !connect(actor, way)? {
         return Ok(None);
     }
-    let Some(kept) = connect(&mut actor, &mut way)? else {
-        return Ok(None);
-    };
-    Ok(Some((kept, killed(alloc, &mut actor, &mut way, &mut oracle)?)))
+    Ok(killed(alloc, actor, way, oracle)?)
+}
+
+// The same of a new tracker.
+fn connected(alloc: Global) -> Result<Option<u64>, Fail> {
+    let (mut actor, mut way, mut oracle) = tracker(alloc, Key(1))?;
+    connect_and_kill(alloc, &mut actor, &mut way, &mut oracle)
 }
 
 #[test]
 fn a_block_kills_the_connection_by_its_number(rt: HostRuntime) -> Result<(), Fail> {
-    assert_eq!(rt; connected(rt.alloc())?, Some((true, Some(9))));
+    assert_eq!(rt; connected(rt.alloc())?, Some(9));
     Ok(())
 }
 
-// Whether a key gets a reservation at this moment that was dialed at the moment 0 and given back.
-fn given_back(alloc: Global, now: u64) -> Result<Option<bool>, Fail> {
+// Who is reserved at this moment by a dial of the key 2, which was dialed at the moment 0 and given back.
+fn return_and_dial(
+    alloc: Global,
+    actor: &mut Actor<Key>,
+    way: &mut Mailbox<Key>,
+    oracle: &mut Oracle<Key>,
+    now: u64,
+) -> Result<Option<(char, u64)>, Fail>
+    requires { way.old.desk.messages ≡ empty_queue 4 }
+{
+    if !hold(alloc, actor, way, oracle)? || !give_back(actor, way)? {
+        return Ok(None);
+    }
+    if !dial(actor, way, now)? {
+        return Ok(None);
+    }
+    Ok(Some(named(dialed(way))))
+}
+
+// The same of a new tracker.
+fn given_back(alloc: Global, now: u64) -> Result<Option<(char, u64)>, Fail> {
     let (mut actor, mut way, mut oracle) = tracker(alloc, Key(1))?;
-    if !track(alloc, &mut actor, &mut way, &mut oracle)? || !dial(&mut actor, &mut way, 0)? {
-        return Ok(None);
-    }
-    let Some(held) = dialed(&mut way) else {
-        return Ok(None);
-    };
-    if !give_back(&mut actor, &mut way, held)? || !dial(&mut actor, &mut way, now)? {
-        return Ok(None);
-    }
-    Ok(Some(dialed(&mut way).is_some()))
+    return_and_dial(alloc, &mut actor, &mut way, &mut oracle, now)
 }
 
 #[test]
 fn a_key_that_was_given_back_is_granted_after_its_cooldown(rt: HostRuntime) -> Result<(), Fail> {
-    assert_eq!(rt; given_back(rt.alloc(), 999_999_999)?, Some(false));
-    assert_eq!(rt; given_back(rt.alloc(), 1_000_000_000)?, Some(true));
+    assert_eq!(rt; given_back(rt.alloc(), 999_999_999)?, Some(('-', 0)));
+    assert_eq!(rt; given_back(rt.alloc(), 1_000_000_000)?, Some(('d', 2)));
     Ok(())
 }
 

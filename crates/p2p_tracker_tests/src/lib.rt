@@ -2,11 +2,9 @@
 //! those crates once.
 //!
 //! Of `p2p_tracker_mailbox` are `handshakes`, `oracle` and `tracking`, of `p2p_tracker_directory` is `directory`, and of `p2p_tracker` are
-//! `answers`, `grants`, `polls` and `tracker`.
+//! `grants`, `polls` and `tracker`.
 #![tactic(auto)]
 
-#[cfg(test)]
-mod answers;
 #[cfg(test)]
 mod directory;
 #[cfg(test)]
