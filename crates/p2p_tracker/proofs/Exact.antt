@@ -50,7 +50,7 @@ any-there : {P : Type 0} (cmp : P → P → Ordering) (q : P) (ks : List P) → 
 any-there cmp q [] h = h
 any-there cmp q (k ∷ ks) h = refl
 
-module _ {P : Type 0} {cmp : P → P → Ordering} (o : IsTotalOrder cmp) (one : EqualKeysAreOne cmp) (before after : Tracking P) (waiting : List (Option (List P))) (heard : Option (List IpAddr)) (now jitter : ℕ)
+module _ {P : Type 0} {cmp : P → P → Ordering} (o : IsTotalOrder cmp) (one : EqualKeysAreOne cmp) (before after : Tracking P) (waiting : List (Option (List P))) (heard : Option (List IpAddr)) (runs : ℕ → Bool) (now jitter : ℕ)
     (calls : List (Call P)) (f : Follows cmp before.directory before.controls calls) (rules : after.directory.rules ≡ before.directory.rules)
     (ordered : IsStrictlySortedBy cmp (keys_of before.directory.records)) (ordered_after : IsStrictlySortedBy cmp (keys_of after.directory.records)) where
   heard-after : (cs : List (Call P)) → StandsFor cmp after.directory cs → addresses_in cmp after.directory now ≡ heard_addresses cmp before.directory.rules cs now
@@ -63,8 +63,8 @@ module _ {P : Type 0} {cmp : P → P → Ordering} (o : IsTotalOrder cmp) (one :
   blocked-after cs s = blocked-exact o one s now ∙ ap (λ (r : Rules P). blocked_keys cmp r cs now) rules
 
   -- what is put for a message
-  exact-puts : (m : Message P) (p : List (Put P)) → IsPut cmp before after waiting heard now m p → StandsFor cmp after.directory (calls_after cmp before.directory.rules m now jitter calls)
-      → p ≡ puts_for cmp before.directory.rules before.updates before.sets waiting heard calls now m
+  exact-puts : (m : Message P) (p : List (Put P)) → IsPut cmp before after waiting heard runs now m p → StandsFor cmp after.directory (calls_after cmp before.directory.rules m now jitter calls)
+      → p ≡ puts_for cmp before.directory.rules before.updates before.sets waiting heard runs calls now m
   exact-puts (message.Register index peers) p h s =
       let With : List IpAddr → Option (PeerSetUpdate P) → List (Put P) = λ ips u. cond (is_above index (accepted_sets cmp calls))
       ((kills_of cmp before.directory.rules calls (killed_keys cmp before.directory.rules index peers.primary peers.secondary calls) ++ puts.Listenable ips heard ∷ []) ++ told_of_sets before.updates u) [] in
@@ -103,11 +103,11 @@ module _ {P : Type 0} {cmp : P → P → Ordering} (o : IsTotalOrder cmp) (one :
   due-none : IsQuiet cmp before.directory.rules calls now → has_any (due_keys cmp before.directory.rules calls now) ≡ false
   due-none h = none-pass (λ x. is_over (block_of cmp before.directory.rules calls x) now) h (named_keys cmp calls)
 
-  pub exact-step : (s : Stepped P) (m : Option (Message P)) → IsPutBy cmp before after waiting heard now s m → StandsFor cmp after.directory (calls_by cmp before.directory.rules s m now jitter calls)
+  pub exact-step : (s : Stepped P) (m : Option (Message P)) → IsPutBy cmp before after waiting heard runs now s m → StandsFor cmp after.directory (calls_by cmp before.directory.rules s m now jitter calls)
       → (ends s ≡ true → (q : P) × (is_over (block_of cmp before.directory.rules calls q) now ≡ true)) → (ends s ≡ false → IsQuiet cmp before.directory.rules calls now)
-      → (ends s ≡ false → serves s ≡ is_some m) → s ≡ stepped_of cmp before.directory.rules before.updates before.sets waiting heard calls now m
+      → (ends s ≡ false → serves s ≡ is_some m) → s ≡ stepped_of cmp before.directory.rules before.updates before.sets waiting heard runs calls now m
   exact-step stepped.Idle m h s due quiet served =
-      let With : Option (Message P) → Stepped P = stepped_of cmp before.directory.rules before.updates before.sets waiting heard calls now in
+      let With : Option (Message P) → Stepped P = stepped_of cmp before.directory.rules before.updates before.sets waiting heard runs calls now in
       unless (has_any (due_keys cmp before.directory.rules calls now)) _ stepped.Idle (due-none (quiet refl)) ∙ ap With (sym h)
   exact-step (stepped.EndedBlocks p) m h s due quiet served =
       let With : List IpAddr → List P → Stepped P = λ ips bs. stepped.EndedBlocks (puts.Listenable ips heard ∷ sets_put waiting before.sets bs) in

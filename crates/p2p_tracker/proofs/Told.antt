@@ -21,6 +21,9 @@ use Rattle.p2p_tracker_calls.specs.Keeping.{kept_of}
 use Rattle.p2p_tracker_calls.specs.Rules.{Rules}
 use Rattle.p2p_tracker_directory.specs.declared.metadata.Metadata.{Metadata}
 use Rattle.p2p_tracker_directory.specs.declared.metadata.Metadata.TheVariants as side
+use Rattle.p2p_tracker_mailbox.specs.Lines.{line_of, replaced}
+use Rattle.p2p_tracker_mailbox.specs.Mailboxes.{runs_in, with_item_in}
+use Rattle.p2p_tracker_mailbox.specs.declared.answer.HandshakeItem.{HandshakeItem}
 use Rattle.p2p_tracker_mailbox.specs.declared.mailbox.Mailbox.{Mailbox}
 use Rattle.p2p_tracker_directory.proofs.Walks.{equal_by}
 use Rattle.p2p_tracker.specs.Putting.{kills_of}
@@ -73,6 +76,15 @@ module _ {P : Type 0} where
       one (puts.Dial grant) = refl
       one (puts.Acceptable handshake acceptable) = refl
       one (puts.Listen handshake grant) = refl
+
+  -- what a handshake is answered is put where it runs
+  pub item-put : (m : Mailbox P) (h : ℕ) (x : HandshakeItem P) (p : Put P) → after_put p m ≡ with_item_in m h x → with_item_in m h x ≡ after_puts (cond (runs_in m h) (p ∷ []) []) m
+  item-put m h x p e = at (line_of m.handshakes h) e
+    where
+      at : (o : Option (List (HandshakeItem P))) → after_put p m ≡ record m { handshakes = replaced o m.handshakes h (λ line. line ++ x ∷ []) }
+          → record m { handshakes = replaced o m.handshakes h (λ line. line ++ x ∷ []) } ≡ after_puts (cond (is_some o) (p ∷ []) []) m
+      at None e = refl
+      at (Some line) e = sym e
 
   -- nor does what subscriptions to the blocked keys are told change what the listener was told
   pub heard-after_sets : (ts : List ℕ) (waiting : List (Option (List P))) (s : List P) (m : Mailbox P) → (after_puts (sets_put waiting ts s) m).heard ≡ m.heard

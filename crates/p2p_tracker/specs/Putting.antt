@@ -1,5 +1,5 @@
 -- What is put for a message, by the calls so far and by what the directory lists before and after it.
-use Rattle.std.specs.Prelude.{◌≡◌, ℕ, cond, List, [], ◌∷◌, ◌++◌, Option, Some, None, slice_index_or}
+use Rattle.std.specs.Prelude.{◌≡◌, ℕ, Bool, cond, List, [], ◌∷◌, ◌++◌, Option, Some, None, slice_index_or}
 use Rattle.std.specs.Option.{option_map}
 use Rattle.std.specs.Map.{lookup}
 use Rattle.std.specs.BTreeMap.{is_at}
@@ -53,7 +53,7 @@ module _ {P : Type 0} (cmp : P → P → Ordering) (rules : Rules P) (calls : Li
   abbrev pub listen_grant : P → IpAddr → Option (Metadata P)
   listen_grant k source = cond (allows_listen cmp rules calls k source now) (Some (side.Listener k)) None
 
-module _ {P : Type 0} (cmp : P → P → Ordering) (before after : Tracking P) (waiting : List (Option (List P))) (before_heard : Option (List IpAddr)) (now : ℕ) where
+module _ {P : Type 0} (cmp : P → P → Ordering) (before after : Tracking P) (waiting : List (Option (List P))) (before_heard : Option (List IpAddr)) (runs : ℕ → Bool) (now : ℕ) where
   -- it holds for each list of calls that the tracker follows
   abbrev pub ForCalls : (List (Call P) → Type 0) → Type 0
   ForCalls Q = (calls : List (Call P)) → Follows cmp before.directory before.controls calls → Q calls
@@ -74,14 +74,14 @@ module _ {P : Type 0} (cmp : P → P → Ordering) (before after : Tracking P) (
   IsPut (message.Connect k conn) p = ForCalls (λ calls. p ≡ cond (accepts cmp before.directory.rules calls k (Some now)) [] (puts.Kill k conn ∷ []))
   IsPut message.Dialable p = p ≡ puts.Dialable (dial_list_in cmp before.directory now) ∷ []
   IsPut (message.Dial k) p = ForCalls (λ calls. p ≡ puts.Dial (dial_grant cmp before.directory.rules calls now k) ∷ [])
-  IsPut (message.Acceptable k source handshake) p = ForCalls (λ calls. p ≡ puts.Acceptable handshake (is_acceptable cmp before.directory.rules calls k source now) ∷ [])
-  IsPut (message.Listen k source handshake) p = ForCalls (λ calls. p ≡ puts.Listen handshake (listen_grant cmp before.directory.rules calls now k source) ∷ [])
+  IsPut (message.Acceptable k source handshake) p = ForCalls (λ calls. p ≡ cond (runs handshake) (puts.Acceptable handshake (is_acceptable cmp before.directory.rules calls k source now) ∷ []) [])
+  IsPut (message.Listen k source handshake) p = ForCalls (λ calls. p ≡ cond (runs handshake) (puts.Listen handshake (listen_grant cmp before.directory.rules calls now k source) ∷ []) [])
   IsPut (message.Release m) p = p ≡ []
 
-module _ {P : Type 0} (cmp : P → P → Ordering) (before after : Tracking P) (waiting : List (Option (List P))) (before_heard : Option (List IpAddr)) (now : ℕ) where
+module _ {P : Type 0} (cmp : P → P → Ordering) (before after : Tracking P) (waiting : List (Option (List P))) (before_heard : Option (List IpAddr)) (runs : ℕ → Bool) (now : ℕ) where
   -- what a step puts, with the message that waited
   abbrev pub IsPutBy : Stepped P → Option (Message P) → Type 0
   IsPutBy stepped.Idle m = m ≡ None
   IsPutBy (stepped.EndedBlocks p) m = p ≡ puts.Listenable (addresses_in cmp after.directory now) before_heard ∷ sets_put waiting before.sets (blocked_in cmp after.directory now)
   IsPutBy (stepped.Message p) None = Unit {0}
-  IsPutBy (stepped.Message p) (Some m) = IsPut cmp before after waiting before_heard now m p
+  IsPutBy (stepped.Message p) (Some m) = IsPut cmp before after waiting before_heard runs now m p

@@ -1,5 +1,5 @@
 -- What a step of the tracker answers, and which subscriptions it keeps then, by the calls so far.
-use Rattle.std.specs.Prelude.{ℕ, cond, List, [], ◌∷◌, ◌++◌, Option, Some, None, slice_index_or}
+use Rattle.std.specs.Prelude.{ℕ, Bool, cond, List, [], ◌∷◌, ◌++◌, Option, Some, None, slice_index_or}
 use Rattle.std.specs.declared.cmp.Ordering.{Ordering}
 use Rattle.p2p_address.specs.declared.ip.IpAddr.{IpAddr}
 use Rattle.p2p_tracker_calls.specs.declared.call.Call.{Call}
@@ -44,8 +44,8 @@ module _ {P : Type 0} (cmp : P → P → Ordering) (rules : Rules P) (updates se
   abbrev pub unblocked : Call P → List (Put P)
   unblocked c = puts.Listenable (heard_addresses cmp rules (c ∷ calls) now) before_heard ∷ sets_put waiting sets (blocked_keys cmp rules (c ∷ calls) now)
 
-module _ {P : Type 0} (cmp : P → P → Ordering) (rules : Rules P) (updates sets : List ℕ) (waiting : List (Option (List P))) (before_heard : Option (List IpAddr)) (calls : List (Call P)) (now : ℕ) where
-  -- what is put for a message
+module _ {P : Type 0} (cmp : P → P → Ordering) (rules : Rules P) (updates sets : List ℕ) (waiting : List (Option (List P))) (before_heard : Option (List IpAddr)) (runs : ℕ → Bool) (calls : List (Call P)) (now : ℕ) where
+  -- what is put for a message: what a handshake is answered only where it runs
   abbrev pub puts_for : Message P → List (Put P)
   puts_for (message.Register index peers) = cond (is_above index (accepted_sets cmp calls))
       (registered cmp rules updates sets waiting before_heard calls now (call.Track index peers.primary peers.secondary) (killed_keys cmp rules index peers.primary peers.secondary calls)) []
@@ -58,15 +58,15 @@ module _ {P : Type 0} (cmp : P → P → Ordering) (rules : Rules P) (updates se
   puts_for (message.Connect k conn) = cond (accepts cmp rules calls k (Some now)) [] (puts.Kill k conn ∷ [])
   puts_for message.Dialable = puts.Dialable (record { peers = dialable_keys cmp rules calls now; next_query_at = query_again_at cmp rules calls now }) ∷ []
   puts_for (message.Dial k) = puts.Dial (dial_grant cmp rules calls now k) ∷ []
-  puts_for (message.Acceptable k source handshake) = puts.Acceptable handshake (is_acceptable cmp rules calls k source now) ∷ []
-  puts_for (message.Listen k source handshake) = puts.Listen handshake (listen_grant cmp rules calls now k source) ∷ []
+  puts_for (message.Acceptable k source handshake) = cond (runs handshake) (puts.Acceptable handshake (is_acceptable cmp rules calls k source now) ∷ []) []
+  puts_for (message.Listen k source handshake) = cond (runs handshake) (puts.Listen handshake (listen_grant cmp rules calls now k source) ∷ []) []
   puts_for (message.Release m) = []
 
-module _ {P : Type 0} (cmp : P → P → Ordering) (rules : Rules P) (updates sets : List ℕ) (waiting : List (Option (List P))) (before_heard : Option (List IpAddr)) (calls : List (Call P)) (now : ℕ) where
+module _ {P : Type 0} (cmp : P → P → Ordering) (rules : Rules P) (updates sets : List ℕ) (waiting : List (Option (List P))) (before_heard : Option (List IpAddr)) (runs : ℕ → Bool) (calls : List (Call P)) (now : ℕ) where
   -- where no block is due, the message that waits is taken
   abbrev pub taken_or_idle : Option (Message P) → Stepped P
   taken_or_idle None = stepped.Idle
-  taken_or_idle (Some m) = stepped.Message (puts_for cmp rules updates sets waiting before_heard calls now m)
+  taken_or_idle (Some m) = stepped.Message (puts_for cmp rules updates sets waiting before_heard runs calls now m)
 
   -- what a step answers, with the message that waits
   abbrev pub stepped_of : Option (Message P) → Stepped P

@@ -5,9 +5,9 @@ use Rattle.std.specs.BTreeMap.{is_at}
 use Rattle.std.specs.declared.cmp.Ordering.{Ordering}
 use Rattle.p2p_flow.specs.declared.update.PeerSetUpdate.{PeerSetUpdate}
 use Rattle.p2p_tracker_mailbox.specs.Desk.{with_update, with_set, answered_at}
-use Rattle.p2p_tracker_mailbox.specs.Mailboxes.{with_desk}
+use Rattle.p2p_tracker_mailbox.specs.Mailboxes.{with_desk, with_item_in}
 use Rattle.p2p_tracker_mailbox.specs.declared.answer.DialerAnswer.TheVariants as dialer
-use Rattle.p2p_tracker_mailbox.specs.declared.answer.HandshakeAnswer.TheVariants as shake
+use Rattle.p2p_tracker_mailbox.specs.declared.answer.HandshakeItem.TheVariants as shake
 use Rattle.p2p_tracker_mailbox.specs.declared.mailbox.Mailbox.{Mailbox}
 use Rattle.p2p_tracker.specs.declared.stepped.Put.{Put}
 use Rattle.p2p_tracker.specs.declared.stepped.Put.TheVariants as put
@@ -26,8 +26,8 @@ module _ {P : Type 0} where
   after_put (put.PeerSet ticket peers) m = with_desk m (answered_at m.desk ticket peers)
   after_put (put.Dialable list) m = record m { dialer = m.dialer ++ dialer.Dialable list ∷ [] }
   after_put (put.Dial grant) m = record m { dialer = m.dialer ++ dialer.Dial grant ∷ [] }
-  after_put (put.Acceptable handshake acceptable) m = record m { handshakes = m.handshakes ++ (handshake, shake.Acceptable acceptable) ∷ [] }
-  after_put (put.Listen handshake grant) m = record m { handshakes = m.handshakes ++ (handshake, shake.Listen grant) ∷ [] }
+  after_put (put.Acceptable handshake acceptable) m = with_item_in m handshake (shake.Acceptable acceptable)
+  after_put (put.Listen handshake grant) m = with_item_in m handshake (shake.Listen grant)
 
   -- the mailbox once all of it was put, in order
   abbrev pub after_puts : List (Put P) → Mailbox P → Mailbox P

@@ -14,6 +14,6 @@ pub use p2p_tracker_directory::{
     Address, DialStatus, Dialable, Directory, Record, Reservation, ReserveResult, Status,
 };
 pub use p2p_tracker_mailbox::{
-    Desk, DialerAnswer, HandshakeAnswer, Mailbox, Message, Metadata, Oracle, Waiting,
+    Desk, DialerAnswer, HandshakeItem, Handshakes, Mailbox, Message, Metadata, Oracle, Waiting,
 };
 pub use stepped::{Put, Stepped};

@@ -20,17 +20,17 @@ use Rattle.p2p_flow.specs.declared.update.PeerSetUpdate.{PeerSetUpdate}
 use Rattle.p2p_tracker_calls.specs.declared.call.Call.{Call}
 use Rattle.p2p_tracker_calls.specs.BlockedKeys.{blocked_keys}
 use Rattle.p2p_tracker_calls.specs.Blocks.{lasts_at, is_blocked}
-use Rattle.p2p_tracker_calls.specs.DialList.{earlier, earliest, comes_by, dialable_keys, query_again_at}
+use Rattle.p2p_tracker_calls.specs.DialList.{comes_by, dialable_keys, query_again_at}
 use Rattle.p2p_tracker_calls.specs.Heard.{ip_cmp, if_allowed, heard_of, heard_addresses}
 use Rattle.p2p_tracker_calls.specs.Kills.{is_killed, killed_keys}
-use Rattle.p2p_tracker_calls.specs.Lists.{is_heard_at, is_dialable, next_query, is_listenable}
+use Rattle.p2p_tracker_calls.specs.Lists.{is_heard_at, is_dialable, next_query}
 use Rattle.p2p_tracker_calls.specs.Lives.{same_ip, address_of, is_eligible}
-use Rattle.p2p_tracker_calls.specs.Named.{all_names, named_keys, EqualKeysAreOne}
+use Rattle.p2p_tracker_calls.specs.Named.{named_keys, EqualKeysAreOne}
 use Rattle.p2p_tracker_calls.specs.Peers.{peers_of, newest_of, all_peers, latest_update, peer_set_of}
-use Rattle.p2p_tracker_calls.specs.Sets.{PeerSet, is_among, set_at, kept_sets, is_tracked, is_primary}
+use Rattle.p2p_tracker_calls.specs.Sets.{PeerSet, is_among, set_at, is_tracked, is_primary}
 use Rattle.p2p_tracker_calls.proofs.Named.{among-named, same-keys, keys-exact}
 use Rattle.p2p_tracker_calls.proofs.Naming.{tracked-named, primary-named, blocked-named, eligible-named, dialable-named, query-named, killed-named}
-use Rattle.p2p_tracker_directory.specs.Listed.{has_role, heard, is_heard, outlook, is_now, moment_of}
+use Rattle.p2p_tracker_directory.specs.Listed.{has_role, heard, is_heard, outlook, is_now}
 use Rattle.p2p_tracker_directory.specs.Stands.{Kept, StandsFor}
 use Rattle.p2p_tracker_directory.specs.Told.{blocked_in, dialable_in, query_in, addresses_in, peer_set_in, all_in, update_in}
 use Rattle.p2p_tracker_directory.specs.Tracked.{passes}

@@ -73,7 +73,7 @@ pub enum DialStatus {
 /// What is kept of a peer. Moments are in nanoseconds.
 ///
 /// Ports `Record` of commonware-p2p's lookup tracker.
-#[derive(Drop)]
+#[derive(Drop, PartialEq, Eq, Debug)]
 pub struct Record {
     address: Address,
     status: Status,
@@ -90,6 +90,8 @@ impl Model for Record {
     ghost Value = { Recorded };
 
     ghost view = { λ r. record { address = r.address; status = r.status; primary = r.primary; secondary = r.secondary; is_stale = r.is_stale; cool = r.cool; next_dial = r.next_dial } };
+
+    ghost inverse = { λ r. record { address = r.address; status = r.status; primary = r.primary; secondary = r.secondary; is_stale = r.is_stale; cool = r.cool; next_dial = r.next_dial } };
 }
 
 // Whether `known` is another address than `given`.
@@ -105,6 +107,22 @@ impl Record {
         ensures { result ≡ fresh (place.Known address) }
     {
         Record::at(Address::Known(address))
+    }
+
+    /// An equal record. `Err` only where memory runs out.
+    pub fn try_clone(&self, alloc: Global) -> Result<Record, AllocError>
+        ensures { IfOk result (λ r. r ≡ self.now) }
+    {
+        let address = self.address.try_clone(alloc)?;
+        Ok(Record {
+            address,
+            status: self.status,
+            primary: self.primary,
+            secondary: self.secondary,
+            is_stale: self.is_stale,
+            cool: self.cool,
+            next_dial: self.next_dial,
+        })
     }
 
     /// The record of this node itself.

@@ -1,4 +1,5 @@
 pub mod Desk
+pub mod Lines
 pub mod Mailboxes
 pub mod OracleLaws
 pub mod Questions

@@ -1,4 +1,4 @@
-//! What the tracker answers the dialer and handshakes.
+//! What waits for the dialer and for handshakes.
 use p2p_address::Ingress;
 use p2p_base::PublicKey;
 use p2p_tracker_directory::{Dialable, Reservation};
@@ -12,11 +12,13 @@ pub enum DialerAnswer<P: PublicKey> {
     Dial(Option<(Reservation<P>, Ingress)>),
 }
 
-/// What the tracker answers a handshake.
+/// What a handshake is told.
 #[derive(Drop)]
-pub enum HandshakeAnswer<P: PublicKey> {
-    /// Whether the peer may connect.
+pub enum HandshakeItem<P: PublicKey> {
+    /// By the tracker: whether the peer may connect.
     Acceptable(bool),
-    /// The reservation that it asked for, or that there is none.
+    /// By its link: whether the keys were exchanged.
+    Finished(bool),
+    /// By the tracker: the reservation that it asked for, or that there is none.
     Listen(Option<Reservation<P>>),
 }

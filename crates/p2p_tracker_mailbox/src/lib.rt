@@ -6,6 +6,7 @@
 
 mod answer;
 mod desk;
+mod handshakes;
 mod mailbox;
 mod message;
 mod oracle;
@@ -14,8 +15,9 @@ mod set_size;
 mod tracking;
 mod waiting;
 
-pub use answer::{DialerAnswer, HandshakeAnswer};
+pub use answer::{DialerAnswer, HandshakeItem};
 pub use desk::Desk;
+pub use handshakes::Handshakes;
 pub use mailbox::Mailbox;
 pub use message::Message;
 pub use oracle::Oracle;

@@ -1,11 +1,12 @@
 //! `Mailbox`, all that waits for the tracker and all that it answered.
 ghost use Rattle.std.specs.Prelude.{◌≡◌, ◌≤◌, ◌∷◌, ◌++◌, [], IfOk, OnOk, IfErr, OnErr};
 ghost use Rattle.p2p_tracker_mailbox.specs.Desk.{told_of, next_message, without_message, answered_at, with_update, set_of, with_set};
-ghost use Rattle.p2p_tracker_mailbox.specs.Mailboxes.{new_mailbox, closed_mailbox, with_desk, with_message_in};
+ghost use Rattle.p2p_tracker_mailbox.specs.Mailboxes.{new_mailbox, closed_mailbox, with_desk, with_message_in, runs_in, with_item_in};
+ghost use Rattle.p2p_tracker_mailbox.specs.declared.answer.HandshakeItem.TheVariants as shake;
 ghost use Rattle.p2p_tracker_mailbox.specs.declared.message.Message.TheVariants as message;
 
 use crate::waiting::Waiting;
-use crate::{Desk, DialerAnswer, HandshakeAnswer, Message};
+use crate::{Desk, DialerAnswer, HandshakeItem, Handshakes, Message};
 use p2p_address::IpAddr;
 use p2p_base::{Feedback, List, NoRoom, PublicKey, Set};
 use p2p_flow::{PeerSetUpdate, TrackedPeers};
@@ -21,8 +22,8 @@ pub struct Mailbox<P: PublicKey> {
     pub desk: Desk<P>,
     /// The answers that wait for the dialer, the oldest first.
     pub dialer: Waiting<DialerAnswer<P>>,
-    /// The answers that wait for handshakes, each with its handshake, the oldest first.
-    pub handshakes: Waiting<(u64, HandshakeAnswer<P>)>,
+    /// The handshakes that run, and what waits for each.
+    pub handshakes: Handshakes<P>,
     /// The addresses that peers may come from, where the listener was told of them and has not taken them.
     pub heard: Option<List<IpAddr>>,
 }
@@ -39,7 +40,7 @@ impl<P: PublicKey> Mailbox<P> {
         Ok(Mailbox {
             desk,
             dialer: Waiting::none(alloc),
-            handshakes: Waiting::none(alloc),
+            handshakes: Handshakes::none(alloc),
             heard: None,
         })
     }
@@ -212,17 +213,29 @@ impl<P: PublicKey> Mailbox<P> {
         self.dialer.put(answer)
     }
 
-    /// Answers a handshake.
+    /// Answers a handshake, behind what waits for it. False exactly where none of this number runs: the answer is dropped then.
     ///
     /// `Err` only where memory runs out. The answer is dropped then, and the mailbox stays as it was.
     pub fn answer_handshake(
         &mut self,
         handshake: u64,
-        answer: HandshakeAnswer<P>,
-    ) -> Result<(), AllocError>
-        ensures after { OnOk result (self.new ≡ record self.old { handshakes = self.old.handshakes ++ (handshake, answer) ∷ [] }) }
+        answer: HandshakeItem<P>,
+    ) -> Result<bool, AllocError>
+        ensures runs { IfOk result (λ b. b ≡ runs_in self.old handshake) }
+        ensures after { OnOk result (self.new ≡ with_item_in self.old handshake answer) }
         ensures memory { OnErr result (self.new ≡ self.old) }
     {
-        self.handshakes.put((handshake, answer))
+        self.handshakes.put(handshake, answer)
+    }
+
+    /// Tells a handshake whether its keys were exchanged, behind what waits for it. Where none of this number runs, nothing changes.
+    ///
+    /// `Err` only where memory runs out, and the mailbox stays as it was then.
+    pub fn finish_handshake(&mut self, handshake: u64, ok: bool) -> Result<(), AllocError>
+        ensures after { OnOk result (self.new ≡ with_item_in self.old handshake (shake.Finished ok)) }
+        ensures memory { OnErr result (self.new ≡ self.old) }
+    {
+        self.handshakes.put(handshake, HandshakeItem::Finished(ok))?;
+        Ok(())
     }
 }

@@ -1,13 +1,17 @@
 //! `Message`, what the tracker is told and asked.
+ghost use Rattle.std.specs.Prelude.{◌≡◌, IfOk};
+ghost use Rattle.p2p_tracker_mailbox.specs.declared.message.Message.TheVariants as message;
+
 use crate::Metadata;
 use p2p_address::{Address, IpAddr};
 use p2p_base::{Keep, Map, Policy, PublicKey, UnreliablePolicy};
 use p2p_flow::AddressableTrackedPeers;
+use std::alloc::AllocError;
 
 /// What the tracker is told and asked. A full mailbox keeps it in its overflow.
 ///
 /// Ports `Message` of commonware-p2p's lookup tracker, with numbers in place of the senders that it answers by.
-#[derive(Drop)]
+#[derive(Drop, PartialEq, Eq, Debug)]
 pub enum Message<P: PublicKey> {
     /// The peers of one more set are to be tracked.
     Register {
@@ -80,6 +84,75 @@ pub enum Message<P: PublicKey> {
         /// Who was reserved.
         metadata: Metadata<P>,
     },
+}
+
+impl<P: PublicKey> Message<P> {
+    /// An equal message. `Err` only where memory runs out.
+    pub fn try_clone(&self) -> Result<Message<P>, AllocError>
+        ensures { IfOk result (λ m. m ≡ self.now) }
+    {
+        match self {
+            Message::Register { index, peers } => copy_register(*index, peers),
+            Message::Overwrite { peers } => copy_overwrite(peers),
+            Message::PeerSet { index, ticket } => Ok(Message::PeerSet {
+                index: *index,
+                ticket: *ticket,
+            }),
+            Message::Subscribe { ticket } => Ok(Message::Subscribe { ticket: *ticket }),
+            Message::Block { public_key } => Ok(Message::Block {
+                public_key: *public_key,
+            }),
+            Message::SubscribeBlocked { ticket } => {
+                Ok(Message::SubscribeBlocked { ticket: *ticket })
+            }
+            Message::Connect { public_key, conn } => Ok(Message::Connect {
+                public_key: *public_key,
+                conn: *conn,
+            }),
+            Message::Dialable => Ok(Message::Dialable),
+            Message::Dial { public_key } => Ok(Message::Dial {
+                public_key: *public_key,
+            }),
+            Message::Acceptable {
+                public_key,
+                source_ip,
+                handshake,
+            } => Ok(Message::Acceptable {
+                public_key: *public_key,
+                source_ip: *source_ip,
+                handshake: *handshake,
+            }),
+            Message::Listen {
+                public_key,
+                source_ip,
+                handshake,
+            } => Ok(Message::Listen {
+                public_key: *public_key,
+                source_ip: *source_ip,
+                handshake: *handshake,
+            }),
+            Message::Release { metadata } => Ok(Message::Release {
+                metadata: *metadata,
+            }),
+        }
+    }
+}
+
+fn copy_register<P: PublicKey>(
+    index: u64,
+    peers: &AddressableTrackedPeers<P>,
+) -> Result<Message<P>, AllocError>
+    ensures { IfOk result (λ m. m ≡ message.Register index peers.now) }
+{
+    let peers = peers.try_clone()?;
+    Ok(Message::Register { index, peers })
+}
+
+fn copy_overwrite<P: PublicKey>(peers: &Map<P, Address>) -> Result<Message<P>, AllocError>
+    ensures { IfOk result (λ m. m ≡ message.Overwrite peers.now) }
+{
+    let peers = peers.clone()?;
+    Ok(Message::Overwrite { peers })
 }
 
 impl<P: PublicKey> UnreliablePolicy for Message<P> {

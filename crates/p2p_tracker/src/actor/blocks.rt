@@ -6,6 +6,7 @@ ghost use Rattle.p2p_tracker_directory.specs.Stands.{StandsFor};
 ghost use Rattle.p2p_tracker_directory.specs.Told.{addresses_in, blocked_in};
 ghost use Rattle.p2p_tracker_mailbox.specs.Desk.{set_of};
 ghost use Rattle.p2p_tracker.specs.Following.{Follows};
+ghost use Rattle.p2p_tracker_mailbox.specs.Mailboxes.{runs_in};
 ghost use Rattle.p2p_tracker_mailbox.specs.declared.message.Message.TheVariants as message;
 ghost use Rattle.p2p_tracker.specs.Putting.{IsPut};
 ghost use Rattle.p2p_tracker.specs.Telling.{after_puts, sets_put};
@@ -48,7 +49,7 @@ impl<C: PublicKey> Actor<C> {
         ensures rules { OnOk result (self.new.directory.rules ≡ self.old.directory.rules) }
         ensures rest { self.new ≡ record self.old { directory = self.new.directory; controls = self.new.controls } }
         ensures desk { IfOk result (λ p. way.new ≡ after_puts p way.old) }
-        ensures put { IfOk result (λ p. IsPut C.cmp self.old self.new way.old.desk.sets way.old.heard now (message.Block public_key) p) }
+        ensures put { IfOk result (λ p. IsPut C.cmp self.old self.new way.old.desk.sets way.old.heard (runs_in way.old) now (message.Block public_key) p) }
     {
         let mut put = Vec::new(self.alloc);
         let is_new = self.directory.block(&public_key, now)?;

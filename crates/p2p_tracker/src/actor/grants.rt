@@ -1,5 +1,6 @@
 //! Reservations: their grant, the connection that they are for, and their return.
 ghost use Rattle.p2p_tracker.specs.declared.stepped.Put.TheVariants as puts;
+ghost use Rattle.p2p_tracker_mailbox.specs.Mailboxes.{runs_in};
 ghost use Rattle.p2p_tracker_mailbox.specs.declared.mailbox.Mailbox.{Mailbox as Mailboxed};
 ghost use Rattle.p2p_tracker_mailbox.specs.declared.message.Message.TheVariants as message;
 ghost use Rattle.p2p_tracker.specs.Putting.{IsPut};
@@ -20,7 +21,7 @@ ghost use Rattle.p2p_tracker.specs.Serving.{IsEligible};
 
 use super::Actor;
 use super::kills::{forget, keep};
-use crate::{DialerAnswer, HandshakeAnswer, Mailbox, Metadata, Put, Reservation};
+use crate::{DialerAnswer, HandshakeItem, Mailbox, Metadata, Put, Reservation};
 use p2p_address::{Ingress, IpAddr};
 use p2p_base::{List, PublicKey};
 use p2p_runtime::Draws;
@@ -42,7 +43,7 @@ impl<C: PublicKey> Actor<C> {
         ensures rules { OnOk result (self.new.directory.rules ≡ self.old.directory.rules) }
         ensures rest { self.new ≡ record self.old { directory = self.new.directory } }
         ensures desk { IfOk result (λ p. way.new ≡ after_puts p way.old) }
-        ensures put { IfOk result (λ p. IsPut C.cmp self.old self.new way.old.desk.sets way.old.heard now (message.Dial public_key) p) }
+        ensures put { IfOk result (λ p. IsPut C.cmp self.old self.new way.old.desk.sets way.old.heard (runs_in way.old) now (message.Dial public_key) p) }
     {
         let jitter = self.jitter(seed);
         let granted = self.directory.dial(&public_key, now, jitter)?;
@@ -67,16 +68,17 @@ impl<C: PublicKey> Actor<C> {
         ensures rules { OnOk result (self.new.directory.rules ≡ self.old.directory.rules) }
         ensures rest { self.new ≡ record self.old { directory = self.new.directory } }
         ensures desk { IfOk result (λ p. way.new ≡ after_puts p way.old) }
-        ensures put { IfOk result (λ p. IsPut C.cmp self.old self.new way.old.desk.sets way.old.heard now (message.Listen public_key source_ip handshake) p) }
+        ensures put { IfOk result (λ p. IsPut C.cmp self.old self.new way.old.desk.sets way.old.heard (runs_in way.old) now (message.Listen public_key source_ip handshake) p) }
     {
         let jitter = self.jitter(seed);
         let reservation = self.directory.listen(&public_key, source_ip, now, jitter)?;
         let reserved = told_of_listen(&reservation);
-        way.answer_handshake(handshake, HandshakeAnswer::Listen(reservation))?;
-        Ok(self.only(Put::Listen {
+        let runs = way.answer_handshake(handshake, HandshakeItem::Listen(reservation))?;
+        let told = Put::Listen {
             handshake,
             reserved,
-        })?)
+        };
+        Ok(self.only_where(runs, told)?)
     }
 
     // How long after the cooldown a peer that is granted now is listed for a dial.

@@ -12,7 +12,7 @@ ghost use Rattle.p2p_tracker_calls.specs.declared.call.Call.{Call};
 ghost use Rattle.p2p_tracker_directory.specs.Stands.{StandsFor};
 ghost use Rattle.p2p_tracker_mailbox.specs.Desk.{next_message, question_at};
 ghost use Rattle.p2p_flow.specs.Provided.{is_open};
-ghost use Rattle.p2p_tracker_mailbox.specs.Mailboxes.{new_mailbox};
+ghost use Rattle.p2p_tracker_mailbox.specs.Mailboxes.{new_mailbox, runs_in};
 ghost use Rattle.p2p_tracker.specs.Following.{Follows};
 ghost use Rattle.p2p_tracker.specs.Putting.{IsPut, IsPutBy};
 ghost use Rattle.p2p_tracker.specs.Serving.{IsQuiet, IsQuietIn, ends, serves, puts_of, left_in, left_by, MayTake, calls_after, calls_by};
@@ -21,6 +21,7 @@ ghost use Rattle.p2p_tracker.specs.Telling.{after_puts};
 ghost use Rattle.p2p_tracker.specs.Tracking.{new_tracking, rules_for};
 
 mod blocks;
+mod conditions;
 mod grants;
 mod kills;
 mod questions;
@@ -156,7 +157,7 @@ impl<C: PublicKey> Actor<C> {
         ensures works { OnOk result (self.new.has_failed ≡ false) }
         ensures failed { self.old.has_failed ≡ true → IsErr result }
         ensures answer { IfOk result (λ s. (calls : List (Call C)) → EqualKeysAreOne C.cmp → Follows C.cmp self.old.directory self.old.controls calls
-            → s ≡ stepped_of C.cmp self.old.directory.rules self.old.updates self.old.sets way.old.desk.sets way.old.heard calls now (next_message way.old.desk)) }
+            → s ≡ stepped_of C.cmp self.old.directory.rules self.old.updates self.old.sets way.old.desk.sets way.old.heard (runs_in way.old) calls now (next_message way.old.desk)) }
         ensures put { IfOk result (λ s. way.new ≡ after_puts (puts_of s) (left_in s way.old)) }
         ensures updates { IfOk result (λ s. self.new.updates ≡ by_step s (next_message way.old.desk) updates_for self.old.updates) }
         ensures sets { IfOk result (λ s. self.new.sets ≡ by_step s (next_message way.old.desk) sets_for self.old.sets) }
@@ -191,7 +192,7 @@ impl<C: PublicKey> Actor<C> {
         ensures rules { OnOk result (self.new.directory.rules ≡ self.old.directory.rules) }
         ensures cooldown { self.new.cooldown ≡ self.old.cooldown }
         ensures has_failed { self.new.has_failed ≡ self.old.has_failed }
-        ensures put { IfOk result (λ s. IsPutBy C.cmp self.old self.new way.old.desk.sets way.old.heard now s (next_message way.old.desk)) }
+        ensures put { IfOk result (λ s. IsPutBy C.cmp self.old self.new way.old.desk.sets way.old.heard (runs_in way.old) now s (next_message way.old.desk)) }
         ensures desk { IfOk result (λ s. way.new ≡ after_puts (puts_of s) (left_in s way.old)) }
         ensures updates { IfOk result (λ s. self.new.updates ≡ by_step s (next_message way.old.desk) updates_for self.old.updates) }
         ensures sets { IfOk result (λ s. self.new.sets ≡ by_step s (next_message way.old.desk) sets_for self.old.sets) }
@@ -225,7 +226,7 @@ impl<C: PublicKey> Actor<C> {
         ensures rules { OnOk result (self.new.directory.rules ≡ self.old.directory.rules) }
         ensures cooldown { self.new.cooldown ≡ self.old.cooldown }
         ensures has_failed { self.new.has_failed ≡ self.old.has_failed }
-        ensures put { IfOk result (λ p. IsPut C.cmp self.old self.new way.old.desk.sets way.old.heard now message p) }
+        ensures put { IfOk result (λ p. IsPut C.cmp self.old self.new way.old.desk.sets way.old.heard (runs_in way.old) now message p) }
         ensures desk { IfOk result (λ p. way.new ≡ after_puts p way.old) }
         ensures updates { OnOk result (self.new.updates ≡ updates_for message self.old.updates) }
         ensures sets { OnOk result (self.new.sets ≡ sets_for message self.old.sets) }

@@ -1,13 +1,14 @@
 //! Questions that change nothing, and subscriptions to peer sets.
-ghost use Rattle.std.specs.Prelude.{◌≡◌, [], ◌∷◌, ◌++◌, IfOk, OnOk};
+ghost use Rattle.std.specs.Prelude.{◌≡◌, cond, [], ◌∷◌, ◌++◌, IfOk, OnOk};
 ghost use Rattle.p2p_tracker_directory.specs.Told.{dial_list_in, peer_set_in, update_in};
+ghost use Rattle.p2p_tracker_mailbox.specs.Mailboxes.{runs_in};
 ghost use Rattle.p2p_tracker_mailbox.specs.declared.message.Message.TheVariants as message;
 ghost use Rattle.p2p_tracker.specs.Putting.{IsPut};
 ghost use Rattle.p2p_tracker.specs.Telling.{after_puts, told_of_sets};
 ghost use Rattle.p2p_tracker.specs.declared.stepped.Put.TheVariants as puts;
 
 use super::Actor;
-use crate::{DialerAnswer, HandshakeAnswer, Mailbox, Put};
+use crate::{DialerAnswer, HandshakeItem, Mailbox, Put};
 use p2p_address::IpAddr;
 use p2p_base::{List, PublicKey};
 use std::alloc::AllocError;
@@ -71,14 +72,15 @@ impl<C: PublicKey> Actor<C> {
         handshake: u64,
     ) -> Result<List<Put<C>>, AllocError>
         ensures desk { IfOk result (λ p. way.new ≡ after_puts p way.old) }
-        ensures put { IfOk result (λ p. IsPut C.cmp self.now self.now way.old.desk.sets way.old.heard now (message.Acceptable public_key source_ip handshake) p) }
+        ensures put { IfOk result (λ p. IsPut C.cmp self.now self.now way.old.desk.sets way.old.heard (runs_in way.old) now (message.Acceptable public_key source_ip handshake) p) }
     {
         let acceptable = self.directory.acceptable(&public_key, source_ip, now);
-        way.answer_handshake(handshake, HandshakeAnswer::Acceptable(acceptable))?;
-        Ok(self.only(Put::Acceptable {
+        let runs = way.answer_handshake(handshake, HandshakeItem::Acceptable(acceptable))?;
+        let told = Put::Acceptable {
             handshake,
             acceptable,
-        })?)
+        };
+        Ok(self.only_where(runs, told)?)
     }
 
     // The list of this alone.
@@ -88,5 +90,15 @@ impl<C: PublicKey> Actor<C> {
         let mut list = Vec::new(self.alloc);
         list.push(put)?;
         Ok(List::new(list))
+    }
+
+    // The list of this alone, where it was put, and else the empty one.
+    pub(super) fn only_where(&self, is_put: bool, put: Put<C>) -> Result<List<Put<C>>, AllocError>
+        ensures { IfOk result (λ l. l ≡ cond is_put (put ∷ []) []) }
+    {
+        if !is_put {
+            return Ok(List::empty(self.alloc));
+        }
+        Ok(self.only(put)?)
     }
 }

@@ -8,6 +8,7 @@ ghost use Rattle.p2p_tracker_calls.specs.declared.call.Call.{Call};
 ghost use Rattle.p2p_tracker_calls.specs.declared.call.Call.TheVariants as call;
 ghost use Rattle.p2p_tracker_directory.specs.Stands.{StandsFor};
 ghost use Rattle.p2p_tracker_directory.specs.Told.{addresses_in, update_in};
+ghost use Rattle.p2p_tracker_mailbox.specs.Mailboxes.{runs_in};
 ghost use Rattle.p2p_tracker_mailbox.specs.declared.mailbox.Mailbox.{Mailbox as Mailboxed};
 ghost use Rattle.p2p_tracker_mailbox.specs.declared.message.Message.TheVariants as message;
 ghost use Rattle.p2p_tracker.specs.Following.{Follows};
@@ -41,7 +42,7 @@ impl<C: PublicKey> Actor<C> {
         ensures rules { OnOk result (self.new.directory.rules ≡ self.old.directory.rules) }
         ensures rest { self.new ≡ record self.old { directory = self.new.directory; controls = self.new.controls } }
         ensures desk { IfOk result (λ p. way.new ≡ after_puts p way.old) }
-        ensures put { IfOk result (λ p. IsPut C.cmp self.old self.new way.old.desk.sets way.old.heard now (message.Register index peers) p) }
+        ensures put { IfOk result (λ p. IsPut C.cmp self.old self.new way.old.desk.sets way.old.heard (runs_in way.old) now (message.Register index peers) p) }
     {
         let mut put = Vec::new(self.alloc);
         let Some(killed) = self.directory.track(index, peers)? else {

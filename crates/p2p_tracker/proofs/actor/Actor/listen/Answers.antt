@@ -2,9 +2,13 @@ use Rattle.p2p_tracker.specs.Putting.{listen_grant}
 use Rattle.p2p_tracker_directory.specs.declared.metadata.Metadata.{Metadata}
 use Rattle.p2p_tracker.specs.declared.stepped.Put.{Put}
 use Rattle.p2p_tracker.specs.declared.stepped.Put.TheVariants as puts
-use Rattle.p2p_tracker.proofs.Told.{listen-granted}
+use Rattle.p2p_tracker.proofs.Told.{listen-granted, item-put}
+use Rattle.p2p_tracker.specs.Telling.{after_puts}
+use Rattle.p2p_tracker_mailbox.specs.declared.answer.HandshakeItem.TheVariants as shake
 use Rattle.p2p_tracker_directory.specs.Stands.{StandsFor}
-use Rattle.std.proofs.Common.{◌≡◌, List, [], ◌∷◌, Option, sym, ap, ◌∙◌, subst}
+use Rattle.p2p_tracker_directory.proofs.Exact.{both-parts}
+use Rattle.p2p_tracker_mailbox.specs.Mailboxes.{runs_in}
+use Rattle.std.proofs.Common.{◌≡◌, Bool, cond, List, [], ◌∷◌, Option, refl, sym, ap, ◌∙◌, subst}
 use Rattle.std.specs.Prelude.{is_some}
 use Rattle.p2p_tracker_calls.specs.Jitter.{jitter_of}
 use Rattle.p2p_tracker.specs.Tracking.{Tracking}
@@ -31,7 +35,16 @@ returns-clause-follows g c = λ calls f.
 pub returns-clause-put : goal.returns-clause-put
 returns-clause-put g c = λ calls f.
     let before = subst (λ (t : Tracking g.row.C.Denot). StandsFor g.C.Ord.cmp t.directory calls) (sym c.self.view_is) f.stands in
-    let One : Option (Metadata g.row.C.Denot) → List (Put g.row.C.Denot) = λ x. puts.Listen c.args.handshake x ∷ [] in
-    subst (λ (t : Tracking g.row.C.Denot). c.in_ok-only.field-0 ≡ One (listen_grant g.C.Ord.cmp t.directory.rules calls c.args.now c.args.public_key c.args.source_ip)) c.self.view_is
-    (c.in_ok-only.ensures ∙ ap One (c.told_of_listen-reserved.ensures ∙ listen-granted c.in_ok-reservation.reservation (allows_listen g.C.Ord.cmp c.self.inside.directory.rules calls c.args.public_key c.args.source_ip c.args.now)
+    let One : Bool → Option (Metadata g.row.C.Denot) → List (Put g.row.C.Denot) = λ b x. cond b (puts.Listen c.args.handshake x ∷ []) [] in
+    subst (λ (t : Tracking g.row.C.Denot). c.in_ok-only_where.field-0 ≡ One (runs_in c.args.way.now c.args.handshake) (listen_grant g.C.Ord.cmp t.directory.rules calls c.args.now c.args.public_key c.args.source_ip)) c.self.view_is
+    (c.in_ok-only_where.ensures ∙ both-parts One _ _ _ _ c.in_ok-runs.ensures.runs (c.told_of_listen-reserved.ensures ∙ listen-granted c.in_ok-reservation.reservation (allows_listen g.C.Ord.cmp c.self.inside.directory.rules calls c.args.public_key c.args.source_ip c.args.now)
     c.args.public_key (c.in_ok-reservation.ensures.granted calls before) c.in_ok-reservation.ensures.metadata))
+
+pub returns-clause-desk : goal.returns-clause-desk
+returns-clause-desk g c =
+    let told : Option (Metadata g.row.C.Denot) → Put g.row.C.Denot = λ x. puts.Listen c.args.handshake x in
+    let One : Bool → Option (Metadata g.row.C.Denot) → List (Put g.row.C.Denot) = λ b x. cond b (told x ∷ []) [] in
+    c.in_ok-runs.ensures.after
+    ∙ (item-put c.args.way.now c.args.handshake (shake.Listen c.in_ok-reservation.reservation) (told c.in_ok-reservation.reservation) refl
+    ∙ ap (λ (ps : List (Put g.row.C.Denot)). after_puts ps c.args.way.now)
+    (sym (c.in_ok-only_where.ensures ∙ both-parts One _ _ _ _ c.in_ok-runs.ensures.runs c.told_of_listen-reserved.ensures)))

@@ -1,3 +1,4 @@
+use Rattle.p2p_tracker_mailbox.specs.Mailboxes.{runs_in}
 use Rattle.std.proofs.Common.{◌≡◌, List, sym, ap, ◌∙◌, subst}
 use Rattle.std.specs.Prelude.{Result, Ok, Err, IfOk, OnOk}
 use Rattle.p2p_tracker_calls.specs.Jitter.{jitter_of}
@@ -108,7 +109,7 @@ returns-in-Release-clause-follows g c =
 
 pub returns-in-Register-clause-put : goal.returns-in-Register-clause-put
 returns-in-Register-clause-put g c =
-    let Told : Message g.row.C.Denot → Type 0 = λ m. IfOk c.register.result (λ p. IsPut g.C.Ord.cmp c.args.self.now c.register.new.self c.args.way.now.desk.sets c.args.way.now.heard c.args.now m p) in
+    let Told : Message g.row.C.Denot → Type 0 = λ m. IfOk c.register.result (λ p. IsPut g.C.Ord.cmp c.args.self.now c.register.new.self c.args.way.now.desk.sets c.args.way.now.heard (runs_in c.args.way.now) c.args.now m p) in
     subst Told (sym c.in-Register.is) c.register.ensures.put
 
 pub returns-in-Register-clause-updates : goal.returns-in-Register-clause-updates
@@ -119,7 +120,7 @@ returns-in-Register-clause-sets g c = on_ok c.register.result _ (ap (λ (t : Tra
 
 pub returns-in-Overwrite-clause-put : goal.returns-in-Overwrite-clause-put
 returns-in-Overwrite-clause-put g c =
-    let Told : Message g.row.C.Denot → Type 0 = λ m. IfOk c.overwrite.result (λ p. IsPut g.C.Ord.cmp c.args.self.now c.overwrite.new.self c.args.way.now.desk.sets c.args.way.now.heard c.args.now m p) in
+    let Told : Message g.row.C.Denot → Type 0 = λ m. IfOk c.overwrite.result (λ p. IsPut g.C.Ord.cmp c.args.self.now c.overwrite.new.self c.args.way.now.desk.sets c.args.way.now.heard (runs_in c.args.way.now) c.args.now m p) in
     subst Told (sym c.in-Overwrite.is) c.overwrite.ensures.put
 
 pub returns-in-Overwrite-clause-updates : goal.returns-in-Overwrite-clause-updates
@@ -130,7 +131,7 @@ returns-in-Overwrite-clause-sets g c = on_ok c.overwrite.result _ (ap (λ (t : T
 
 pub returns-in-PeerSet-clause-put : goal.returns-in-PeerSet-clause-put
 returns-in-PeerSet-clause-put g c =
-    let Told : Message g.row.C.Denot → Type 0 = λ m. IfOk c.peer_set.result (λ p. IsPut g.C.Ord.cmp c.args.self.now c.args.self.now c.args.way.now.desk.sets c.args.way.now.heard c.args.now m p) in
+    let Told : Message g.row.C.Denot → Type 0 = λ m. IfOk c.peer_set.result (λ p. IsPut g.C.Ord.cmp c.args.self.now c.args.self.now c.args.way.now.desk.sets c.args.way.now.heard (runs_in c.args.way.now) c.args.now m p) in
     subst Told (sym c.in-PeerSet.is) c.peer_set.ensures.put
 
 pub returns-in-PeerSet-clause-updates : goal.returns-in-PeerSet-clause-updates
@@ -141,7 +142,7 @@ returns-in-PeerSet-clause-sets g c = on_ok c.peer_set.result _ (ap (λ (m : Mess
 
 pub returns-in-Subscribe-clause-put : goal.returns-in-Subscribe-clause-put
 returns-in-Subscribe-clause-put g c =
-    let Told : Message g.row.C.Denot → Type 0 = λ m. IfOk c.subscribe.result (λ p. IsPut g.C.Ord.cmp c.args.self.now c.subscribe.new.self c.args.way.now.desk.sets c.args.way.now.heard c.args.now m p) in
+    let Told : Message g.row.C.Denot → Type 0 = λ m. IfOk c.subscribe.result (λ p. IsPut g.C.Ord.cmp c.args.self.now c.subscribe.new.self c.args.way.now.desk.sets c.args.way.now.heard (runs_in c.args.way.now) c.args.now m p) in
     subst Told (sym c.in-Subscribe.is) c.subscribe.ensures.put
 
 pub returns-in-Subscribe-clause-updates : goal.returns-in-Subscribe-clause-updates
@@ -152,7 +153,7 @@ returns-in-Subscribe-clause-sets g c = on_ok c.subscribe.result _ (ap (λ (t : T
 
 pub returns-in-Block-clause-put : goal.returns-in-Block-clause-put
 returns-in-Block-clause-put g c =
-    let Told : Message g.row.C.Denot → Type 0 = λ m. IfOk c.block.result (λ p. IsPut g.C.Ord.cmp c.args.self.now c.block.new.self c.args.way.now.desk.sets c.args.way.now.heard c.args.now m p) in
+    let Told : Message g.row.C.Denot → Type 0 = λ m. IfOk c.block.result (λ p. IsPut g.C.Ord.cmp c.args.self.now c.block.new.self c.args.way.now.desk.sets c.args.way.now.heard (runs_in c.args.way.now) c.args.now m p) in
     subst Told (sym c.in-Block.is) c.block.ensures.put
 
 pub returns-in-Block-clause-updates : goal.returns-in-Block-clause-updates
@@ -163,7 +164,7 @@ returns-in-Block-clause-sets g c = on_ok c.block.result _ (ap (λ (t : Tracking 
 
 pub returns-in-SubscribeBlocked-clause-put : goal.returns-in-SubscribeBlocked-clause-put
 returns-in-SubscribeBlocked-clause-put g c =
-    let Told : Message g.row.C.Denot → Type 0 = λ m. IfOk c.subscribe_blocked.result (λ p. IsPut g.C.Ord.cmp c.args.self.now c.subscribe_blocked.new.self c.args.way.now.desk.sets c.args.way.now.heard c.args.now m p) in
+    let Told : Message g.row.C.Denot → Type 0 = λ m. IfOk c.subscribe_blocked.result (λ p. IsPut g.C.Ord.cmp c.args.self.now c.subscribe_blocked.new.self c.args.way.now.desk.sets c.args.way.now.heard (runs_in c.args.way.now) c.args.now m p) in
     subst Told (sym c.in-SubscribeBlocked.is) c.subscribe_blocked.ensures.put
 
 pub returns-in-SubscribeBlocked-clause-updates : goal.returns-in-SubscribeBlocked-clause-updates
@@ -174,7 +175,7 @@ returns-in-SubscribeBlocked-clause-sets g c = subst (λ (m : Message g.row.C.Den
 
 pub returns-in-Connect-clause-put : goal.returns-in-Connect-clause-put
 returns-in-Connect-clause-put g c =
-    let Told : Message g.row.C.Denot → Type 0 = λ m. IfOk c.connect.result (λ p. IsPut g.C.Ord.cmp c.args.self.now c.connect.new.self c.args.way.now.desk.sets c.args.way.now.heard c.args.now m p) in
+    let Told : Message g.row.C.Denot → Type 0 = λ m. IfOk c.connect.result (λ p. IsPut g.C.Ord.cmp c.args.self.now c.connect.new.self c.args.way.now.desk.sets c.args.way.now.heard (runs_in c.args.way.now) c.args.now m p) in
     subst Told (sym c.in-Connect.is) c.connect.ensures.put
 
 pub returns-in-Connect-clause-desk : goal.returns-in-Connect-clause-desk
@@ -189,7 +190,7 @@ returns-in-Connect-clause-sets g c = on_ok c.connect.result _ (ap (λ (t : Track
 
 pub returns-in-Dialable-clause-put : goal.returns-in-Dialable-clause-put
 returns-in-Dialable-clause-put g c =
-    let Told : Message g.row.C.Denot → Type 0 = λ m. IfOk c.dialable.result (λ p. IsPut g.C.Ord.cmp c.args.self.now c.args.self.now c.args.way.now.desk.sets c.args.way.now.heard c.args.now m p) in
+    let Told : Message g.row.C.Denot → Type 0 = λ m. IfOk c.dialable.result (λ p. IsPut g.C.Ord.cmp c.args.self.now c.args.self.now c.args.way.now.desk.sets c.args.way.now.heard (runs_in c.args.way.now) c.args.now m p) in
     subst Told (sym c.in-Dialable.is) c.dialable.ensures.put
 
 pub returns-in-Dialable-clause-updates : goal.returns-in-Dialable-clause-updates
@@ -200,7 +201,7 @@ returns-in-Dialable-clause-sets g c = on_ok c.dialable.result _ (ap (λ (m : Mes
 
 pub returns-in-Dial-clause-put : goal.returns-in-Dial-clause-put
 returns-in-Dial-clause-put g c =
-    let Told : Message g.row.C.Denot → Type 0 = λ m. IfOk c.dial.result (λ p. IsPut g.C.Ord.cmp c.args.self.now c.dial.new.self c.args.way.now.desk.sets c.args.way.now.heard c.args.now m p) in
+    let Told : Message g.row.C.Denot → Type 0 = λ m. IfOk c.dial.result (λ p. IsPut g.C.Ord.cmp c.args.self.now c.dial.new.self c.args.way.now.desk.sets c.args.way.now.heard (runs_in c.args.way.now) c.args.now m p) in
     subst Told (sym c.in-Dial.is) c.dial.ensures.put
 
 pub returns-in-Dial-clause-updates : goal.returns-in-Dial-clause-updates
@@ -211,7 +212,7 @@ returns-in-Dial-clause-sets g c = on_ok c.dial.result _ (ap (λ (t : Tracking g.
 
 pub returns-in-Acceptable-clause-put : goal.returns-in-Acceptable-clause-put
 returns-in-Acceptable-clause-put g c =
-    let Told : Message g.row.C.Denot → Type 0 = λ m. IfOk c.acceptable.result (λ p. IsPut g.C.Ord.cmp c.args.self.now c.args.self.now c.args.way.now.desk.sets c.args.way.now.heard c.args.now m p) in
+    let Told : Message g.row.C.Denot → Type 0 = λ m. IfOk c.acceptable.result (λ p. IsPut g.C.Ord.cmp c.args.self.now c.args.self.now c.args.way.now.desk.sets c.args.way.now.heard (runs_in c.args.way.now) c.args.now m p) in
     subst Told (sym c.in-Acceptable.is) c.acceptable.ensures.put
 
 pub returns-in-Acceptable-clause-updates : goal.returns-in-Acceptable-clause-updates
@@ -222,7 +223,7 @@ returns-in-Acceptable-clause-sets g c = on_ok c.acceptable.result _ (ap (λ (m :
 
 pub returns-in-Listen-clause-put : goal.returns-in-Listen-clause-put
 returns-in-Listen-clause-put g c =
-    let Told : Message g.row.C.Denot → Type 0 = λ m. IfOk c.listen.result (λ p. IsPut g.C.Ord.cmp c.args.self.now c.listen.new.self c.args.way.now.desk.sets c.args.way.now.heard c.args.now m p) in
+    let Told : Message g.row.C.Denot → Type 0 = λ m. IfOk c.listen.result (λ p. IsPut g.C.Ord.cmp c.args.self.now c.listen.new.self c.args.way.now.desk.sets c.args.way.now.heard (runs_in c.args.way.now) c.args.now m p) in
     subst Told (sym c.in-Listen.is) c.listen.ensures.put
 
 pub returns-in-Listen-clause-updates : goal.returns-in-Listen-clause-updates
@@ -233,7 +234,7 @@ returns-in-Listen-clause-sets g c = on_ok c.listen.result _ (ap (λ (t : Trackin
 
 pub returns-in-Release-clause-put : goal.returns-in-Release-clause-put
 returns-in-Release-clause-put g c =
-    let Told : Message g.row.C.Denot → Type 0 = λ m. IsPut g.C.Ord.cmp c.args.self.now c.release.new.self c.args.way.now.desk.sets c.args.way.now.heard c.args.now m c.release.result in
+    let Told : Message g.row.C.Denot → Type 0 = λ m. IsPut g.C.Ord.cmp c.args.self.now c.release.new.self c.args.way.now.desk.sets c.args.way.now.heard (runs_in c.args.way.now) c.args.now m c.release.result in
     subst Told (sym c.in-Release.is) c.release.ensures.put
 
 pub returns-in-Release-clause-desk : goal.returns-in-Release-clause-desk

@@ -3,6 +3,7 @@ use Rattle.p2p_tracker_mailbox.specs.Desk.{question_at}
 use Rattle.p2p_tracker_mailbox.specs.declared.mailbox.Mailbox.{Mailbox}
 use Rattle.p2p_tracker.proofs.Asking.{updates-after_puts, sets-after_puts, open-after_puts, left-updates, left-sets, left-open}
 use Rattle.p2p_tracker.specs.Serving.{puts_of, left_in}
+use Rattle.p2p_tracker_mailbox.specs.Mailboxes.{runs_in}
 use Rattle.std.proofs.Common.{◌≡◌, length, true, sym, ap, ◌∙◌, subst}
 use Rattle.std.specs.Prelude.{is_some}
 use Rattle.p2p_tracker_calls.proofs.Eligible.{is_eligible-is_kept, not_stale-is_kept}
@@ -46,8 +47,8 @@ pub returns-clause-answer : goal.returns-clause-answer
 returns-clause-answer g c = λ calls one f.
     let kept = subst (λ (t : Tracking g.row.C.Denot). Follows g.C.Ord.cmp t.directory t.controls calls) (sym c.self.view_is) f in
     let Before : Tracking g.row.C.Denot = record { directory = c.self.inside.directory; cooldown = c.self.inside.cooldown; updates = c.self.inside.updates.items; sets = c.self.inside.sets.items; controls = c.self.inside.controls.entries; has_failed = true } in
-    subst (λ (t : Tracking g.row.C.Denot). c.in_ok-stepped.stepped ≡ stepped_of g.C.Ord.cmp t.directory.rules t.updates t.sets c.args.way.now.desk.sets c.args.way.now.heard calls c.args.now (next_message c.args.way.now.desk)) c.self.view_is
-    (exact-step g.met.C.Ord.total one Before c.work.new.self c.args.way.now.desk.sets c.args.way.now.heard c.args.now (jitter_of c.self.inside.cooldown c.args.seed) calls kept c.in_ok-stepped.ensures.rules
+    subst (λ (t : Tracking g.row.C.Denot). c.in_ok-stepped.stepped ≡ stepped_of g.C.Ord.cmp t.directory.rules t.updates t.sets c.args.way.now.desk.sets c.args.way.now.heard (runs_in c.args.way.now) calls c.args.now (next_message c.args.way.now.desk)) c.self.view_is
+    (exact-step g.met.C.Ord.total one Before c.work.new.self c.args.way.now.desk.sets c.args.way.now.heard (runs_in c.args.way.now) c.args.now (jitter_of c.self.inside.cooldown c.args.seed) calls kept c.in_ok-stepped.ensures.rules
     c.stands_in_order.ensures (subst (λ (t : Tracking g.row.C.Denot). IsStrictlySortedBy g.C.Ord.cmp (keys_of t.directory.records)) c.self-2.view_is c.stands_in_order-2.ensures)
     c.in_ok-stepped.stepped (next_message c.args.way.now.desk) c.in_ok-stepped.ensures.put (c.in_ok-stepped.ensures.stands calls kept.stands)
     (λ e. c.in_ok-stepped.ensures.due e calls kept.stands) (λ e. c.in_ok-stepped.ensures.quiet e calls kept.stands) c.in_ok-stepped.ensures.served)

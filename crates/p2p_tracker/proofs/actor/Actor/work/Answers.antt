@@ -1,4 +1,5 @@
-use Rattle.std.proofs.Common.{◌≡◌, true, List, Option, Some, sym, ap, ◌∙◌, subst}
+use Rattle.p2p_tracker_mailbox.specs.Mailboxes.{runs_in}
+use Rattle.std.proofs.Common.{◌≡◌, ℕ, Bool, true, List, Option, Some, sym, ap, ◌∙◌, subst}
 use Rattle.std.specs.Prelude.{IfSome}
 use Rattle.p2p_tracker_calls.specs.Blocks.{is_over, block_of}
 use Rattle.p2p_tracker_calls.specs.declared.call.Call.{Call}
@@ -76,12 +77,14 @@ returns-in_ok-put-in-Some-clause-put g c =
     let oldest : next_message c.args.way.now.desk ≡ c.take.result = sym c.take.ensures.value in
     let waiting = ap (λ (m : Mailbox g.row.C.Denot). m.desk.sets) c.take.ensures.after in
     let heard = ap (λ (m : Mailbox g.row.C.Denot). m.heard) c.take.ensures.after in
+    let runs = ap (λ (m : Mailbox g.row.C.Denot). runs_in m) c.take.ensures.after in
     let Before : Kept g.row.C.Denot → Tracking g.row.C.Denot = λ d. record { directory = d; cooldown = c.self.inside.cooldown; updates = c.self.inside.updates.items; sets = c.self.inside.sets.items; controls = c.self.inside.controls.entries; has_failed = c.self.inside.has_failed } in
-    subst (λ (o : Option (Message g.row.C.Denot)). IsPutBy g.C.Ord.cmp c.args.self.now c.serve.new.self c.args.way.now.desk.sets c.args.way.now.heard c.args.now (stepped.Message c.in_ok-put-in-Some.put) o) (sym (oldest ∙ c.in-Some.is))
-    (subst (λ (t : Tracking g.row.C.Denot). IsPut g.C.Ord.cmp t c.serve.new.self c.args.way.now.desk.sets c.args.way.now.heard c.args.now c.in-Some.message c.in_ok-put-in-Some.put) (ap Before same ∙ c.self.view_is)
-    (subst (λ (w : List (Option (List g.row.C.Denot))). IsPut g.C.Ord.cmp (Before c.unblock_expired.new.self) c.serve.new.self w c.args.way.now.heard c.args.now c.in-Some.message c.in_ok-put-in-Some.put) waiting
-    (subst (λ (w : Option (List IpAddr)). IsPut g.C.Ord.cmp (Before c.unblock_expired.new.self) c.serve.new.self c.take.new.self.desk.sets w c.args.now c.in-Some.message c.in_ok-put-in-Some.put) heard
-    c.in_ok-put-in-Some.ensures.put)))
+    subst (λ (o : Option (Message g.row.C.Denot)). IsPutBy g.C.Ord.cmp c.args.self.now c.serve.new.self c.args.way.now.desk.sets c.args.way.now.heard (runs_in c.args.way.now) c.args.now (stepped.Message c.in_ok-put-in-Some.put) o) (sym (oldest ∙ c.in-Some.is))
+    (subst (λ (t : Tracking g.row.C.Denot). IsPut g.C.Ord.cmp t c.serve.new.self c.args.way.now.desk.sets c.args.way.now.heard (runs_in c.args.way.now) c.args.now c.in-Some.message c.in_ok-put-in-Some.put) (ap Before same ∙ c.self.view_is)
+    (subst (λ (w : List (Option (List g.row.C.Denot))). IsPut g.C.Ord.cmp (Before c.unblock_expired.new.self) c.serve.new.self w c.args.way.now.heard (runs_in c.args.way.now) c.args.now c.in-Some.message c.in_ok-put-in-Some.put) waiting
+    (subst (λ (w : Option (List IpAddr)). IsPut g.C.Ord.cmp (Before c.unblock_expired.new.self) c.serve.new.self c.take.new.self.desk.sets w (runs_in c.args.way.now) c.args.now c.in-Some.message c.in_ok-put-in-Some.put) heard
+    (subst (λ (r : ℕ → Bool). IsPut g.C.Ord.cmp (Before c.unblock_expired.new.self) c.serve.new.self c.take.new.self.desk.sets c.take.new.self.heard r c.args.now c.in-Some.message c.in_ok-put-in-Some.put) runs
+    c.in_ok-put-in-Some.ensures.put))))
 
 pub returns-in_ok-put-in-Some-clause-desk : goal.returns-in_ok-put-in-Some-clause-desk
 returns-in_ok-put-in-Some-clause-desk g c =
