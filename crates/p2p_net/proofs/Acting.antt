@@ -17,13 +17,14 @@ use Rattle.p2p_log_rules.specs.Effect.{only, row, effect, entry_of, may_join}
 use Rattle.p2p_log_rules.specs.Valid.{may_act}
 use Rattle.p2p_net_links.specs.Stands.{LinksStand}
 use Rattle.p2p_net_links.specs.declared.links.Links.{Links}
-use Rattle.p2p_net.specs.Places.{Part, router, channels, connections, code, at, links as place_links, parts_of, same_place, names, node_of}
+use Rattle.p2p_net.specs.Places.{Part, router, channels, connections, code, at, parts_of, same_place, names, node_of}
 use Rattle.p2p_net.specs.Acts.{NodeDoes}
 use Rattle.p2p_net.specs.Joining.{Welcomes, Connects, JoinsBy, Joins, OneDoes, pair_of, DoesOn, WorldDoes, joined_row}
 use Rattle.p2p_net.specs.Joining as joining
 use Rattle.p2p_net.specs.Stands.{IsSized, NodeStands, WorldStands}
 use Rattle.p2p_net.specs.declared.node.Node.{Node}
 use Rattle.p2p_net.proofs.Nodes.{slice_get-set, length-slice_set, below}
+use Rattle.p2p_net.proofs.EachPart.{links_apart}
 use Rattle.p2p_net.proofs.Frames.{part_frame, links_kept}
 use Rattle.p2p_net.proofs.Performing.{asked, Performs, part_still, links_still, effect-still}
 use Rattle.p2p_net.proofs.Calling.{register_performs, start_performs, send_performs, read_performs}
@@ -62,11 +63,6 @@ part_elsewhere p q n m ne = ap (λ b. (code p == code q) && b) ne ∙ and-false 
 parts_elsewhere : (parts : List Part) (q : Part) (n m : ℕ) → (n == m) ≡ false → list_any (λ p. same_place p (at q m)) (parts_of n parts) ≡ false
 parts_elsewhere [] q n m ne = refl
 parts_elsewhere (p ∷ ps) q n m ne = ap (λ b. b || list_any (λ p. same_place p (at q m)) (parts_of n ps)) (part_elsewhere p q n m ne) ∙ parts_elsewhere ps q n m ne
-
-links_apart : (q : Part) (m : ℕ) → same_place place_links (at q m) ≡ false
-links_apart router m = refl
-links_apart channels m = refl
-links_apart connections m = refl
 
 others_unnamed : (a : Act) (p : Part) (m : ℕ) → pair_of a ≡ None → (node_of a == m) ≡ false → names a (at p m) ≡ false
 others_unnamed (act.Join a b) p m one ne = cc

@@ -31,15 +31,15 @@ use Rattle.p2p_net_channels.specs.Channels.{capacity_at, registered_with, is_mes
 use Rattle.p2p_net_channels.specs.Stands.{ChannelsStand}
 use Rattle.p2p_net_channels.proofs.Changes.{channels_moved, waits_taken}
 use Rattle.p2p_net_channels.proofs.Registering.{channels_registered}
-use Rattle.p2p_net_connections.specs.Stands.{ConnectionsStand}
 use Rattle.p2p_net_links.specs.Stands.{LinksStand}
 use Rattle.p2p_net_links.specs.declared.links.Links.{Links}
 use Rattle.p2p_net.specs.Places as place
 use Rattle.p2p_net.specs.Ready.{capacity_by}
 use Rattle.p2p_net.specs.Acts.{Registers, Starts, SendsOn, Sends, ReadsOn, Reads}
-use Rattle.p2p_net.specs.Stands.{RouterStands, PartStands, NodeStands}
+use Rattle.p2p_net.specs.Stands.{RouterStands, NodeStands}
 use Rattle.p2p_net.specs.declared.node.Node.{Node}
-use Rattle.p2p_net.proofs.Frames.{part_frame, links_kept}
+use Rattle.p2p_net.proofs.EachPart.{with_parts, each_part, not_among}
+use Rattle.p2p_net.proofs.Frames.{links_kept}
 use Rattle.p2p_net.proofs.Routers.{RouterStands-moved, is_unbound-before}
 use Rattle.p2p_net.proofs.Performing.{asked, Performs, sized_same, stays_performs, line-still}
 
@@ -74,18 +74,20 @@ register_performs configs log at seed n c rate x y l links r s t valid d kept =
     record {
       row_is = d.0 ∙ ap (λ j. only (reply.Capacity j)) amount;
       sized = sized_same configs n x y s.sized (ap (λ (z : Node). z.config) parts) (ap (λ (z : Node). z.retained) parts);
-      each = λ p. elim p as (λ q. PartStands q configs (log ++ e ∷ []) n y) [
-        | place.router ↦
-            RouterStands-moved configs log e n x.router y.router rout
-            (sub.stands configs log e rout.stands (is_unbound-before configs log n x.router rout early)
-            (record { rate = rate; is = ap (λ j. act.Register c j rate) (sym at_number); takes = refl; puts = refl; ends = refl })
-            (ap (λ j. capacity_in (channels configs log j) c) at_number ∙ absent))
-            (ap (λ (z : Router). z.number) sub.rest) (ap (λ (z : Router). z.peers) sub.rest)
-        | place.channels ↦
+      each =
+          each_part configs log ev n x y (place.channels ∷ place.router ∷ []) s (subst (λ z. z ≡ with_parts (place.channels ∷ place.router ∷ []) x z) (sym parts) refl)
+          (λ p out. not_among (place.channels ∷ place.router ∷ []) p n n out) (
             subst (ChannelsStand configs (log ++ e ∷ []) n) (sym chan_is)
-            (channels_registered configs log e n c k rate x.channels chan refl amount (chan.capacities c ∙ absent) room (λ f. line-kept_all log e (queue.Channel n f) refl refl refl))
-        | place.connections ↦ subst (ConnectionsStand configs (log ++ e ∷ []) n) (sym conn_is) (part_frame place.connections configs log ev n x (s.each place.connections) refl)
-      ];
+                (channels_registered configs log e n c k rate x.channels chan refl amount (chan.capacities c ∙ absent) room (λ f. line-kept_all log e (queue.Channel n f) refl refl refl)),
+            (
+              RouterStands-moved configs log e n x.router y.router rout
+                  (sub.stands configs log e rout.stands (is_unbound-before configs log n x.router rout early)
+                  (record { rate = rate; is = ap (λ j. act.Register c j rate) (sym at_number); takes = refl; puts = refl; ends = refl })
+                  (ap (λ j. capacity_in (channels configs log j) c) at_number ∙ absent))
+                  (ap (λ (z : Router). z.number) sub.rest) (ap (λ (z : Router). z.peers) sub.rest),
+              tt,
+            ),
+          );
       linked = subst (LinksStand (log ++ e ∷ [])) (sym kept) (links_kept configs log ev l t refl);
     }
   where
@@ -121,14 +123,14 @@ start_performs configs log at seed n x y l links r s t d kept =
     record {
       row_is = row_is;
       sized = sized_same configs n x y s.sized (ap (λ (z : Node). z.config) parts) (ap (λ (z : Node). z.retained) parts);
-      each = λ p. elim p as (λ q. PartStands q configs (log ++ e ∷ []) n y) [
-        | place.router ↦
+      each =
+          each_part configs log ev n x y (place.router ∷ []) s (subst (λ z. z ≡ with_parts (place.router ∷ []) x z) (sym parts) refl)
+          (λ p out. not_among (place.router ∷ []) p n n out) (
             RouterStands-moved configs log e n x.router y.router rout
-            (subst (λ (z : Row). StandsFor configs (log ++ entry_of ev z ∷ []) y.router) row_is (calls.stands configs log ev rout.stands refl (ap act.Start (sym at_number)) places))
-            (ap (λ (z : Router). z.number) calls.rest) (ap (λ (z : Router). z.peers) calls.rest)
-        | place.channels ↦ subst (ChannelsStand configs (log ++ e ∷ []) n) (sym (ap (λ (z : Node). z.channels) parts)) (part_frame place.channels configs log ev n x chan refl)
-        | place.connections ↦ subst (ConnectionsStand configs (log ++ e ∷ []) n) (sym (ap (λ (z : Node). z.connections) parts)) (part_frame place.connections configs log ev n x (s.each place.connections) refl)
-      ];
+                (subst (λ (z : Row). StandsFor configs (log ++ entry_of ev z ∷ []) y.router) row_is (calls.stands configs log ev rout.stands refl (ap act.Start (sym at_number)) places))
+                (ap (λ (z : Router). z.number) calls.rest) (ap (λ (z : Router). z.peers) calls.rest),
+            tt,
+          );
       linked = subst (LinksStand (log ++ e ∷ [])) (sym kept) (links_kept configs log ev l t refl);
     }
 
@@ -159,14 +161,14 @@ send_on configs log at seed n c bytes priority to (Some k) x y l links r s t has
     record {
       row_is = row_is;
       sized = sized_same configs n x y s.sized (ap (λ (z : Node). z.config) parts) (ap (λ (z : Node). z.retained) parts);
-      each = λ p. elim p as (λ q. PartStands q configs (log ++ e ∷ []) n y) [
-        | place.router ↦
+      each =
+          each_part configs log ev n x y (place.router ∷ []) s (subst (λ z. z ≡ with_parts (place.router ∷ []) x z) (sym parts) refl)
+          (λ p out. not_among (place.router ∷ []) p n n out) (
             RouterStands-moved configs log e n x.router y.router rout
-            (subst (λ (z : Row). StandsFor configs (log ++ entry_of ev z ∷ []) y.router) row_is (calls.stands configs log ev to rout.stands refl (ap (λ j. act.Send bytes c j priority to) (sym at_number))))
-            (ap (λ (z : Router). z.number) calls.rest) (ap (λ (z : Router). z.peers) calls.rest)
-        | place.channels ↦ subst (ChannelsStand configs (log ++ e ∷ []) n) (sym (ap (λ (z : Node). z.channels) parts)) (part_frame place.channels configs log ev n x chan refl)
-        | place.connections ↦ subst (ConnectionsStand configs (log ++ e ∷ []) n) (sym (ap (λ (z : Node). z.connections) parts)) (part_frame place.connections configs log ev n x (s.each place.connections) refl)
-      ];
+                (subst (λ (z : Row). StandsFor configs (log ++ entry_of ev z ∷ []) y.router) row_is (calls.stands configs log ev to rout.stands refl (ap (λ j. act.Send bytes c j priority to) (sym at_number))))
+                (ap (λ (z : Router). z.number) calls.rest) (ap (λ (z : Router). z.peers) calls.rest),
+            tt,
+          );
       linked = subst (LinksStand (log ++ e ∷ [])) (sym kept) (links_kept configs log ev l t refl);
     }
 
@@ -228,13 +230,13 @@ read_on_performs configs log at seed n c (Some k) x y l links r s t has d kept =
     record {
       row_is = d.0 ∙ is;
       sized = sized_same configs n x y s.sized (ap (λ (z : Node). z.config) parts) (ap (λ (z : Node). z.retained) parts);
-      each = λ p. elim p as (λ q. PartStands q configs (log ++ e ∷ []) n y) [
-        | place.router ↦ subst (RouterStands configs (log ++ e ∷ []) n) (sym (ap (λ (z : Node). z.router) parts)) (part_frame place.router configs log ev n x (s.each place.router) refl)
-        | place.channels ↦
+      each =
+          each_part configs log ev n x y (place.channels ∷ []) s (subst (λ z. z ≡ with_parts (place.channels ∷ []) x z) (sym parts) refl)
+          (λ p out. not_among (place.channels ∷ []) p n n out) (
             subst (ChannelsStand configs (log ++ e ∷ []) n) (sym (ap (λ (z : Node). z.channels) parts))
-            (read_stands configs log e n c x.channels (waiting x.channels.waiting c) chan refl refl (ap (λ (z : Row). z.takes) (sym is)) (ap (λ (z : Row). z.puts) (sym is)) (ap (λ (z : Row). z.ends) (sym is)))
-        | place.connections ↦ subst (ConnectionsStand configs (log ++ e ∷ []) n) (sym (ap (λ (z : Node). z.connections) parts)) (part_frame place.connections configs log ev n x (s.each place.connections) refl)
-      ];
+                (read_stands configs log e n c x.channels (waiting x.channels.waiting c) chan refl refl (ap (λ (z : Row). z.takes) (sym is)) (ap (λ (z : Row). z.puts) (sym is)) (ap (λ (z : Row). z.ends) (sym is))),
+            tt,
+          );
       linked = subst (LinksStand (log ++ e ∷ [])) (sym kept) (links_kept configs log ev l t refl);
     }
 

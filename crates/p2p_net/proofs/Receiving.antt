@@ -40,9 +40,9 @@ use Rattle.p2p_net_links.specs.declared.links.Links.{Links}
 use Rattle.p2p_net_links.proofs.Changes.{links_taken}
 use Rattle.p2p_net.specs.Places as place
 use Rattle.p2p_net.specs.Acts.{accepted_row, accepted_into, accepted_off, arrived_row, arrived_into, arrived_off, received_row, received_into, received_off, first_in, ReceivesBy, ReceivesOn, RecvSteps}
-use Rattle.p2p_net.specs.Stands.{RouterStands, PartStands, NodeStands}
+use Rattle.p2p_net.specs.Stands.{NodeStands}
 use Rattle.p2p_net.specs.declared.node.Node.{Node}
-use Rattle.p2p_net.proofs.Frames.{part_frame}
+use Rattle.p2p_net.proofs.EachPart.{with_parts, each_part, not_among-links}
 use Rattle.p2p_net.proofs.Performing.{asked, Performs, sized_same, stays_performs}
 
 -- ---- the row, by what the channels are
@@ -174,11 +174,12 @@ built configs log at seed conn n x y ch l links r s row_is parts chan linked =
     record {
       row_is = row_is;
       sized = sized_same configs n x y s.sized (ap (λ (z : Node). z.config) parts) (ap (λ (z : Node). z.retained) parts);
-      each = λ p. elim p as (λ q. PartStands q configs (log ++ e ∷ []) n y) [
-        | place.router ↦ subst (RouterStands configs (log ++ e ∷ []) n) (sym (ap (λ (z : Node). z.router) parts)) (part_frame place.router configs log ev n x (s.each place.router) refl)
-        | place.channels ↦ subst (ChannelsStand configs (log ++ e ∷ []) n) (sym (ap (λ (z : Node). z.channels) parts)) chan
-        | place.connections ↦ subst (ConnectionsStand configs (log ++ e ∷ []) n) (sym (ap (λ (z : Node). z.connections) parts)) (part_frame place.connections configs log ev n x (s.each place.connections) refl)
-      ];
+      each =
+          each_part configs log ev n x y (place.channels ∷ []) s (subst (λ z. z ≡ with_parts (place.channels ∷ []) x z) (sym parts) refl)
+          (λ p out. not_among-links (place.channels ∷ []) p n out) (
+            subst (ChannelsStand configs (log ++ e ∷ []) n) (sym (ap (λ (z : Node). z.channels) parts)) chan,
+            tt,
+          );
       linked = linked;
     }
 

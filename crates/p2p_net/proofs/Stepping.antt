@@ -16,7 +16,6 @@ use Rattle.p2p_net_queues.specs.Tables.{at}
 use Rattle.p2p_net_router.specs.Holds.{Adds}
 use Rattle.p2p_net_router.specs.Stands.{StandsFor}
 use Rattle.p2p_net_router.specs.declared.router.Router.{Router}
-use Rattle.p2p_net_channels.specs.Stands.{ChannelsStand}
 use Rattle.p2p_net_connections.specs.Connections.{answered}
 use Rattle.p2p_net_connections.specs.Stands.{ConnectionsStand}
 use Rattle.p2p_net_connections.proofs.Changes.{connections_moved, running-kept, waiting-answered}
@@ -25,9 +24,10 @@ use Rattle.p2p_net_links.specs.declared.links.Links.{Links}
 use Rattle.p2p_net.specs.Places as place
 use Rattle.p2p_net.specs.Ready.{is_started}
 use Rattle.p2p_net.specs.Acts.{RoutesBy, Routes}
-use Rattle.p2p_net.specs.Stands.{RouterStands, PartStands, NodeStands}
+use Rattle.p2p_net.specs.Stands.{RouterStands, NodeStands}
 use Rattle.p2p_net.specs.declared.node.Node.{Node}
-use Rattle.p2p_net.proofs.Frames.{part_frame, links_kept, makes_none}
+use Rattle.p2p_net.proofs.EachPart.{with_parts, each_part, not_among}
+use Rattle.p2p_net.proofs.Frames.{links_kept, makes_none}
 use Rattle.p2p_net.proofs.Routers.{RouterStands-moved}
 use Rattle.p2p_net.proofs.Performing.{asked, Performs, sized_same, stays_performs}
 
@@ -69,18 +69,20 @@ route_on configs log at seed n true x y l links r s t started d kept =
     record {
       row_is = row_is;
       sized = sized_same configs n x y s.sized (ap (λ (z : Node). z.config) parts) (ap (λ (z : Node). z.retained) parts);
-      each = λ p. elim p as (λ q. PartStands q configs (log ++ e ∷ []) n y) [
-        | place.router ↦
+      each =
+          each_part configs log ev n x y (place.router ∷ place.connections ∷ []) s (subst (λ z. z ≡ with_parts (place.router ∷ place.connections ∷ []) x z) (sym parts) refl)
+          (λ p out. not_among (place.router ∷ place.connections ∷ []) p n n out) (
             RouterStands-moved configs log e n x.router y.router rout
-            (subst (λ (z : Row). StandsFor configs (log ++ entry_of ev z ∷ []) y.router) row_is (calls.stands configs log ev rout.stands refl (ap act.Router (sym rout.number))))
-            (ap (λ (z : Router). z.number) calls.rest) (ap (λ (z : Router). z.peers) calls.rest)
-        | place.channels ↦ subst (ChannelsStand configs (log ++ e ∷ []) n) (sym (ap (λ (z : Node). z.channels) parts)) (part_frame place.channels configs log ev n x (s.each place.channels) refl)
-        | place.connections ↦
-            subst (ConnectionsStand configs (log ++ e ∷ []) n) (sym (ap (λ (z : Node). z.connections) parts))
-            (connections_moved configs log e n x.connections x.connections.halves (answered (length log) n 0 r.puts x.connections.answers) conn (makes_none configs log e n (act.Router n) refl refl)
-            (λ c. refl) (λ c. conn.running c ∙ sym (running-kept log e n c refl))
-            (λ c. waiting-answered (length log) n 0 c r.puts x.connections.answers ∙ (ap (λ w. w ++ filter (stands_in (queue.Ready n c)) (placed (length log) 0 r.puts)) (conn.waits c) ∙ sym (adds c))))
-      ];
+                (subst (λ (z : Row). StandsFor configs (log ++ entry_of ev z ∷ []) y.router) row_is (calls.stands configs log ev rout.stands refl (ap act.Router (sym rout.number))))
+                (ap (λ (z : Router). z.number) calls.rest) (ap (λ (z : Router). z.peers) calls.rest),
+            (
+              subst (ConnectionsStand configs (log ++ e ∷ []) n) (sym (ap (λ (z : Node). z.connections) parts))
+                  (connections_moved configs log e n x.connections x.connections.halves (answered (length log) n 0 r.puts x.connections.answers) conn (makes_none configs log e n (act.Router n) refl refl)
+                  (λ c. refl) (λ c. conn.running c ∙ sym (running-kept log e n c refl))
+                  (λ c. waiting-answered (length log) n 0 c r.puts x.connections.answers ∙ (ap (λ w. w ++ filter (stands_in (queue.Ready n c)) (placed (length log) 0 r.puts)) (conn.waits c) ∙ sym (adds c)))),
+              tt,
+            ),
+          );
       linked = subst (LinksStand (log ++ e ∷ [])) (sym kept) (links_kept configs log ev l t refl);
     }
 

@@ -28,7 +28,6 @@ use Rattle.p2p_net_router.specs.Names.{is_routers}
 use Rattle.p2p_net_router.specs.Stands.{IsBeside, IsReadied}
 use Rattle.p2p_net_router.specs.declared.router.Router.{Router}
 use Rattle.p2p_net_router.proofs.Aside.{same_queue-other}
-use Rattle.p2p_net_channels.specs.Stands.{ChannelsStand}
 use Rattle.p2p_net_connections.specs.Connections.{joined_with}
 use Rattle.p2p_net_connections.specs.Stands.{ConnectionsStand}
 use Rattle.p2p_net_connections.proofs.Joining.{connections_joined}
@@ -36,12 +35,12 @@ use Rattle.p2p_net.specs.Places as place
 use Rattle.p2p_net.specs.Ready.{is_started}
 use Rattle.p2p_net.specs.Joining.{Welcomes, joined_row}
 use Rattle.p2p_net.specs.Joining as joining
-use Rattle.p2p_net.specs.Stands.{RouterStands, PartStands, NodeStands}
+use Rattle.p2p_net.specs.Stands.{RouterStands, NodeStands}
 use Rattle.p2p_net.specs.declared.node.Node.{Node}
 use Rattle.p2p_log_laws.proofs.Untouched.{line-untouched}
 use Rattle.p2p_net.proofs.ActKinds.{Kind, kind_of}
 use Rattle.p2p_net.proofs.ActKinds as kinds
-use Rattle.p2p_net.proofs.Frames.{part_frame}
+use Rattle.p2p_net.proofs.EachPart.{with_parts, each_part, not_among-both}
 use Rattle.p2p_net.proofs.Routers.{IsStranger-apart, HearsOfJoins-told}
 use Rattle.p2p_net.proofs.Performing.{asked, sized_same}
 
@@ -211,20 +210,20 @@ welcome_stands configs log ev n a b place_at partner half x y valid s t acts d =
     in
     record {
       sized = sized_same configs n x y s.sized (ap (λ (z : Node). z.config) parts) (ap (λ (z : Node). z.retained) parts);
-      each = λ p. elim p as (λ q. PartStands q configs (log ++ e ∷ []) n y) [
-        | place.router ↦
+      each =
+          each_part configs log ev n x y (place.router ∷ place.connections ∷ []) s (subst (λ z. z ≡ with_parts (place.router ∷ place.connections ∷ []) x z) (sym parts) refl)
+          (λ p out. ap (λ c. place.names c (place.at p n)) acts ∙ not_among-both (place.router ∷ place.connections ∷ []) (place.router ∷ place.connections ∷ []) p a b n out out) (
             (record {
               number = ap (λ (z : Router). z.number) calls.rest ∙ rout.number;
               stands = calls.stands configs log e rout.stands refl size (IsStranger-apart configs log n partner (length log) half.peer x.router rout refl t.key t.in_range t.apart) (join_beside configs log e x.router.number a b t.is)
                   (subst (λ k. IsReadied e k place_at (length log) half.peer) (sym rout.number) t.readied);
               hears = HearsOfJoins-told configs log e n partner (length log) half.peer x.router.peers y.router.peers valid rout.hears calls.peers refl t.key t.in_range (t.partner_is partner ∙ same_number partner);
-            })
-        | place.channels ↦
-            subst (ChannelsStand configs (log ++ e ∷ []) n) (sym (ap (λ (z : Node). z.channels) parts))
-            (part_frame place.channels configs log ev n x (s.each place.channels) (ap (λ c. place.names c (place.at place.channels n)) acts))
-        | place.connections ↦
-            subst (ConnectionsStand configs (log ++ e ∷ []) n) (sym (ap (λ (z : Node). z.connections) parts))
-            (connections_joined configs log e n partner half x.connections (s.each place.connections) t.half_is t.partner_is (λ conn. ap (λ c. cond (steps_sender n conn c) (map is_answer (taken log e)) []) t.is)
-            (λ conn. line-untouched configs log ev (queue.Ready n conn) (ap (λ c. reads configs log c (queue.Ready n conn)) acts) (ap (λ c. writes configs log c (queue.Ready n conn)) acts)))
-      ];
+            }),
+            (
+              subst (ConnectionsStand configs (log ++ e ∷ []) n) (sym (ap (λ (z : Node). z.connections) parts))
+                  (connections_joined configs log e n partner half x.connections (s.each place.connections) t.half_is t.partner_is (λ conn. ap (λ c. cond (steps_sender n conn c) (map is_answer (taken log e)) []) t.is)
+                  (λ conn. line-untouched configs log ev (queue.Ready n conn) (ap (λ c. reads configs log c (queue.Ready n conn)) acts) (ap (λ c. writes configs log c (queue.Ready n conn)) acts))),
+              tt,
+            ),
+          );
     }

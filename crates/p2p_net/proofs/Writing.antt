@@ -32,7 +32,6 @@ use Rattle.p2p_net_router.specs.Batches.{batch_of}
 use Rattle.p2p_net_router.specs.Stands.{IsBeside, AreAway}
 use Rattle.p2p_net_router.proofs.Aside.{stands_begun, same_queue-other}
 use Rattle.p2p_net_router.proofs.Batches.{batch_beside}
-use Rattle.p2p_net_channels.specs.Stands.{ChannelsStand}
 use Rattle.p2p_net_connections.specs.Connections.{half_on, runs_on, ran, begun_on}
 use Rattle.p2p_net_connections.specs.Stands.{ConnectionsStand}
 use Rattle.p2p_net_connections.specs.declared.connections.Connection.{Connection}
@@ -44,9 +43,10 @@ use Rattle.p2p_net_links.specs.declared.links.Links.{Links}
 use Rattle.p2p_net_links.proofs.Changes.{frames_put, links_frame, links_written}
 use Rattle.p2p_net.specs.Places as place
 use Rattle.p2p_net.specs.Acts.{Writes, Begins, WritesBy, WritesOn, SendSteps}
-use Rattle.p2p_net.specs.Stands.{RouterStands, PartStands, NodeStands}
+use Rattle.p2p_net.specs.Stands.{RouterStands, NodeStands}
 use Rattle.p2p_net.specs.declared.node.Node.{Node}
-use Rattle.p2p_net.proofs.Frames.{part_frame, makes_none}
+use Rattle.p2p_net.proofs.EachPart.{with_parts, each_part, not_among-links}
+use Rattle.p2p_net.proofs.Frames.{makes_none}
 use Rattle.p2p_net.proofs.Routers.{RouterStands-moved}
 use Rattle.p2p_net.proofs.Performing.{asked, Performs, sized_same, part_still, links_still, stays_performs, IsStill}
 
@@ -160,14 +160,17 @@ begin_on configs log at seed conn n k [] x y l links r s t there idle is d =
     record {
       row_is = d.0 ∙ (ap begin_row is ∙ sym row_is);
       sized = sized_same configs n x y s.sized (ap (λ (z : Node). z.config) parts) (ap (λ (z : Node). z.retained) parts);
-      each = λ p. elim p as (λ q. PartStands q configs (log ++ e ∷ []) n y) [
-        | place.router ↦ subst (RouterStands configs (log ++ e ∷ []) n) (sym (ap (λ (z : Node). z.router) parts)) (part_still place.router configs log e n x (act.SendStep conn n) reply.Idle (s.each place.router) refl refl still)
-        | place.channels ↦ subst (ChannelsStand configs (log ++ e ∷ []) n) (sym (ap (λ (z : Node). z.channels) parts)) (part_still place.channels configs log e n x (act.SendStep conn n) reply.Idle (s.each place.channels) refl refl still)
-        | place.connections ↦
+      each =
+          each_part configs log ev n x y (place.connections ∷ place.router ∷ []) s (subst (λ z. z ≡ with_parts (place.connections ∷ place.router ∷ []) x z) (sym parts) refl)
+          (λ p out. not_among-links (place.connections ∷ place.router ∷ []) p n out) (
             let kept : ConnectionsStand configs (log ++ e ∷ []) n x.connections = part_still place.connections configs log e n x (act.SendStep conn n) reply.Idle cs refl refl still in
-            subst (ConnectionsStand configs (log ++ e ∷ []) n) (sym (ap (λ (z : Node). z.connections) parts))
-            (record { halves = kept.halves; running = kept.running; partners = kept.partners; waits = λ c. waiting-none n conn x.connections.answers is c ∙ kept.waits c })
-      ];
+                subst (ConnectionsStand configs (log ++ e ∷ []) n) (sym (ap (λ (z : Node). z.connections) parts))
+                (record { halves = kept.halves; running = kept.running; partners = kept.partners; waits = λ c. waiting-none n conn x.connections.answers is c ∙ kept.waits c }),
+            (
+              subst (RouterStands configs (log ++ e ∷ []) n) (sym (ap (λ (z : Node). z.router) parts)) (part_still place.router configs log e n x (act.SendStep conn n) reply.Idle (s.each place.router) refl refl still),
+              tt,
+            ),
+          );
       linked = subst (LinksStand (log ++ e ∷ [])) (sym d.1.1) (links_still log e reply.Idle l t still);
     }
 begin_on configs log at seed conn n k (w ∷ ws) x y l links r s t there idle is d =
@@ -185,15 +188,17 @@ begin_on configs log at seed conn n k (w ∷ ws) x y l links r s t there idle is
     record {
       row_is = d.0 ∙ (ap begin_row is ∙ sym row_is);
       sized = sized_same configs n x y s.sized (ap (λ (z : Node). z.config) parts) (ap (λ (z : Node). z.retained) parts);
-      each = λ p. elim p as (λ q. PartStands q configs (log ++ e ∷ []) n y) [
-        | place.router ↦
-            subst (RouterStands configs (log ++ e ∷ []) n) (sym (ap (λ (z : Node). z.router) parts))
-            (RouterStands-moved configs log e n x.router x.router rout
-            (stands_begun configs log e x.router conn n rout.stands (step_beside configs log e x.router.number conn n refl) (takes.takes ∙ sym (ap (λ vs. (begin_row vs).takes) first)) takes.puts takes.ends) refl refl)
-        | place.channels ↦ subst (ChannelsStand configs (log ++ e ∷ []) n) (sym (ap (λ (z : Node). z.channels) parts)) (part_frame place.channels configs log ev n x (s.each place.channels) refl)
-        | place.connections ↦
-            subst (ConnectionsStand configs (log ++ e ∷ []) n) (sym (ap (λ (z : Node). z.connections) parts)) (begun_stands configs log e n conn x.connections k w ws cs there refl takes)
-      ];
+      each =
+          each_part configs log ev n x y (place.connections ∷ place.router ∷ []) s (subst (λ z. z ≡ with_parts (place.connections ∷ place.router ∷ []) x z) (sym parts) refl)
+          (λ p out. not_among-links (place.connections ∷ place.router ∷ []) p n out) (
+            subst (ConnectionsStand configs (log ++ e ∷ []) n) (sym (ap (λ (z : Node). z.connections) parts)) (begun_stands configs log e n conn x.connections k w ws cs there refl takes),
+            (
+              subst (RouterStands configs (log ++ e ∷ []) n) (sym (ap (λ (z : Node). z.router) parts))
+                  (RouterStands-moved configs log e n x.router x.router rout
+                  (stands_begun configs log e x.router conn n rout.stands (step_beside configs log e x.router.number conn n refl) (takes.takes ∙ sym (ap (λ vs. (begin_row vs).takes) first)) takes.puts takes.ends) refl refl),
+              tt,
+            ),
+          );
       linked = subst (LinksStand (log ++ e ∷ [])) (sym d.1.1)
           (links_frame log e l t (λ u link. line_begun log e n conn w ws (queue.Link link u) takes ∙ ap (λ b. cond b ws (line log (queue.Link link u))) (link_other n conn link u)));
     }
@@ -326,23 +331,25 @@ write_on configs log at seed conn n k x y l links r s t there runs d =
     record {
       row_is = d.1.1.1.0 ∙ framed;
       sized = sized_same configs n x y s.sized (ap (λ (z : Node). z.config) parts) (ap (λ (z : Node). z.retained) parts);
-      each = λ p. elim p as (λ q. PartStands q configs (log ++ e ∷ []) n y) [
-        | place.router ↦
-            RouterStands-moved configs log e n x.router y.router rout
-            (calls.stands configs log e rout.stands (step_beside configs log e x.router.number conn n refl) takes ends
-            (λ q own. subst (AreAway q) (sym puts) (frames_away conn side_of q frames (same_queue-sym q (queue.Link conn side_of) ∙ same_queue-other x.router.number (queue.Link conn side_of) q refl own))))
-            calls.kept.number calls.kept.peers
-        | place.channels ↦ subst (ChannelsStand configs (log ++ e ∷ []) n) (sym (ap (λ (z : Node). z.channels) parts)) (part_frame place.channels configs log ev n x (s.each place.channels) refl)
-        | place.connections ↦
+      each =
+          each_part configs log ev n x y (place.connections ∷ place.router ∷ []) s (subst (λ z. z ≡ with_parts (place.connections ∷ place.router ∷ []) x z) (sym parts) refl)
+          (λ p out. not_among-links (place.connections ∷ place.router ∷ []) p n out) (
             subst (ConnectionsStand configs (log ++ e ∷ []) n) (sym (ap (λ (z : Node). z.connections) parts))
-            (connections_moved configs log e n x.connections x.connections.halves x.connections.answers cs (makes_none configs log e n (act.SendStep conn n) refl refl) (λ c. refl)
-            (λ c. cs.running c ∙ sym (still_runs log e n conn c refl running))
-            (λ c.
-            cs.waits c
-            ∙ sym
-            (line_written log e n conn size side_of frames (queue.Ready n c) refl refl took takes ends puts
-            ∙ (ap (λ w. line log (queue.Ready n c) ++ w) (filter-away (queue.Ready n c) (length log) 0 (frames_put conn side_of frames) (frames_away conn side_of (queue.Ready n c) frames (ready_apart n conn c side_of))) ∙ append-nil (line log (queue.Ready n c))))))
-      ];
+                (connections_moved configs log e n x.connections x.connections.halves x.connections.answers cs (makes_none configs log e n (act.SendStep conn n) refl refl) (λ c. refl)
+                (λ c. cs.running c ∙ sym (still_runs log e n conn c refl running))
+                (λ c.
+                cs.waits c
+                ∙ sym
+                (line_written log e n conn size side_of frames (queue.Ready n c) refl refl took takes ends puts
+                ∙ (ap (λ w. line log (queue.Ready n c) ++ w) (filter-away (queue.Ready n c) (length log) 0 (frames_put conn side_of frames) (frames_away conn side_of (queue.Ready n c) frames (ready_apart n conn c side_of))) ∙ append-nil (line log (queue.Ready n c)))))),
+            (
+              RouterStands-moved configs log e n x.router y.router rout
+                  (calls.stands configs log e rout.stands (step_beside configs log e x.router.number conn n refl) takes ends
+                  (λ q own. subst (AreAway q) (sym puts) (frames_away conn side_of q frames (same_queue-sym q (queue.Link conn side_of) ∙ same_queue-other x.router.number (queue.Link conn side_of) q refl own))))
+                  calls.kept.number calls.kept.peers,
+              tt,
+            ),
+          );
       linked = subst (LinksStand (log ++ e ∷ [])) (sym d.1.1.1.1)
           (links_written log e l side_of conn (length log) frames t (λ u j. line_written log e n conn size side_of frames (queue.Link j u) (high_link n conn j u) (low_link n conn j u) took takes ends puts));
     }

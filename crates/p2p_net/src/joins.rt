@@ -6,7 +6,7 @@ ghost use Rattle.p2p_net.specs.Places.{node_of as node_of_act, other_of as other
 ghost use Rattle.p2p_net.specs.Joining.{Welcomes, Connects, may_join as may_join_test, joined_row, Joins, pair_of, ends_by, OneDoes, WorldDoes};
 ghost use Rattle.p2p_net.specs.declared.node.Node.{Node};
 
-use crate::node::Node;
+use crate::node::{Node, node_of};
 use p2p_base::Key;
 use p2p_log::{Act, Item, Queue, Reply, Side};
 use p2p_log_rules::{Half, Row};
@@ -143,32 +143,6 @@ fn ends_of(act: &Act) -> Option<Ends>
             listens: *b,
         }),
         _ => None,
-    }
-}
-
-/// The node that an act names first.
-pub fn node_of(act: &Act) -> u64
-    ensures { result ≡ node_of_act act.now }
-{
-    match act {
-        Act::Register { node, .. } => *node,
-        Act::Start { node } => *node,
-        Act::Join { a, .. } => *a,
-        Act::Send { node, .. } => *node,
-        Act::Router { node } => *node,
-        Act::SendStep { node, .. } => *node,
-        Act::RecvStep { node, .. } => *node,
-        Act::Recv { node, .. } => *node,
-    }
-}
-
-/// The other node that an act names, or the same one.
-pub fn other_of(act: &Act) -> u64
-    ensures { result ≡ other_of_act act.now }
-{
-    match act {
-        Act::Join { b, .. } => *b,
-        _ => node_of(act),
     }
 }
 

@@ -6,6 +6,7 @@ ghost use Rattle.p2p_log_rules.specs.Valid.{fits};
 ghost use Rattle.p2p_net_channels.specs.Channels.{no_channels};
 ghost use Rattle.p2p_net_connections.specs.Connections.{no_connections};
 ghost use Rattle.p2p_net_router.specs.Stands.{StandsFor};
+ghost use Rattle.p2p_net.specs.Places.{node_of as node_of_act, other_of as other_of_act};
 ghost use Rattle.p2p_net.specs.Ready.{is_started as started_test, IsReady};
 ghost use Rattle.p2p_net.specs.Acts.{NodeDoes};
 
@@ -32,6 +33,32 @@ pub struct Node {
     pub channels: Channels,
     /// Its connections, and the router's answers to them.
     pub connections: Connections,
+}
+
+/// The node that an act names first.
+pub fn node_of(act: &Act) -> u64
+    ensures { result ≡ node_of_act act.now }
+{
+    match act {
+        Act::Register { node, .. } => *node,
+        Act::Start { node } => *node,
+        Act::Join { a, .. } => *a,
+        Act::Send { node, .. } => *node,
+        Act::Router { node } => *node,
+        Act::SendStep { node, .. } => *node,
+        Act::RecvStep { node, .. } => *node,
+        Act::Recv { node, .. } => *node,
+    }
+}
+
+/// The other node that an act names, or the same one.
+pub fn other_of(act: &Act) -> u64
+    ensures { result ≡ other_of_act act.now }
+{
+    match act {
+        Act::Join { b, .. } => *b,
+        _ => node_of(act),
+    }
 }
 
 impl Node {

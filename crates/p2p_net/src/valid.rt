@@ -2,8 +2,7 @@
 ghost use Rattle.std.specs.Prelude.{◌≡◌, ◌<◌, ◌^◌, ◌&&◌, Some, slice_get, length, nat_le};
 ghost use Rattle.p2p_net.specs.Ready.{capacity_by, is_join_of as is_join_of_test, names_node, may_register as may_register_test, may_ask as may_ask_test, may_at as may_at_test, may_act as may_act_test};
 
-use crate::joins::{node_of, other_of};
-use crate::node::Node;
+use crate::node::{Node, node_of, other_of};
 use p2p_log::{Act, Entry, Event, Rate};
 
 /// Whether a channel may be registered at a node: it has not started, the channel is new, and what it would hold can be
