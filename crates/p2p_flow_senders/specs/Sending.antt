@@ -34,6 +34,12 @@ module _ {K : Type 0} where
   keys_checked keys_of (Ok checked) = Ok (keys_of checked)
   keys_checked keys_of (Err at) = Err at
 
+  -- what a send leaves: where its check passed and its content was taken, that was handed in after the check, and else the check alone was made
+  abbrev pub IsLeft : {W X : Type 0} → (W → Type 0) → (List K → W → W → Type 0) → Result (List K) ℕ → Result X SendError → W → Type 0
+  IsLeft {W = W} asked handed (Ok keys) (Ok x) new = (mid : W) × (asked mid × handed keys mid new)
+  IsLeft asked handed (Ok keys) (Err e) new = asked new
+  IsLeft asked handed (Err at) r new = asked new
+
   -- whom a send reaches, by its check and by what is told of its content: nobody where it is refused
   abbrev pub sent_to : (List K → Unreliable) → Result (List K) ℕ → List K
   sent_to told (Ok keys) = cond (is_accepted (told keys)) keys []

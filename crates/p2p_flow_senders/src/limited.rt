@@ -206,7 +206,7 @@ impl<P: PublicKey, M: Carrier<P>> crate::LimitedSender for LimitedSender<P, M> {
     ghost use Rattle.std.specs.Prelude.{◌≡◌};
     ghost use Rattle.p2p_flow.specs.declared.plain.Recipients.TheVariants as to;
     ghost use Rattle.p2p_flow_senders.specs.Sending.{size_refusal};
-    ghost use Rattle.p2p_flow_senders.specs.Limits.{HasLimit, IsHeard, named_in, limit_at, rate_in, StandsIn, offered_in, messenger_in};
+    ghost use Rattle.p2p_flow_senders.specs.Limits.{HasLimit, IsHeard, named_in, limit_at, rate_in, StandsIn, offered_in, messenger_in, with_messenger};
 
     type PublicKey = P;
 
@@ -229,6 +229,10 @@ impl<P: PublicKey, M: Carrier<P>> crate::LimitedSender for LimitedSender<P, M> {
     ghost due = { λ s message. size_refusal s.max_size message };
 
     ghost told = { λ s w keys message priority. M.content_answer w.messenger (to.Some keys) s.channel message priority };
+
+    ghost asked = { λ s w recipients v. v.messenger ≡ messenger_in M.after_try_peers w.messenger (limit_at w s.place) recipients };
+
+    ghost handed = { λ s w keys message priority v. v ≡ with_messenger w (M.after_content w.messenger (to.Some keys) s.channel message priority) };
 
     ghost told_after = { λ s w recipients keys message priority.
         M.content_answer (messenger_in M.after_try_peers w.messenger (limit_at w s.place) recipients) (to.Some keys) s.channel message priority };
@@ -254,7 +258,7 @@ impl<P: PublicKey, M: Carrier<P>> crate::LimitedSender for LimitedSender<P, M> {
             ≡ M.content_answer (messenger_in M.after_try_peers way.old.messenger (limit_at way.old self.now.place) recipients) (to.Some keys) self.now.channel message priority }
         ensures rate { rate_in (limit_at way.new self.now.place) ≡ rate_in (limit_at way.old self.now.place) }
         ensures serves { HasLimit M.subscriptions self.now way.new }
-        ensures messenger { way.new.messenger ≡ messenger_in M.after_try_peers way.old.messenger (limit_at way.old self.now.place) recipients }
+        ensures asked { way.new.messenger ≡ messenger_in M.after_try_peers way.old.messenger (limit_at way.old self.now.place) recipients }
         ensures known { known_at (limit_at way.new self.now.place) ≡ known_in M.waiting way.old.messenger (limit_at way.old self.now.place) recipients }
         ensures others { (place : ℕ) → place ≢ self.now.place → limit_at way.new place ≡ limit_at way.old place }
     {
@@ -282,11 +286,11 @@ impl<P: PublicKey, M: Carrier<P>> crate::LimitedSender for LimitedSender<P, M> {
         ensures answer { IfOk result (λ u. u ≡ M.content_answer way.old.messenger (to.Some checked.recipients) self.now.channel message priority) }
         ensures fits { OnOk result (size_refusal self.now.max_size message ≡ None) }
         ensures refused { IfErr result (λ e. IsCause (size_refusal self.now.max_size message) e) }
+        ensures handed { OnOk result (way.new ≡ with_messenger way.old (M.after_content way.old.messenger (to.Some checked.recipients) self.now.channel message priority)) }
         ensures unchanged { OnErr result (way.new ≡ way.old) }
         ensures stands { (past : P → Seq ℕ) (latest : ℕ) → StandsIn P.cmp (limit_at way.old self.now.place) past latest → StandsIn P.cmp (limit_at way.new self.now.place) past latest }
         ensures rate { rate_in (limit_at way.new self.now.place) ≡ rate_in (limit_at way.old self.now.place) }
         ensures serves { HasLimit M.subscriptions self.now way.new }
-        ensures after { OnOk result (way.new ≡ with_messenger way.old (M.after_content way.old.messenger (to.Some checked.recipients) self.now.channel message priority)) }
     {
         let CheckedSender { recipients, .. } = checked;
         let sender = UnlimitedSender::new(self.channel, self.max_size);

@@ -109,6 +109,12 @@ pub trait LimitedSender: Copy {
     // What is told of content for these keys.
     ghost told: { Self → Self.Way → Seq Self.PublicKey → Seq ℕ → Bool → Answer };
 
+    // The second way is what a check of these recipients leaves of the first, but for admissions.
+    ghost asked: { Self → Self.Way → Whom Self.PublicKey → Self.Way → Type 0 };
+
+    // The second way is the first once content for these keys was handed in, and nothing else.
+    ghost handed: { Self → Self.Way → Seq Self.PublicKey → Seq ℕ → Bool → Self.Way → Type 0 };
+
     // The same after a check of these recipients.
     ghost told_after: { Self → Self.Way → Whom Self.PublicKey → Seq Self.PublicKey → Seq ℕ → Bool → Answer };
 
@@ -136,6 +142,7 @@ pub trait LimitedSender: Copy {
         ensures due { IfOk result (λ r. IfOk r (λ c. (message : Seq ℕ) → refusal self.now c message ≡ due self.now message)) }
         ensures told { (keys : Seq Self.PublicKey) (message : Seq ℕ) (priority : Bool) → told self.now way.new keys message priority ≡ told_after self.now way.old recipients keys message priority }
         ensures rate { rate self.now way.new ≡ rate self.now way.old }
+        ensures asked { asked self.now way.old recipients way.new }
         ensures serves { serves self.now way.new };
 
     /// Sends a message to the recipients that a check admitted; their cells stay taken. Where it is refused, or there is no memory,
@@ -153,6 +160,7 @@ pub trait LimitedSender: Copy {
         ensures answer { IfOk result (λ u. u ≡ told self.now way.old (Self.Checked.checked checked) message priority) }
         ensures fits { OnOk result (refusal self.now checked message ≡ None) }
         ensures refused { IfErr result (λ e. IsCause (refusal self.now checked message) e) }
+        ensures handed { OnOk result (handed self.now way.old (Self.Checked.checked checked) message priority way.new) }
         ensures unchanged { OnErr result (way.new ≡ way.old) }
         ensures stands { (past : Self.PublicKey → Seq ℕ) (latest : ℕ) → stands self.now way.old past latest → stands self.now way.new past latest }
         ensures rate { rate self.now way.new ≡ rate self.now way.old }

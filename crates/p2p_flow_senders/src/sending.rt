@@ -2,7 +2,7 @@
 ghost use Rattle.std.specs.Prelude.{◌≡◌, ◌⊎◌, [], ℕ, List as Seq, true, None, max, cond, is_ok, IfOk, IfErr, OnOk, OnErr};
 ghost use Rattle.p2p_base.specs.Outcome.{is_accepted};
 ghost use Rattle.p2p_flow_senders.specs.Admission.{check_by_law, past_after, moment_after};
-ghost use Rattle.p2p_flow_senders.specs.Sending.{IsCause, IsCauseAfter, UnlessMemory, sent_to};
+ghost use Rattle.p2p_flow_senders.specs.Sending.{IsCause, IsCauseAfter, UnlessMemory, IsLeft, sent_to};
 
 use crate::{CheckedSender, LimitedSender, SendError};
 use bytes::Bytes;
@@ -40,6 +40,9 @@ pub trait Sender: LimitedSender {
         ensures stands { (past : Self.PublicKey → Seq ℕ) (latest : ℕ) → Self.stands self.now way.old past latest → UnlessMemory result (Self.stands self.now way.new
             (past_after Self.PublicKey.cmp (Self.rate self.now way.old) past (max latest now) (Self.offered self.now way.old recipients))
             (moment_after (Self.offered self.now way.old recipients) latest now)) }
+        ensures left { (past : Self.PublicKey → Seq ℕ) (latest : ℕ) → Self.stands self.now way.old past latest → IsLeft (Self.asked self.now way.old recipients)
+            (λ keys mid new. Self.handed self.now mid keys message priority new)
+            (check_by_law Self.PublicKey.cmp (Self.rate self.now way.old) past (max latest now) (Self.offered self.now way.old recipients)) result way.new }
         ensures serves { Self.serves self.now way.new }
     {
         match self.check(alloc, way, recipients, now)? {
@@ -63,6 +66,8 @@ fn send_to<S: LimitedSender>(
     ensures sent { IfOk result (λ r. r.items ≡ cond (is_accepted (S.told sender.now way.old (S.Checked.checked checked) message priority)) (S.Checked.checked checked) []) }
     ensures fits { OnOk result (S.refusal sender.now checked message ≡ None) }
     ensures refused { IfErr result (λ e. IsCause (S.refusal sender.now checked message) e) }
+    ensures handed { OnOk result (S.handed sender.now way.old (S.Checked.checked checked) message priority way.new) }
+    ensures unchanged { OnErr result (way.new ≡ way.old) }
     ensures stands { (past : S.PublicKey → Seq ℕ) (latest : ℕ) → S.stands sender.now way.old past latest → S.stands sender.now way.new past latest }
     ensures serves { S.serves sender.now way.new }
 {
