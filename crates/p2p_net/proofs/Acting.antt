@@ -17,11 +17,11 @@ use Rattle.p2p_log_rules.specs.Effect.{only, row, effect, entry_of, may_join}
 use Rattle.p2p_log_rules.specs.Valid.{may_act}
 use Rattle.p2p_net_links.specs.Stands.{LinksStand}
 use Rattle.p2p_net_links.specs.declared.links.Links.{Links}
-use Rattle.p2p_net.specs.Places.{Part, router, channels, connections, code, at, parts_of, same_place, names, node_of}
+use Rattle.p2p_net.specs.Places.{Part, router, channels, connections, same_part, at, parts_of, same_place, names, node_of}
 use Rattle.p2p_net.specs.Acts.{NodeDoes}
 use Rattle.p2p_net.specs.Joining.{Welcomes, Connects, JoinsBy, Joins, OneDoes, pair_of, DoesOn, WorldDoes, joined_row}
 use Rattle.p2p_net.specs.Joining as joining
-use Rattle.p2p_net.specs.Stands.{IsSized, NodeStands, WorldStands}
+use Rattle.p2p_net.specs.Stands.{OwnStands, NodeStands, WorldStands}
 use Rattle.p2p_net.specs.declared.node.Node.{Node}
 use Rattle.p2p_net.proofs.Nodes.{slice_get-set, length-slice_set, below}
 use Rattle.p2p_net.proofs.EachPart.{links_apart}
@@ -54,7 +54,7 @@ node_performs configs log moment seed (act.Join a b) x y l links r s t valid one
 
 -- the parts of the other nodes are not named
 part_elsewhere : (p q : Part) (n m : ℕ) → (n == m) ≡ false → same_place (at p n) (at q m) ≡ false
-part_elsewhere p q n m ne = ap (λ b. (code p == code q) && b) ne ∙ and-false (code p == code q)
+part_elsewhere p q n m ne = ap (λ b. same_part p q && b) ne ∙ and-false (same_part p q)
   where
     and-false : (b : Bool) → (b && false) ≡ false
     and-false true = refl
@@ -78,7 +78,7 @@ others_unnamed (act.Recv c n) p m one ne = parts_elsewhere (channels ∷ []) p n
 
 -- a node that an act does not name
 node_frame : (configs : List Config) (log : List Entry) (ev : Event) (m : ℕ) (z : Node) → NodeStands configs log m z → ((p : Part) → names ev.act (at p m) ≡ false) → NodeStands configs (log ++ effect configs log ev ∷ []) m z
-node_frame configs log ev m z s away = record { sized = s.sized; each = λ p. part_frame p configs log ev m z (s.each p) (away p) }
+node_frame configs log ev m z s away = record { own = s.own; each = λ p. part_frame p configs log ev m z (s.each p) (away p) }
 
 one_each :
     (configs : List Config) (log : List Entry) (ev : Event) (nodes : List Node) (n : ℕ) (y : Node) (l links : Links) (r : Row) → WorldStands configs log nodes l → Performs configs log ev n y links r
@@ -88,7 +88,7 @@ one_each configs log ev nodes n y l links r s h away m z true same g =
     let here : n ≡ m = grind (arith, nat_tests) in
     let it : y ≡ z = cc in
     subst (λ (x : Node). NodeStands configs (log ++ effect configs log ev ∷ []) m x) it
-    (subst (λ i. NodeStands configs (log ++ effect configs log ev ∷ []) i y) here (record { sized = h.sized; each = h.each }))
+    (subst (λ i. NodeStands configs (log ++ effect configs log ev ∷ []) i y) here h.node)
 one_each configs log ev nodes n y l links r s h away m z false ne g = node_frame configs log ev m z (s.each m z g) (λ p. away p m ne)
 
 -- one node changed, as its act says
@@ -144,7 +144,7 @@ gone_is : (configs : List Config) (log : List Entry) (a b : ℕ) → may_join lo
 unfolding row
 gone_is configs log a b may = ap (λ t. cond t (ready_row configs log a b) (only reply.Gone)) may
 
-key_is : (configs : List Config) (n : ℕ) (x : Node) → IsSized configs n x → x.config.public_key ≡ key_at configs n
+key_is : (configs : List Config) (n : ℕ) (x : Node) → OwnStands configs n x → x.config.public_key ≡ key_at configs n
 key_is configs n x s = sym (ap (λ (o : Option Config). elim o [ None ↦ record { 0 = 0 } | Some c ↦ c.public_key ]) s.config)
 
 made_is : (configs : List Config) (log : List Entry) (moment seed a b : ℕ) → may_join log a b ≡ true → entry_of (asked moment seed (act.Join a b)) (ready_row configs log a b) ≡ effect configs log (asked moment seed (act.Join a b))
@@ -169,7 +169,7 @@ join_by configs log moment seed a b false x y nodes new l links r s first second
           (record {
             valid = s.valid;
             long = s.long;
-            each = λ m z g. let h = s.each m z g in record { sized = h.sized; each = λ p. part_still p configs log e m z (act.Join a b) reply.Gone (h.each p) (asks configs log ev) refl still };
+            each = λ m z g. let h = s.each m z g in record { own = h.own; each = λ p. part_still p configs log e m z (act.Join a b) reply.Gone (h.each p) (asks configs log ev) refl still };
             linked = links_still log e reply.Gone l s.linked still;
           }));
     }
@@ -178,8 +178,8 @@ join_by configs log moment seed a b true x y nodes new l links r s first second 
     let e = effect configs log ev in
     let both = MayJoin-test log a b may in
     let c : Connects (length log) a b x.config.public_key y.config.public_key nodes new = d.1 in
-    let first_key : x.config.public_key ≡ key_at configs a = key_is configs a x (s.each a x first).sized in
-    let second_key : y.config.public_key ≡ key_at configs b = key_is configs b y (s.each b y second).sized in
+    let first_key : x.config.public_key ≡ key_at configs a = key_is configs a x (s.each a x first).own in
+    let second_key : y.config.public_key ≡ key_at configs b = key_is configs b y (s.each b y second).own in
     let u : Node = c.0 in
     let z : Node = c.1.0 in
     let v : Node = c.1.1.0 in

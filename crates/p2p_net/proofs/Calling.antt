@@ -29,7 +29,8 @@ use Rattle.p2p_net_router.specs.declared.router.Router.{Router}
 use Rattle.p2p_net_channels.specs.declared.channels.Channels.{Channels}
 use Rattle.p2p_net_channels.specs.Channels.{capacity_at, registered_with, is_message, read_on, read_from}
 use Rattle.p2p_net_channels.specs.Stands.{ChannelsStand}
-use Rattle.p2p_net_channels.proofs.Changes.{channels_moved, waits_taken}
+use Rattle.p2p_net_queues.proofs.Holding.{waits_taken}
+use Rattle.p2p_net_channels.proofs.Changes.{channels_moved, same_channel}
 use Rattle.p2p_net_channels.proofs.Registering.{channels_registered}
 use Rattle.p2p_net_links.specs.Stands.{LinksStand}
 use Rattle.p2p_net_links.specs.declared.links.Links.{Links}
@@ -41,7 +42,7 @@ use Rattle.p2p_net.specs.declared.node.Node.{Node}
 use Rattle.p2p_net.proofs.EachPart.{with_parts, each_part, not_among}
 use Rattle.p2p_net.proofs.Frames.{links_kept}
 use Rattle.p2p_net.proofs.Routers.{RouterStands-moved, is_unbound-before}
-use Rattle.p2p_net.proofs.Performing.{asked, Performs, sized_same, stays_performs, line-still}
+use Rattle.p2p_net.proofs.Performing.{asked, Performs, stays_performs, line-still}
 
 -- ---- register
 
@@ -54,7 +55,7 @@ register_performs configs log at seed n c rate x y l links r s t valid d kept =
     let k = capacity_by x rate in
     let chan : ChannelsStand configs log n x.channels = s.each place.channels in
     let rout : RouterStands configs log n x.router = s.each place.router in
-    let amount : k ≡ capacity_for (slice_get configs n) rate = ap (λ m. m * rate.burst) s.sized.retained ∙ sym (ap (λ o. capacity_for o rate) s.sized.config) in
+    let amount : k ≡ capacity_for (slice_get configs n) rate = ap (λ m. m * rate.burst) s.own.retained ∙ sym (ap (λ o. capacity_for o rate) s.own.config) in
     let may : may_register configs (events_of log) c n rate ≡ true = (and_parts (nat_lt n (length configs)) (may_register configs (events_of log) c n rate) valid).1 in
     let regs = registered configs (events_of log) n in
     let capacity = capacity_for (slice_get configs n) rate in
@@ -73,8 +74,7 @@ register_performs configs log at seed n c rate x y l links r s t valid d kept =
     let at_number : x.router.number ≡ n = rout.number in
     record {
       row_is = d.0 ∙ ap (λ j. only (reply.Capacity j)) amount;
-      sized = sized_same configs n x y s.sized (ap (λ (z : Node). z.config) parts) (ap (λ (z : Node). z.retained) parts);
-      each =
+      node =
           each_part configs log ev n x y (place.channels ∷ place.router ∷ []) s (subst (λ z. z ≡ with_parts (place.channels ∷ place.router ∷ []) x z) (sym parts) refl)
           (λ p out. not_among (place.channels ∷ place.router ∷ []) p n n out) (
             subst (ChannelsStand configs (log ++ e ∷ []) n) (sym chan_is)
@@ -115,15 +115,14 @@ start_performs configs log at seed n x y l links r s t d kept =
     let calls = d.1 in
     let at_number : x.router.number ≡ n = rout.number in
     let row_is : r ≡ start_row configs log n = calls.row configs log rout.stands ∙ ap (start_row configs log) at_number in
-    let size : x.config.mailbox_size ≡ mailbox_size_at configs n = sym (ap (λ (o : Option Config). elim o [ None ↦ 0 | Some c ↦ c.mailbox_size ]) s.sized.config) in
+    let size : x.config.mailbox_size ≡ mailbox_size_at configs n = sym (ap (λ (o : Option Config). elim o [ None ↦ 0 | Some c ↦ c.mailbox_size ]) s.own.config) in
     let places : x.config.mailbox_size + x.channels.total ≡ router_capacity configs log x.router.number =
     ap (λ k. k + x.channels.total) size
     ∙ (ap (λ k. mailbox_size_at configs n + k) chan.total ∙ ap (router_capacity configs log) (sym at_number))
     in
     record {
       row_is = row_is;
-      sized = sized_same configs n x y s.sized (ap (λ (z : Node). z.config) parts) (ap (λ (z : Node). z.retained) parts);
-      each =
+      node =
           each_part configs log ev n x y (place.router ∷ []) s (subst (λ z. z ≡ with_parts (place.router ∷ []) x z) (sym parts) refl)
           (λ p out. not_among (place.router ∷ []) p n n out) (
             RouterStands-moved configs log e n x.router y.router rout
@@ -160,8 +159,7 @@ send_on configs log at seed n c bytes priority to (Some k) x y l links r s t has
     let row_is : r ≡ send_row configs log bytes c n priority to = calls.row configs log rout.stands ∙ (ap sent at_number ∙ is) in
     record {
       row_is = row_is;
-      sized = sized_same configs n x y s.sized (ap (λ (z : Node). z.config) parts) (ap (λ (z : Node). z.retained) parts);
-      each =
+      node =
           each_part configs log ev n x y (place.router ∷ []) s (subst (λ z. z ≡ with_parts (place.router ∷ []) x z) (sym parts) refl)
           (λ p out. not_among (place.router ∷ []) p n n out) (
             RouterStands-moved configs log e n x.router y.router rout
@@ -203,7 +201,7 @@ read_stands configs log e n c ch (y ∷ ys) s is acts takes puts ends = read_fir
         let first : line log (queue.Channel n c) ≡ y ∷ ys = sym (s.waits c) ∙ is in
         channels_moved configs log e n ch (popped_at ch.waiting c) s (ap (registers_at configs n) acts)
         (λ f.
-        waits_taken log n c y ys ch.waiting s.waits first f
+        waits_taken (queue.Channel n) (same_channel n) log c y ys ch.waiting s.waits first f
         ∙ sym
         (line-taken log e (queue.Channel n c) y ys (queue.Channel n f) first (ap (λ t. t ++ flat_map ended_item e.ends) takes ∙ ap (λ d. name_of y ∷ flat_map ended_item d) ends)
         ∙ (ap (λ p. cond (same_queue (queue.Channel n c) (queue.Channel n f)) ys (line log (queue.Channel n f)) ++ filter (stands_in (queue.Channel n f)) (placed (length log) 0 p)) puts ∙ append-nil (cond (same_queue (queue.Channel n c) (queue.Channel n f)) ys (line log (queue.Channel n f))))))
@@ -229,8 +227,7 @@ read_on_performs configs log at seed n c (Some k) x y l links r s t has d kept =
     let is = recv_is configs log n c k x.channels chan has in
     record {
       row_is = d.0 ∙ is;
-      sized = sized_same configs n x y s.sized (ap (λ (z : Node). z.config) parts) (ap (λ (z : Node). z.retained) parts);
-      each =
+      node =
           each_part configs log ev n x y (place.channels ∷ []) s (subst (λ z. z ≡ with_parts (place.channels ∷ []) x z) (sym parts) refl)
           (λ p out. not_among (place.channels ∷ []) p n n out) (
             subst (ChannelsStand configs (log ++ e ∷ []) n) (sym (ap (λ (z : Node). z.channels) parts))

@@ -9,15 +9,15 @@ use Rattle.p2p_log.specs.declared.event.Event.{Event}
 use Rattle.p2p_log_rules.specs.Effect.{effect}
 use Rattle.p2p_net_channels.specs.Stands.{ChannelsStand}
 use Rattle.p2p_net_connections.specs.Stands.{ConnectionsStand}
-use Rattle.p2p_net.specs.Places.{Part, router, channels, connections, code, at, links, parts_of, and_links, same_place, names}
-use Rattle.p2p_net.specs.Stands.{RouterStands, PartStands, NodeStands}
+use Rattle.p2p_net.specs.Places.{Part, router, channels, connections, code, same_part, at, links, parts_of, and_links, same_place, names}
+use Rattle.p2p_net.specs.Stands.{RouterStands, PartStands, OwnStands, NodeStands}
 use Rattle.p2p_net.specs.declared.node.Node.{Node}
 use Rattle.p2p_net.proofs.Touching.{first_false, second_false}
 use Rattle.p2p_net.proofs.Frames.{part_frame}
 
 abbrev pub is_in : Part → List Part → Bool
 is_in p [] = false
-is_in p (q ∷ ps) = (code q == code p) || is_in p ps
+is_in p (q ∷ ps) = same_part q p || is_in p ps
 
 -- a node that has these parts of another
 abbrev pub with_parts : List Part → Node → Node → Node
@@ -47,47 +47,48 @@ part_of-code router = refl
 part_of-code channels = refl
 part_of-code connections = refl
 
-same_part : (q p : Part) → (code q == code p) ≡ true → q ≡ p
-same_part q p h = let same : code q ≡ code p = grind (arith, nat_tests) in sym (part_of-code q) ∙ (ap part_of same ∙ part_of-code p)
+same_part-is : (q p : Part) → same_part q p ≡ true → q ≡ p
+same_part-is q p h = let same : code q ≡ code p = grind (arith, nat_tests) in sym (part_of-code q) ∙ (ap part_of same ∙ part_of-code p)
 
 picked : (P : Part → Type 0) (p : Part) (ps : List Part) → is_in p ps ≡ true → AllOf P ps → P p
 picked P p [] h all = cc
-picked P p (q ∷ ps) h all = by (code q == code p) refl (λ rest. picked P p ps rest all.1)
+picked P p (q ∷ ps) h all = by (same_part q p) refl (λ rest. picked P p ps rest all.1)
   where
-    by : (b : Bool) → (code q == code p) ≡ b → (is_in p ps ≡ true → P p) → P p
-    by true same later = subst P (same_part q p same) all.0
+    by : (b : Bool) → same_part q p ≡ b → (is_in p ps ≡ true → P p) → P p
+    by true same later = subst P (same_part-is q p same) all.0
     by false other later = later (sym (ap (λ b. b || is_in p ps) other) ∙ h)
 
 -- an act that names these parts of nodes names no other part
 pub not_among : (ps : List Part) (p : Part) (m n : ℕ) → is_in p ps ≡ false → list_any (λ q. same_place q (at p n)) (parts_of m ps) ≡ false
 not_among [] p m n out = refl
 not_among (q ∷ ps) p m n out =
-    ap (λ b. (b && (m == n)) || list_any (λ r. same_place r (at p n)) (parts_of m ps)) (first_false (code q == code p) (is_in p ps) out)
-    ∙ not_among ps p m n (second_false (code q == code p) (is_in p ps) out)
+    ap (λ b. (b && (m == n)) || list_any (λ r. same_place r (at p n)) (parts_of m ps)) (first_false (same_part q p) (is_in p ps) out)
+    ∙ not_among ps p m n (second_false (same_part q p) (is_in p ps) out)
 
 pub not_among-both : (ps qs : List Part) (p : Part) (a b n : ℕ) → is_in p ps ≡ false → is_in p qs ≡ false → list_any (λ q. same_place q (at p n)) (parts_of a ps ++ parts_of b qs) ≡ false
 not_among-both [] qs p a b n out off = not_among qs p b n off
 not_among-both (q ∷ ps) qs p a b n out off =
-    ap (λ t. (t && (a == n)) || list_any (λ r. same_place r (at p n)) (parts_of a ps ++ parts_of b qs)) (first_false (code q == code p) (is_in p ps) out)
-    ∙ not_among-both ps qs p a b n (second_false (code q == code p) (is_in p ps) out) off
+    ap (λ t. (t && (a == n)) || list_any (λ r. same_place r (at p n)) (parts_of a ps ++ parts_of b qs)) (first_false (same_part q p) (is_in p ps) out)
+    ∙ not_among-both ps qs p a b n (second_false (same_part q p) (is_in p ps) out) off
 
 pub links_apart : (p : Part) (n : ℕ) → same_place links (at p n) ≡ false
-links_apart router n = refl
-links_apart channels n = refl
-links_apart connections n = refl
+links_apart p n = refl
 
 pub not_among-links : (ps : List Part) (p : Part) (n : ℕ) → is_in p ps ≡ false → list_any (λ q. same_place q (at p n)) (and_links (parts_of n ps)) ≡ false
 not_among-links ps p n out = ap (λ b. b || list_any (λ r. same_place r (at p n)) (parts_of n ps)) (links_apart p n) ∙ not_among ps p n n out
 
--- the parts of a node, of which an act changed these
+-- a node of which an act changed these parts
 pub each_part :
     (configs : List Config) (log : List Entry) (ev : Event) (n : ℕ) (x y : Node) (ps : List Part) → NodeStands configs log n x → y ≡ with_parts ps x y
     → ((p : Part) → is_in p ps ≡ false → names ev.act (at p n) ≡ false) → AllOf (λ p. PartStands p configs (log ++ effect configs log ev ∷ []) n y) ps
-    → (p : Part) → PartStands p configs (log ++ effect configs log ev ∷ []) n y
-each_part configs log ev n x y ps s same unnamed all p = by (is_in p ps) refl
+    → NodeStands configs (log ++ effect configs log ev ∷ []) n y
+each_part configs log ev n x y ps s same unnamed all = record {
+  own = subst (OwnStands configs n) (sym same) (record { config = s.own.config; retained = s.own.retained; works = s.own.works });
+  each = λ p. by p (is_in p ps) refl;
+}
   where
-    by : (b : Bool) → is_in p ps ≡ b → PartStands p configs (log ++ effect configs log ev ∷ []) n y
-    by true h = picked (λ q. PartStands q configs (log ++ effect configs log ev ∷ []) n y) p ps h all
-    by false h =
+    by : (p : Part) (b : Bool) → is_in p ps ≡ b → PartStands p configs (log ++ effect configs log ev ∷ []) n y
+    by p true h = picked (λ q. PartStands q configs (log ++ effect configs log ev ∷ []) n y) p ps h all
+    by p false h =
         subst (λ (z : Node). PartStands p configs (log ++ effect configs log ev ∷ []) n z) (sym same)
         (kept_part p ps configs (log ++ effect configs log ev ∷ []) n x y h (part_frame p configs log ev n x (s.each p) (unnamed p h)))

@@ -3,14 +3,16 @@ use Rattle.std.proofs.Common.{◌≡◌, ℕ, Bool, true, false, ◌≤◌, List
 use Rattle.std.specs.Prelude.{slice_get, ◌==◌, ◌&&◌, not, is_some, IsTrue}
 use Rattle.std.proofs.lemmas.Bool.{and_parts}
 use Rattle.p2p_log.specs.declared.event.Act.{Act}
+use Rattle.p2p_log.specs.declared.event.Event.{Event}
+use Rattle.p2p_log.specs.declared.entry.Entry.{Entry}
 use Rattle.p2p_log_rules.specs.declared.row.Row.{Row}
-use Rattle.p2p_log_rules.specs.Effect.{only}
+use Rattle.p2p_log_rules.specs.Effect.{only, entry_of}
 use Rattle.p2p_log.specs.declared.entry.Reply.TheVariants as reply
 use Rattle.p2p_router.specs.Messenger.{is_bound}
 use Rattle.p2p_net_queues.specs.Tables as table
 use Rattle.p2p_net_links.specs.declared.links.Links.{Links}
 use Rattle.p2p_net.specs.Ready.{is_started}
-use Rattle.p2p_net.specs.Joining.{may_join, joined_row, Connects, JoinsBy, Joins, DoesOn, ends_by}
+use Rattle.p2p_net.specs.Joining.{may_join, joined_row, Connects, JoinsBy, Joins, JoinRecords, DoesOn, ends_by}
 use Rattle.p2p_net.specs.declared.node.Node.{Node}
 use Rattle.p2p_net.specs.declared.joins.Ends.{Ends}
 
@@ -57,9 +59,13 @@ joins_both k a b nodes new x y t r first second is allowed row_is connects =
     (x, (y, (first, (second, subst (λ m. JoinsBy m k a b x y nodes new r) (sym allowed ∙ is) (row_is, connects)))))
 
 -- an act that has two nodes is their join
-pub does_join : (o : Option (ℕ × ℕ)) (ends : Ends) (k : ℕ) (a : Act) (old new : List Node) (l : Links) (r : Row) → ends_by o ≡ Some ends
+does_join : (o : Option (ℕ × ℕ)) (ends : Ends) (k : ℕ) (a : Act) (old new : List Node) (l : Links) (r : Row) → ends_by o ≡ Some ends
     → Joins k ends.dials ends.listens old new r → DoesOn o k a old new l l r
 does_join None ends k a old new l r is h = cc
 does_join (Some two) ends k a old new l r is h =
     let same : ends ≡ record { dials = two.0; listens = two.1 } = cc in
     (subst (λ (e : Ends). Joins k e.dials e.listens old new r) same h, refl)
+
+pub join_records : (o : Option (ℕ × ℕ)) (ends : Ends) (k : ℕ) (ev : Event) (old new : List Node) (l : Links) (e : Entry) → ends_by o ≡ Some ends
+    → JoinRecords k ev ends.dials ends.listens old new e → (r : Row) × ((e ≡ entry_of ev r) × DoesOn o k ev.act old new l l r)
+join_records o ends k ev old new l e is h = (h.0, (h.1.0, does_join o ends k ev.act old new l h.0 is h.1.1))

@@ -1,6 +1,6 @@
 -- What an act has to show at a node, and acts that move nothing.
-use Rattle.std.proofs.Common.{◌≡◌, ℕ, Bool, true, false, cond, List, [], ◌∷◌, ◌++◌, length, refl, ap, sym, subst, ◌∙◌, append-nil, Some, None}
-use Rattle.std.specs.Prelude.{◌*◌, map, filter, flat_map}
+use Rattle.std.proofs.Common.{◌≡◌, ℕ, Bool, true, false, cond, List, [], ◌∷◌, ◌++◌, length, refl, ap, sym, subst, ◌∙◌, append-nil, None}
+use Rattle.std.specs.Prelude.{map, filter, flat_map}
 use Rattle.p2p_log.specs.declared.config.Config.{Config}
 use Rattle.p2p_log.specs.declared.queue.Queue.{Queue}
 use Rattle.p2p_log.specs.declared.queue.Queue.TheVariants as queue
@@ -21,7 +21,7 @@ use Rattle.p2p_net_links.specs.Stands.{LinksStand}
 use Rattle.p2p_net_links.specs.declared.links.Links.{Links}
 use Rattle.p2p_net_links.proofs.Changes.{links_frame}
 use Rattle.p2p_net.specs.Places.{Part, router, channels, connections}
-use Rattle.p2p_net.specs.Stands.{PartStands, IsSized, NodeStands}
+use Rattle.p2p_net.specs.Stands.{PartStands, NodeStands}
 use Rattle.p2p_net.specs.declared.node.Node.{Node}
 use Rattle.p2p_net.proofs.ActKinds.{registers_unless, starts_unless, half_unless, joins_unless}
 use Rattle.p2p_net.proofs.Routers.{RouterStands-idle}
@@ -33,16 +33,8 @@ asked at seed a = record { at = at; seed = seed; act = a }
 -- the row is the act's, and the node and the links stand for the log with its entry
 pub record Performs (configs : List Config) (log : List Entry) (ev : Event) (n : ℕ) (y : Node) (links : Links) (r : Row) : Type 0 where
   pub row_is : r ≡ row configs log ev.act
-  pub sized : IsSized configs n y
-  pub each : (p : Part) → PartStands p configs (log ++ effect configs log ev ∷ []) n y
+  pub node : NodeStands configs (log ++ effect configs log ev ∷ []) n y
   pub linked : LinksStand (log ++ effect configs log ev ∷ []) links
-
--- a node that keeps its sizes
-pub sized_same : (configs : List Config) (n : ℕ) (x y : Node) → IsSized configs n x → y.config ≡ x.config → y.retained ≡ x.retained → IsSized configs n y
-sized_same configs n x y s c r = record {
-  config = s.config ∙ ap Some (sym c);
-  retained = r ∙ (s.retained ∙ ap (λ (z : Config). z.max_peers_per_set * z.tracked_peer_sets) (sym c));
-}
 
 -- ---- acts that move nothing
 
@@ -154,7 +146,6 @@ stays_performs configs log ev n x y l links r rep s t is quiet row_is same kept 
     let still = effect-still configs log ev rep is in
     record {
       row_is = row_is ∙ sym is;
-      sized = subst (IsSized configs n) (sym same) s.sized;
-      each = λ p. subst (λ (z : Node). PartStands p configs (log ++ e ∷ []) n z) (sym same) (part_still p configs log e n x ev.act rep (s.each p) (effect-asks configs log ev) quiet still);
+      node = subst (NodeStands configs (log ++ e ∷ []) n) (sym same) (record { own = s.own; each = λ p. part_still p configs log e n x ev.act rep (s.each p) (effect-asks configs log ev) quiet still });
       linked = subst (LinksStand (log ++ e ∷ [])) (sym kept) (links_still log e rep l t still);
     }

@@ -18,7 +18,7 @@ use Rattle.p2p_net_links.specs.declared.links.Links.{Links}
 use Rattle.p2p_net.specs.Places as place
 use Rattle.p2p_net.specs.Places.{node_of, other_of}
 use Rattle.p2p_net.specs.Ready.{is_started, capacity_by, may_register, names_node, may_ask, may_at, may_act, IsReady, MayPerform}
-use Rattle.p2p_net.specs.Stands.{RouterStands, IsSized, NodeStands, WorldStands}
+use Rattle.p2p_net.specs.Stands.{RouterStands, OwnStands, NodeStands, WorldStands}
 use Rattle.p2p_net.specs.declared.node.Node.{Node}
 use Rattle.p2p_net.proofs.Nodes.{some_at}
 use Rattle.p2p_net.proofs.Routers.{is_unbound-before}
@@ -29,13 +29,13 @@ use Rattle.p2p_net.proofs.Starts.{fits_there}
 started_is : (configs : List Config) (log : List Entry) (n : ℕ) (x : Node) → NodeStands configs log n x → is_started x ≡ has_started (events_of log) n
 started_is configs log n x s = let rout : RouterStands configs log n x.router = s.each place.router in rout.stands.bound ∙ ap (is_up log) rout.number
 
-size_is : (configs : List Config) (n : ℕ) (x : Node) → IsSized configs n x → x.config.mailbox_size ≡ mailbox_size_at configs n
+size_is : (configs : List Config) (n : ℕ) (x : Node) → OwnStands configs n x → x.config.mailbox_size ≡ mailbox_size_at configs n
 size_is configs n x s = sym (ap (λ (o : Option Config). elim o [ None ↦ 0 | Some c ↦ c.mailbox_size ]) s.config)
 
-limit_is : (configs : List Config) (n : ℕ) (x : Node) → IsSized configs n x → x.config.max_message_size ≡ limit_at configs n
+limit_is : (configs : List Config) (n : ℕ) (x : Node) → OwnStands configs n x → x.config.max_message_size ≡ limit_at configs n
 limit_is configs n x s = sym (ap (λ (o : Option Config). elim o [ None ↦ 0 | Some c ↦ c.max_message_size ]) s.config)
 
-capacity_is : (configs : List Config) (n : ℕ) (rate : Rate) (x : Node) → IsSized configs n x → capacity_by x rate ≡ capacity_for (slice_get configs n) rate
+capacity_is : (configs : List Config) (n : ℕ) (rate : Rate) (x : Node) → OwnStands configs n x → capacity_by x rate ≡ capacity_for (slice_get configs n) rate
 capacity_is configs n rate x s = ap (λ m. m * rate.burst) s.retained ∙ sym (ap (λ o. capacity_for o rate) s.config)
 
 register_is : (configs : List Config) (log : List Entry) (n c : ℕ) (rate : Rate) (x : Node) → NodeStands configs log n x → may_register x c rate ≡ valid.may_register configs (events_of log) c n rate
@@ -44,8 +44,8 @@ register_is configs log n c rate x s =
     let regs = registered configs (events_of log) n in
     ap (λ b. (not b && not (is_some (capacity_at x.channels c))) && (fits_usize (capacity_by x rate) && fits_usize (x.config.mailbox_size + (x.channels.total + capacity_by x rate)))) (started_is configs log n x s)
     ∙ (ap (λ o. (not (has_started (events_of log) n) && not (is_some o)) && (fits_usize (capacity_by x rate) && fits_usize (x.config.mailbox_size + (x.channels.total + capacity_by x rate)))) (chan.capacities c)
-    ∙ (ap (λ k. (not (has_started (events_of log) n) && not (is_some (capacity_in regs c))) && (fits_usize k && fits_usize (x.config.mailbox_size + (x.channels.total + k)))) (capacity_is configs n rate x s.sized)
-    ∙ (ap (λ k. (not (has_started (events_of log) n) && not (is_some (capacity_in regs c))) && (fits_usize (capacity_for (slice_get configs n) rate) && fits_usize (k + (x.channels.total + capacity_for (slice_get configs n) rate)))) (size_is configs n x s.sized)
+    ∙ (ap (λ k. (not (has_started (events_of log) n) && not (is_some (capacity_in regs c))) && (fits_usize k && fits_usize (x.config.mailbox_size + (x.channels.total + k)))) (capacity_is configs n rate x s.own)
+    ∙ (ap (λ k. (not (has_started (events_of log) n) && not (is_some (capacity_in regs c))) && (fits_usize (capacity_for (slice_get configs n) rate) && fits_usize (k + (x.channels.total + capacity_for (slice_get configs n) rate)))) (size_is configs n x s.own)
     ∙ ap (λ k. (not (has_started (events_of log) n) && not (is_some (capacity_in regs c))) && (fits_usize (capacity_for (slice_get configs n) rate) && fits_usize (mailbox_size_at configs n + (k + capacity_for (slice_get configs n) rate)))) chan.total)))
 
 named_is : (log : List Entry) (n conn : ℕ) → names_node n (slice_get log conn) ≡ names_join (events_of log) n conn
@@ -102,7 +102,7 @@ module _ (configs : List Config) (log : List Entry) (nodes : List Node) (links :
       ∙ (ap (λ c. c && nat_lt b (length nodes)) (counted a) ∙ ap (λ c. nat_lt a (length configs) && c) (counted b))
   may_by (act.Send bytes c n priority to) =
       there (nat_lt n (length nodes)) (may_at (slice_get nodes n) log (act.Send bytes c n priority to)) (nat_le (length bytes) (limit_at configs n))
-      (λ lt. asks (act.Send bytes c n priority to) (nat_le (length bytes) (limit_at configs n)) lt (λ x t. ap (nat_le (length bytes)) (limit_is configs n x t.sized)))
+      (λ lt. asks (act.Send bytes c n priority to) (nat_le (length bytes) (limit_at configs n)) lt (λ x t. ap (nat_le (length bytes)) (limit_is configs n x t.own)))
       ∙ ap (λ b. b && nat_le (length bytes) (limit_at configs n)) (counted n)
   may_by (act.Router n) = free (act.Router n) (λ x. refl)
   may_by (act.SendStep conn n) =
@@ -122,7 +122,7 @@ may_act-nodes configs log nodes links a s = may_by configs log nodes links s a
 
 -- the sizes of a node of valid configurations
 pub sizes_there : (configs : List Config) (log : List Entry) (nodes : List Node) (links : Links) → WorldStands configs log nodes links → (n : ℕ) (x : Node) → slice_get nodes n ≡ Some x → fits x.config ≡ true
-sizes_there configs log nodes links s n x g = fits_there configs n x.config s.valid (s.each n x g).sized.config
+sizes_there configs log nodes links s n x g = fits_there configs n x.config s.valid (s.each n x g).own.config
 
 pub one_mailbox : (c : Config) → fits c ≡ true → 1 ≤ c.mailbox_size
 one_mailbox c fit =
@@ -151,7 +151,7 @@ ready_by configs log n (act.Start m) x s fit may =
     let chan : ChannelsStand configs log n x.channels = s.each place.channels in
     let off : is_up log n ≡ false = sym (started_is configs log n x s) ∙ not-true (is_started x) may in (
       is_unbound-before configs log n x.router (s.each place.router) off,
-      (one_mailbox x.config fit, subst (λ k. k + x.channels.total < 2 ^ 64) (sym (size_is configs n x s.sized)) chan.room),
+      (one_mailbox x.config fit, subst (λ k. k + x.channels.total < 2 ^ 64) (sym (size_is configs n x s.own)) chan.room),
     )
 ready_by configs log n (act.Send bytes c m priority to) x s fit may = short (length bytes) x.config.max_message_size may (short_message x.config fit)
 ready_by configs log n (act.Join a b) x s fit may = tt
@@ -175,4 +175,5 @@ may_perform configs log nodes links a s may =
           ready_by configs log (node_of a) a x (s.each (node_of a) x there) (sizes_there configs log nodes links s (node_of a) x there)
           (sym (ap (λ o. may_at o log a) there) ∙ two.1);
       sizes = λ n x there. one_mailbox x.config (sizes_there configs log nodes links s n x there);
+      numbers = λ n x there. let r : RouterStands configs log n x.router = (s.each n x there).each place.router in r.number;
     }

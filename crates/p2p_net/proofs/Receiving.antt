@@ -29,7 +29,8 @@ use Rattle.p2p_net_channels.specs.declared.channels.Channels.{Channels}
 use Rattle.p2p_net_channels.specs.Arrivals.{arrival_of, arrival_in, delivered}
 use Rattle.p2p_net_channels.specs.Channels.{capacity_at, is_full, message_put, delivered_to}
 use Rattle.p2p_net_channels.specs.Stands.{ChannelsStand}
-use Rattle.p2p_net_channels.proofs.Changes.{channels_moved, waits_put}
+use Rattle.p2p_net_queues.proofs.Holding.{waits_put}
+use Rattle.p2p_net_channels.proofs.Changes.{channels_moved, same_channel}
 use Rattle.p2p_net_connections.specs.Connections.{half_on, runs_on}
 use Rattle.p2p_net_connections.specs.Stands.{ConnectionsStand}
 use Rattle.p2p_net_connections.specs.declared.connections.Connection.{Connection}
@@ -43,7 +44,7 @@ use Rattle.p2p_net.specs.Acts.{accepted_row, accepted_into, accepted_off, arrive
 use Rattle.p2p_net.specs.Stands.{NodeStands}
 use Rattle.p2p_net.specs.declared.node.Node.{Node}
 use Rattle.p2p_net.proofs.EachPart.{with_parts, each_part, not_among-links}
-use Rattle.p2p_net.proofs.Performing.{asked, Performs, sized_same, stays_performs}
+use Rattle.p2p_net.proofs.Performing.{asked, Performs, stays_performs}
 
 -- ---- the row, by what the channels are
 
@@ -148,7 +149,7 @@ off_channels configs log e conn n s y ys ch true from m st h none puts =
 off_channels configs log e conn n s y ys ch false from m st h none puts =
     channels_moved configs log e n ch (pushed_at ch.waiting m.channel (message_put (length log) 0 n from m)) st none
     (λ c.
-    waits_put log n m.channel (message_put (length log) 0 n from m) ch.waiting st.waits c
+    waits_put (queue.Channel n) (same_channel n) log m.channel (message_put (length log) 0 n from m) ch.waiting st.waits c
     ∙ sym
     (line_off log e conn s y ys (queue.Channel n c) h
     ∙ (ap (λ b. cond b ys (line log (queue.Channel n c)) ++ filter (stands_in (queue.Channel n c)) (placed (length log) 0 e.puts)) (link_channel conn n c s)
@@ -173,8 +174,7 @@ built configs log at seed conn n x y ch l links r s row_is parts chan linked =
     let e = effect configs log ev in
     record {
       row_is = row_is;
-      sized = sized_same configs n x y s.sized (ap (λ (z : Node). z.config) parts) (ap (λ (z : Node). z.retained) parts);
-      each =
+      node =
           each_part configs log ev n x y (place.channels ∷ []) s (subst (λ z. z ≡ with_parts (place.channels ∷ []) x z) (sym parts) refl)
           (λ p out. not_among-links (place.channels ∷ []) p n out) (
             subst (ChannelsStand configs (log ++ e ∷ []) n) (sym (ap (λ (z : Node). z.channels) parts)) chan,
@@ -240,7 +240,7 @@ step_by configs log at seed conn n k true x y l links r s t there runs d =
     let u = other_side k.half.writes in
     let from = k.half.peer in
     let limit = x.config.max_message_size in
-    let limit_is : limit ≡ limit_at configs n = sym (ap (λ (o : Option Config). elim o [ None ↦ 0 | Some c ↦ c.max_message_size ]) s.sized.config) in
+    let limit_is : limit ≡ limit_at configs n = sym (ap (λ (o : Option Config). elim o [ None ↦ 0 | Some c ↦ c.max_message_size ]) s.own.config) in
     let fs = line log (queue.Link conn u) in
     let first : first_in l conn u ≡ slice_get fs 0 = ap (λ (w : List Envelope). slice_get w 0) (t.waits u conn) in
     let is : recv_step_row configs log conn n ≡ received_row limit (slice_get fs 0) n from x.channels =

@@ -75,10 +75,10 @@ links_new = record { waits = λ s link. (elim s as (λ t. Rattle.p2p_net_queues.
 
 -- a node that was asked for nothing
 pub node_new :
-    (configs : List Config) (n : ℕ) (x : Node) → slice_get configs n ≡ Some x.config → x.retained ≡ x.config.max_peers_per_set * x.config.tracked_peer_sets → x.config.mailbox_size < 2 ^ 64
+    (configs : List Config) (n : ℕ) (x : Node) → slice_get configs n ≡ Some x.config → x.retained ≡ x.config.max_peers_per_set * x.config.tracked_peer_sets → x.failed ≡ false → x.config.mailbox_size < 2 ^ 64
     → x.router.number ≡ n → StandsFor configs [] x.router → ((c : ℕ) → tree.get nat_cmp x.router.peers c ≡ None) → x.channels ≡ no_channels → x.connections ≡ no_connections → NodeStands configs [] n x
-node_new configs n x config retained small number stands none ch cs = record {
-  sized = record { config = config; retained = retained };
+node_new configs n x config retained works small number stands none ch cs = record {
+  own = record { config = config; retained = retained; works = works };
   each = λ p. elim p as (λ q. PartStands q configs [] n x) [
     | place.router ↦
         (record {

@@ -29,7 +29,7 @@ use Rattle.p2p_net.specs.declared.node.Node.{Node}
 use Rattle.p2p_net.proofs.EachPart.{with_parts, each_part, not_among}
 use Rattle.p2p_net.proofs.Frames.{links_kept, makes_none}
 use Rattle.p2p_net.proofs.Routers.{RouterStands-moved}
-use Rattle.p2p_net.proofs.Performing.{asked, Performs, sized_same, stays_performs}
+use Rattle.p2p_net.proofs.Performing.{asked, Performs, stays_performs}
 
 -- the line of a queue to which the row adds
 line-adds : (log : List Entry) (ev : Event) (r : Row) (n c : ℕ) → Adds (length log) r (live log) (queue.Ready n c)
@@ -68,8 +68,7 @@ route_on configs log at seed n true x y l links r s t started d kept =
     in
     record {
       row_is = row_is;
-      sized = sized_same configs n x y s.sized (ap (λ (z : Node). z.config) parts) (ap (λ (z : Node). z.retained) parts);
-      each =
+      node =
           each_part configs log ev n x y (place.router ∷ place.connections ∷ []) s (subst (λ z. z ≡ with_parts (place.router ∷ place.connections ∷ []) x z) (sym parts) refl)
           (λ p out. not_among (place.router ∷ place.connections ∷ []) p n n out) (
             RouterStands-moved configs log e n x.router y.router rout

@@ -42,7 +42,7 @@ use Rattle.p2p_net.proofs.ActKinds.{Kind, kind_of}
 use Rattle.p2p_net.proofs.ActKinds as kinds
 use Rattle.p2p_net.proofs.EachPart.{with_parts, each_part, not_among-both}
 use Rattle.p2p_net.proofs.Routers.{IsStranger-apart, HearsOfJoins-told}
-use Rattle.p2p_net.proofs.Performing.{asked, sized_same}
+use Rattle.p2p_net.proofs.Performing.{asked}
 
 -- ---- whether two nodes may be joined
 
@@ -206,24 +206,20 @@ welcome_stands configs log ev n a b place_at partner half x y valid s t acts d =
     let parts : y ≡ record x { router = y.router; connections = joined_with (length log) half partner x.connections } = d.0 in
     let calls = d.1 in
     let size : x.config.mailbox_size ≡ mailbox_size_at configs x.router.number =
-    sym (ap (λ (o : Option Config). elim o [ None ↦ 0 | Some c ↦ c.mailbox_size ]) s.sized.config) ∙ ap (mailbox_size_at configs) (sym rout.number)
+    sym (ap (λ (o : Option Config). elim o [ None ↦ 0 | Some c ↦ c.mailbox_size ]) s.own.config) ∙ ap (mailbox_size_at configs) (sym rout.number)
     in
-    record {
-      sized = sized_same configs n x y s.sized (ap (λ (z : Node). z.config) parts) (ap (λ (z : Node). z.retained) parts);
-      each =
-          each_part configs log ev n x y (place.router ∷ place.connections ∷ []) s (subst (λ z. z ≡ with_parts (place.router ∷ place.connections ∷ []) x z) (sym parts) refl)
-          (λ p out. ap (λ c. place.names c (place.at p n)) acts ∙ not_among-both (place.router ∷ place.connections ∷ []) (place.router ∷ place.connections ∷ []) p a b n out out) (
-            (record {
-              number = ap (λ (z : Router). z.number) calls.rest ∙ rout.number;
-              stands = calls.stands configs log e rout.stands refl size (IsStranger-apart configs log n partner (length log) half.peer x.router rout refl t.key t.in_range t.apart) (join_beside configs log e x.router.number a b t.is)
-                  (subst (λ k. IsReadied e k place_at (length log) half.peer) (sym rout.number) t.readied);
-              hears = HearsOfJoins-told configs log e n partner (length log) half.peer x.router.peers y.router.peers valid rout.hears calls.peers refl t.key t.in_range (t.partner_is partner ∙ same_number partner);
-            }),
-            (
-              subst (ConnectionsStand configs (log ++ e ∷ []) n) (sym (ap (λ (z : Node). z.connections) parts))
-                  (connections_joined configs log e n partner half x.connections (s.each place.connections) t.half_is t.partner_is (λ conn. ap (λ c. cond (steps_sender n conn c) (map is_answer (taken log e)) []) t.is)
-                  (λ conn. line-untouched configs log ev (queue.Ready n conn) (ap (λ c. reads configs log c (queue.Ready n conn)) acts) (ap (λ c. writes configs log c (queue.Ready n conn)) acts))),
-              tt,
-            ),
-          );
-    }
+    each_part configs log ev n x y (place.router ∷ place.connections ∷ []) s (subst (λ z. z ≡ with_parts (place.router ∷ place.connections ∷ []) x z) (sym parts) refl)
+    (λ p out. ap (λ c. place.names c (place.at p n)) acts ∙ not_among-both (place.router ∷ place.connections ∷ []) (place.router ∷ place.connections ∷ []) p a b n out out) (
+      (record {
+        number = ap (λ (z : Router). z.number) calls.rest ∙ rout.number;
+        stands = calls.stands configs log e rout.stands refl size (IsStranger-apart configs log n partner (length log) half.peer x.router rout refl t.key t.in_range t.apart) (join_beside configs log e x.router.number a b t.is)
+            (subst (λ k. IsReadied e k place_at (length log) half.peer) (sym rout.number) t.readied);
+        hears = HearsOfJoins-told configs log e n partner (length log) half.peer x.router.peers y.router.peers valid rout.hears calls.peers refl t.key t.in_range (t.partner_is partner ∙ same_number partner);
+      }),
+      (
+        subst (ConnectionsStand configs (log ++ e ∷ []) n) (sym (ap (λ (z : Node). z.connections) parts))
+            (connections_joined configs log e n partner half x.connections (s.each place.connections) t.half_is t.partner_is (λ conn. ap (λ c. cond (steps_sender n conn c) (map is_answer (taken log e)) []) t.is)
+            (λ conn. line-untouched configs log ev (queue.Ready n conn) (ap (λ c. reads configs log c (queue.Ready n conn)) acts) (ap (λ c. writes configs log c (queue.Ready n conn)) acts))),
+        tt,
+      ),
+    )

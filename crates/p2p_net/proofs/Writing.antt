@@ -36,7 +36,8 @@ use Rattle.p2p_net_connections.specs.Connections.{half_on, runs_on, ran, begun_o
 use Rattle.p2p_net_connections.specs.Stands.{ConnectionsStand}
 use Rattle.p2p_net_connections.specs.declared.connections.Connection.{Connection}
 use Rattle.p2p_net_connections.specs.declared.connections.Connections.{Connections}
-use Rattle.p2p_net_connections.proofs.Changes.{connections_moved, half_on-ran, runs_on-ran, waiting-begun, waiting-none}
+use Rattle.p2p_net_queues.proofs.Holding.{waits_taken, waits_none}
+use Rattle.p2p_net_connections.proofs.Changes.{connections_moved, half_on-ran, runs_on-ran, same_ready}
 use Rattle.p2p_net_links.specs.Links.{write_frames_row}
 use Rattle.p2p_net_links.specs.Stands.{LinksStand}
 use Rattle.p2p_net_links.specs.declared.links.Links.{Links}
@@ -48,7 +49,7 @@ use Rattle.p2p_net.specs.declared.node.Node.{Node}
 use Rattle.p2p_net.proofs.EachPart.{with_parts, each_part, not_among-links}
 use Rattle.p2p_net.proofs.Frames.{makes_none}
 use Rattle.p2p_net.proofs.Routers.{RouterStands-moved}
-use Rattle.p2p_net.proofs.Performing.{asked, Performs, sized_same, part_still, links_still, stays_performs, IsStill}
+use Rattle.p2p_net.proofs.Performing.{asked, Performs, part_still, links_still, stays_performs, IsStill}
 
 -- what a half's step comes to, by what stands of it
 abbrev stepped_row : List Config → List Entry → ℕ → ℕ → Option Half → Bool → Row
@@ -137,7 +138,7 @@ begun_stands configs log e n conn cs k x rest s there acts h =
     ∙ (ap (λ b. cond answer (b || is_at (nat_cmp c) conn) b) (s.running c)
     ∙ (sym (runs_begun (is_running log n c) (is_at (nat_cmp c) conn) answer)
     ∙ (ap (λ b. is_running log n c || b) (sym (ap (list_any (λ (t : Bool). t)) (answers c) ∙ any_of (is_at (nat_cmp c) conn) answer)) ∙ sym (is_running-append log e n c)))))
-    (λ c. waiting-begun log n conn x rest cs.answers s.waits h.first c ∙ sym (line_begun log e n conn x rest (queue.Ready n c) h))
+    (λ c. waits_taken (queue.Ready n) (same_ready n) log conn x rest cs.answers s.waits h.first c ∙ sym (line_begun log e n conn x rest (queue.Ready n c) h))
 
 begin_on : (configs : List Config) (log : List Entry) (at seed conn n : ℕ) (k : Connection) (xs : List Envelope) (x y : Node) (l links : Links) (r : Row) → NodeStands configs log n x → LinksStand log l
     → table.at x.connections.halves conn ≡ Some k → k.running ≡ false → waiting x.connections.answers conn ≡ xs → Begins conn x y l links r → Performs configs log (asked at seed (act.SendStep conn n)) n y links r
@@ -159,13 +160,12 @@ begin_on configs log at seed conn n k [] x y l links r s t there idle is d =
     let parts : y ≡ record x { connections = record x.connections { answers = popped_at x.connections.answers conn } } = d.1.0 ∙ ap (λ ws. record x { connections = begun_on (slice_get ws 0) conn x.connections }) is in
     record {
       row_is = d.0 ∙ (ap begin_row is ∙ sym row_is);
-      sized = sized_same configs n x y s.sized (ap (λ (z : Node). z.config) parts) (ap (λ (z : Node). z.retained) parts);
-      each =
+      node =
           each_part configs log ev n x y (place.connections ∷ place.router ∷ []) s (subst (λ z. z ≡ with_parts (place.connections ∷ place.router ∷ []) x z) (sym parts) refl)
           (λ p out. not_among-links (place.connections ∷ place.router ∷ []) p n out) (
             let kept : ConnectionsStand configs (log ++ e ∷ []) n x.connections = part_still place.connections configs log e n x (act.SendStep conn n) reply.Idle cs refl refl still in
                 subst (ConnectionsStand configs (log ++ e ∷ []) n) (sym (ap (λ (z : Node). z.connections) parts))
-                (record { halves = kept.halves; running = kept.running; partners = kept.partners; waits = λ c. waiting-none n conn x.connections.answers is c ∙ kept.waits c }),
+                (record { halves = kept.halves; running = kept.running; partners = kept.partners; waits = λ c. waits_none (queue.Ready n) (same_ready n) log conn x.connections.answers cs.waits (sym (cs.waits conn) ∙ is) c ∙ (sym (cs.waits c) ∙ kept.waits c) }),
             (
               subst (RouterStands configs (log ++ e ∷ []) n) (sym (ap (λ (z : Node). z.router) parts)) (part_still place.router configs log e n x (act.SendStep conn n) reply.Idle (s.each place.router) refl refl still),
               tt,
@@ -187,8 +187,7 @@ begin_on configs log at seed conn n k (w ∷ ws) x y l links r s t there idle is
     let parts : y ≡ record x { connections = begun_on (Some w) conn x.connections } = d.1.0 ∙ ap (λ vs. record x { connections = begun_on (slice_get vs 0) conn x.connections }) is in
     record {
       row_is = d.0 ∙ (ap begin_row is ∙ sym row_is);
-      sized = sized_same configs n x y s.sized (ap (λ (z : Node). z.config) parts) (ap (λ (z : Node). z.retained) parts);
-      each =
+      node =
           each_part configs log ev n x y (place.connections ∷ place.router ∷ []) s (subst (λ z. z ≡ with_parts (place.connections ∷ place.router ∷ []) x z) (sym parts) refl)
           (λ p out. not_among-links (place.connections ∷ place.router ∷ []) p n out) (
             subst (ConnectionsStand configs (log ++ e ∷ []) n) (sym (ap (λ (z : Node). z.connections) parts)) (begun_stands configs log e n conn x.connections k w ws cs there refl takes),
@@ -311,7 +310,7 @@ write_on configs log at seed conn n k x y l links r s t there runs d =
     let calls = d.1.0 in
     let parts : y ≡ record x { router = y.router } = d.1.1.0 in
     let size = x.config.send_batch_size in
-    let size_is : size ≡ batch_size_at configs n = sym (ap (λ (o : Option Config). elim o [ None ↦ 0 | Some c ↦ c.send_batch_size ]) s.sized.config) in
+    let size_is : size ≡ batch_size_at configs n = sym (ap (λ (o : Option Config). elim o [ None ↦ 0 | Some c ↦ c.send_batch_size ]) s.own.config) in
     let took : frames ≡ map named (batch_of n conn size (live log)) =
     calls.taken (mailbox_size_at configs x.router.number) (live log) rout.stands.holds (AreApart-live_from 0 log)
     ∙ ap (λ m. map named (batch_of m conn size (live log))) rout.number
@@ -330,8 +329,7 @@ write_on configs log at seed conn n k x y l links r s t there runs d =
     let running : is_running log n conn ≡ true = sym (cs.running conn) ∙ (ap runs_on there ∙ runs) in
     record {
       row_is = d.1.1.1.0 ∙ framed;
-      sized = sized_same configs n x y s.sized (ap (λ (z : Node). z.config) parts) (ap (λ (z : Node). z.retained) parts);
-      each =
+      node =
           each_part configs log ev n x y (place.connections ∷ place.router ∷ []) s (subst (λ z. z ≡ with_parts (place.connections ∷ place.router ∷ []) x z) (sym parts) refl)
           (λ p out. not_among-links (place.connections ∷ place.router ∷ []) p n out) (
             subst (ConnectionsStand configs (log ++ e ∷ []) n) (sym (ap (λ (z : Node). z.connections) parts))

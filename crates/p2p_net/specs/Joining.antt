@@ -3,12 +3,14 @@ use Rattle.std.specs.Prelude.{◌≡◌, ℕ, Bool, true, false, ◌==◌, ◌&&
 use Rattle.p2p_log.specs.declared.queue.Queue.TheVariants as queue
 use Rattle.p2p_log.specs.declared.queue.Side.TheVariants as side
 use Rattle.p2p_log.specs.declared.item.Item.TheVariants as item
+use Rattle.p2p_log.specs.declared.entry.Entry.{Entry}
 use Rattle.p2p_log.specs.declared.entry.Reply.TheVariants as reply
+use Rattle.p2p_log.specs.declared.event.Event.{Event}
 use Rattle.p2p_log.specs.declared.event.Act.{Act}
 use Rattle.p2p_log.specs.declared.event.Act.TheVariants as act
 use Rattle.p2p_log_rules.specs.declared.row.Half.{Half}
 use Rattle.p2p_log_rules.specs.declared.row.Row.{Row}
-use Rattle.p2p_log_rules.specs.Effect.{only}
+use Rattle.p2p_log_rules.specs.Effect.{only, entry_of}
 use Rattle.p2p_base.specs.declared.key.Key.{Key}
 use Rattle.p2p_net_queues.specs.Tables as table
 use Rattle.p2p_net_connections.specs.Connections.{joined_with}
@@ -74,6 +76,17 @@ abbrev pub DoesOn : Option (ℕ × ℕ) → ℕ → Act → List Node → List N
 DoesOn None k a old new l links r = OneDoes k a old new l links r
 DoesOn (Some ends) k a old new l links r = Joins k ends.0 ends.1 old new r × (links ≡ l)
 
+-- what the entry k of an event is, where its act names one node, and where it joins two
+abbrev pub OneRecords : ℕ → Event → List Node → List Node → Links → Links → Entry → Type 0
+OneRecords k ev old new l links e = (r : Row) × ((e ≡ entry_of ev r) × OneDoes k ev.act old new l links r)
+
+abbrev pub JoinRecords : ℕ → Event → ℕ → ℕ → List Node → List Node → Entry → Type 0
+JoinRecords k ev a b old new e = (r : Row) × ((e ≡ entry_of ev r) × Joins k a b old new r)
+
 -- what the entry k of an act comes to
 abbrev pub WorldDoes : ℕ → Act → List Node → List Node → Links → Links → Row → Type 0
 WorldDoes k a old new l links r = DoesOn (pair_of a) k a old new l links r
+
+-- what the entry k of an event is
+abbrev pub WorldRecords : ℕ → Event → List Node → List Node → Links → Links → Entry → Type 0
+WorldRecords k ev old new l links e = (r : Row) × ((e ≡ entry_of ev r) × WorldDoes k ev.act old new l links r)

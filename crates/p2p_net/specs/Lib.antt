@@ -1,4 +1,5 @@
 pub mod Acts
+pub mod Applying
 pub mod Joining
 pub mod Places
 pub mod Ready

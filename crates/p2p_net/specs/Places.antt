@@ -1,6 +1,6 @@
 -- The parts of a node, and which of them an act names: its entry moves items of their queues alone, and changes what stands of
 -- them alone.
-use Rattle.std.specs.Prelude.{ℕ, Bool, ◌==◌, ◌&&◌, List, [], ◌∷◌, ◌++◌, map}
+use Rattle.std.specs.Prelude.{ℕ, Bool, true, false, ◌==◌, ◌&&◌, List, [], ◌∷◌, ◌++◌, map}
 use Rattle.std.specs.List.{list_any}
 use Rattle.p2p_log.specs.declared.queue.Queue.{Queue}
 use Rattle.p2p_log.specs.declared.queue.Queue.TheVariants as queue
@@ -12,21 +12,19 @@ pub data Part : Type 0 where
   channels : Part
   connections : Part
 
--- a part of a node, or the links
-pub record Place : Type 0 where
-  pub kind : ℕ
-  pub node : ℕ
+-- where queues stand: at a part of a node, or at the links
+pub data Place : Type 0 where
+  at : Part → ℕ → Place
+  links : Place
 
+-- the place of a part among the parts
 abbrev pub code : Part → ℕ
 code router = 0
 code channels = 1
 code connections = 2
 
-abbrev pub at : Part → ℕ → Place
-at p n = record { kind = code p; node = n }
-
-abbrev pub links : Place
-links = record { kind = 3; node = 0 }
+abbrev pub same_part : Part → Part → Bool
+same_part p q = code p == code q
 
 -- where a queue stands
 abbrev pub home : Queue → Place
@@ -57,7 +55,9 @@ places (act.RecvStep conn n) = and_links (parts_of n (channels ∷ []))
 places (act.Recv c n) = parts_of n (channels ∷ [])
 
 abbrev pub same_place : Place → Place → Bool
-same_place p q = (p.kind == q.kind) && (p.node == q.node)
+same_place (at p n) (at q m) = same_part p q && (n == m)
+same_place links links = true
+same_place _ _ = false
 
 abbrev pub names : Act → Place → Bool
 names a p = list_any (λ q. same_place q p) (places a)

@@ -66,3 +66,4 @@ pub record MayPerform (nodes : List Node) (a : Act) : Type 0 where
   pub second : other_of a < length nodes
   pub ready : (x : Node) → slice_get nodes (node_of a) ≡ Some x → IsReady a x
   pub sizes : (n : ℕ) (x : Node) → slice_get nodes n ≡ Some x → 1 ≤ x.config.mailbox_size
+  pub numbers : (n : ℕ) (x : Node) → slice_get nodes n ≡ Some x → x.router.number ≡ n

@@ -34,14 +34,15 @@ PartStands router configs log n x = RouterStands configs log n x.router
 PartStands channels configs log n x = ChannelsStand configs log n x.channels
 PartStands connections configs log n x = ConnectionsStand configs log n x.connections
 
--- a node has the sizes of its configuration
-pub record IsSized (configs : List Config) (n : ℕ) (x : Node) : Type 0 where
+-- what a node has beside its parts: the sizes of its configuration, and it has found memory so far
+pub record OwnStands (configs : List Config) (n : ℕ) (x : Node) : Type 0 where
   pub config : slice_get configs n ≡ Some x.config
   pub retained : x.retained ≡ x.config.max_peers_per_set * x.config.tracked_peer_sets
+  pub works : x.failed ≡ false
 
 -- each part of a node stands for the log
 pub record NodeStands (configs : List Config) (log : List Entry) (n : ℕ) (x : Node) : Type 0 where
-  pub sized : IsSized configs n x
+  pub own : OwnStands configs n x
   pub each : (p : Part) → PartStands p configs log n x
 
 -- each node of valid configurations stands for the log, and so do the links: every queue holds its line

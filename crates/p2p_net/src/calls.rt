@@ -22,7 +22,8 @@ impl Node {
         quota: Rate,
     ) -> Result<Row, AllocError>
         requires { self.old.channels.total + capacity_by self.old quota < 2 ^ 64 }
-        ensures { IfOk result (λ r. Registers channel quota self.old self.new r) }
+        ensures does { IfOk result (λ r. Registers channel quota self.old self.new r) }
+        ensures failed { OnOk result (self.new.failed ≡ self.old.failed) }
     {
         let capacity = self.retained * quota.burst as usize;
         self.channels.register(channel, capacity)?;
@@ -35,10 +36,11 @@ impl Node {
         requires unbound { IsTrue (is_unbound self.old.router.messenger.binding) }
         requires size { 1 ≤ self.old.config.mailbox_size }
         requires room { self.old.config.mailbox_size + self.old.channels.total < 2 ^ 64 }
-        ensures { IfOk result (λ r. Starts turn.entry self.old self.new r) }
+        ensures does { IfOk result (λ r. Starts turn.entry self.old self.new r) }
+        ensures failed { OnOk result (self.new.failed ≡ self.old.failed) }
     {
         let places = self.config.mailbox_size + self.channels.total;
-        let row = self.router.start(turn.alloc, turn.entry, places)?;
+        let row = self.router.start(turn, places)?;
         Ok(row)
     }
 
@@ -52,15 +54,14 @@ impl Node {
         to: &Recipients,
     ) -> Result<Row, AllocError>
         requires { length bytes.now < 2 ^ 32 }
-        ensures { IfOk result (λ r. Sends turn.entry channel priority bytes.now to.now self.old self.new r) }
+        ensures does { IfOk result (λ r. Sends turn.entry channel priority bytes.now to.now self.old self.new r) }
+        ensures failed { OnOk result (self.new.failed ≡ self.old.failed) }
     {
         match self.channels.capacity(channel) {
             None => Ok(only(turn.alloc, Reply::Gone)),
             Some(_capacity) => {
                 let keys = to.keys(turn.alloc)?;
-                let row = self
-                    .router
-                    .send(turn.alloc, turn.entry, channel, priority, bytes, keys)?;
+                let row = self.router.send(turn, channel, priority, bytes, keys)?;
                 Ok(row)
             }
         }
@@ -68,7 +69,8 @@ impl Node {
 
     /// Takes the oldest message of a channel.
     pub(crate) fn read(&mut self, turn: Turn, channel: u64) -> Result<Row, AllocError>
-        ensures { IfOk result (λ r. Reads channel self.old self.new r) }
+        ensures does { IfOk result (λ r. Reads channel self.old self.new r) }
+        ensures failed { OnOk result (self.new.failed ≡ self.old.failed) }
     {
         match self.channels.capacity(channel) {
             None => Ok(only(turn.alloc, Reply::Gone)),

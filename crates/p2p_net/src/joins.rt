@@ -1,14 +1,14 @@
 //! Joining two nodes, and what each act does in a world.
 ghost use Rattle.std.specs.Prelude.{◌≡◌, ◌==◌, ℕ, ◌<◌, ◌≤◌, false, length, slice_get, IfOk, OnOk, IsTrue, Some};
 ghost use Rattle.p2p_router.specs.Messenger.{is_bound};
-ghost use Rattle.p2p_net.specs.Ready.{IsReady};
-ghost use Rattle.p2p_net.specs.Places.{node_of as node_of_act, other_of as other_of_act};
-ghost use Rattle.p2p_net.specs.Joining.{Welcomes, Connects, may_join as may_join_test, joined_row, Joins, pair_of, ends_by, OneDoes, WorldDoes};
+ghost use Rattle.p2p_net.specs.Ready.{IsReady, MayPerform};
+ghost use Rattle.p2p_net.specs.Places.{node_of as node_of_act};
+ghost use Rattle.p2p_net.specs.Joining.{Welcomes, Connects, may_join as may_join_test, joined_row, Joins, pair_of, ends_by, OneRecords, JoinRecords, WorldRecords};
 ghost use Rattle.p2p_net.specs.declared.node.Node.{Node};
 
-use crate::node::{Node, node_of};
+use crate::node::{Node, entry_of, node_of};
 use p2p_base::Key;
-use p2p_log::{Act, Item, Queue, Reply, Side};
+use p2p_log::{Act, Entry, Event, Item, Queue, Reply, Side};
 use p2p_log_rules::{Half, Row};
 use p2p_net_links::Links;
 use p2p_net_queues::{Turn, only};
@@ -68,8 +68,7 @@ impl Node {
         ensures { OnOk result (Welcomes turn.entry place half partner self.old self.new) }
     {
         let size = self.config.mailbox_size;
-        self.router
-            .ready(turn.alloc, turn.entry, place, turn.entry, half.peer, size)?;
+        self.router.ready(turn, place, half.peer, size)?;
         self.connections.join(turn, half, partner)?;
         Ok(())
     }
@@ -146,40 +145,58 @@ fn ends_of(act: &Act) -> Option<Ends>
     }
 }
 
-/// Does an act at the one node that it names.
+/// Does an event at the one node that it names.
 fn apply_at(
     alloc: Global,
     nodes: &mut Vec<Node>,
     links: &mut Links,
     entry: u64,
-    act: &Act,
-) -> Result<Row, AllocError>
-    requires in_range { node_of_act act.now < length nodes.old.items }
-    requires ready { (x : Node) → slice_get nodes.old.items (node_of_act act.now) ≡ Some x → IsReady act.now x }
-    ensures { IfOk result (λ r. OneDoes entry act.now nodes.old.items nodes.new.items links.old links.new r) }
+    event: &Event,
+) -> Result<Entry, AllocError>
+    requires in_range { node_of_act event.now.act < length nodes.old.items }
+    requires ready { (x : Node) → slice_get nodes.old.items (node_of_act event.now.act) ≡ Some x → IsReady event.now.act x }
+    requires numbers { (n : ℕ) (x : Node) → slice_get nodes.old.items n ≡ Some x → x.router.number ≡ n }
+    ensures { IfOk result (λ e. OneRecords entry event.now nodes.old.items nodes.new.items links.old links.new e) }
 {
-    let node = node_of(act);
-    let turn = Turn { alloc, entry, node };
-    let row = nodes[node as usize].apply(turn, links, act)?;
-    Ok(row)
+    let node = node_of(&event.act);
+    match nodes[node as usize].apply(alloc, entry, event, links) {
+        Ok(made) => Ok(made),
+        Err(_) => Err(AllocError),
+    }
 }
 
-/// Does an act: at the node that it names, or at the two nodes of a join, the dialing one first.
+/// Joins two nodes, where they may be, for an event.
+fn join_at(
+    alloc: Global,
+    nodes: &mut Vec<Node>,
+    entry: u64,
+    event: &Event,
+    ends: Ends,
+) -> Result<Entry, AllocError>
+    requires first_in_range { ends.dials < length nodes.old.items }
+    requires second_in_range { ends.listens < length nodes.old.items }
+    requires sizes { (n : ℕ) (x : Node) → slice_get nodes.old.items n ≡ Some x → 1 ≤ x.config.mailbox_size }
+    ensures { IfOk result (λ e. JoinRecords entry event.now ends.dials ends.listens nodes.old.items nodes.new.items e) }
+{
+    let row = join(alloc, nodes, entry, ends)?;
+    let kept = event.try_clone(alloc)?;
+    Ok(entry_of(kept, row))
+}
+
+/// Does an event, and gives the entry that comes of it: at the node that it names, or at the two nodes of a join, the dialing
+/// one first.
 pub fn perform(
     alloc: Global,
     nodes: &mut Vec<Node>,
     links: &mut Links,
     entry: u64,
-    act: &Act,
-) -> Result<Row, AllocError>
-    requires first_in_range { node_of_act act.now < length nodes.old.items }
-    requires second_in_range { other_of_act act.now < length nodes.old.items }
-    requires ready { (x : Node) → slice_get nodes.old.items (node_of_act act.now) ≡ Some x → IsReady act.now x }
-    requires sizes { (n : ℕ) (x : Node) → slice_get nodes.old.items n ≡ Some x → 1 ≤ x.config.mailbox_size }
-    ensures { IfOk result (λ r. WorldDoes entry act.now nodes.old.items nodes.new.items links.old links.new r) }
+    event: &Event,
+) -> Result<Entry, AllocError>
+    requires { MayPerform nodes.old.items event.now.act }
+    ensures { IfOk result (λ e. WorldRecords entry event.now nodes.old.items nodes.new.items links.old links.new e) }
 {
-    match ends_of(act) {
-        Some(ends) => Ok(join(alloc, nodes, entry, ends)?),
-        None => Ok(apply_at(alloc, nodes, links, entry, act)?),
+    match ends_of(&event.act) {
+        Some(ends) => Ok(join_at(alloc, nodes, entry, event, ends)?),
+        None => Ok(apply_at(alloc, nodes, links, entry, event)?),
     }
 }

@@ -11,7 +11,7 @@ mod steps;
 mod valid;
 mod world;
 
-pub use crate::error::RunError;
+pub use crate::error::{NodeError, RunError};
 pub use crate::node::Node;
 pub use crate::world::World;
 pub use p2p_log::{

@@ -48,12 +48,13 @@ fn look(links: &Links, conn: u64, side: Side, limit: u32) -> Result<Option<Arriv
 impl Node {
     /// One step of the router. Its answers to connections wait for these.
     pub(crate) fn route(&mut self, turn: Turn) -> Result<Row, AllocError>
-        ensures { IfOk result (λ r. Routes turn.entry turn.node self.old self.new r) }
+        ensures does { IfOk result (λ r. Routes turn.entry turn.node self.old self.new r) }
+        ensures failed { OnOk result (self.new.failed ≡ self.old.failed) }
     {
         if !self.is_started() {
             return Ok(only(turn.alloc, Reply::Gone));
         }
-        let row = self.router.step(turn.alloc, turn.entry)?;
+        let row = self.router.step(turn)?;
         self.connections.answer(turn, row.puts.as_slice())?;
         Ok(row)
     }
@@ -66,7 +67,8 @@ impl Node {
         conn: u64,
         side: Side,
     ) -> Result<Row, AllocError>
-        ensures { IfOk result (λ r. Writes turn.entry conn side self.old self.new links.old links.new r) }
+        ensures does { IfOk result (λ r. Writes turn.entry conn side self.old self.new links.old links.new r) }
+        ensures failed { OnOk result (self.new.failed ≡ self.old.failed) }
     {
         let size = self.config.send_batch_size;
         let frames = self.router.batch(turn.alloc, conn, size)?;
@@ -81,7 +83,8 @@ impl Node {
         links: &mut Links,
         conn: u64,
     ) -> Result<Row, AllocError>
-        ensures { IfOk result (λ r. SendSteps turn.entry conn self.old self.new links.old links.new r) }
+        ensures does { IfOk result (λ r. SendSteps turn.entry conn self.old self.new links.old links.new r) }
+        ensures failed { OnOk result (self.new.failed ≡ self.old.failed) }
     {
         let Some(connection) = self.connections.get(conn) else {
             return Ok(only(turn.alloc, Reply::Gone));
@@ -128,7 +131,8 @@ impl Node {
         side: Side,
         from: Key,
     ) -> Result<Row, AllocError>
-        ensures { IfOk result (λ r. Receives turn.entry turn.node conn side from self.old self.new links.old links.new r) }
+        ensures does { IfOk result (λ r. Receives turn.entry turn.node conn side from self.old self.new links.old links.new r) }
+        ensures failed { OnOk result (self.new.failed ≡ self.old.failed) }
     {
         match look(links, conn, side, self.config.max_message_size)? {
             None => Ok(only(turn.alloc, Reply::Idle)),
@@ -154,7 +158,8 @@ impl Node {
         links: &mut Links,
         conn: u64,
     ) -> Result<Row, AllocError>
-        ensures { IfOk result (λ r. RecvSteps turn.entry turn.node conn self.old self.new links.old links.new r) }
+        ensures does { IfOk result (λ r. RecvSteps turn.entry turn.node conn self.old self.new links.old links.new r) }
+        ensures failed { OnOk result (self.new.failed ≡ self.old.failed) }
     {
         let Some(connection) = self.connections.get(conn) else {
             return Ok(only(turn.alloc, Reply::Gone));

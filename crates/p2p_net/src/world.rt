@@ -20,8 +20,7 @@ use crate::joins::perform;
 use crate::node::Node;
 use crate::valid::is_valid;
 use p2p_base::List;
-use p2p_log::{Config, Entry, Event, Report};
-use p2p_log_rules::Row;
+use p2p_log::{Config, Event, Report};
 use p2p_net_links::Links;
 use std::alloc::{AllocError, Global};
 use std::marker::Model;
@@ -69,21 +68,9 @@ fn record(
     ensures err { OnErr result (report.new.log ≡ report.old.log) }
 {
     let entry = report.log.len() as u64;
-    let row = perform(alloc, nodes, links, entry, &event.act)?;
-    let kept = event.try_clone(alloc)?;
-    let Row {
-        reply,
-        takes,
-        puts,
-        ends,
-    } = row;
-    report.log.push(Entry {
-        event: kept,
-        reply,
-        takes,
-        puts,
-        ends,
-    })?;
+    report
+        .log
+        .push(perform(alloc, nodes, links, entry, event)?)?;
     Ok(())
 }
 

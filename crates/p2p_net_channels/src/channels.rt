@@ -116,23 +116,8 @@ impl Channels {
             node: turn.node,
             channel,
         };
-        let place = row.puts.len() as u64;
-        let item = Item::Message {
-            bytes: bytes.clone()?,
-            copy,
-            from,
-        };
-        self.waiting.push_at(
-            turn.alloc,
-            channel,
-            Envelope {
-                entry: turn.entry,
-                place,
-                queue,
-                item,
-            },
-        )?;
-        row.puts.push((queue, Item::Message { bytes, copy, from }))?;
+        let item = Item::Message { bytes, copy, from };
+        self.waiting.put(turn, row, channel, queue, item)?;
         Ok(())
     }
 

@@ -1,5 +1,5 @@
 -- The connections of a node after one more entry.
-use Rattle.std.proofs.Common.{◌≡◌, ℕ, ◌+◌, ◌≤◌, Bool, true, false, cond, List, [], ◌∷◌, ◌++◌, length, drop, refl, ap, sym, ◌∙◌, arith, append_assoc, append-nil, Option, Some, None}
+use Rattle.std.proofs.Common.{◌≡◌, ℕ, ◌+◌, ◌≤◌, Bool, true, false, cond, List, [], ◌∷◌, ◌++◌, length, refl, ap, sym, ◌∙◌, arith, append_assoc, append-nil, Option, Some, None}
 use Rattle.std.specs.Prelude.{filter, nat_lt, ◌==◌, ◌||◌}
 use Rattle.std.specs.List.{list_any}
 use Rattle.std.specs.BTreeMap.{is_at}
@@ -16,8 +16,9 @@ use Rattle.p2p_log.specs.QueueCode.{same_queue}
 use Rattle.p2p_log.specs.Lines.{line, stands_in, placed}
 use Rattle.p2p_log_rules.specs.Facts.{half_of, half_in, half_at, answers_by, is_running, joins, is_joined}
 use Rattle.p2p_log_rules.proofs.Facts.{half_at-append, is_running-append, is_joined-append}
-use Rattle.p2p_net_queues.specs.Tables.{at, waiting, pushed_at, popped_at}
-use Rattle.p2p_net_queues.proofs.Tables.{waiting-pushed_at, waiting-popped_at, lookup-insert_entry}
+use Rattle.p2p_net_queues.specs.Tables.{at, waiting, pushed_at}
+use Rattle.p2p_net_queues.proofs.Holding.{longer}
+use Rattle.p2p_net_queues.proofs.Tables.{waiting-pushed_at, lookup-insert_entry}
 use Rattle.p2p_net_connections.specs.Connections.{half_on, runs_on, answered_in, answered_by, answered, ran_by, ran}
 use Rattle.p2p_net_connections.specs.Stands.{ConnectionsStand, MakesNone, LeavesConnections}
 use Rattle.p2p_net_connections.specs.declared.connections.Connection.{Connection}
@@ -74,18 +75,15 @@ connections_frame configs log e n cs s q =
 
 -- ---- answers that the node's router puts
 
-same_ready : (n c d : ℕ) → is_at (nat_cmp c) d ≡ same_queue (queue.Ready n c) (queue.Ready n d)
+-- different connections have different queues
+pub same_ready : (n c d : ℕ) → is_at (nat_cmp c) d ≡ same_queue (queue.Ready n c) (queue.Ready n d)
 same_ready n c d = grind (arith, nat_tests)
-
-pushed_by : (b : Bool) (l : List Envelope) (x : Envelope) → cond b (l ++ x ∷ []) l ≡ l ++ cond b (x ∷ []) []
-pushed_by true l x = refl
-pushed_by false l x = sym (append-nil l)
 
 ready_test : (n m c d : ℕ) → (cond (m == n) (is_at (nat_cmp c) d) false) ≡ same_queue (queue.Ready n c) (queue.Ready m d)
 ready_test n m c d = grind (arith, nat_tests)
 
 one_by : (b : Bool) (t : Bool) (w : List (ℕ × List Envelope)) (d c : ℕ) (x : Envelope) → t ≡ is_at (nat_cmp c) d → waiting (cond b (pushed_at w d x) w) c ≡ waiting w c ++ cond (cond b t false) (x ∷ []) []
-one_by true t w d c x h = waiting-pushed_at d c x w ∙ (pushed_by (is_at (nat_cmp c) d) (waiting w c) x ∙ ap (λ b. waiting w c ++ cond b (x ∷ []) []) (sym h))
+one_by true t w d c x h = waiting-pushed_at d c x w ∙ (longer (is_at (nat_cmp c) d) (waiting w c) (x ∷ []) ∙ ap (λ b. waiting w c ++ cond b (x ∷ []) []) (sym h))
 one_by false t w d c x h = sym (append-nil (waiting w c))
 
 -- one put more
@@ -119,34 +117,6 @@ waiting-answered entry n place c (x ∷ xs) w =
     let rest = filter (stands_in (queue.Ready n c)) (placed entry (place + 1) xs) in
     waiting-answered entry n (place + 1) c xs (answered_by entry n place x w)
     ∙ (ap (λ l. l ++ rest) (answer_one entry n place c x.0 x.1 w) ∙ placed_more (same_queue (queue.Ready n c) x.0) (waiting w c) rest own)
-
--- ---- an answer that is taken
-
-popped_one : (c d : ℕ) (b : Bool) (l rest : List Envelope) → b ≡ is_at (nat_cmp c) d → (c ≡ d → drop 1 l ≡ rest) → cond b (drop 1 l) l ≡ cond b rest l
-popped_one c d true l rest is at = at (grind (arith, nat_tests))
-popped_one c d false l rest is at = refl
-
-turned : (n c d : ℕ) → is_at (nat_cmp c) d ≡ same_queue (queue.Ready n d) (queue.Ready n c)
-turned n c d = grind (arith, nat_tests)
-
-pub waiting-begun : (log : List Entry) (n d : ℕ) (x : Envelope) (rest : List Envelope) (w : List (ℕ × List Envelope)) → ((c : ℕ) → waiting w c ≡ line log (queue.Ready n c)) → line log (queue.Ready n d) ≡ x ∷ rest
-    → (c : ℕ) → waiting (popped_at w d) c ≡ cond (same_queue (queue.Ready n d) (queue.Ready n c)) rest (line log (queue.Ready n c))
-waiting-begun log n d x rest w waits first c =
-    waiting-popped_at d c w
-    ∙ (popped_one c d (is_at (nat_cmp c) d) (waiting w c) rest refl (λ same. ap (drop 1) (waits c ∙ (ap (λ k. line log (queue.Ready n k)) same ∙ first)))
-    ∙ (ap (λ l. cond (is_at (nat_cmp c) d) rest l) (waits c) ∙ ap (λ b. cond b rest (line log (queue.Ready n c))) (turned n c d)))
-
--- nothing waits, so taking takes nothing
-pub waiting-none : (n d : ℕ) (w : List (ℕ × List Envelope)) → waiting w d ≡ [] → (c : ℕ) → waiting (popped_at w d) c ≡ waiting w c
-waiting-none n d w none c =
-    waiting-popped_at d c w
-    ∙ (elim (is_at (nat_cmp c) d) as (λ b. is_at (nat_cmp c) d ≡ b → cond b (drop 1 (waiting w c)) (waiting w c) ≡ waiting w c) [
-      | true ↦ λ h.
-          let same : c ≡ d = grind (arith, nat_tests) in
-          let empty : waiting w c ≡ [] = ap (waiting w) same ∙ none in
-          ap (drop 1) empty ∙ sym empty
-      | false ↦ λ h. refl
-    ]) refl
 
 -- ---- a connection that runs
 

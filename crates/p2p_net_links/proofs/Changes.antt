@@ -13,7 +13,9 @@ use Rattle.p2p_log.specs.declared.item.Envelope.{Envelope}
 use Rattle.p2p_log.specs.declared.entry.Entry.{Entry}
 use Rattle.p2p_log.specs.QueueCode.{same_queue}
 use Rattle.p2p_log.specs.Lines.{line, stands_in, placed}
+use Rattle.p2p_log.proofs.Queues.{same_queue-sym}
 use Rattle.p2p_net_queues.specs.Tables.{waiting, pushed_at, popped_at}
+use Rattle.p2p_net_queues.proofs.Holding.{longer}
 use Rattle.p2p_net_queues.proofs.Tables.{waiting-pushed_at, waiting-popped_at}
 use Rattle.p2p_net_links.specs.Links.{way_of, with_way, written_way}
 use Rattle.p2p_net_links.specs.Stands.{LinksStand}
@@ -115,16 +117,6 @@ placed_in entry p k j s t (f ∷ fs) b e =
     ∙ (ap (λ l. cond b (x ∷ l) l) (placed_in entry (p + 1) k j s t fs b e)
     ∙ (elim b as (λ c. cond c (x ∷ cond c rest []) (cond c rest []) ≡ cond c (x ∷ rest) []) [ true ↦ refl | false ↦ refl ]))
 
-longer : (b : Bool) (l xs : List Envelope) → cond b (l ++ xs) l ≡ l ++ cond b xs []
-longer true l xs = refl
-longer false l xs = sym (append-nil l)
-
-turned : (s t : Side) (k j : ℕ) → same_queue (queue.Link j t) (queue.Link k s) ≡ same_queue (queue.Link k s) (queue.Link j t)
-turned side.Out side.Out k j = grind (arith, nat_tests)
-turned side.Out side.In k j = grind (arith, nat_tests)
-turned side.In side.Out k j = grind (arith, nat_tests)
-turned side.In side.In k j = grind (arith, nat_tests)
-
 -- a batch is written to one direction
 pub links_written : (log : List Entry) (e : Entry) (l : Links) (s : Side) (k entry : ℕ) (fs : List ((ℕ × ℕ) × Item)) → LinksStand log l
     → ((t : Side) (j : ℕ) → line (log ++ e ∷ []) (queue.Link j t) ≡ line log (queue.Link j t) ++ filter (stands_in (queue.Link j t)) (placed entry 0 (frames_put k s fs)))
@@ -136,5 +128,5 @@ links_written log e l s k entry fs st lines = record {
       changed l s t k j (written_way entry k s 0 fs (way_of l s)) (λ v. v ++ put) (λ i. waiting-written entry k s 0 fs (way_of l s) i)
       ∙ (ap (λ v. cond same (v ++ put) v) (st.waits t j)
       ∙ (longer same (line log (queue.Link j t)) put
-      ∙ (ap (λ v. line log (queue.Link j t) ++ v) (sym (placed_in entry 0 k j s t fs same (turned s t k j))) ∙ sym (lines t j))));
+      ∙ (ap (λ v. line log (queue.Link j t) ++ v) (sym (placed_in entry 0 k j s t fs same (same_queue-sym (queue.Link j t) (queue.Link k s)))) ∙ sym (lines t j))));
 }

@@ -33,20 +33,9 @@ fn write_all(
 {
     let queue = Queue::Link { link, side };
     for frame in frames {
-        let place = row.puts.len() as u64;
         let item = frame.1.try_clone(turn.alloc)?;
-        way.push_at(
-            turn.alloc,
-            link,
-            Envelope {
-                entry: turn.entry,
-                place,
-                queue,
-                item,
-            },
-        )?;
+        way.put(turn, row, link, queue, item)?;
         row.takes.push(frame.0)?;
-        row.puts.push((queue, frame.1.try_clone(turn.alloc)?))?;
     }
     Ok(())
 }

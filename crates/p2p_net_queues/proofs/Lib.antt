@@ -1,4 +1,5 @@
 pub mod Going
+pub mod Holding
 pub mod Kept
 pub mod Placing
 pub mod Steps

@@ -1,5 +1,6 @@
 -- Tables, as the lists of their entries.
 use Rattle.std.specs.Prelude.{ℕ, List, [], ◌∷◌, ◌++◌, drop, Option, Some, None}
+use Rattle.std.specs.List.{remove}
 use Rattle.std.specs.Map.{lookup, set_value}
 use Rattle.std.specs.BTreeMap.{is_at, insert_entry}
 use Rattle.std.specs.Ordering.{nat_cmp}
@@ -32,3 +33,19 @@ module _ {T : Type 0} where
   -- without the oldest item in the queue of a key
   abbrev pub popped_at : List (ℕ × List T) → ℕ → List (ℕ × List T)
   popped_at m k = popped_on (at m k) m k
+
+  abbrev pub cleared_on : Option (List T) → List (ℕ × List T) → ℕ → List (ℕ × List T)
+  cleared_on None m k = m
+  cleared_on (Some l) m k = set_value (is_at (nat_cmp k)) m []
+
+  -- without the items in the queue of a key
+  abbrev pub cleared_at : List (ℕ × List T) → ℕ → List (ℕ × List T)
+  cleared_at m k = cleared_on (at m k) m k
+
+  abbrev pub without_on : Option (List T) → List (ℕ × List T) → ℕ → ℕ → List (ℕ × List T)
+  without_on None m k i = m
+  without_on (Some l) m k i = set_value (is_at (nat_cmp k)) m (remove l i)
+
+  -- without the item at this place in the queue of a key
+  abbrev pub without_at : List (ℕ × List T) → ℕ → ℕ → List (ℕ × List T)
+  without_at m k i = without_on (at m k) m k i

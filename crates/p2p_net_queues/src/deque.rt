@@ -1,10 +1,12 @@
 //! `Deque`, a queue that contracts see as the plain list of its items.
 ghost use Rattle.std.specs.Prelude.{◌≡◌, ℕ, [], ◌∷◌, ◌++◌, length, drop, slice_get, OnOk};
 ghost use Rattle.std.specs.Option.{option_copied};
+ghost use Rattle.std.specs.List.{remove};
 
 use std::alloc::{AllocError, Global};
 use std::collections::VecDeque;
 use std::marker::Model;
+use std::mem::replace;
 
 /// The items of a queue, the oldest first.
 #[derive(Drop)]
@@ -47,6 +49,24 @@ impl<T: Drop> Deque<T> {
         ensures rest { self.new ≡ drop 1 self.old }
     {
         self.items.pop_front()
+    }
+
+    /// Takes all items, the oldest first.
+    pub fn take_all(&mut self, alloc: Global) -> Deque<T>
+        ensures all { result ≡ self.old }
+        ensures rest { self.new ≡ [] }
+    {
+        Deque {
+            items: replace(&mut self.items, VecDeque::new(alloc)),
+        }
+    }
+
+    /// Takes the item at a place, counted from the oldest. The others stay in their order.
+    pub fn remove(&mut self, place: usize) -> Option<T>
+        ensures item { result ≡ slice_get self.old place }
+        ensures rest { self.new ≡ remove self.old place }
+    {
+        self.items.remove(place)
     }
 
     /// The oldest item.

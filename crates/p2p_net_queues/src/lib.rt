@@ -4,6 +4,7 @@
 pub mod board;
 pub mod deque;
 pub mod ending;
+pub mod lines;
 pub mod rows;
 pub mod table;
 pub mod turn;

@@ -3,7 +3,7 @@ ghost use Rattle.std.specs.Prelude.{◌≡◌, ℕ, [], ◌∷◌, ◌++◌, len
 ghost use Rattle.std.specs.BTreeMap.{insert_entry};
 ghost use Rattle.std.specs.Ordering.{nat_cmp};
 ghost use Rattle.std.specs.Option.{option_copied};
-ghost use Rattle.p2p_net_queues.specs.Tables.{at, waiting, pushed_at, popped_at};
+ghost use Rattle.p2p_net_queues.specs.Tables.{at, waiting, pushed_at, popped_at, cleared_at, without_at};
 
 use crate::deque::Deque;
 use std::alloc::{AllocError, Global};
@@ -88,6 +88,28 @@ impl<T: Drop> Table<Deque<T>> {
     {
         match self.tree.get_mut(&key) {
             Some(line) => line.pop(),
+            None => None,
+        }
+    }
+
+    /// Takes all items of the queue of a key, the oldest first.
+    pub fn take_all_at(&mut self, alloc: Global, key: u64) -> Deque<T>
+        ensures all { result ≡ waiting self.old key }
+        ensures rest { self.new ≡ cleared_at self.old key }
+    {
+        match self.tree.get_mut(&key) {
+            Some(line) => line.take_all(alloc),
+            None => Deque::new(alloc),
+        }
+    }
+
+    /// Takes the item at a place of the queue of a key, counted from the oldest. The others stay in their order.
+    pub fn remove_at(&mut self, key: u64, place: usize) -> Option<T>
+        ensures item { result ≡ slice_get (waiting self.old key) place }
+        ensures rest { self.new ≡ without_at self.old key place }
+    {
+        match self.tree.get_mut(&key) {
+            Some(line) => line.remove(place),
             None => None,
         }
     }

@@ -27,26 +27,24 @@ use p2p_base::{Key, List, Unreliable};
 use p2p_flow::{Recipients, Relay};
 use p2p_log::{Act, Cause, Item, Outcome, Queue, Reply};
 use p2p_log_rules::Row;
-use p2p_net_queues::{Board, end_copies, only};
+use p2p_net_queues::{Board, Turn, end_copies, only};
 use p2p_router::{Actor, Mailbox, Messenger};
 use p2p_wire::EncodedData;
 use std::alloc::{AllocError, Global};
 
 /// The row puts a subscription for each of these channels.
 fn note_subscriptions(
-    alloc: Global,
+    turn: Turn,
     names: &mut Board<Name>,
     row: &mut Row,
-    entry: u64,
-    number: u64,
     channels: &[u64],
 ) -> Result<(), AllocError>
-    ensures row { OnOk result (row.new ≡ record row.old { puts = row.old.puts ++ map (subscription number) channels.now }) }
-    ensures names { OnOk result ((n : _) (items : _) → NamesBuild n names.old items entry row.old → NamesBuild n names.new items entry row.new) }
+    ensures row { OnOk result (row.new ≡ record row.old { puts = row.old.puts ++ map (subscription turn.node) channels.now }) }
+    ensures names { OnOk result ((n : _) (items : _) → NamesBuild n names.old items turn.entry row.old → NamesBuild n names.new items turn.entry row.new) }
 {
     for channel in channels {
         let item = Item::Subscribe(*channel);
-        note(alloc, names, row, entry, Queue::Router(number), item)?;
+        note(turn, names, row, Queue::Router(turn.node), item)?;
     }
     Ok(())
 }
@@ -150,27 +148,25 @@ fn hand(
 
 /// The row of a message for these keys that the mailbox took in, with its frame.
 fn note_sent(
-    alloc: Global,
+    turn: Turn,
     names: &mut Board<Name>,
-    number: u64,
-    entry: u64,
     channel: u64,
     priority: bool,
     frame: Bytes,
     to: List<Key>,
 ) -> Result<Row, AllocError>
-    ensures row { IfOk result (λ row. row ≡ record { reply = Reply.Sent to; takes = []; puts = (Queue.Router number, Item.Content channel frame priority entry to) ∷ []; ends = [] }) }
-    ensures names { IfOk result (λ row. (n : _) (items : _) → NamesBuild n names.old items entry (only_reply (Reply.Sent to)) → NamesBuild n names.new items entry row) }
+    ensures row { IfOk result (λ row. row ≡ record { reply = Reply.Sent to; takes = []; puts = (Queue.Router turn.node, Item.Content channel frame priority turn.entry to) ∷ []; ends = [] }) }
+    ensures names { IfOk result (λ row. (n : _) (items : _) → NamesBuild n names.old items turn.entry (only_reply (Reply.Sent to)) → NamesBuild n names.new items turn.entry row) }
 {
     let item = Item::Content {
         channel,
         frame,
         priority,
-        send: entry,
-        to: to.try_clone(alloc)?,
+        send: turn.entry,
+        to: to.try_clone(turn.alloc)?,
     };
-    let mut row = only(alloc, Reply::Sent(to));
-    note(alloc, names, &mut row, entry, Queue::Router(number), item)?;
+    let mut row = only(turn.alloc, Reply::Sent(to));
+    note(turn, names, &mut row, Queue::Router(turn.node), item)?;
     Ok(row)
 }
 
@@ -191,61 +187,51 @@ fn take_frame(actor: &mut Actor<Key>, key: Key, priority: bool) -> Option<Encode
 
 impl Router {
     /// Gives the messenger its mailbox with so many places, where the subscriptions that waited are put, in order.
-    pub fn start(&mut self, alloc: Global, entry: u64, places: usize) -> Result<Row, AllocError>
+    pub fn start(&mut self, turn: Turn, places: usize) -> Result<Row, AllocError>
         requires places { 1 ≤ places }
         requires unbound { IsTrue (is_unbound self.old.messenger.binding) }
         ensures row { IfOk result (λ row. (configs : _) (log : _) → StandsFor configs log self.old → row ≡ start_row configs log self.old.number) }
-        ensures stands { IfOk result (λ row. (configs : _) (log : _) (event : _) → StandsFor configs log self.old → length log ≡ entry
+        ensures stands { IfOk result (λ row. (configs : _) (log : _) (event : _) → StandsFor configs log self.old → length log ≡ turn.entry
             → event.act ≡ Act.Start self.old.number → places ≡ router_capacity configs log self.old.number
             → StandsFor configs (log ++ entry_of event row ∷ []) self.new) }
         ensures bound { OnOk result (IsTrue (is_bound self.new.messenger.binding)) }
         ensures rest { OnOk result (self.new ≡ record self.old { messenger = self.new.messenger; names = self.new.names }) }
     {
-        bind(alloc, &mut self.messenger, places)?;
-        let mut row = only(alloc, Reply::Ok);
-        note_subscriptions(
-            alloc,
-            &mut self.names,
-            &mut row,
-            entry,
-            self.number,
-            self.channels.as_slice(),
-        )?;
+        let turn = Turn {
+            node: self.number,
+            ..turn
+        };
+        bind(turn.alloc, &mut self.messenger, places)?;
+        let mut row = only(turn.alloc, Reply::Ok);
+        note_subscriptions(turn, &mut self.names, &mut row, self.channels.as_slice())?;
         Ok(row)
     }
 
-    /// Tells the router that connection `conn` of a key is ready, with an empty relay of `size` places a lane.
-    pub fn ready(
-        &mut self,
-        alloc: Global,
-        entry: u64,
-        place: u64,
-        conn: u64,
-        key: Key,
-        size: usize,
-    ) -> Result<(), AllocError>
+    /// Tells the router that the connection of this entry is ready, which is one of a key, with an empty relay of `size`
+    /// places a lane. The put of that place names the message.
+    pub fn ready(&mut self, turn: Turn, place: u64, key: Key, size: usize) -> Result<(), AllocError>
         requires size { 1 ≤ size }
         requires bound { IsTrue (is_bound self.old.messenger.binding) }
-        ensures holds { OnOk result ((items : _) → Holds size self.old items → IsStranger self.old conn key
-            → Holds size self.new (items ++ record { entry = entry; place = place; queue = Queue.Router self.old.number; item = Item.Ready conn key } ∷ [])) }
-        ensures peers { OnOk result ((c : ℕ) → get nat_cmp self.new.peers c ≡ (if is_eq (nat_cmp conn c) then Some key else get nat_cmp self.old.peers c)) }
+        ensures holds { OnOk result ((items : _) → Holds size self.old items → IsStranger self.old turn.entry key
+            → Holds size self.new (items ++ record { entry = turn.entry; place = place; queue = Queue.Router self.old.number; item = Item.Ready turn.entry key } ∷ [])) }
+        ensures peers { OnOk result ((c : ℕ) → get nat_cmp self.new.peers c ≡ (if is_eq (nat_cmp turn.entry c) then Some key else get nat_cmp self.old.peers c)) }
         ensures rest { OnOk result (self.new ≡ record self.old { messenger = self.new.messenger; peers = self.new.peers; names = self.new.names }) }
-        ensures stands { OnOk result ((configs : _) (log : _) (e : _) → StandsFor configs log self.old → length log ≡ entry → size ≡ mailbox_size_at configs self.old.number
-            → IsStranger self.old conn key → IsBeside configs log e self.old.number → IsReadied e self.old.number place conn key
+        ensures stands { OnOk result ((configs : _) (log : _) (e : _) → StandsFor configs log self.old → length log ≡ turn.entry → size ≡ mailbox_size_at configs self.old.number
+            → IsStranger self.old turn.entry key → IsBeside configs log e self.old.number → IsReadied e self.old.number place turn.entry key
             → StandsFor configs (log ++ e ∷ []) self.new) }
         ensures bound { OnOk result (IsTrue (is_bound self.new.messenger.binding)) }
         ensures places { OnOk result ((places : _) → HasPlaces places self.old.messenger.binding → HasPlaces places self.new.messenger.binding) }
     {
-        let relay = Relay::new(alloc, size)?;
-        tell_ready(&mut self.messenger, key, relay, conn)?;
-        self.peers.insert(conn, key)?;
+        let relay = Relay::new(turn.alloc, size)?;
+        tell_ready(&mut self.messenger, key, relay, turn.entry)?;
+        self.peers.insert(turn.entry, key)?;
         let queue = Queue::Router(self.number);
         let name = Name {
-            entry,
+            entry: turn.entry,
             place,
             tag: None,
         };
-        self.names.push(alloc, queue, name)?;
+        self.names.push(turn.alloc, queue, name)?;
         Ok(())
     }
 
@@ -254,8 +240,7 @@ impl Router {
     /// Without a mailbox all copies are lost; a full mailbox refuses the message, and the row then names no recipients.
     pub fn send(
         &mut self,
-        alloc: Global,
-        entry: u64,
+        turn: Turn,
         channel: u64,
         priority: bool,
         bytes: &Bytes,
@@ -264,27 +249,29 @@ impl Router {
         requires { length bytes.now < 2 ^ 32 }
         ensures row { IfOk result (λ row. (configs : _) (log : _) → StandsFor configs log self.old
             → row ≡ sent_row (is_up log self.old.number) (nat_le (router_capacity configs log self.old.number) (length (line log (Queue.Router self.old.number))))
-            self.old.number entry channel priority (frame_of channel bytes.now) to) }
-        ensures stands { IfOk result (λ row. (configs : _) (log : _) (event : _) (whom : _) → StandsFor configs log self.old → length log ≡ entry
+            self.old.number turn.entry channel priority (frame_of channel bytes.now) to) }
+        ensures stands { IfOk result (λ row. (configs : _) (log : _) (event : _) (whom : _) → StandsFor configs log self.old → length log ≡ turn.entry
             → event.act ≡ Act.Send bytes.now channel self.old.number priority whom → StandsFor configs (log ++ entry_of event row ∷ []) self.new) }
         ensures rest { OnOk result (self.new ≡ record self.old { messenger = self.new.messenger; names = self.new.names }) }
     {
         let bound = self.messenger.bound();
         if !bound {
-            return Ok(lost(alloc, entry, to)?);
+            return Ok(lost(turn.alloc, turn.entry, to)?);
         }
-        match hand(alloc, &mut self.messenger, channel, priority, bytes, &to)? {
-            None => Ok(only(alloc, Reply::Sent(List::empty(alloc)))),
-            Some(frame) => Ok(note_sent(
-                alloc,
-                &mut self.names,
-                self.number,
-                entry,
-                channel,
-                priority,
-                frame,
-                to,
-            )?),
+        let turn = Turn {
+            node: self.number,
+            ..turn
+        };
+        match hand(
+            turn.alloc,
+            &mut self.messenger,
+            channel,
+            priority,
+            bytes,
+            &to,
+        )? {
+            None => Ok(only(turn.alloc, Reply::Sent(List::empty(turn.alloc)))),
+            Some(frame) => Ok(note_sent(turn, &mut self.names, channel, priority, frame, to)?),
         }
     }
 

@@ -11,9 +11,9 @@ use bytes::Bytes;
 use p2p_base::Key;
 use p2p_log::{Cause, End, Item, Outcome, Queue};
 use p2p_log_rules::Row;
-use p2p_net_queues::Board;
+use p2p_net_queues::{Board, Turn};
 use p2p_router::Routed;
-use std::alloc::{AllocError, Global};
+use std::alloc::AllocError;
 
 /// The queue of a connection for frames with priority, or for those without.
 pub fn lane(priority: bool, node: u64, conn: u64) -> Queue
@@ -28,26 +28,24 @@ pub fn lane(priority: bool, node: u64, conn: u64) -> Queue
 
 /// What became of one copy: it stands in a relay, or it was dropped.
 fn note_copy(
-    alloc: Global,
+    turn: Turn,
     names: &mut Board<Name>,
     row: &mut Row,
-    entry: u64,
-    number: u64,
     copy: (u64, u64),
     frame: &Bytes,
     routed: &Routed<Key>,
 ) -> Result<(), AllocError>
-    ensures row { OnOk result (row.new ≡ with_spread row.old (copy_spread number copy.0 copy.1 frame.now routed.now (spread_of row.old))) }
-    ensures names { OnOk result ((n : _) (items : _) → NamesBuild n names.old items entry row.old → NamesBuild n names.new items entry row.new) }
+    ensures row { OnOk result (row.new ≡ with_spread row.old (copy_spread turn.node copy.0 copy.1 frame.now routed.now (spread_of row.old))) }
+    ensures names { OnOk result ((n : _) (items : _) → NamesBuild n names.old items turn.entry row.old → NamesBuild n names.new items turn.entry row.new) }
 {
     let cause = match routed {
         Routed::Put { conn, priority, .. } => {
-            let queue = lane(*priority, number, *conn);
+            let queue = lane(*priority, turn.node, *conn);
             let item = Item::Frame {
                 copy: Some(copy),
                 frame: frame.clone()?,
             };
-            return note(alloc, names, row, entry, queue, item);
+            return note(turn, names, row, queue, item);
         }
         Routed::NoConnection { .. } => Cause::NoConnection,
         Routed::RelayFull { .. } => Cause::RelayFull,
@@ -61,21 +59,19 @@ fn note_copy(
 
 /// What became of the copies of a send, in order of the recipients.
 pub fn note_copies(
-    alloc: Global,
+    turn: Turn,
     names: &mut Board<Name>,
     row: &mut Row,
-    entry: u64,
-    number: u64,
     send: u64,
     frame: &Bytes,
     copies: &[Routed<Key>],
 ) -> Result<(), AllocError>
-    ensures row { OnOk result (row.new ≡ with_spread row.old (copies_spread number send 0 frame.now copies.now (spread_of row.old))) }
-    ensures names { OnOk result ((n : _) (items : _) → NamesBuild n names.old items entry row.old → NamesBuild n names.new items entry row.new) }
+    ensures row { OnOk result (row.new ≡ with_spread row.old (copies_spread turn.node send 0 frame.now copies.now (spread_of row.old))) }
+    ensures names { OnOk result ((n : _) (items : _) → NamesBuild n names.old items turn.entry row.old → NamesBuild n names.new items turn.entry row.new) }
 {
     for (place, routed) in copies.iter().enumerate() {
         let copy = (send, place as u64);
-        note_copy(alloc, names, row, entry, number, copy, frame, routed)?;
+        note_copy(turn, names, row, copy, frame, routed)?;
     }
     Ok(())
 }

@@ -14,7 +14,7 @@ use crate::names::note;
 use p2p_base::{Key, List};
 use p2p_log::{End, Item, Queue};
 use p2p_log_rules::Row;
-use p2p_net_queues::Board;
+use p2p_net_queues::{Board, Turn};
 use std::alloc::{AllocError, Global};
 
 /// The channel of a subscription.
@@ -44,16 +44,16 @@ pub fn channels_of(
 
 /// The list that waited for a channel was overwritten.
 fn end_list(
+    turn: Turn,
     names: &mut Board<Name>,
     row: &mut Row,
-    number: u64,
     channel: u64,
 ) -> Result<(), AllocError>
-    ensures row { OnOk result (row.new ≡ record row.old { ends = row.old.ends ++ ends_of (held names.old (Queue.Peers number channel)) }) }
-    ensures names { OnOk result ((q : _) → held names.new q ≡ (if same_queue (Queue.Peers number channel) q then drop 1 (held names.old q) else held names.old q)) }
+    ensures row { OnOk result (row.new ≡ record row.old { ends = row.old.ends ++ ends_of (held names.old (Queue.Peers turn.node channel)) }) }
+    ensures names { OnOk result ((q : _) → held names.new q ≡ (if same_queue (Queue.Peers turn.node channel) q then drop 1 (held names.old q) else held names.old q)) }
 {
     let queue = Queue::Peers {
-        node: number,
+        node: turn.node,
         channel,
     };
     match names.pop(queue) {
@@ -67,42 +67,40 @@ fn end_list(
 
 /// The lists that waited for these channels were overwritten.
 pub fn end_lists(
+    turn: Turn,
     names: &mut Board<Name>,
     row: &mut Row,
-    number: u64,
     channels: &[u64],
 ) -> Result<(), AllocError>
-    ensures row { OnOk result ((items : _) → AreApart items → Agrees number label (held names.old) items
-        → row.new ≡ record row.old { ends = row.old.ends ++ peers_ends items number channels.now }) }
-    ensures names { OnOk result ((items : _) → AreApart items → Agrees number label (held names.old) items
-        → Agrees number label (held names.new) (filter (stays (flat_map ended_item (peers_ends items number channels.now))) items)) }
+    ensures row { OnOk result ((items : _) → AreApart items → Agrees turn.node label (held names.old) items
+        → row.new ≡ record row.old { ends = row.old.ends ++ peers_ends items turn.node channels.now }) }
+    ensures names { OnOk result ((items : _) → AreApart items → Agrees turn.node label (held names.old) items
+        → Agrees turn.node label (held names.new) (filter (stays (flat_map ended_item (peers_ends items turn.node channels.now))) items)) }
 {
     for channel in channels {
-        end_list(names, row, number, *channel)?;
+        end_list(turn, names, row, *channel)?;
     }
     Ok(())
 }
 
 /// A list of these peers was put for each of these channels.
 pub fn note_lists(
-    alloc: Global,
+    turn: Turn,
     names: &mut Board<Name>,
     row: &mut Row,
-    entry: u64,
-    number: u64,
     keys: &[Key],
     channels: &[u64],
 ) -> Result<(), AllocError>
-    ensures row { OnOk result (row.new ≡ record row.old { puts = row.old.puts ++ map (peers_put number keys.now) channels.now }) }
-    ensures names { OnOk result ((n : _) (items : _) → NamesBuild n names.old items entry row.old → NamesBuild n names.new items entry row.new) }
+    ensures row { OnOk result (row.new ≡ record row.old { puts = row.old.puts ++ map (peers_put turn.node keys.now) channels.now }) }
+    ensures names { OnOk result ((n : _) (items : _) → NamesBuild n names.old items turn.entry row.old → NamesBuild n names.new items turn.entry row.new) }
 {
     for channel in channels {
         let queue = Queue::Peers {
-            node: number,
+            node: turn.node,
             channel: *channel,
         };
-        let peers = List::from_slice(alloc, keys)?;
-        note(alloc, names, row, entry, queue, Item::Peers(peers))?;
+        let peers = List::from_slice(turn.alloc, keys)?;
+        note(turn, names, row, queue, Item::Peers(peers))?;
     }
     Ok(())
 }

@@ -8,8 +8,8 @@ ghost use Rattle.p2p_net_router.specs.Building.{NamesBuild};
 use crate::Name;
 use p2p_log::{Item, Queue};
 use p2p_log_rules::Row;
-use p2p_net_queues::Board;
-use std::alloc::{AllocError, Global};
+use p2p_net_queues::{Board, Turn};
+use std::alloc::AllocError;
 
 /// The copy of a frame, and the send of content.
 fn tag(item: &Item) -> Option<(u64, u64)>
@@ -24,20 +24,24 @@ fn tag(item: &Item) -> Option<(u64, u64)>
 
 /// The row puts an item last in a queue, and the queue has its name.
 pub fn note(
-    alloc: Global,
+    turn: Turn,
     names: &mut Board<Name>,
     row: &mut Row,
-    entry: u64,
     queue: Queue,
     item: Item,
 ) -> Result<(), AllocError>
     ensures row { OnOk result (row.new ≡ record row.old { puts = row.old.puts ++ (queue, item) ∷ [] }) }
-    ensures names { OnOk result ((n : _) (items : _) → NamesBuild n names.old items entry row.old → NamesBuild n names.new items entry row.new) }
+    ensures names { OnOk result ((n : _) (items : _) → NamesBuild n names.old items turn.entry row.old → NamesBuild n names.new items turn.entry row.new) }
 {
     let place = row.puts.len() as u64;
     let tag = tag(&item);
     row.puts.push((queue, item))?;
-    names.push(alloc, queue, Name { entry, place, tag })?;
+    let name = Name {
+        entry: turn.entry,
+        place,
+        tag,
+    };
+    names.push(turn.alloc, queue, name)?;
     Ok(())
 }
 

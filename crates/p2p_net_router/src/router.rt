@@ -20,7 +20,7 @@ use p2p_base::Key;
 use p2p_flow::Connected;
 use p2p_log::{Act, Queue};
 use p2p_log_rules::Row;
-use p2p_net_queues::Board;
+use p2p_net_queues::{Board, Turn};
 use p2p_router::{Actor, Messenger};
 use std::alloc::{AllocError, Global};
 use std::collections::BTreeMap;
@@ -88,23 +88,20 @@ impl Router {
     /// Takes the oldest message of the mailbox, and does what it says.
     ///
     /// What is put for a connection, the router's answer, the caller puts: the row has it.
-    pub fn step(&mut self, alloc: Global, entry: u64) -> Result<Row, AllocError>
+    pub fn step(&mut self, turn: Turn) -> Result<Row, AllocError>
         ensures row { IfOk result (λ row. (configs : _) (log : _) → StandsFor configs log self.old
             → row ≡ route_oldest configs log self.old.number (line log (Queue.Router self.old.number))) }
         ensures others { IfOk result (λ row. (configs : _) (log : _) (q : _) → StandsFor configs log self.old → is_routers self.old.number q ≡ false
-            → Adds entry row (live log) q) }
-        ensures stands { IfOk result (λ row. (configs : _) (log : _) (event : _) → StandsFor configs log self.old → length log ≡ entry
+            → Adds turn.entry row (live log) q) }
+        ensures stands { IfOk result (λ row. (configs : _) (log : _) (event : _) → StandsFor configs log self.old → length log ≡ turn.entry
             → event.act ≡ Act.Router self.old.number → StandsFor configs (log ++ entry_of event row ∷ []) self.new) }
         ensures rest { OnOk result (self.new ≡ record self.old { messenger = self.new.messenger; actor = self.new.actor; names = self.new.names }) }
     {
+        let turn = Turn {
+            node: self.number,
+            ..turn
+        };
         let stepped = self.actor.step(&mut self.messenger)?;
-        note_step(
-            alloc,
-            &mut self.names,
-            entry,
-            self.number,
-            self.channels.as_slice(),
-            &stepped,
-        )
+        note_step(turn, &mut self.names, self.channels.as_slice(), &stepped)
     }
 }

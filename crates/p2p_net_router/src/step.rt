@@ -22,9 +22,9 @@ use bytes::Bytes;
 use p2p_base::Key;
 use p2p_log::{Item, Queue, Reply};
 use p2p_log_rules::Row;
-use p2p_net_queues::{Board, only};
+use p2p_net_queues::{Board, Turn, only};
 use p2p_router::{Routed, Stepped, Told};
-use std::alloc::{AllocError, Global};
+use std::alloc::AllocError;
 
 /// The send of a name's tag.
 fn send_in(name: Option<Name>) -> u64
@@ -37,23 +37,26 @@ fn send_in(name: Option<Name>) -> u64
 }
 
 /// The row takes the oldest message. Gives the send of its tag.
-fn took(names: &mut Board<Name>, row: &mut Row, number: u64) -> Result<u64, AllocError>
-    ensures row { OnOk result ((items : _) (x : _) (rest : _) → IsOldest number names.old items x rest → row.new ≡ record row.old { takes = row.old.takes ++ name_of x ∷ [] }) }
-    ensures send { IfOk result (λ send. (items : _) (x : _) (rest : _) → IsOldest number names.old items x rest → send ≡ send_of (tag_of x.item)) }
-    ensures names { OnOk result ((items : _) (x : _) (rest : _) → IsOldest number names.old items x rest → Agrees number label (held names.new) (without x items)) }
+fn took(turn: Turn, names: &mut Board<Name>, row: &mut Row) -> Result<u64, AllocError>
+    ensures row { OnOk result ((items : _) (x : _) (rest : _) → IsOldest turn.node names.old items x rest → row.new ≡ record row.old { takes = row.old.takes ++ name_of x ∷ [] }) }
+    ensures send { IfOk result (λ send. (items : _) (x : _) (rest : _) → IsOldest turn.node names.old items x rest → send ≡ send_of (tag_of x.item)) }
+    ensures names { OnOk result ((items : _) (x : _) (rest : _) → IsOldest turn.node names.old items x rest → Agrees turn.node label (held names.new) (without x items)) }
 {
-    let taken = take(names, row, Queue::Router(number))?;
+    let taken = take(names, row, Queue::Router(turn.node))?;
     Ok(send_in(taken))
 }
 
 /// The row puts the answer of a connection, where one was answered.
-fn put_answer(row: &mut Row, number: u64, answered: Option<u64>) -> Result<(), AllocError>
-    ensures { OnOk result (row.new ≡ record row.old { puts = row.old.puts ++ answers_put number answered }) }
+fn put_answer(turn: Turn, row: &mut Row, answered: Option<u64>) -> Result<(), AllocError>
+    ensures { OnOk result (row.new ≡ record row.old { puts = row.old.puts ++ answers_put turn.node answered }) }
 {
     match answered {
         None => Ok(()),
         Some(conn) => {
-            let queue = Queue::Ready { node: number, conn };
+            let queue = Queue::Ready {
+                node: turn.node,
+                conn,
+            };
             row.puts.push((queue, Item::Answer))?;
             Ok(())
         }
@@ -62,105 +65,85 @@ fn put_answer(row: &mut Row, number: u64, answered: Option<u64>) -> Result<(), A
 
 /// The row puts the answer of a connection, where one was answered, and then the lists of peers for these subscriptions.
 fn put_lists(
-    alloc: Global,
+    turn: Turn,
     names: &mut Board<Name>,
     row: &mut Row,
-    entry: u64,
-    number: u64,
     answered: Option<u64>,
     channels: &[u64],
     told: &Told<Key>,
 ) -> Result<(), AllocError>
-    ensures row { OnOk result ((items : _) → AreApart items → Agrees number label (held names.old) items
-        → row.new ≡ with_lists row.old items number (answers_put number answered) told.now.peers (map (channel_of channels.now) told.now.subscriptions)) }
-    ensures names { OnOk result ((items : _) → AreApart items → Agrees number label (held names.old) items → row.old.puts ≡ []
-        → NamesBuild number names.new (listless number (map (channel_of channels.now) told.now.subscriptions) items) entry row.new) }
+    ensures row { OnOk result ((items : _) → AreApart items → Agrees turn.node label (held names.old) items
+        → row.new ≡ with_lists row.old items turn.node (answers_put turn.node answered) told.now.peers (map (channel_of channels.now) told.now.subscriptions)) }
+    ensures names { OnOk result ((items : _) → AreApart items → Agrees turn.node label (held names.old) items → row.old.puts ≡ []
+        → NamesBuild turn.node names.new (listless turn.node (map (channel_of channels.now) told.now.subscriptions) items) turn.entry row.new) }
 {
-    let wanted = channels_of(alloc, channels, told.subscriptions.as_slice())?;
-    end_lists(names, row, number, wanted.as_slice())?;
-    put_answer(row, number, answered)?;
-    note_lists(
-        alloc,
-        names,
-        row,
-        entry,
-        number,
-        told.peers.as_slice(),
-        wanted.as_slice(),
-    )?;
+    let wanted = channels_of(turn.alloc, channels, told.subscriptions.as_slice())?;
+    end_lists(turn, names, row, wanted.as_slice())?;
+    put_answer(turn, row, answered)?;
+    note_lists(turn, names, row, told.peers.as_slice(), wanted.as_slice())?;
     Ok(())
 }
 
 /// A connection was answered, where there is one, and the lists of peers put for these subscriptions.
 fn note_told(
-    alloc: Global,
+    turn: Turn,
     names: &mut Board<Name>,
     row: &mut Row,
-    entry: u64,
-    number: u64,
     answered: Option<u64>,
     channels: &[u64],
     told: &Told<Key>,
 ) -> Result<(), AllocError>
-    ensures row { OnOk result ((items : _) (x : _) (rest : _) → IsOldest number names.old items x rest → row.old ≡ only_reply Reply.Ok
-        → row.new ≡ told_row number x items (answers_put number answered) told.now.peers (map (channel_of channels.now) told.now.subscriptions)) }
-    ensures names { OnOk result ((items : _) (x : _) (rest : _) → IsOldest number names.old items x rest → row.old ≡ only_reply Reply.Ok → Agrees number label (held names.new) (after entry row.new items)) }
+    ensures row { OnOk result ((items : _) (x : _) (rest : _) → IsOldest turn.node names.old items x rest → row.old ≡ only_reply Reply.Ok
+        → row.new ≡ told_row turn.node x items (answers_put turn.node answered) told.now.peers (map (channel_of channels.now) told.now.subscriptions)) }
+    ensures names { OnOk result ((items : _) (x : _) (rest : _) → IsOldest turn.node names.old items x rest → row.old ≡ only_reply Reply.Ok → Agrees turn.node label (held names.new) (after turn.entry row.new items)) }
 {
-    let _ = took(names, row, number)?;
-    put_lists(alloc, names, row, entry, number, answered, channels, told)?;
+    let _ = took(turn, names, row)?;
+    put_lists(turn, names, row, answered, channels, told)?;
     Ok(())
 }
 
 /// A frame was routed to its recipients.
 fn note_content(
-    alloc: Global,
+    turn: Turn,
     names: &mut Board<Name>,
     row: &mut Row,
-    entry: u64,
-    number: u64,
     frame: &Bytes,
     copies: &[Routed<Key>],
 ) -> Result<(), AllocError>
-    ensures row { OnOk result ((items : _) (x : _) (rest : _) → IsOldest number names.old items x rest → row.old ≡ only_reply Reply.Ok
-        → row.new ≡ with_spread (taken_row (name_of x)) (copies_spread number (send_of (tag_of x.item)) 0 frame.now copies.now (record { puts = []; ends = [] }))) }
-    ensures names { OnOk result ((items : _) (x : _) (rest : _) → IsOldest number names.old items x rest → row.old ≡ only_reply Reply.Ok → Agrees number label (held names.new) (after entry row.new items)) }
+    ensures row { OnOk result ((items : _) (x : _) (rest : _) → IsOldest turn.node names.old items x rest → row.old ≡ only_reply Reply.Ok
+        → row.new ≡ with_spread (taken_row (name_of x)) (copies_spread turn.node (send_of (tag_of x.item)) 0 frame.now copies.now (record { puts = []; ends = [] }))) }
+    ensures names { OnOk result ((items : _) (x : _) (rest : _) → IsOldest turn.node names.old items x rest → row.old ≡ only_reply Reply.Ok → Agrees turn.node label (held names.new) (after turn.entry row.new items)) }
 {
-    let send = took(names, row, number)?;
-    note_copies(alloc, names, row, entry, number, send, frame, copies)?;
+    let send = took(turn, names, row)?;
+    note_copies(turn, names, row, send, frame, copies)?;
     Ok(())
 }
 
 /// What the row of a step takes, puts and ends, by what the actor answered.
 fn note_answer(
-    alloc: Global,
+    turn: Turn,
     names: &mut Board<Name>,
     row: &mut Row,
-    entry: u64,
-    number: u64,
     channels: &[u64],
     stepped: &Stepped<Key>,
 ) -> Result<(), AllocError>
-    ensures { OnOk result (row.old ≡ only_reply (reply_to stepped.now) → IsNoted number entry channels.now names.old names.new stepped.now row.new) }
+    ensures { OnOk result (row.old ≡ only_reply (reply_to stepped.now) → IsNoted turn.node turn.entry channels.now names.old names.new stepped.now row.new) }
 {
     match stepped {
         Stepped::Idle => Ok(()),
         Stepped::Ready { conn, told, .. } => {
             let answered = Some(*conn);
-            Ok(note_told(alloc, names, row, entry, number, answered, channels, told)?)
+            Ok(note_told(turn, names, row, answered, channels, told)?)
         }
         Stepped::SubscribePeers { told, .. } => Ok(note_told(
-            alloc, names, row, entry, number, None, channels, told,
+            turn, names, row, None, channels, told,
         )?),
         // No connection of a network is released.
-        Stepped::Release { told, .. } => Ok(note_told(
-            alloc, names, row, entry, number, None, channels, told,
-        )?),
+        Stepped::Release { told, .. } => Ok(note_told(turn, names, row, None, channels, told)?),
         Stepped::Content { encoded, copies } => Ok(note_content(
-            alloc,
+            turn,
             names,
             row,
-            entry,
-            number,
             &encoded.payload,
             copies.as_slice(),
         )?),
@@ -179,16 +162,14 @@ fn reply_of(stepped: &Stepped<Key>) -> Reply
 
 /// The row of a step, by what the actor answered.
 pub fn note_step(
-    alloc: Global,
+    turn: Turn,
     names: &mut Board<Name>,
-    entry: u64,
-    number: u64,
     channels: &[u64],
     stepped: &Stepped<Key>,
 ) -> Result<Row, AllocError>
-    ensures { IfOk result (λ row. IsNoted number entry channels.now names.old names.new stepped.now row) }
+    ensures { IfOk result (λ row. IsNoted turn.node turn.entry channels.now names.old names.new stepped.now row) }
 {
-    let mut row = only(alloc, reply_of(stepped));
-    note_answer(alloc, names, &mut row, entry, number, channels, stepped)?;
+    let mut row = only(turn.alloc, reply_of(stepped));
+    note_answer(turn, names, &mut row, channels, stepped)?;
     Ok(row)
 }

@@ -6,6 +6,7 @@ use bytes::Bytes;
 use p2p_base::{Key, List};
 use p2p_log::Item;
 use p2p_log_rules::Row;
+use p2p_net_queues::Turn;
 use p2p_net_router::Router;
 use std::alloc::Global;
 use std::test::Fail;
@@ -17,13 +18,22 @@ fn counts(row: &Row) -> Counts {
     (row.takes.len(), row.puts.len(), row.ends.len())
 }
 
+// The turn of an entry at node 3.
+fn turn(alloc: Global, entry: u64) -> Turn {
+    Turn {
+        alloc,
+        entry,
+        node: 3,
+    }
+}
+
 // Starts a router with one channel, and tells it of a connection 2 with the key 5.
 fn start(alloc: Global, router: &mut Router) -> Result<(), Fail>
     requires { IsTrue (is_unbound router.old.messenger.binding) }
 {
     router.subscribe(alloc, 7)?;
-    router.start(alloc, 1, 4)?;
-    router.ready(alloc, 2, 0, 2, Key(5), 1)?;
+    router.start(turn(alloc, 1), 4)?;
+    router.ready(turn(alloc, 2), 0, Key(5), 1)?;
     Ok(())
 }
 
@@ -36,14 +46,14 @@ fn started(alloc: Global) -> Result<Router, Fail> {
 
 // What a step takes, puts and ends.
 fn stepped(alloc: Global, router: &mut Router, entry: u64) -> Result<Counts, Fail> {
-    Ok(counts(&router.step(alloc, entry)?))
+    Ok(counts(&router.step(turn(alloc, entry))?))
 }
 
 // What a send to these keys takes, puts and ends.
 fn sent(alloc: Global, router: &mut Router, entry: u64, to: &[Key]) -> Result<Counts, Fail> {
     let to = List::from_slice(alloc, to)?;
     let bytes = Bytes::from_static(b"hi");
-    Ok(counts(&router.send(alloc, entry, 7, true, &bytes, to)?))
+    Ok(counts(&router.send(turn(alloc, entry), 7, true, &bytes, to)?))
 }
 
 // The name of the copy whose frame this is.

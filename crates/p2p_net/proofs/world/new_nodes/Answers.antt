@@ -19,7 +19,7 @@ loop-number-preserved c =
     let new = c.new.result in
     let there = slice_get-get_or configs n absent c.loop-number-test.true ∙ ap Some (sym c.new.ensures.config) in
     let stands : NodeStands configs [] n new =
-    node_new configs n new there (c.new.ensures.retained ∙ ap (λ (z : Config). z.max_peers_per_set * z.tracked_peer_sets) (sym c.new.ensures.config))
+    node_new configs n new there (c.new.ensures.retained ∙ ap (λ (z : Config). z.max_peers_per_set * z.tracked_peer_sets) (sym c.new.ensures.config)) c.new.ensures.works
     (subst (λ (z : Config). z.mailbox_size < 2 ^ 64) (sym c.new.ensures.config) c.new.ensures.counted) c.new.ensures.number (c.new.ensures.router configs) c.new.ensures.peers
     c.new.ensures.channels c.new.ensures.connections
     in

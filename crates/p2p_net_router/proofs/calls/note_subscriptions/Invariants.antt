@@ -6,6 +6,6 @@ use Rattle.p2p_net_router.proofs.calls.note_subscriptions.Given as goal
 
 abbrev pub invariant-loop-channel : goal.invariant-loop-channel
 invariant-loop-channel l = record {
-  row : l.row ≡ record l.initial.row { puts = l.initial.row.puts ++ map (subscription l.number) (take l.channel-index l.channels) };
-  names : (n : ℕ) (items : List Envelope) → NamesBuild n l.initial.names items l.entry l.initial.row → NamesBuild n l.names items l.entry l.row;
+  row : l.row ≡ record l.initial.row { puts = l.initial.row.puts ++ map (subscription l.turn.node) (take l.channel-index l.channels) };
+  names : (n : ℕ) (items : List Envelope) → NamesBuild n l.initial.names items l.turn.entry l.initial.row → NamesBuild n l.names items l.turn.entry l.row;
 }

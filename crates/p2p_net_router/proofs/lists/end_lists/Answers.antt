@@ -12,14 +12,14 @@ use Rattle.p2p_net_router.proofs.lists.end_lists.Goals as goal
 pub loop-channel-init : goal.loop-channel-init
 loop-channel-init c = record {
   row = λ items apart h. ap (λ e. record c.args.row.now { ends = e }) (sym (append-nil c.args.row.now.ends));
-  names = λ items apart h. subst (Agrees c.args.number label (held c.args.names.now)) (sym (filter_stays-nil items)) h;
+  names = λ items apart h. subst (Agrees c.args.turn.node label (held c.args.names.now)) (sym (filter_stays-nil items)) h;
 }
 
 pub loop-channel-preserved : goal.loop-channel-preserved
 loop-channel-preserved c =
     let i = c.loop-channel.channel-index in
     let all = c.args.channels.now in
-    let n = c.args.number in
+    let n = c.args.turn.node in
     let r = c.args.row.now in
     let more : take (i + 1) all ≡ take i all ++ get_or all i 0 ∷ [] = take_more all i 0 c.loop-channel-test.true in
     record {
@@ -38,12 +38,12 @@ returns-clause-row c =
     λ items apart h.
     let all = c.args.channels.now in
     let r = c.args.row.now in
-    subst (λ (cs : List ℕ). c.loop-channel.row ≡ record r { ends = r.ends ++ peers_ends items c.args.number cs })
+    subst (λ (cs : List ℕ). c.loop-channel.row ≡ record r { ends = r.ends ++ peers_ends items c.args.turn.node cs })
     (take_all c.loop-channel.channel-index all c.loop-channel-test.false) (c.loop-channel.invariant.row items apart h)
 
 pub returns-clause-names : goal.returns-clause-names
 returns-clause-names c =
     λ items apart h.
     let all = c.args.channels.now in
-    subst (λ (cs : List ℕ). Agrees c.args.number label (held c.loop-channel.names) (filter (stays (flat_map ended_item (peers_ends items c.args.number cs))) items))
+    subst (λ (cs : List ℕ). Agrees c.args.turn.node label (held c.loop-channel.names) (filter (stays (flat_map ended_item (peers_ends items c.args.turn.node cs))) items))
     (take_all c.loop-channel.channel-index all c.loop-channel-test.false) (c.loop-channel.invariant.names items apart h)

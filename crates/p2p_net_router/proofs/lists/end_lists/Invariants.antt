@@ -10,8 +10,8 @@ use Rattle.p2p_net_router.proofs.lists.end_lists.Given as goal
 
 abbrev pub invariant-loop-channel : goal.invariant-loop-channel
 invariant-loop-channel l = record {
-  row : (items : List Envelope) → AreApart items → Agrees l.number label (held l.initial.names) items
-      → l.row ≡ record l.initial.row { ends = l.initial.row.ends ++ peers_ends items l.number (take l.channel-index l.channels) };
-  names : (items : List Envelope) → AreApart items → Agrees l.number label (held l.initial.names) items
-      → Agrees l.number label (held l.names) (filter (stays (flat_map ended_item (peers_ends items l.number (take l.channel-index l.channels)))) items);
+  row : (items : List Envelope) → AreApart items → Agrees l.turn.node label (held l.initial.names) items
+      → l.row ≡ record l.initial.row { ends = l.initial.row.ends ++ peers_ends items l.turn.node (take l.channel-index l.channels) };
+  names : (items : List Envelope) → AreApart items → Agrees l.turn.node label (held l.initial.names) items
+      → Agrees l.turn.node label (held l.names) (filter (stays (flat_map ended_item (peers_ends items l.turn.node (take l.channel-index l.channels)))) items);
 }

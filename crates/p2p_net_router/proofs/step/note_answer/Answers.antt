@@ -23,10 +23,10 @@ returns-in-Idle c =
     let idle : c.args.row.now ≡ only reply.Idle = start ∙ ap (λ (s : Stepped Key). only (reply_to s)) c.in-Idle.is in
     record {
       idle = λ e. (idle, refl);
-      row_is = λ items x rest h. idle ∙ ap (λ (s : Stepped Key). stepped_row c.args.number c.args.channels.now s x items) (sym c.in-Idle.is);
+      row_is = λ items x rest h. idle ∙ ap (λ (s : Stepped Key). stepped_row c.args.turn.node c.args.channels.now s x items) (sym c.in-Idle.is);
       names = λ items x rest h.
-          subst (λ (r : Row). Agrees c.args.number label (held c.args.names.now) (after c.args.entry r items)) (sym idle)
-          (subst (Agrees c.args.number label (held c.args.names.now)) (sym (append-nil (filter (stays []) items) ∙ filter_stays-nil items)) h.agree);
+          subst (λ (r : Row). Agrees c.args.turn.node label (held c.args.names.now) (after c.args.turn.entry r items)) (sym idle)
+          (subst (Agrees c.args.turn.node label (held c.args.names.now)) (sym (append-nil (filter (stays []) items) ∙ filter_stays-nil items)) h.agree);
     }
 
 pub returns-in_ok-note_told-in-Ready : goal.returns-in_ok-note_told-in-Ready
@@ -36,7 +36,7 @@ returns-in_ok-note_told-in-Ready c =
     record {
       idle = λ e. let other = sym c.in-Ready.is ∙ e in cc;
       row_is = λ items x rest h.
-          c.in_ok-note_told-in-Ready.ensures.row items x rest h begun ∙ ap (λ (s : Stepped Key). stepped_row c.args.number c.args.channels.now s x items) (sym c.in-Ready.is);
+          c.in_ok-note_told-in-Ready.ensures.row items x rest h begun ∙ ap (λ (s : Stepped Key). stepped_row c.args.turn.node c.args.channels.now s x items) (sym c.in-Ready.is);
       names = λ items x rest h. c.in_ok-note_told-in-Ready.ensures.names items x rest h begun;
     }
 
@@ -47,7 +47,7 @@ returns-in_ok-note_told-in-SubscribePeers c =
     record {
       idle = λ e. let other = sym c.in-SubscribePeers.is ∙ e in cc;
       row_is = λ items x rest h.
-          c.in_ok-note_told-in-SubscribePeers.ensures.row items x rest h begun ∙ ap (λ (s : Stepped Key). stepped_row c.args.number c.args.channels.now s x items) (sym c.in-SubscribePeers.is);
+          c.in_ok-note_told-in-SubscribePeers.ensures.row items x rest h begun ∙ ap (λ (s : Stepped Key). stepped_row c.args.turn.node c.args.channels.now s x items) (sym c.in-SubscribePeers.is);
       names = λ items x rest h. c.in_ok-note_told-in-SubscribePeers.ensures.names items x rest h begun;
     }
 
@@ -58,7 +58,7 @@ returns-in_ok-note_told-in-Release c =
     record {
       idle = λ e. let other = sym c.in-Release.is ∙ e in cc;
       row_is = λ items x rest h.
-          c.in_ok-note_told-in-Release.ensures.row items x rest h begun ∙ ap (λ (s : Stepped Key). stepped_row c.args.number c.args.channels.now s x items) (sym c.in-Release.is);
+          c.in_ok-note_told-in-Release.ensures.row items x rest h begun ∙ ap (λ (s : Stepped Key). stepped_row c.args.turn.node c.args.channels.now s x items) (sym c.in-Release.is);
       names = λ items x rest h. c.in_ok-note_told-in-Release.ensures.names items x rest h begun;
     }
 
@@ -69,6 +69,6 @@ returns-in_ok-note_content-in-Content c =
     record {
       idle = λ e. let other = sym c.in-Content.is ∙ e in cc;
       row_is = λ items x rest h.
-          c.in_ok-note_content-in-Content.ensures.row items x rest h begun ∙ (ap (λ rs. with_spread (taken_row (name_of x)) (copies_spread c.args.number (send_of (tag_of x.item)) 0 c.in-Content.encoded.payload rs (record { puts = []; ends = [] }))) c.as_slice.ensures ∙ ap (λ (s : Stepped Key). stepped_row c.args.number c.args.channels.now s x items) (sym c.in-Content.is));
+          c.in_ok-note_content-in-Content.ensures.row items x rest h begun ∙ (ap (λ rs. with_spread (taken_row (name_of x)) (copies_spread c.args.turn.node (send_of (tag_of x.item)) 0 c.in-Content.encoded.payload rs (record { puts = []; ends = [] }))) c.as_slice.ensures ∙ ap (λ (s : Stepped Key). stepped_row c.args.turn.node c.args.channels.now s x items) (sym c.in-Content.is));
       names = λ items x rest h. c.in_ok-note_content-in-Content.ensures.names items x rest h begun;
     }

@@ -7,9 +7,9 @@ use Rattle.p2p_net_router.proofs.step.put_answer.Goals as goal
 pub returns-in-None : goal.returns-in-None
 returns-in-None c =
     let r = c.args.row.now in
-    ap (λ (l : List (Queue × Item)). record r { puts = l }) (sym (append-nil r.puts)) ∙ ap (λ o. record r { puts = r.puts ++ answers_put c.args.number o }) (sym c.in-None.is)
+    ap (λ (l : List (Queue × Item)). record r { puts = l }) (sym (append-nil r.puts)) ∙ ap (λ o. record r { puts = r.puts ++ answers_put c.args.turn.node o }) (sym c.in-None.is)
 
 pub returns-in_ok-push-in-Some : goal.returns-in_ok-push-in-Some
 returns-in_ok-push-in-Some c =
     let r = c.args.row.now in
-    ap (λ (l : List (Queue × Item)). record r { puts = l }) c.in_ok-push-in-Some.ensures.ok ∙ ap (λ o. record r { puts = r.puts ++ answers_put c.args.number o }) (sym c.in-Some.is)
+    ap (λ (l : List (Queue × Item)). record r { puts = l }) c.in_ok-push-in-Some.ensures.ok ∙ ap (λ o. record r { puts = r.puts ++ answers_put c.args.turn.node o }) (sym c.in-Some.is)

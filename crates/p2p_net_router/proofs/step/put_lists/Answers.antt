@@ -13,7 +13,7 @@ returns-clause-row c =
     λ items apart h.
     let ds = map (channel_of c.args.channels.now) c.args.told.now.subscriptions in
     let wanted : c.in_ok-wanted.wanted.items ≡ ds = c.in_ok-wanted.ensures ∙ ap (map (channel_of c.args.channels.now)) c.as_slice.ensures in
-    row_listed c.args.number items (answers_put c.args.number c.args.answered) c.as_slice-3.result.now c.args.told.now.peers c.as_slice-2.result.now c.as_slice-4.result.now ds
+    row_listed c.args.turn.node items (answers_put c.args.turn.node c.args.answered) c.as_slice-3.result.now c.args.told.now.peers c.as_slice-2.result.now c.as_slice-4.result.now ds
     c.args.row.now c.end_lists.new.row c.put_answer.new.row c.note_lists.new.row
     (c.in_ok-end_lists.ensures.row items apart h) c.in_ok-put_answer.ensures c.in_ok-note_lists.ensures.row
     c.as_slice-3.ensures (c.as_slice-2.ensures.value ∙ wanted) (c.as_slice-4.ensures.value ∙ wanted)
@@ -21,7 +21,7 @@ returns-clause-row c =
 pub returns-clause-names : goal.returns-clause-names
 returns-clause-names c =
     λ items apart h bare.
-    let n = c.args.number in
+    let n = c.args.turn.node in
     let ds = map (channel_of c.args.channels.now) c.args.told.now.subscriptions in
     let wanted : c.in_ok-wanted.wanted.items ≡ ds = c.in_ok-wanted.ensures ∙ ap (map (channel_of c.args.channels.now)) c.as_slice.ensures in
     let left : Agrees n label (held c.end_lists.new.names) (listless n ds items) =
@@ -29,5 +29,5 @@ returns-clause-names c =
     in
     let none : c.end_lists.new.row.puts ≡ [] = ap (λ (r : Row). r.puts) (c.in_ok-end_lists.ensures.row items apart h) ∙ bare in
     c.in_ok-note_lists.ensures.names n (listless n ds items)
-    (NamesBuild-answered n c.end_lists.new.names (listless n ds items) c.args.entry c.end_lists.new.row c.put_answer.new.row n c.args.answered
-    (ap (λ (r : Row). r.puts) c.in_ok-put_answer.ensures) (NamesBuild-start n c.end_lists.new.names (listless n ds items) c.args.entry c.end_lists.new.row none left))
+    (NamesBuild-answered n c.end_lists.new.names (listless n ds items) c.args.turn.entry c.end_lists.new.row c.put_answer.new.row n c.args.answered
+    (ap (λ (r : Row). r.puts) c.in_ok-put_answer.ensures) (NamesBuild-start n c.end_lists.new.names (listless n ds items) c.args.turn.entry c.end_lists.new.row none left))

@@ -10,6 +10,6 @@ returns-clause-row c =
 pub returns-clause-stands : goal.returns-clause-stands
 returns-clause-stands c =
     λ configs log event s at is room.
-    started_stands configs log c.args.entry c.args.places event c.args.self.now c.bind.new.messenger c.note_subscriptions.new.names c.as_slice.result.now c.only-row.result c.note_subscriptions.new.row
+    started_stands configs log c.args.turn.entry c.args.places event c.args.self.now c.bind.new.messenger c.note_subscriptions.new.names c.as_slice.result.now c.only-row.result c.note_subscriptions.new.row
     s at is room c.requires.unbound c.in_ok-bind.ensures c.only-row.ensures c.in_ok-note_subscriptions.ensures.row
     c.as_slice.ensures.value c.in_ok-note_subscriptions.ensures.names

@@ -1,0 +1,70 @@
+-- A table whose queues are lines of a log, by their keys: what a change of one queue makes of them.
+use Rattle.std.proofs.Common.{◌≡◌, ℕ, Bool, true, false, cond, List, [], ◌∷◌, ◌++◌, drop, refl, ap, sym, ◌∙◌, arith, append-nil}
+use Rattle.std.specs.List.{remove}
+use Rattle.std.specs.BTreeMap.{is_at}
+use Rattle.std.specs.Ordering.{nat_cmp}
+use Rattle.std.proofs.lemmas.Bool.Decides.{nat_tests}
+use Rattle.p2p_log.specs.declared.queue.Queue.{Queue}
+use Rattle.p2p_log.specs.declared.item.Envelope.{Envelope}
+use Rattle.p2p_log.specs.declared.entry.Entry.{Entry}
+use Rattle.p2p_log.specs.QueueCode.{same_queue}
+use Rattle.p2p_log.specs.Lines.{line}
+use Rattle.p2p_log.proofs.Queues.{same_queue-sym}
+use Rattle.p2p_net_queues.specs.Tables.{waiting, pushed_at, popped_at, cleared_at, without_at}
+use Rattle.p2p_net_queues.proofs.Tables.{waiting-pushed_at, waiting-popped_at, waiting-cleared_at, waiting-without_at}
+
+-- a choice between a longer list and the list adds a choice
+pub longer : (b : Bool) (l xs : List Envelope) → cond b (l ++ xs) l ≡ l ++ cond b xs []
+longer true l xs = refl
+longer false l xs = sym (append-nil l)
+
+-- the queue of each key is one of these, and different keys have different queues
+module _ (f : ℕ → Queue) (same : (c d : ℕ) → is_at (nat_cmp c) d ≡ same_queue (f c) (f d)) where
+  turned : (c d : ℕ) → is_at (nat_cmp c) d ≡ same_queue (f d) (f c)
+  turned c d = same c d ∙ same_queue-sym (f c) (f d)
+
+  same_key : (c d : ℕ) → same_queue (f d) (f c) ≡ true → c ≡ d
+  same_key c d h = let at : is_at (nat_cmp c) d ≡ true = turned c d ∙ h in grind (arith, nat_tests)
+
+  -- the queue of one key has other items
+  changed : (g : List Envelope → List Envelope) (log : List Entry) (d c : ℕ) (w v : List (ℕ × List Envelope)) → waiting w c ≡ line log (f c) → waiting v c ≡ cond (is_at (nat_cmp c) d) (g (waiting w c)) (waiting w c)
+      → waiting v c ≡ cond (same_queue (f d) (f c)) (g (line log (f c))) (line log (f c))
+  changed g log d c w v waits is = is ∙ (ap (λ b. cond b (g (waiting w c)) (waiting w c)) (turned c d) ∙ ap (λ l. cond (same_queue (f d) (f c)) (g l) l) waits)
+
+  -- the items of that queue alone
+  there : (g : List Envelope → List Envelope) (log : List Entry) (d c : ℕ) (b : Bool) (l : List Envelope) → same_queue (f d) (f c) ≡ b → g (line log (f d)) ≡ l
+      → cond b (g (line log (f c))) (line log (f c)) ≡ cond b l (line log (f c))
+  there g log d c true l is to = ap (λ k. g (line log (f k))) (same_key c d is) ∙ to
+  there g log d c false l is to = refl
+
+  -- one item more
+  pub waits_put : (log : List Entry) (d : ℕ) (x : Envelope) (w : List (ℕ × List Envelope)) → ((c : ℕ) → waiting w c ≡ line log (f c))
+      → (c : ℕ) → waiting (pushed_at w d x) c ≡ line log (f c) ++ cond (same_queue (f c) (f d)) (x ∷ []) []
+  waits_put log d x w waits c =
+      changed (λ l. l ++ x ∷ []) log d c w (pushed_at w d x) (waits c) (waiting-pushed_at d c x w)
+      ∙ (longer (same_queue (f d) (f c)) (line log (f c)) (x ∷ []) ∙ ap (λ b. line log (f c) ++ cond b (x ∷ []) []) (same_queue-sym (f d) (f c)))
+
+  -- the oldest item less
+  pub waits_taken : (log : List Entry) (d : ℕ) (x : Envelope) (rest : List Envelope) (w : List (ℕ × List Envelope)) → ((c : ℕ) → waiting w c ≡ line log (f c)) → line log (f d) ≡ x ∷ rest
+      → (c : ℕ) → waiting (popped_at w d) c ≡ cond (same_queue (f d) (f c)) rest (line log (f c))
+  waits_taken log d x rest w waits first c =
+      changed (drop 1) log d c w (popped_at w d) (waits c) (waiting-popped_at d c w) ∙ there (drop 1) log d c (same_queue (f d) (f c)) rest refl (ap (drop 1) first)
+
+  -- nothing is taken where nothing waits
+  pub waits_none : (log : List Entry) (d : ℕ) (w : List (ℕ × List Envelope)) → ((c : ℕ) → waiting w c ≡ line log (f c)) → line log (f d) ≡ [] → (c : ℕ) → waiting (popped_at w d) c ≡ line log (f c)
+  waits_none log d w waits none c =
+      changed (drop 1) log d c w (popped_at w d) (waits c) (waiting-popped_at d c w) ∙ kept (same_queue (f d) (f c)) refl
+    where
+      kept : (b : Bool) → same_queue (f d) (f c) ≡ b → cond b (drop 1 (line log (f c))) (line log (f c)) ≡ line log (f c)
+      kept true is = let empty : line log (f c) ≡ [] = ap (λ k. line log (f k)) (same_key c d is) ∙ none in ap (drop 1) empty ∙ sym empty
+      kept false is = refl
+
+  -- all items less
+  pub waits_cleared : (log : List Entry) (d : ℕ) (w : List (ℕ × List Envelope)) → ((c : ℕ) → waiting w c ≡ line log (f c)) → (c : ℕ) → waiting (cleared_at w d) c ≡ cond (same_queue (f d) (f c)) [] (line log (f c))
+  waits_cleared log d w waits c = changed (λ l. []) log d c w (cleared_at w d) (waits c) (waiting-cleared_at d c w)
+
+  -- an item from the middle less
+  pub waits_without : (log : List Entry) (d i : ℕ) (rest : List Envelope) (w : List (ℕ × List Envelope)) → ((c : ℕ) → waiting w c ≡ line log (f c)) → remove (line log (f d)) i ≡ rest
+      → (c : ℕ) → waiting (without_at w d i) c ≡ cond (same_queue (f d) (f c)) rest (line log (f c))
+  waits_without log d i rest w waits is c =
+      changed (λ l. remove l i) log d c w (without_at w d i) (waits c) (waiting-without_at d c i w) ∙ there (λ l. remove l i) log d c (same_queue (f d) (f c)) rest refl is
