@@ -80,6 +80,8 @@ impl Channels {
     }
 
     /// Registers a channel of this capacity.
+    ///
+    /// `Err` only where there is no memory. The channel may then be registered and not counted, and its node goes no further.
     pub fn register(&mut self, channel: u64, capacity: usize) -> Result<(), AllocError>
         requires { self.old.total + capacity < 2 ^ 64 }
         ensures { OnOk result (self.new ≡ registered_with self.old channel capacity) }
@@ -123,6 +125,9 @@ impl Channels {
 
     /// Puts a message that arrived last in its channel, which holds at most `capacity`, or ends its copy where it holds so
     /// many.
+    ///
+    /// `Err` only where there is no memory. The message may then stand in its channel and not in the row, and its node goes no
+    /// further.
     pub fn deliver(
         &mut self,
         turn: Turn,
@@ -153,6 +158,8 @@ impl Channels {
     }
 
     /// Takes the oldest message of a channel for its reader.
+    ///
+    /// `Err` only where there is no memory. The message may then be taken and told to nobody, and its node goes no further.
     pub fn read(&mut self, alloc: Global, channel: u64) -> Result<Row, AllocError>
         ensures row { IfOk result (λ r. r ≡ oldest_read (waiting self.old.waiting channel)) }
         ensures after { OnOk result (self.new ≡ read_from channel self.old) }

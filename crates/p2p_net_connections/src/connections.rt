@@ -66,6 +66,8 @@ impl Connections {
     }
 
     /// An event made a connection with a partner, of which this is the node's half.
+    ///
+    /// `Err` only where there is no memory. The half may then be kept without its partner, and its node goes no further.
     pub fn join(&mut self, turn: Turn, half: Half, partner: u64) -> Result<(), AllocError>
         ensures { OnOk result (self.new ≡ joined_with turn.entry half partner self.old) }
     {
@@ -105,6 +107,8 @@ impl Connections {
     }
 
     /// Keeps those of the puts of an entry that are for a connection of the node: its router's answers.
+    ///
+    /// `Err` only where there is no memory. Some of them may then be kept, and its node goes no further.
     pub fn answer(&mut self, turn: Turn, puts: &[(Queue, Item)]) -> Result<(), AllocError>
         ensures { OnOk result (self.new ≡ record self.old { answers = answered turn.entry turn.node 0 puts.now self.old.answers }) }
     {
@@ -130,6 +134,9 @@ impl Connections {
     }
 
     /// Takes the router's answer to a connection, which runs from then on.
+    ///
+    /// `Err` only where there is no memory. The answer may then be taken and the connection not run, and its node goes no
+    /// further.
     pub fn begin(&mut self, alloc: Global, conn: u64) -> Result<Row, AllocError>
         ensures row { IfOk result (λ r. r ≡ begin_row (waiting self.old.answers conn)) }
         ensures after { OnOk result (self.new ≡ begun conn self.old) }

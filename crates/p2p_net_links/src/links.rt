@@ -104,6 +104,8 @@ impl Links {
     }
 
     /// Writes a batch to one direction of a link, in order: these frames, which were taken under these names.
+    ///
+    /// `Err` only where there is no memory. Some of them may then be in flight, and the node that wrote goes no further.
     pub fn write(
         &mut self,
         turn: Turn,

@@ -39,6 +39,8 @@ fn take_lane(
 
 impl Router {
     /// Takes at most `size` of the frames that wait for a connection, those with priority first, each with its name.
+    ///
+    /// `Err` only where there is no memory. Some of them may then be taken and handed to nobody, and its node goes no further.
     pub fn batch(
         &mut self,
         alloc: Global,

@@ -187,6 +187,8 @@ fn take_frame(actor: &mut Actor<Key>, key: Key, priority: bool) -> Option<Encode
 
 impl Router {
     /// Gives the messenger its mailbox with so many places, where the subscriptions that waited are put, in order.
+    ///
+    /// `Err` only where there is no memory. The router may then have done a part of it, and its node goes no further.
     pub fn start(&mut self, turn: Turn, places: usize) -> Result<Row, AllocError>
         requires places { 1 ≤ places }
         requires unbound { IsTrue (is_unbound self.old.messenger.binding) }
@@ -209,6 +211,8 @@ impl Router {
 
     /// Tells the router that the connection of this entry is ready, which is one of a key, with an empty relay of `size`
     /// places a lane. The put of that place names the message.
+    ///
+    /// `Err` only where there is no memory. The router may then have done a part of it, and its node goes no further.
     pub fn ready(&mut self, turn: Turn, place: u64, key: Key, size: usize) -> Result<(), AllocError>
         requires size { 1 ≤ size }
         requires bound { IsTrue (is_bound self.old.messenger.binding) }
@@ -238,6 +242,8 @@ impl Router {
     /// Hands a message for these keys to the messenger.
     ///
     /// Without a mailbox all copies are lost; a full mailbox refuses the message, and the row then names no recipients.
+    ///
+    /// `Err` only where there is no memory. The router may then have done a part of it, and its node goes no further.
     pub fn send(
         &mut self,
         turn: Turn,

@@ -73,6 +73,8 @@ impl Router {
     }
 
     /// A channel wants the lists of connected peers.
+    ///
+    /// `Err` only where there is no memory. The router may then have done a part of it, and its node goes no further.
     pub fn subscribe(&mut self, alloc: Global, channel: u64) -> Result<(), AllocError>
         ensures messenger { OnOk result (self.new.messenger ≡ subscribed self.old.messenger) }
         ensures channels { OnOk result (self.new.channels.items ≡ self.old.channels.items ++ channel ∷ []) }
@@ -88,6 +90,8 @@ impl Router {
     /// Takes the oldest message of the mailbox, and does what it says.
     ///
     /// What is put for a connection, the router's answer, the caller puts: the row has it.
+    ///
+    /// `Err` only where there is no memory. The router may then have done a part of it, and its node goes no further.
     pub fn step(&mut self, turn: Turn) -> Result<Row, AllocError>
         ensures row { IfOk result (λ row. (configs : _) (log : _) → StandsFor configs log self.old
             → row ≡ route_oldest configs log self.old.number (line log (Queue.Router self.old.number))) }

@@ -1,6 +1,8 @@
 //! Scripts that a world does not run, with the place of the event that may not be asked for.
 use p2p_base::Key;
-use p2p_net::{Act, Config, Event, Rate, RunError, World};
+use p2p_net::{
+    Act, Config, Event, Links, Node, NodeError, Rate, Reply, RunError, World,
+};
 use std::alloc::Global;
 
 // A node of key 1 whose peer sets have at most so many peers.
@@ -93,4 +95,29 @@ fn capacity(alloc: Global) -> Result<Option<usize>, RunError> {
 #[test]
 fn a_node_keeps_what_it_was_asked(rt: HostRuntime) {
     assert_eq!(rt; capacity(rt.alloc()), Ok(Some(24)));
+}
+
+#[test]
+fn a_node_that_found_no_memory_goes_no_further(rt: HostRuntime) {
+    let alloc = rt.alloc();
+    let config = Config {
+        public_key: Key(1),
+        max_peers_per_set: 2,
+        max_message_size: 1024,
+        mailbox_size: 4,
+        tracked_peer_sets: 4,
+        send_batch_size: 8,
+    };
+    let mut node = Node::new(alloc, 0, config);
+    let mut links = Links::new(alloc);
+    let step = Event {
+        at: 3,
+        seed: 0,
+        act: Act::Router { node: 0 },
+    };
+    let entry = node.apply(alloc, 0, &step, &mut links)?;
+    assert_eq!(rt; (entry.event.at, entry.reply), (3, Reply::Gone));
+    node.failed = true;
+    let refused = node.apply(alloc, 1, &step, &mut links).err();
+    assert_eq!(rt; refused, Some(NodeError::Failed));
 }
