@@ -115,10 +115,9 @@ one_simulates configs log ev nodes new l links r s valid one d =
 
 -- ---- a join
 
-unjoined : (a b : ℕ) (p : Part) (m : ℕ) → (a == m) ≡ false → (b == m) ≡ false → names (act.Join a b) (at p m) ≡ false
-unjoined a b router m p q = grind (arith, nat_tests)
-unjoined a b channels m p q = refl
-unjoined a b connections m p q = grind (arith, nat_tests)
+unjoined : (ps qs : List Part) (p : Part) (a b m : ℕ) → (a == m) ≡ false → (b == m) ≡ false → list_any (λ q. same_place q (at p m)) (parts_of a ps ++ parts_of b qs) ≡ false
+unjoined [] qs p a b m h k = parts_elsewhere qs p b m k
+unjoined (q ∷ ps) qs p a b m h k = ap (λ t. t || list_any (λ r. same_place r (at p m)) (parts_of a ps ++ parts_of b qs)) (part_elsewhere q p a m h) ∙ unjoined ps qs p a b m h k
 
 both_each :
     (configs : List Config) (log : List Entry) (ev : Event) (a b : ℕ) (nodes : List Node) (l : Links) (v w : Node) → ev.act ≡ act.Join a b → WorldStands configs log nodes l
@@ -133,7 +132,7 @@ both_each configs log ev a b nodes l v w is s hv hw m z false true i j g =
     let it : v ≡ z = cc in
     subst (λ (x : Node). NodeStands configs (log ++ effect configs log ev ∷ []) m x) it (subst (λ k. NodeStands configs (log ++ effect configs log ev ∷ []) k v) same hv)
 both_each configs log ev a b nodes l v w is s hv hw m z false false i j g =
-    node_frame configs log ev m z (s.each m z g) (λ p. ap (λ c. names c (at p m)) is ∙ unjoined a b p m j i)
+    node_frame configs log ev m z (s.each m z g) (λ p. ap (λ c. names c (at p m)) is ∙ unjoined (router ∷ connections ∷ []) (router ∷ connections ∷ []) p a b m j i)
 
 -- the row of a join that comes about
 joined_is : (configs : List Config) (log : List Entry) (a b : ℕ) → may_join log a b ≡ true → ready_row configs log a b ≡ row configs log (act.Join a b)

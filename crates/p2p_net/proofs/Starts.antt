@@ -7,8 +7,8 @@ use Rattle.std.specs.Ordering.{nat_cmp}
 use Rattle.std.proofs.lemmas.Bool.{and_parts}
 use Rattle.std.proofs.lemmas.Bool.Decides.{nat_tests}
 use Rattle.p2p_log.specs.declared.config.Config.{Config}
+use Rattle.p2p_log.specs.declared.queue.Queue.TheVariants as queue
 use Rattle.p2p_log.specs.declared.queue.Side.TheVariants as side
-use Rattle.p2p_log.specs.Lines.{live_from, line}
 use Rattle.p2p_log_rules.specs.Facts.{registered, history_from, half_at, is_running, is_joined}
 use Rattle.p2p_log_rules.specs.Effect.{mailbox_size_at}
 use Rattle.p2p_log_rules.specs.Valid.{fits, has_key, is_valid_config, config_fault_from, config_fault}
@@ -18,7 +18,9 @@ use Rattle.p2p_net_channels.specs.Channels.{no_channels}
 use Rattle.p2p_net_channels.specs.Stands.{ChannelsStand}
 use Rattle.p2p_net_connections.specs.Connections.{no_connections}
 use Rattle.p2p_net_connections.specs.Stands.{ConnectionsStand}
-use Rattle.p2p_net_links.specs.Links.{no_links}
+use Rattle.p2p_net_queues.specs.Lines.{HoldsLines}
+use Rattle.p2p_net_queues.proofs.Holding.{holds_none}
+use Rattle.p2p_net_links.specs.Links.{no_links, way_of}
 use Rattle.p2p_net_links.specs.Stands.{LinksStand}
 use Rattle.p2p_net.specs.Places as place
 use Rattle.p2p_net.specs.Stands.{PartStands, NodeStands}
@@ -62,16 +64,20 @@ each-append P xs x each last n y s =
 
 -- no channels, connections and links stand for no log
 channels_new : (configs : List Config) (n : ℕ) → mailbox_size_at configs n < 2 ^ 64 → ChannelsStand configs [] n no_channels
-unfolding line live_from registered
-channels_new configs n h = record { capacities = λ c. refl; total = refl; room = omega (arith, h); waits = λ c. refl }
+unfolding registered
+channels_new configs n h = record { capacities = λ c. refl; total = refl; room = omega (arith, h); waits = holds_none (queue.Channel n) }
 
 connections_new : (configs : List Config) (n : ℕ) → ConnectionsStand configs [] n no_connections
-unfolding line live_from half_at is_running is_joined history_from
-connections_new configs n = record { halves = λ c. refl; running = λ c. refl; partners = λ m. refl; waits = λ c. refl }
+unfolding half_at is_running is_joined history_from
+connections_new configs n = record { halves = λ c. refl; running = λ c. refl; partners = λ m. refl; waits = holds_none (queue.Ready n) }
 
 pub links_new : LinksStand [] no_links
-unfolding line live_from
-links_new = record { waits = λ s link. (elim s as (λ t. Rattle.p2p_net_queues.specs.Tables.waiting (Rattle.p2p_net_links.specs.Links.way_of no_links t) link ≡ line [] (Rattle.p2p_log.specs.declared.queue.Queue.TheVariants.Link link t)) [ side.Out ↦ refl | side.In ↦ refl ]) }
+links_new = record {
+  waits = λ s. elim s as (λ t. HoldsLines (λ link. queue.Link link t) [] (way_of no_links t)) [
+    | side.Out ↦ holds_none (λ link. queue.Link link side.Out)
+    | side.In ↦ holds_none (λ link. queue.Link link side.In)
+  ];
+}
 
 -- a node that was asked for nothing
 pub node_new :

@@ -11,7 +11,8 @@ use Rattle.p2p_log.specs.QueueCode.{same_queue}
 use Rattle.p2p_log.specs.Lines.{line}
 use Rattle.p2p_log_rules.specs.Facts.{events_of, registers_at, registered, channels, capacity_in, sum_capacities}
 use Rattle.p2p_log_rules.proofs.Facts.{events_of-append, registered-append}
-use Rattle.p2p_net_queues.specs.Tables.{waiting}
+use Rattle.p2p_net_queues.specs.Lines.{HoldsLines}
+use Rattle.p2p_net_queues.proofs.Holding.{holds_frame}
 use Rattle.p2p_net_channels.specs.Stands.{ChannelsStand, LeavesChannels}
 use Rattle.p2p_net_channels.specs.declared.channels.Channels.{Channels}
 
@@ -24,7 +25,7 @@ channels-kept configs log e n none = channels-append configs log e n ∙ (ap (λ
 -- no channel more, and these messages wait
 pub channels_moved :
     (configs : List Config) (log : List Entry) (e : Entry) (n : ℕ) (ch : Channels) (w : List (ℕ × List Envelope)) → ChannelsStand configs log n ch → registers_at configs n e.event.act ≡ []
-    → ((c : ℕ) → waiting w c ≡ line (log ++ e ∷ []) (queue.Channel n c)) → ChannelsStand configs (log ++ e ∷ []) n (record ch { waiting = w })
+    → HoldsLines (queue.Channel n) (log ++ e ∷ []) w → ChannelsStand configs (log ++ e ∷ []) n (record ch { waiting = w })
 channels_moved configs log e n ch w s none waits = record {
   capacities = λ c. s.capacities c ∙ ap (λ l. capacity_in l c) (sym (channels-kept configs log e n none));
   total = s.total ∙ ap sum_capacities (sym (channels-kept configs log e n none));
@@ -34,7 +35,7 @@ channels_moved configs log e n ch w s none waits = record {
 
 -- an entry that leaves them alone
 pub channels_frame : (configs : List Config) (log : List Entry) (e : Entry) (n : ℕ) (ch : Channels) → ChannelsStand configs log n ch → LeavesChannels configs log e n → ChannelsStand configs (log ++ e ∷ []) n ch
-channels_frame configs log e n ch s q = channels_moved configs log e n ch ch.waiting s q.registers (λ c. s.waits c ∙ sym (q.lines c))
+channels_frame configs log e n ch s q = channels_moved configs log e n ch ch.waiting s q.registers (holds_frame (queue.Channel n) log e ch.waiting s.waits q.lines)
 
 -- different channels have different queues
 pub same_channel : (n c d : ℕ) → is_at (nat_cmp c) d ≡ same_queue (queue.Channel n c) (queue.Channel n d)

@@ -6,7 +6,7 @@ use Rattle.p2p_log.specs.declared.entry.Entry.{Entry}
 use Rattle.p2p_log.specs.Lines.{line}
 use Rattle.p2p_log_rules.specs.Facts.{channels, registers_at, capacity_in, sum_capacities}
 use Rattle.p2p_log_rules.specs.Effect.{mailbox_size_at}
-use Rattle.p2p_net_queues.specs.Tables.{waiting}
+use Rattle.p2p_net_queues.specs.Lines.{HoldsLines}
 use Rattle.p2p_net_channels.specs.Channels.{capacity_at}
 use Rattle.p2p_net_channels.specs.declared.channels.Channels.{Channels}
 
@@ -15,7 +15,7 @@ pub record ChannelsStand (configs : List Config) (log : List Entry) (n : ℕ) (c
   pub total : ch.total ≡ sum_capacities (channels configs log n)
   -- the router's mailbox can be counted
   pub room : mailbox_size_at configs n + ch.total < 2 ^ 64
-  pub waits : (c : ℕ) → waiting ch.waiting c ≡ line log (queue.Channel n c)
+  pub waits : HoldsLines (queue.Channel n) log ch.waiting
 
 -- an entry that leaves them alone
 pub record LeavesChannels (configs : List Config) (log : List Entry) (e : Entry) (n : ℕ) : Type 0 where

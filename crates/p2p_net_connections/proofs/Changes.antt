@@ -1,6 +1,6 @@
 -- The connections of a node after one more entry.
 use Rattle.std.proofs.Common.{◌≡◌, ℕ, ◌+◌, ◌≤◌, Bool, true, false, cond, List, [], ◌∷◌, ◌++◌, length, refl, ap, sym, ◌∙◌, arith, append_assoc, append-nil, Option, Some, None}
-use Rattle.std.specs.Prelude.{filter, nat_lt, ◌==◌, ◌||◌}
+use Rattle.std.specs.Prelude.{filter, nat_lt, ◌==◌, ◌&&◌, ◌||◌}
 use Rattle.std.specs.List.{list_any}
 use Rattle.std.specs.BTreeMap.{is_at}
 use Rattle.std.specs.Ordering.{nat_cmp}
@@ -12,14 +12,15 @@ use Rattle.p2p_log.specs.declared.queue.Queue.TheVariants as queue
 use Rattle.p2p_log.specs.declared.item.Item.{Item}
 use Rattle.p2p_log.specs.declared.item.Envelope.{Envelope}
 use Rattle.p2p_log.specs.declared.entry.Entry.{Entry}
-use Rattle.p2p_log.specs.QueueCode.{same_queue}
+use Rattle.p2p_log.specs.QueueCode.{kind_of, owner_of, detail_of, same_queue}
 use Rattle.p2p_log.specs.Lines.{line, stands_in, placed}
 use Rattle.p2p_log_rules.specs.Facts.{half_of, half_in, half_at, answers_by, is_running, joins, is_joined}
 use Rattle.p2p_log_rules.proofs.Facts.{half_at-append, is_running-append, is_joined-append}
 use Rattle.p2p_net_queues.specs.Tables.{at, waiting, pushed_at}
-use Rattle.p2p_net_queues.proofs.Holding.{longer}
+use Rattle.p2p_net_queues.specs.Lines.{HoldsLines}
+use Rattle.p2p_net_queues.proofs.Holding.{holds_frame, longer}
 use Rattle.p2p_net_queues.proofs.Tables.{waiting-pushed_at, lookup-insert_entry}
-use Rattle.p2p_net_connections.specs.Connections.{half_on, runs_on, answered_in, answered_by, answered, ran_by, ran}
+use Rattle.p2p_net_connections.specs.Connections.{half_on, runs_on, is_answer_to, answered_in, answered_by, answered, ran_by, ran}
 use Rattle.p2p_net_connections.specs.Stands.{ConnectionsStand, MakesNone, LeavesConnections}
 use Rattle.p2p_net_connections.specs.declared.connections.Connection.{Connection}
 use Rattle.p2p_net_connections.specs.declared.connections.Connections.{Connections}
@@ -59,7 +60,7 @@ running-kept log e n conn h = is_running-append log e n conn ∙ or-false (is_ru
 pub connections_moved :
     (configs : List Config) (log : List Entry) (e : Entry) (n : ℕ) (cs : Connections) (halves : List (ℕ × Connection)) (answers : List (ℕ × List Envelope)) → ConnectionsStand configs log n cs → MakesNone configs log e n
     → ((conn : ℕ) → half_on (at halves conn) ≡ half_on (at cs.halves conn)) → ((conn : ℕ) → runs_on (at halves conn) ≡ is_running (log ++ e ∷ []) n conn)
-    → ((conn : ℕ) → waiting answers conn ≡ line (log ++ e ∷ []) (queue.Ready n conn)) → ConnectionsStand configs (log ++ e ∷ []) n (record { halves = halves; partners = cs.partners; answers = answers })
+    → HoldsLines (queue.Ready n) (log ++ e ∷ []) answers → ConnectionsStand configs (log ++ e ∷ []) n (record { halves = halves; partners = cs.partners; answers = answers })
 connections_moved configs log e n cs halves answers s none same runs waits = record {
   halves = λ conn. same conn ∙ (s.halves conn ∙ sym (half-kept configs log e n conn none.no_half));
   running = runs;
@@ -71,7 +72,7 @@ connections_moved configs log e n cs halves answers s none same runs waits = rec
 pub connections_frame : (configs : List Config) (log : List Entry) (e : Entry) (n : ℕ) (cs : Connections) → ConnectionsStand configs log n cs → LeavesConnections configs log e n → ConnectionsStand configs (log ++ e ∷ []) n cs
 connections_frame configs log e n cs s q =
     connections_moved configs log e n cs cs.halves cs.answers s q.makes (λ conn. refl)
-    (λ conn. s.running conn ∙ sym (running-kept log e n conn (ap (list_any (λ (b : Bool). b)) (q.begins conn)))) (λ conn. s.waits conn ∙ sym (q.lines conn))
+    (λ conn. s.running conn ∙ sym (running-kept log e n conn (ap (list_any (λ (b : Bool). b)) (q.begins conn)))) (holds_frame (queue.Ready n) log e cs.answers s.waits q.lines)
 
 -- ---- answers that the node's router puts
 
@@ -79,8 +80,8 @@ connections_frame configs log e n cs s q =
 pub same_ready : (n c d : ℕ) → is_at (nat_cmp c) d ≡ same_queue (queue.Ready n c) (queue.Ready n d)
 same_ready n c d = grind (arith, nat_tests)
 
-ready_test : (n m c d : ℕ) → (cond (m == n) (is_at (nat_cmp c) d) false) ≡ same_queue (queue.Ready n c) (queue.Ready m d)
-ready_test n m c d = grind (arith, nat_tests)
+ready_test : (n c k m d : ℕ) → (cond ((2 == k) && ((n == m) && (d == d))) (is_at (nat_cmp c) d) false) ≡ ((2 == k) && ((n == m) && (c == d)))
+ready_test n c k m d = grind (arith, nat_tests)
 
 one_by : (b : Bool) (t : Bool) (w : List (ℕ × List Envelope)) (d c : ℕ) (x : Envelope) → t ≡ is_at (nat_cmp c) d → waiting (cond b (pushed_at w d x) w) c ≡ waiting w c ++ cond (cond b t false) (x ∷ []) []
 one_by true t w d c x h = waiting-pushed_at d c x w ∙ (longer (is_at (nat_cmp c) d) (waiting w c) (x ∷ []) ∙ ap (λ b. waiting w c ++ cond b (x ∷ []) []) (sym h))
@@ -89,20 +90,10 @@ one_by false t w d c x h = sym (append-nil (waiting w c))
 -- one put more
 answer_one : (entry n place c : ℕ) (q : Queue) (i : Item) (w : List (ℕ × List Envelope))
     → waiting (answered_in entry n place q i w) c ≡ waiting w c ++ cond (same_queue (queue.Ready n c) q) (record { entry = entry; place = place; queue = q; item = i } ∷ []) []
-answer_one entry n place c (queue.Ready m d) i w =
-    one_by (m == n) (is_at (nat_cmp c) d) w d c (record { entry = entry; place = place; queue = queue.Ready m d; item = i }) refl
-    ∙ ap (λ b. waiting w c ++ cond b (record { entry = entry; place = place; queue = queue.Ready m d; item = i } ∷ []) []) (ready_test n m c d)
-answer_one entry n place c (queue.Router m) i w = sym (append-nil (waiting w c))
-answer_one entry n place c (queue.Peers m d) i w = sym (append-nil (waiting w c))
-answer_one entry n place c (queue.High m d) i w = sym (append-nil (waiting w c))
-answer_one entry n place c (queue.Low m d) i w = sym (append-nil (waiting w c))
-answer_one entry n place c (queue.Channel m d) i w = sym (append-nil (waiting w c))
-answer_one entry n place c (queue.Link m s) i w = link_none entry n place c m s i w
-  where
-    link_none : (entry n place c m : ℕ) (s : Rattle.p2p_log.specs.declared.queue.Side.Side) (i : Item) (w : List (ℕ × List Envelope))
-        → waiting w c ≡ waiting w c ++ cond (same_queue (queue.Ready n c) (queue.Link m s)) (record { entry = entry; place = place; queue = queue.Link m s; item = i } ∷ []) []
-    link_none entry n place c m Rattle.p2p_log.specs.declared.queue.Side.TheVariants.Out i w = sym (append-nil (waiting w c))
-    link_none entry n place c m Rattle.p2p_log.specs.declared.queue.Side.TheVariants.In i w = sym (append-nil (waiting w c))
+answer_one entry n place c q i w =
+    let x : Envelope = record { entry = entry; place = place; queue = q; item = i } in
+    one_by (is_answer_to n q) (is_at (nat_cmp c) (detail_of q)) w (detail_of q) c x refl
+    ∙ ap (λ b. waiting w c ++ cond b (x ∷ []) []) (ready_test n c (kind_of q) (owner_of q) (detail_of q))
 
 placed_more : (b : Bool) (l rest : List Envelope) (x : Envelope) → (l ++ cond b (x ∷ []) []) ++ rest ≡ l ++ cond b (x ∷ rest) rest
 placed_more true l rest x = append_assoc l (x ∷ []) rest

@@ -1,9 +1,10 @@
 -- The connections of a node as values: what each call makes of them.
-use Rattle.std.specs.Prelude.{ℕ, ◌+◌, Bool, true, false, ◌==◌, cond, List, [], ◌∷◌, Option, Some, None, slice_get}
+use Rattle.std.specs.Prelude.{ℕ, ◌+◌, Bool, true, false, ◌==◌, ◌&&◌, cond, List, [], ◌∷◌, Option, Some, None, slice_get}
 use Rattle.std.specs.BTreeMap.{insert_entry}
 use Rattle.std.specs.Ordering.{nat_cmp}
 use Rattle.p2p_log.specs.declared.queue.Queue.{Queue}
 use Rattle.p2p_log.specs.declared.queue.Queue.TheVariants as queue
+use Rattle.p2p_log.specs.QueueCode.{detail_of, same_queue}
 use Rattle.p2p_log.specs.declared.item.Item.{Item}
 use Rattle.p2p_log.specs.declared.item.Envelope.{Envelope}
 use Rattle.p2p_log_rules.specs.declared.row.Half.{Half}
@@ -30,11 +31,14 @@ joined_with conn half partner cs = record {
   answers = cs.answers;
 }
 
+-- whether a queue is of the answers to a connection of the node
+abbrev pub is_answer_to : ℕ → Queue → Bool
+is_answer_to n q = same_queue (queue.Ready n (detail_of q)) q
+
 -- the answers with one put more, where it is for a connection of the node
 abbrev pub answered_in : ℕ → ℕ → ℕ → Queue → Item → List (ℕ × List Envelope) → List (ℕ × List Envelope)
-answered_in entry n place (queue.Ready m conn) i answers =
-    cond (m == n) (pushed_at answers conn (record { entry = entry; place = place; queue = queue.Ready m conn; item = i })) answers
-answered_in entry n place _ i answers = answers
+answered_in entry n place q i answers =
+    cond (is_answer_to n q) (pushed_at answers (detail_of q) (record { entry = entry; place = place; queue = q; item = i })) answers
 
 abbrev pub answered_by : ℕ → ℕ → ℕ → Queue × Item → List (ℕ × List Envelope) → List (ℕ × List Envelope)
 answered_by entry n place x answers = answered_in entry n place x.0 x.1 answers

@@ -5,7 +5,8 @@ use Rattle.p2p_log.specs.declared.queue.Queue.TheVariants as queue
 use Rattle.p2p_log.specs.declared.entry.Entry.{Entry}
 use Rattle.p2p_log.specs.Lines.{line}
 use Rattle.p2p_log_rules.specs.Facts.{half_of, half_at, answers_by, is_running, joins, is_joined}
-use Rattle.p2p_net_queues.specs.Tables.{at, waiting}
+use Rattle.p2p_net_queues.specs.Lines.{HoldsLines}
+use Rattle.p2p_net_queues.specs.Tables.{at}
 use Rattle.p2p_net_connections.specs.Connections.{half_on, runs_on}
 use Rattle.p2p_net_connections.specs.declared.connections.Connections.{Connections}
 
@@ -13,7 +14,7 @@ pub record ConnectionsStand (configs : List Config) (log : List Entry) (n : ℕ)
   pub halves : (conn : ℕ) → half_on (at cs.halves conn) ≡ half_at configs log n conn
   pub running : (conn : ℕ) → runs_on (at cs.halves conn) ≡ is_running log n conn
   pub partners : (m : ℕ) → is_some (at cs.partners m) ≡ is_joined log n m
-  pub waits : (conn : ℕ) → waiting cs.answers conn ≡ line log (queue.Ready n conn)
+  pub waits : HoldsLines (queue.Ready n) log cs.answers
 
 -- an entry that makes no connection of a node
 pub record MakesNone (configs : List Config) (log : List Entry) (e : Entry) (n : ℕ) : Type 0 where

@@ -84,26 +84,26 @@ impl Connections {
     fn keep(&mut self, turn: Turn, place: u64, put: &(Queue, Item)) -> Result<(), AllocError>
         ensures { OnOk result (self.new ≡ record self.old { answers = answered_by turn.entry turn.node place put.now self.old.answers }) }
     {
-        match put.0 {
-            Queue::Ready { node, conn } => {
-                if node != turn.node {
-                    return Ok(());
-                }
-                let item = put.1.try_clone(turn.alloc)?;
-                self.answers.push_at(
-                    turn.alloc,
-                    conn,
-                    Envelope {
-                        entry: turn.entry,
-                        place,
-                        queue: put.0,
-                        item,
-                    },
-                )?;
-                Ok(())
-            }
-            _ => Ok(()),
+        let conn = put.0.detail();
+        let queue = Queue::Ready {
+            node: turn.node,
+            conn,
+        };
+        if queue != put.0 {
+            return Ok(());
         }
+        let item = put.1.try_clone(turn.alloc)?;
+        self.answers.push_at(
+            turn.alloc,
+            conn,
+            Envelope {
+                entry: turn.entry,
+                place,
+                queue: put.0,
+                item,
+            },
+        )?;
+        Ok(())
     }
 
     /// Keeps those of the puts of an entry that are for a connection of the node: its router's answers.

@@ -8,10 +8,20 @@ use Rattle.p2p_log.specs.declared.queue.Queue.{Queue}
 use Rattle.p2p_log.specs.declared.item.Envelope.{Envelope}
 use Rattle.p2p_log.specs.declared.entry.Entry.{Entry}
 use Rattle.p2p_log.specs.QueueCode.{same_queue}
-use Rattle.p2p_log.specs.Lines.{line}
+use Rattle.p2p_log.specs.Lines.{live_from, line}
 use Rattle.p2p_log.proofs.Queues.{same_queue-sym}
+use Rattle.p2p_net_queues.specs.Lines.{HoldsLines}
 use Rattle.p2p_net_queues.specs.Tables.{waiting, pushed_at, popped_at, cleared_at, without_at}
 use Rattle.p2p_net_queues.proofs.Tables.{waiting-pushed_at, waiting-popped_at, waiting-cleared_at, waiting-without_at}
+
+-- an empty table, and no entry
+pub holds_none : (f : ℕ → Queue) → HoldsLines f [] []
+unfolding line live_from
+holds_none f k = refl
+
+-- an entry that leaves these lines alone
+pub holds_frame : (f : ℕ → Queue) (log : List Entry) (e : Entry) (w : List (ℕ × List Envelope)) → HoldsLines f log w → ((k : ℕ) → line (log ++ e ∷ []) (f k) ≡ line log (f k)) → HoldsLines f (log ++ e ∷ []) w
+holds_frame f log e w holds lines k = holds k ∙ sym (lines k)
 
 -- a choice between a longer list and the list adds a choice
 pub longer : (b : Bool) (l xs : List Envelope) → cond b (l ++ xs) l ≡ l ++ cond b xs []
@@ -38,20 +48,20 @@ module _ (f : ℕ → Queue) (same : (c d : ℕ) → is_at (nat_cmp c) d ≡ sam
   there g log d c false l is to = refl
 
   -- one item more
-  pub waits_put : (log : List Entry) (d : ℕ) (x : Envelope) (w : List (ℕ × List Envelope)) → ((c : ℕ) → waiting w c ≡ line log (f c))
+  pub waits_put : (log : List Entry) (d : ℕ) (x : Envelope) (w : List (ℕ × List Envelope)) → HoldsLines f log w
       → (c : ℕ) → waiting (pushed_at w d x) c ≡ line log (f c) ++ cond (same_queue (f c) (f d)) (x ∷ []) []
   waits_put log d x w waits c =
       changed (λ l. l ++ x ∷ []) log d c w (pushed_at w d x) (waits c) (waiting-pushed_at d c x w)
       ∙ (longer (same_queue (f d) (f c)) (line log (f c)) (x ∷ []) ∙ ap (λ b. line log (f c) ++ cond b (x ∷ []) []) (same_queue-sym (f d) (f c)))
 
   -- the oldest item less
-  pub waits_taken : (log : List Entry) (d : ℕ) (x : Envelope) (rest : List Envelope) (w : List (ℕ × List Envelope)) → ((c : ℕ) → waiting w c ≡ line log (f c)) → line log (f d) ≡ x ∷ rest
+  pub waits_taken : (log : List Entry) (d : ℕ) (x : Envelope) (rest : List Envelope) (w : List (ℕ × List Envelope)) → HoldsLines f log w → line log (f d) ≡ x ∷ rest
       → (c : ℕ) → waiting (popped_at w d) c ≡ cond (same_queue (f d) (f c)) rest (line log (f c))
   waits_taken log d x rest w waits first c =
       changed (drop 1) log d c w (popped_at w d) (waits c) (waiting-popped_at d c w) ∙ there (drop 1) log d c (same_queue (f d) (f c)) rest refl (ap (drop 1) first)
 
   -- nothing is taken where nothing waits
-  pub waits_none : (log : List Entry) (d : ℕ) (w : List (ℕ × List Envelope)) → ((c : ℕ) → waiting w c ≡ line log (f c)) → line log (f d) ≡ [] → (c : ℕ) → waiting (popped_at w d) c ≡ line log (f c)
+  pub waits_none : (log : List Entry) (d : ℕ) (w : List (ℕ × List Envelope)) → HoldsLines f log w → line log (f d) ≡ [] → HoldsLines f log (popped_at w d)
   waits_none log d w waits none c =
       changed (drop 1) log d c w (popped_at w d) (waits c) (waiting-popped_at d c w) ∙ kept (same_queue (f d) (f c)) refl
     where
@@ -60,11 +70,11 @@ module _ (f : ℕ → Queue) (same : (c d : ℕ) → is_at (nat_cmp c) d ≡ sam
       kept false is = refl
 
   -- all items less
-  pub waits_cleared : (log : List Entry) (d : ℕ) (w : List (ℕ × List Envelope)) → ((c : ℕ) → waiting w c ≡ line log (f c)) → (c : ℕ) → waiting (cleared_at w d) c ≡ cond (same_queue (f d) (f c)) [] (line log (f c))
+  pub waits_cleared : (log : List Entry) (d : ℕ) (w : List (ℕ × List Envelope)) → HoldsLines f log w → (c : ℕ) → waiting (cleared_at w d) c ≡ cond (same_queue (f d) (f c)) [] (line log (f c))
   waits_cleared log d w waits c = changed (λ l. []) log d c w (cleared_at w d) (waits c) (waiting-cleared_at d c w)
 
   -- an item from the middle less
-  pub waits_without : (log : List Entry) (d i : ℕ) (rest : List Envelope) (w : List (ℕ × List Envelope)) → ((c : ℕ) → waiting w c ≡ line log (f c)) → remove (line log (f d)) i ≡ rest
+  pub waits_without : (log : List Entry) (d i : ℕ) (rest : List Envelope) (w : List (ℕ × List Envelope)) → HoldsLines f log w → remove (line log (f d)) i ≡ rest
       → (c : ℕ) → waiting (without_at w d i) c ≡ cond (same_queue (f d) (f c)) rest (line log (f c))
   waits_without log d i rest w waits is c =
       changed (λ l. remove l i) log d c w (without_at w d i) (waits c) (waiting-without_at d c i w) ∙ there (λ l. remove l i) log d c (same_queue (f d) (f c)) rest refl is

@@ -1,3 +1,4 @@
 pub mod Board
+pub mod Lines
 pub mod Rows
 pub mod Tables
