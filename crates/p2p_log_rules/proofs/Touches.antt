@@ -84,7 +84,8 @@ pub record Reach (configs : List Config) (a : Act) (log : List Entry) (r : Row) 
   pub ended : Each (λ x. writes configs log a x.queue ≡ true) m.ended
   pub puts : Each (λ x. writes configs log a x.0 ≡ true) r.puts
 
-away : (p : Queue → Bool) (q x : Queue) → p q ≡ false → p x ≡ true → same_queue q x ≡ false
+-- of two queues one passes a test and the other does not, so they are two
+pub away : (p : Queue → Bool) (q x : Queue) → p q ≡ false → p x ≡ true → same_queue q x ≡ false
 away p q x none some = go (same_queue q x) refl
   where
     go : (b : Bool) → same_queue q x ≡ b → b ≡ false

@@ -1,33 +1,29 @@
 -- A queue of a place that an act does not name stays as it was.
-use Rattle.std.proofs.Common.{◌≡◌, ℕ, Bool, true, false, List, [], ◌∷◌, ◌++◌, refl, arith}
-use Rattle.std.specs.Prelude.{◌||◌}
+use Rattle.std.proofs.Common.{◌≡◌, ℕ, Bool, true, false, List, [], ◌∷◌, ◌++◌, refl, ◌∙◌, arith}
+use Rattle.std.specs.Prelude.{◌||◌, ◌==◌}
 use Rattle.std.proofs.lemmas.Bool.Decides.{nat_tests}
 use Rattle.p2p_log.specs.declared.config.Config.{Config}
 use Rattle.p2p_log.specs.declared.queue.Queue.{Queue}
 use Rattle.p2p_log.specs.declared.queue.Queue.TheVariants as queue
-use Rattle.p2p_log.specs.declared.queue.Side.TheVariants as side
 use Rattle.p2p_log.specs.declared.entry.Entry.{Entry}
 use Rattle.p2p_log.specs.declared.event.Event.{Event}
 use Rattle.p2p_log.specs.declared.event.Act.{Act}
 use Rattle.p2p_log.specs.declared.event.Act.TheVariants as act
 use Rattle.p2p_log.specs.QueueCode.{same_queue}
 use Rattle.p2p_log.specs.Lines.{line}
+use Rattle.p2p_log.proofs.Queues.{same_queue-sym}
 use Rattle.p2p_log_rules.specs.Effect.{effect}
-use Rattle.p2p_log_rules.proofs.Touches.{in_router, in_half, in_link, in_channels, reads, writes}
+use Rattle.p2p_log_rules.proofs.Touches.{in_router, in_half, in_link, in_channels, reads, writes, away}
 use Rattle.p2p_log_laws.proofs.Untouched.{line-untouched}
 use Rattle.p2p_net.specs.Places.{home, names, at, router, channels, connections, links, same_place}
 
 -- ---- what the kinds of queues that an act reaches are of
 
+eqb-refl : (n : ℕ) → (n == n) ≡ true
+eqb-refl n = grind (arith, nat_tests)
+
 router_queue : (n : ℕ) (q : Queue) → same_place (at router n) (home q) ≡ false → same_queue (queue.Router n) q ≡ false
-router_queue n (queue.Router m) h = grind (arith, nat_tests)
-router_queue n (queue.Peers m c) h = refl
-router_queue n (queue.Ready m c) h = refl
-router_queue n (queue.High m c) h = refl
-router_queue n (queue.Low m c) h = refl
-router_queue n (queue.Link e side.Out) h = refl
-router_queue n (queue.Link e side.In) h = refl
-router_queue n (queue.Channel m c) h = refl
+router_queue n q h = same_queue-sym (queue.Router n) q ∙ away (λ r. same_place (at router n) (home r)) q (queue.Router n) h (eqb-refl n)
 
 router_kinds : (n : ℕ) (q : Queue) → same_place (at router n) (home q) ≡ false → same_place (at connections n) (home q) ≡ false → in_router n q ≡ false
 router_kinds n (queue.Router m) h k = grind (arith, nat_tests)
@@ -66,14 +62,7 @@ channel_kinds n (queue.Link e s) h = refl
 channel_kinds n (queue.Channel m c) h = grind (arith, nat_tests)
 
 channel_queue : (n c : ℕ) (q : Queue) → same_place (at channels n) (home q) ≡ false → same_queue (queue.Channel n c) q ≡ false
-channel_queue n c (queue.Router m) h = refl
-channel_queue n c (queue.Peers m d) h = refl
-channel_queue n c (queue.Ready m d) h = refl
-channel_queue n c (queue.High m d) h = refl
-channel_queue n c (queue.Low m d) h = refl
-channel_queue n c (queue.Link e side.Out) h = refl
-channel_queue n c (queue.Link e side.In) h = refl
-channel_queue n c (queue.Channel m d) h = grind (arith, nat_tests)
+channel_queue n c q h = same_queue-sym (queue.Channel n c) q ∙ away (λ r. same_place (at channels n) (home r)) q (queue.Channel n c) h (eqb-refl n)
 
 -- ---- by the places that an act names
 

@@ -1,12 +1,10 @@
 -- One put, or one take, of a router's queues.
 use Rattle.std.proofs.Common.{◌≡◌, ℕ, true, false, cond, List, [], ◌∷◌, ◌++◌, length, drop, refl, ap, sym, ◌∙◌, append_assoc, append-nil, arith}
 use Rattle.std.specs.Prelude.{filter, map}
-use Rattle.std.proofs.lemmas.Bool.{false≢true}
 use Rattle.std.proofs.lemmas.List.{map-append}
 use Rattle.std.proofs.lemmas.List.Elements.{filter-append}
 use Rattle.p2p_log.specs.declared.queue.Queue.{Queue}
 use Rattle.p2p_log.specs.declared.queue.Queue.TheVariants as queue
-use Rattle.p2p_log.specs.declared.queue.Side.TheVariants as side
 use Rattle.p2p_log.specs.declared.item.Item.{Item}
 use Rattle.p2p_log.specs.declared.item.Envelope.{Envelope}
 use Rattle.p2p_log.specs.QueueCode.{same_queue}
@@ -16,6 +14,7 @@ use Rattle.p2p_log.proofs.Queues.{same_queue-sym, same_queue-congr}
 use Rattle.p2p_log.specs.Apart.{AreApart}
 use Rattle.p2p_log.proofs.Names.{filter_stays-first}
 use Rattle.p2p_net_queues.proofs.Placing.{placed-append}
+use Rattle.p2p_log_rules.proofs.Touches.{away}
 use Rattle.p2p_net_router.specs.Names.{Agrees, is_routers}
 
 line_same : (p q : Queue) (items : List Envelope) → same_queue p q ≡ true → filter (stands_in q) items ≡ filter (stands_in p) items
@@ -91,14 +90,7 @@ module _ {T : Type 0} where
 
 -- an answer to a connection stands in no queue of the router
 pub answer_away : (n m conn : ℕ) (q : Queue) → is_routers n q ≡ true → same_queue q (queue.Ready m conn) ≡ false
-answer_away n m conn (queue.Router k) h = refl
-answer_away n m conn (queue.Peers k c) h = refl
-answer_away n m conn (queue.Ready k c) h = absurd (false≢true h)
-answer_away n m conn (queue.High k c) h = refl
-answer_away n m conn (queue.Low k c) h = refl
-answer_away n m conn (queue.Link k side.Out) h = absurd (false≢true h)
-answer_away n m conn (queue.Link k side.In) h = absurd (false≢true h)
-answer_away n m conn (queue.Channel k c) h = absurd (false≢true h)
+answer_away n m conn q h = same_queue-sym q (queue.Ready m conn) ∙ away (is_routers n) (queue.Ready m conn) q refl h
 
 -- one more put, in its place
 pub placed-last :

@@ -1,18 +1,17 @@
 -- A router stands for the log with one more entry that leaves its queues alone.
-use Rattle.std.proofs.Common.{◌≡◌, ℕ, Bool, true, false, List, [], ◌∷◌, ◌++◌, length, refl, ap, sym, ◌∙◌, arith, append-nil}
-use Rattle.std.specs.Prelude.{filter, flat_map, ◌==◌, ◌&&◌, ◌||◌}
+use Rattle.std.proofs.Common.{◌≡◌, ℕ, true, false, List, [], ◌∷◌, ◌++◌, length, refl, ap, ◌∙◌, append-nil}
+use Rattle.std.specs.Prelude.{filter, flat_map}
 use Rattle.std.specs.List.{AllByRecursion}
-use Rattle.std.proofs.lemmas.Bool.Decides.{nat_tests}
 use Rattle.p2p_log.specs.declared.config.Config.{Config}
 use Rattle.p2p_log.specs.declared.entry.Entry.{Entry}
 use Rattle.p2p_log.specs.declared.queue.Queue.{Queue}
 use Rattle.p2p_log.specs.declared.queue.Queue.TheVariants as queue
-use Rattle.p2p_log.specs.declared.queue.Side.TheVariants as side
 use Rattle.p2p_log.specs.declared.item.Item.{Item}
 use Rattle.p2p_log.specs.declared.item.Envelope.{Envelope}
-use Rattle.p2p_log.specs.QueueCode.{kind_of, owner_of, detail_of, same_queue}
+use Rattle.p2p_log.specs.QueueCode.{same_queue}
 use Rattle.p2p_log.specs.Lines.{name_of, ended_item, goes, stays, live, stands_in, line}
 use Rattle.p2p_log_rules.specs.Effect.{begin_row}
+use Rattle.p2p_log_rules.proofs.Touches.{away}
 use Rattle.p2p_log.specs.Apart.{AreApart}
 use Rattle.p2p_log.proofs.Lines.{live-append, filter_stays-nil}
 use Rattle.p2p_log.proofs.Names.{AreApart-live_from}
@@ -24,27 +23,9 @@ use Rattle.p2p_net_router.proofs.Beside.{LinesStay, stands_beside, filter-away, 
 
 -- ---- queues that are not a router's
 
--- whether a router has queues of this kind
-abbrev of_router : ℕ → Bool
-of_router k = ((k == 0) || (k == 1)) || ((k == 3) || (k == 4))
-
-is_routers-kind : (n : ℕ) (q : Queue) → is_routers n q ≡ (of_router (kind_of q) && (n == owner_of q))
-is_routers-kind n (queue.Router m) = refl
-is_routers-kind n (queue.Peers m c) = refl
-is_routers-kind n (queue.Ready m c) = refl
-is_routers-kind n (queue.High m c) = refl
-is_routers-kind n (queue.Low m c) = refl
-is_routers-kind n (queue.Link e side.Out) = refl
-is_routers-kind n (queue.Link e side.In) = refl
-is_routers-kind n (queue.Channel m c) = refl
-
-not_alike : (n i j a b c d : ℕ) → (of_router i && (n == a)) ≡ false → (of_router j && (n == b)) ≡ true → ((i == j) && ((a == b) && (c == d))) ≡ false
-not_alike n i j a b c d h k = grind (arith, nat_tests)
-
 -- another queue is none of the router's
 pub same_queue-other : (n : ℕ) (p q : Queue) → is_routers n p ≡ false → is_routers n q ≡ true → same_queue p q ≡ false
-same_queue-other n p q other own =
-    not_alike n (kind_of p) (kind_of q) (owner_of p) (owner_of q) (detail_of p) (detail_of q) (sym (is_routers-kind n p) ∙ other) (sym (is_routers-kind n q) ∙ own)
+same_queue-other n p q other own = away (is_routers n) p q other own
 
 -- none of these puts goes to a queue of the node's router
 abbrev pub AreOthers : ℕ → List (Queue × Item) → Type 0
