@@ -30,11 +30,7 @@ kind_of (act.Start n) = starting n refl
 kind_of (act.Join m n) = joining m n refl
 kind_of (act.Router n) = routing n refl
 kind_of (act.SendStep conn n) = sending conn n refl
-kind_of (act.Send bytes c n priority to) =
-    plain (record { registers = λ _ _. refl; starts = λ _. refl; half = λ _ _ _. refl; joins = λ _ _ _. refl; routes = λ _. refl; sends = λ _ _. refl })
-kind_of (act.RecvStep conn n) =
-    plain (record { registers = λ _ _. refl; starts = λ _. refl; half = λ _ _ _. refl; joins = λ _ _ _. refl; routes = λ _. refl; sends = λ _ _. refl })
-kind_of (act.Recv c n) =
+kind_of _ =
     plain (record { registers = λ _ _. refl; starts = λ _. refl; half = λ _ _ _. refl; joins = λ _ _ _. refl; routes = λ _. refl; sends = λ _ _. refl })
 
 -- what an act is not, by what it would be

@@ -17,14 +17,13 @@ use Rattle.p2p_log_rules.specs.Effect.{only, row, effect, entry_of, may_join}
 use Rattle.p2p_log_rules.specs.Valid.{may_act}
 use Rattle.p2p_net_links.specs.Stands.{LinksStand}
 use Rattle.p2p_net_links.specs.declared.links.Links.{Links}
-use Rattle.p2p_net.specs.Places.{Part, router, channels, connections, same_part, at, parts_of, same_place, names, node_of}
+use Rattle.p2p_net.specs.Places.{Part, router, channels, connections, same_part, at, parts_of, parts_named, names_links, places_at, same_place, names, node_of}
 use Rattle.p2p_net.specs.Acts.{NodeDoes}
 use Rattle.p2p_net.specs.Joining.{Welcomes, Connects, JoinsBy, Joins, OneDoes, pair_of, DoesOn, WorldDoes, joined_row}
 use Rattle.p2p_net.specs.Joining as joining
 use Rattle.p2p_net.specs.Stands.{OwnStands, NodeStands, WorldStands}
 use Rattle.p2p_net.specs.declared.node.Node.{Node}
 use Rattle.p2p_net.proofs.Nodes.{slice_get-set, length-slice_set, below}
-use Rattle.p2p_net.proofs.EachPart.{links_apart}
 use Rattle.p2p_net.proofs.Frames.{part_frame, links_kept}
 use Rattle.p2p_net.proofs.Performing.{asked, Performs, part_still, links_still, effect-still}
 use Rattle.p2p_net.proofs.Calling.{register_performs, start_performs, send_performs, read_performs}
@@ -64,17 +63,13 @@ parts_elsewhere : (parts : List Part) (q : Part) (n m : ℕ) → (n == m) ≡ fa
 parts_elsewhere [] q n m ne = refl
 parts_elsewhere (p ∷ ps) q n m ne = ap (λ b. b || list_any (λ p. same_place p (at q m)) (parts_of n ps)) (part_elsewhere p q n m ne) ∙ parts_elsewhere ps q n m ne
 
+unnamed_at : (b : Bool) (ps : List Part) (p : Part) (n m : ℕ) → (n == m) ≡ false → list_any (λ q. same_place q (at p m)) (places_at b n ps) ≡ false
+unnamed_at false ps p n m ne = parts_elsewhere ps p n m ne
+unnamed_at true ps p n m ne = parts_elsewhere ps p n m ne
+
 others_unnamed : (a : Act) (p : Part) (m : ℕ) → pair_of a ≡ None → (node_of a == m) ≡ false → names a (at p m) ≡ false
 others_unnamed (act.Join a b) p m one ne = cc
-others_unnamed (act.Register c n rate) p m one ne = parts_elsewhere (channels ∷ router ∷ []) p n m ne
-others_unnamed (act.Start n) p m one ne = parts_elsewhere (router ∷ []) p n m ne
-others_unnamed (act.Send bytes c n priority to) p m one ne = parts_elsewhere (router ∷ []) p n m ne
-others_unnamed (act.Router n) p m one ne = parts_elsewhere (router ∷ connections ∷ []) p n m ne
-others_unnamed (act.SendStep conn n) p m one ne =
-    ap (λ b. b || list_any (λ q. same_place q (at p m)) (parts_of n (connections ∷ router ∷ []))) (links_apart p m) ∙ parts_elsewhere (connections ∷ router ∷ []) p n m ne
-others_unnamed (act.RecvStep conn n) p m one ne =
-    ap (λ b. b || list_any (λ q. same_place q (at p m)) (parts_of n (channels ∷ []))) (links_apart p m) ∙ parts_elsewhere (channels ∷ []) p n m ne
-others_unnamed (act.Recv c n) p m one ne = parts_elsewhere (channels ∷ []) p n m ne
+others_unnamed a p m one ne = unnamed_at (names_links a) (parts_named a) p (node_of a) m ne
 
 -- a node that an act does not name
 node_frame : (configs : List Config) (log : List Entry) (ev : Event) (m : ℕ) (z : Node) → NodeStands configs log m z → ((p : Part) → names ev.act (at p m) ≡ false) → NodeStands configs (log ++ effect configs log ev ∷ []) m z

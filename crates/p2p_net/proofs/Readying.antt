@@ -104,7 +104,6 @@ module _ (configs : List Config) (log : List Entry) (nodes : List Node) (links :
       there (nat_lt n (length nodes)) (may_at (slice_get nodes n) log (act.Send bytes c n priority to)) (nat_le (length bytes) (limit_at configs n))
       (λ lt. asks (act.Send bytes c n priority to) (nat_le (length bytes) (limit_at configs n)) lt (λ x t. ap (nat_le (length bytes)) (limit_is configs n x t.own)))
       ∙ ap (λ b. b && nat_le (length bytes) (limit_at configs n)) (counted n)
-  may_by (act.Router n) = free (act.Router n) (λ x. refl)
   may_by (act.SendStep conn n) =
       there (nat_lt n (length nodes)) (may_at (slice_get nodes n) log (act.SendStep conn n)) (names_join (events_of log) n conn)
       (λ lt. asks (act.SendStep conn n) (names_join (events_of log) n conn) lt (λ x t. named_is log n conn))
@@ -113,7 +112,7 @@ module _ (configs : List Config) (log : List Entry) (nodes : List Node) (links :
       there (nat_lt n (length nodes)) (may_at (slice_get nodes n) log (act.RecvStep conn n)) (names_join (events_of log) n conn)
       (λ lt. asks (act.RecvStep conn n) (names_join (events_of log) n conn) lt (λ x t. named_is log n conn))
       ∙ ap (λ b. b && names_join (events_of log) n conn) (counted n)
-  may_by (act.Recv c n) = free (act.Recv c n) (λ x. refl)
+  may_by a = free a (λ x. refl)
 
 pub may_act-nodes : (configs : List Config) (log : List Entry) (nodes : List Node) (links : Links) (a : Act) → WorldStands configs log nodes links → may_act nodes log a ≡ valid.may_act configs (events_of log) a
 may_act-nodes configs log nodes links a s = may_by configs log nodes links s a
@@ -154,11 +153,7 @@ ready_by configs log n (act.Start m) x s fit may =
       (one_mailbox x.config fit, subst (λ k. k + x.channels.total < 2 ^ 64) (sym (size_is configs n x s.own)) chan.room),
     )
 ready_by configs log n (act.Send bytes c m priority to) x s fit may = short (length bytes) x.config.max_message_size may (short_message x.config fit)
-ready_by configs log n (act.Join a b) x s fit may = tt
-ready_by configs log n (act.Router m) x s fit may = tt
-ready_by configs log n (act.SendStep conn m) x s fit may = tt
-ready_by configs log n (act.RecvStep conn m) x s fit may = tt
-ready_by configs log n (act.Recv c m) x s fit may = tt
+ready_by configs log n _ x s fit may = tt
 
 -- an act that may be asked for finds its nodes there, and ready
 pub may_perform : (configs : List Config) (log : List Entry) (nodes : List Node) (links : Links) (a : Act) → WorldStands configs log nodes links → valid.may_act configs (events_of log) a ≡ true → MayPerform nodes a

@@ -43,24 +43,31 @@ parts_of n parts = map (λ p. at p n) parts
 abbrev pub and_links : List Place → List Place
 and_links ps = links ∷ ps
 
--- the places that an act names
-abbrev pub places : Act → List Place
-places (act.Register c n rate) = parts_of n (channels ∷ router ∷ [])
-places (act.Start n) = parts_of n (router ∷ [])
-places (act.Join a b) = parts_of a (router ∷ connections ∷ []) ++ parts_of b (router ∷ connections ∷ [])
-places (act.Send bytes c n priority to) = parts_of n (router ∷ [])
-places (act.Router n) = parts_of n (router ∷ connections ∷ [])
-places (act.SendStep conn n) = and_links (parts_of n (connections ∷ router ∷ []))
-places (act.RecvStep conn n) = and_links (parts_of n (channels ∷ []))
-places (act.Recv c n) = parts_of n (channels ∷ [])
+-- the parts that an act names, at each node that it names
+abbrev pub parts_named : Act → List Part
+parts_named (act.Register c n rate) = channels ∷ router ∷ []
+parts_named (act.Start n) = router ∷ []
+parts_named (act.Join a b) = router ∷ connections ∷ []
+parts_named (act.Send bytes c n priority to) = router ∷ []
+parts_named (act.Router n) = router ∷ connections ∷ []
+parts_named (act.SendStep conn n) = connections ∷ router ∷ []
+parts_named (act.RecvStep conn n) = channels ∷ []
+parts_named (act.Recv c n) = channels ∷ []
+
+-- whether it names the links
+abbrev pub names_links : Act → Bool
+names_links (act.SendStep conn n) = true
+names_links (act.RecvStep conn n) = true
+names_links _ = false
+
+abbrev pub places_at : Bool → ℕ → List Part → List Place
+places_at false n ps = parts_of n ps
+places_at true n ps = and_links (parts_of n ps)
 
 abbrev pub same_place : Place → Place → Bool
 same_place (at p n) (at q m) = same_part p q && (n == m)
 same_place links links = true
 same_place _ _ = false
-
-abbrev pub names : Act → Place → Bool
-names a p = list_any (λ q. same_place q p) (places a)
 
 -- the node that an act names, where it names one
 abbrev pub node_of : Act → ℕ
@@ -77,3 +84,11 @@ node_of (act.Recv c n) = n
 abbrev pub other_of : Act → ℕ
 other_of (act.Join a b) = b
 other_of a = node_of a
+
+-- the places that an act names
+abbrev pub places : Act → List Place
+places (act.Join a b) = parts_of a (parts_named (act.Join a b)) ++ parts_of b (parts_named (act.Join a b))
+places a = places_at (names_links a) (node_of a) (parts_named a)
+
+abbrev pub names : Act → Place → Bool
+names a p = list_any (λ q. same_place q p) (places a)
