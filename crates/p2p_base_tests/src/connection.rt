@@ -15,7 +15,7 @@ struct Told {
 }
 
 impl Control for Told {
-    ghost use Rattle.std.specs.Prelude.{[], ◌∷◌, None, Some, false};
+    ghost use Rattle.std.specs.Prelude.{[], ◌∷◌, None, Some, false, Unit};
 
     type Message = Option<u8>;
 
@@ -24,6 +24,12 @@ impl Control for Told {
     ghost ended = { λ _. false };
 
     ghost frame_of = { λ m. elim m [ None ↦ None | Some byte ↦ Some (byte ∷ []) ] };
+
+    ghost keeps = { λ _ _. Unit {0} };
+
+    ghost keeps_itself = { λ _. tt };
+
+    ghost keeps_on = { λ _ _ _ _ _. tt };
 
     fn try_recv(&mut self) -> Option<Option<u8>> {
         self.waiting.pop_front()

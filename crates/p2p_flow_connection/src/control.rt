@@ -33,11 +33,15 @@ pub trait Control {
     // The frame of a message, if it has one.
     ghost frame_of: { Self.Message → Option (List ℕ) };
 
+    // The second state has what the taking of messages leaves as it is in the first.
+    ghost keeps: { Self → Self → Type 0 };
+
     /// Takes the oldest message. `None` exactly where none waits.
     fn try_recv(&mut self) -> Option<Self::Message>
         ensures value { result ≡ slice_get (waiting self.old) 0 }
         ensures after { waiting self.new ≡ drop 1 (waiting self.old) }
-        ensures ended { ended self.new ≡ ended self.old };
+        ensures ended { ended self.new ≡ ended self.old }
+        ensures keeps { keeps self.old self.new };
 
     /// The frame of a message. `None` where it is a kill, which has none. `Err` only where memory runs out.
     fn encode(alloc: Global, message: Self::Message) -> Result<Option<Bytes>, AllocError>
@@ -46,4 +50,10 @@ pub trait Control {
     /// Whether no more messages come.
     fn closed(&self) -> bool
         ensures { result ≡ ended self.now };
+
+    // A state has what it has itself.
+    ghost keeps_itself: { (c : Self) → keeps c c };
+
+    // Call after call keeps what the first state has.
+    ghost keeps_on: { (a b c : Self) → keeps a b → keeps b c → keeps a c };
 }

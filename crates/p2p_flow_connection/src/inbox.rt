@@ -1,6 +1,6 @@
 //! `Inbox`, which delivers what comes over one connection as the quotas of its channels admit it.
 ghost use Rattle.std.specs.Prelude.{◌≡◌, ℕ, List, [], ◌∷◌, None, IfOk, OnOk, OnErr, IfSome, IsSome};
-ghost use Rattle.std.specs.Option.{is_some};
+ghost use Rattle.std.specs.Option.{is_some, option_copied};
 ghost use Rattle.p2p_flow_connection.specs.Delivering.{limiter_in, verdict_of, limiter_after, checked_in, StandsAt, IsByLaw, delivered_as, arrival_of, limiter_of, deliver_answer, after_deliver, arrived_after};
 ghost use Rattle.p2p_flow_connection.specs.Arriving.{arrival_answer, with_arrival};
 ghost use Rattle.p2p_flow_connection.specs.Limiting.{fresh_of, quota_of, or_else};
@@ -62,6 +62,13 @@ impl<P: Drop> Inbox<P> {
         ensures { result ≡ is_some self.now.held }
     {
         self.held.is_some()
+    }
+
+    /// The message that is held, with its sender.
+    pub fn held(&self) -> Option<&(P, Data)>
+        ensures { option_copied result ≡ self.now.held }
+    {
+        self.held.as_ref()
     }
 
     /// Delivers a message of `from` at the moment `now`, in nanoseconds, if its channel's quota admits it; otherwise it is held. A

@@ -28,7 +28,7 @@ impl Model for Outbox {
 
 /// What is next for a batch.
 #[derive(Drop)]
-pub(crate) enum Ready {
+pub enum Ready {
     /// A frame.
     Frame(Bytes),
     /// A control message that is no frame.
@@ -45,6 +45,7 @@ fn take_next<C: Control>(
     ensures value { result ≡ next_of (slice_get (C.waiting control.old) 0) (C.ended control.old) relay.old }
     ensures control { C.waiting control.new ≡ drop 1 (C.waiting control.old) }
     ensures ended { C.ended control.new ≡ C.ended control.old }
+    ensures keeps { C.keeps control.old control.new }
     ensures relay { relay.new ≡ lanes_after (slice_get (C.waiting control.old) 0) (C.ended control.old) relay.old }
 {
     if let Some(message) = control.try_recv() {
@@ -71,6 +72,7 @@ fn take_frame<C: Control>(
     ensures value { IfOk result (λ r. r ≡ ready_of C.frame_of (next_of (slice_get (C.waiting control.old) 0) (C.ended control.old) relay.old)) }
     ensures control { C.waiting control.new ≡ drop 1 (C.waiting control.old) }
     ensures ended { C.ended control.new ≡ C.ended control.old }
+    ensures keeps { C.keeps control.old control.new }
     ensures relay { relay.new ≡ lanes_after (slice_get (C.waiting control.old) 0) (C.ended control.old) relay.old }
 {
     let Some(next) = take_next(control, relay) else {
@@ -108,6 +110,7 @@ impl Outbox {
         ensures value { result ≡ next_of (slice_get (C.waiting control.old) 0) (C.ended control.old) relay.old }
         ensures control { C.waiting control.new ≡ drop 1 (C.waiting control.old) }
         ensures ended { C.ended control.new ≡ C.ended control.old }
+        ensures keeps { C.keeps control.old control.new }
         ensures relay { relay.new ≡ lanes_after (slice_get (C.waiting control.old) 0) (C.ended control.old) relay.old }
     {
         take_next(control, relay)
@@ -142,6 +145,7 @@ impl Outbox {
             ≡ filled C.frame_of (C.ended control.old) (self.old.size - length self.old.frames) self.old.frames (C.waiting control.old) relay.old) }
         ensures size { self.new.size ≡ self.old.size }
         ensures ended { C.ended control.new ≡ C.ended control.old }
+        ensures keeps { C.keeps control.old control.new }
     {
         while self.frames.len() < self.size {
             match take_frame(alloc, control, relay)? {

@@ -5,6 +5,7 @@ use Rattle.p2p_base.specs.declared.key.Key.{Key}
 use Rattle.p2p_flow.specs.Lanes.{Lanes}
 use Rattle.p2p_flow.specs.declared.plain.Recipients.{Recipients}
 use Rattle.p2p_wire.specs.declared.encoded.EncodedData.{EncodedData}
+use Rattle.p2p_router.specs.declared.link.Link.{Link}
 use Rattle.p2p_router.specs.Routes.{Routes}
 use Rattle.p2p_router.specs.Routing.{addressed, copies}
 use Rattle.p2p_router.specs.Messenger.{Desk, message_taken}
@@ -21,9 +22,9 @@ pub record WasReady (a : Routes Key) (d : Desk Key) (o : Option (Message Key)) (
   pub is : o ≡ Some (message.Ready peer relay conn)
   pub told_is : told ≡ told_of (message_taken d) (insert_entry key_cmp a.links peer (record { conn = conn; relay = relay })) a.subscriptions
 
-pub was_ready : (a : Routes Key) (d : Desk Key) (o : Option (Message Key)) (peer : Key) (conn : ℕ) (told : Told Key) → stepped.Ready peer conn told ≡ stepped_on key_cmp a d o → WasReady a d o peer conn told
-was_ready a d None peer conn told h = cc
-was_ready a d (Some (message.Ready p relay c)) peer conn told h =
+pub was_ready : (a : Routes Key) (d : Desk Key) (o : Option (Message Key)) (peer : Key) (conn : ℕ) (replaced : Option Link) (told : Told Key) → stepped.Ready peer conn replaced told ≡ stepped_on key_cmp a d o → WasReady a d o peer conn told
+was_ready a d None peer conn replaced told h = cc
+was_ready a d (Some (message.Ready p relay c)) peer conn replaced told h =
     let e : p ≡ peer = cc in
     let f : c ≡ conn = cc in
     let g : told ≡ told_of (message_taken d) (insert_entry key_cmp a.links p (record { conn = c; relay = relay })) a.subscriptions = cc in
@@ -34,9 +35,9 @@ was_ready a d (Some (message.Ready p relay c)) peer conn told h =
           ∙ (ap (λ k. told_of (message_taken d) (insert_entry key_cmp a.links k (record { conn = c; relay = relay })) a.subscriptions) e
           ∙ ap (λ n. told_of (message_taken d) (insert_entry key_cmp a.links peer (record { conn = n; relay = relay })) a.subscriptions) f);
     }
-was_ready a d (Some (message.Release p)) peer conn told h = cc
-was_ready a d (Some (message.Content whom encoded priority)) peer conn told h = cc
-was_ready a d (Some (message.SubscribePeers s)) peer conn told h = cc
+was_ready a d (Some (message.Release p)) peer conn replaced told h = cc
+was_ready a d (Some (message.Content whom encoded priority)) peer conn replaced told h = cc
+was_ready a d (Some (message.SubscribePeers s)) peer conn replaced told h = cc
 
 pub record WasSubscription (a : Routes Key) (d : Desk Key) (o : Option (Message Key)) (s : ℕ) (told : Told Key) : Type 0 where
   pub is : o ≡ Some (message.SubscribePeers s)

@@ -251,10 +251,10 @@ routed_content configs log entry old desk actor names row encoded rs s answered 
     let apart = AreApart-live_from 0 log in
     let whom : addressed links w.whom ≡ keys = addressed_named links w.whom known.0 in
     let after_links = copies_put key_cmp links encoded w.priority keys in
-    let actor_now : actor ≡ record { links = after_links; subscriptions = old.actor.subscriptions; failed = old.actor.failed } =
+    let actor_now : actor ≡ record { links = after_links; peers = old.actor.peers; subscriptions = old.actor.subscriptions; failed = old.actor.failed } =
     actor_is
     ∙ (ap (routes_on key_cmp old.actor old.messenger) w.is
-    ∙ ap (λ ks. record { links = copies_put key_cmp links encoded w.priority ks; subscriptions = old.actor.subscriptions; failed = old.actor.failed }) whom)
+    ∙ ap (λ ks. record { links = copies_put key_cmp links encoded w.priority ks; peers = old.actor.peers; subscriptions = old.actor.subscriptions; failed = old.actor.failed }) whom)
     in
     let links_now : actor.links ≡ after_links = ap (λ (r : Routes Key). r.links) actor_now in
     let subs_now : actor.subscriptions ≡ old.actor.subscriptions = ap (λ (r : Routes Key). r.subscriptions) actor_now in

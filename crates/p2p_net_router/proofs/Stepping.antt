@@ -67,8 +67,8 @@ of_known configs log entry old desk actor names row stepped.Idle stands answered
           subst (λ (b : Board Name). StandsFor configs (log ++ entry_of event row ∷ []) (stepped_to old desk actor b)) (sym still.1)
           (idle_stepped configs log entry event old desk actor row stands is still.0 answered actor_is desk_is);
     }
-of_known configs log entry old desk actor names row (stepped.Ready peer conn told) stands answered actor_is desk_is idle row_is names_are =
-    by_route configs log entry old desk actor names row stands (routed_ready configs log entry old desk actor names row peer conn told stands answered actor_is desk_is row_is names_are)
+of_known configs log entry old desk actor names row (stepped.Ready peer conn replaced told) stands answered actor_is desk_is idle row_is names_are =
+    by_route configs log entry old desk actor names row stands (routed_ready configs log entry old desk actor names row peer conn replaced told stands answered actor_is desk_is row_is names_are)
 of_known configs log entry old desk actor names row (stepped.Release peer told) stands answered actor_is desk_is idle row_is names_are =
     absurd (not_released configs log old peer told stands answered)
 of_known configs log entry old desk actor names row (stepped.Content encoded rs) stands answered actor_is desk_is idle row_is names_are =

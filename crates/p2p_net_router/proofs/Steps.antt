@@ -1,5 +1,5 @@
 -- Each kind of step, as the log has it.
-use Rattle.std.proofs.Common.{◌≡◌, ℕ, ◌+◌, ◌<◌, ◌≤◌, List, [], ◌∷◌, ◌++◌, length, refl, ap, sym, subst, ◌∙◌, append_assoc, append-nil, Some, None}
+use Rattle.std.proofs.Common.{◌≡◌, ℕ, ◌+◌, ◌<◌, ◌≤◌, List, [], ◌∷◌, ◌++◌, length, refl, ap, sym, subst, ◌∙◌, append_assoc, append-nil, Option, Some, None}
 use Rattle.std.specs.Prelude.{filter, flat_map, map}
 use Rattle.std.specs.List.{AllByRecursion}
 use Rattle.std.specs.BTreeMap.{insert_entry}
@@ -9,6 +9,7 @@ use Rattle.std.proofs.lemmas.List.{map-append}
 use Rattle.p2p_base.specs.declared.key.Key.{Key}
 use Rattle.p2p_base.specs.Queue.{without_oldest}
 use Rattle.p2p_flow.specs.Lanes.{empty_lanes}
+use Rattle.p2p_router.specs.Connections.{with_conn}
 use Rattle.p2p_router.specs.Routes.{Routes}
 use Rattle.p2p_router.specs.Routing.{link_of}
 use Rattle.p2p_router.specs.Messenger.{Desk, message_taken, message_waiting, in_mailbox, told_all}
@@ -92,21 +93,21 @@ told_within size r s =
 -- ---- a connection
 
 pub routed_ready :
-    (configs : List Config) (log : List Entry) (entry : ℕ) (old : Router) (desk : Desk Key) (actor : Routes Key) (names : Board Name) (row : Row) (peer : Key) (conn : ℕ) (told : Told Key)
+    (configs : List Config) (log : List Entry) (entry : ℕ) (old : Router) (desk : Desk Key) (actor : Routes Key) (names : Board Name) (row : Row) (peer : Key) (conn : ℕ) (replaced : Option Link) (told : Told Key)
     → StandsFor configs log old
-    → stepped.Ready peer conn told ≡ stepped_on key_cmp old.actor old.messenger (message_waiting old.messenger)
+    → stepped.Ready peer conn replaced told ≡ stepped_on key_cmp old.actor old.messenger (message_waiting old.messenger)
     → actor ≡ routes_on key_cmp old.actor old.messenger (message_waiting old.messenger)
     → desk ≡ desk_on key_cmp old.actor old.messenger (message_waiting old.messenger)
     → ((items : List Envelope) (x : Envelope) (rest : List Envelope) → IsOldest old.number old.names items x rest
     → row ≡ told_row old.number x items ((queue.Ready old.number conn, item.Answer) ∷ []) told.peers (map (channel_of old.channels.items) told.subscriptions))
     → ((items : List Envelope) (x : Envelope) (rest : List Envelope) → IsOldest old.number old.names items x rest → Agrees old.number label (held names) (after entry row items))
     → IsRouted configs log entry old desk actor names row
-routed_ready configs log entry old desk actor names row peer conn told s answered actor_is desk_is row_is names_are =
+routed_ready configs log entry old desk actor names row peer conn replaced told s answered actor_is desk_is row_is names_are =
     let n = old.number in
     let size = mailbox_size_at configs n in
     let channels = old.channels.items in
     let sound = s.holds.sound in
-    let w = was_ready old.actor old.messenger (message_waiting old.messenger) peer conn told answered in
+    let w = was_ready old.actor old.messenger (message_waiting old.messenger) peer conn replaced told answered in
     let m = message.Ready peer w.relay conn in
     let f = oldest_item configs log old m s w.is in
     let x = f.one in
@@ -119,11 +120,12 @@ routed_ready configs log entry old desk actor names row peer conn told s answere
     let all : heard taken subs ≡ subs = heard_all old.messenger.lists subs within sound.rings in
     let new : Link = record { conn = conn; relay = empty_lanes size } in
     let links = insert_entry key_cmp old.actor.links peer new in
-    let actor_now : actor ≡ record { links = links; subscriptions = subs; failed = old.actor.failed } =
+    let peers = with_conn (link_of key_cmp old.actor.links peer) old.actor.peers conn peer in
+    let actor_now : actor ≡ record { links = links; peers = peers; subscriptions = subs; failed = old.actor.failed } =
     actor_is
     ∙ (ap (routes_on key_cmp old.actor old.messenger) w.is
-    ∙ (ap (λ r. record { links = insert_entry key_cmp old.actor.links peer (record { conn = conn; relay = r }); subscriptions = heard taken subs; failed = old.actor.failed }) known.0.0
-    ∙ ap (λ l. record { links = links; subscriptions = l; failed = old.actor.failed }) all))
+    ∙ (ap (λ r. record { links = insert_entry key_cmp old.actor.links peer (record { conn = conn; relay = r }); peers = peers; subscriptions = heard taken subs; failed = old.actor.failed }) known.0.0
+    ∙ ap (λ l. record { links = links; peers = peers; subscriptions = l; failed = old.actor.failed }) all))
     in
     let links_now : actor.links ≡ links = ap (λ (r : Routes Key). r.links) actor_now in
     let subs_now : actor.subscriptions ≡ subs = ap (λ (r : Routes Key). r.subscriptions) actor_now in
@@ -220,8 +222,8 @@ routed_subscription configs log entry old desk actor names row number told s ans
     in
     let within : AllByRecursion (λ k. k < length old.messenger.lists) one = (inside, tt) in
     let all : heard taken one ≡ one = heard_all old.messenger.lists one within sound.rings in
-    let actor_now : actor ≡ record { links = links; subscriptions = subs ++ one; failed = old.actor.failed } =
-    actor_is ∙ (ap (routes_on key_cmp old.actor old.messenger) w.is ∙ ap (λ l. record { links = links; subscriptions = subs ++ l; failed = old.actor.failed }) all)
+    let actor_now : actor ≡ record { links = links; peers = old.actor.peers; subscriptions = subs ++ one; failed = old.actor.failed } =
+    actor_is ∙ (ap (routes_on key_cmp old.actor old.messenger) w.is ∙ ap (λ l. record { links = links; peers = old.actor.peers; subscriptions = subs ++ l; failed = old.actor.failed }) all)
     in
     let links_now : actor.links ≡ links = ap (λ (r : Routes Key). r.links) actor_now in
     let subs_now : actor.subscriptions ≡ subs ++ one = ap (λ (r : Routes Key). r.subscriptions) actor_now in

@@ -41,7 +41,7 @@ with_lists r items n puts keys cs =
 -- what a step replies
 abbrev pub reply_to : Stepped Key → Reply
 reply_to stepped.Idle = reply.Idle
-reply_to (stepped.Ready peer conn told) = reply.Ok
+reply_to (stepped.Ready peer conn replaced told) = reply.Ok
 reply_to (stepped.Release peer told) = reply.Ok
 reply_to (stepped.Content encoded copies) = reply.Ok
 reply_to (stepped.SubscribePeers subscription told) = reply.Ok
@@ -49,7 +49,7 @@ reply_to (stepped.SubscribePeers subscription told) = reply.Ok
 -- the row of a step that took this item, where it took one
 abbrev pub stepped_row : ℕ → List ℕ → Stepped Key → Envelope → List Envelope → Row
 stepped_row n channels stepped.Idle x items = only reply.Idle
-stepped_row n channels (stepped.Ready peer conn told) x items = told_row n x items (answers_put n (Some conn)) told.peers (map (channel_of channels) told.subscriptions)
+stepped_row n channels (stepped.Ready peer conn replaced told) x items = told_row n x items (answers_put n (Some conn)) told.peers (map (channel_of channels) told.subscriptions)
 stepped_row n channels (stepped.Release peer told) x items = told_row n x items (answers_put n None) told.peers (map (channel_of channels) told.subscriptions)
 stepped_row n channels (stepped.Content encoded copies) x items =
     with_spread (taken_row (name_of x)) (copies_spread n (send_of (tag_of x.item)) 0 encoded.payload copies (record { puts = []; ends = [] }))

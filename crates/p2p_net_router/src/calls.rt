@@ -175,7 +175,7 @@ fn take_frame(actor: &mut Actor<Key>, key: Key, priority: bool) -> Option<Encode
     ensures value { result ≡ frame_waiting (link_of key_cmp actor.old.links key) priority }
     ensures after { actor.new ≡ record actor.old { links = without_frame (link_of key_cmp actor.old.links key) actor.old.links key priority } }
 {
-    let Some(relay) = actor.relay(&key) else {
+    let Some(relay) = actor.relay_of(&key) else {
         return None;
     };
     if priority {

@@ -238,7 +238,7 @@ fn connected(alloc: Global) -> Result<(Actor<Key>, Messenger<Key>), Fail> {
 
 // The oldest frame without priority that waits for the key 2, whose relay is closed then.
 fn closed_after(actor: &mut Actor<Key>) -> Option<EncodedData> {
-    let relay = actor.relay(&Key(2))?;
+    let relay = actor.relay(24)?;
     let frame = relay.take_low();
     relay.close();
     frame
@@ -294,7 +294,7 @@ fn route(
     messenger: &mut Messenger<Key>,
 ) -> Result<[bool; 4], Fail> {
     let spread = are_spread(alloc, actor, messenger)?;
-    let unknown = actor.relay(&Key(3)).is_none();
+    let unknown = actor.relay(30).is_none();
     let framed = has_frame(alloc, actor)?;
     Ok([
         spread,

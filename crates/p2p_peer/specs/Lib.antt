@@ -1,1 +1,7 @@
+pub mod Beginning
+pub mod Connection
+pub mod Lends
+pub mod Ready
+pub mod Receiving
+pub mod Sending
 pub mod Spawning

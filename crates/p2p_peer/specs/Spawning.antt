@@ -1,5 +1,5 @@
--- What the spawner's mailbox answers to one who asks for a connection.
-use Rattle.std.specs.Prelude.{ℕ}
+-- The spawner, and what its mailbox answers to one who asks for a connection.
+use Rattle.std.specs.Prelude.{ℕ, Bool, false}
 use Rattle.p2p_base.specs.Queue.{Queue, enqueue_answer, enqueued}
 use Rattle.p2p_base.specs.declared.outcome.Sent.{Sent}
 use Rattle.p2p_base.specs.declared.outcome.Sent.TheVariants as sent
@@ -8,6 +8,15 @@ use Rattle.p2p_tracker_directory.specs.Reserved.{peer_of}
 use Rattle.p2p_tracker_directory.specs.declared.metadata.Metadata.{Metadata}
 use Rattle.p2p_peer.specs.declared.spawner.message.Message.{Message}
 use Rattle.p2p_peer.specs.declared.spawner.message.Message.TheVariants as message
+use Rattle.p2p_peer.specs.declared.peer.config.Config.{Config}
+
+-- the sizes and quotas of its connections, and whether a step found no memory
+pub record Spawner : Type 0 where
+  pub cfg : Config
+  pub failed : Bool
+
+abbrev pub new_spawner : Config → Spawner
+new_spawner cfg = record { cfg = cfg; failed = false }
 
 module _ {P : Type 0} where
   -- the message that asks for a connection over a link

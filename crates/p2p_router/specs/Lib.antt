@@ -1,3 +1,4 @@
+pub mod Connections
 pub mod Lends
 pub mod Mailbox
 pub mod Messenger

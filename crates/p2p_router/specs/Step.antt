@@ -3,9 +3,10 @@ use Rattle.std.specs.Prelude.{ℕ, List, [], ◌∷◌, ◌++◌, Option, Some, 
 use Rattle.std.specs.declared.cmp.Ordering.{Ordering}
 use Rattle.std.specs.BTreeMap.{is_at, insert_entry}
 use Rattle.std.specs.Map.{keys_of, remove_entry}
+use Rattle.p2p_router.specs.Connections.{without_conn, with_conn}
 use Rattle.p2p_router.specs.Messenger.{Desk, message_taken, is_heard, told_all}
 use Rattle.p2p_router.specs.Routes.{Routes}
-use Rattle.p2p_router.specs.Routing.{addressed, copies, copies_put}
+use Rattle.p2p_router.specs.Routing.{addressed, copies, copies_put, link_of}
 use Rattle.p2p_router.specs.declared.link.Link.{Link}
 use Rattle.p2p_router.specs.declared.message.Message.{Message}
 use Rattle.p2p_router.specs.declared.message.Message.TheVariants as message
@@ -44,17 +45,29 @@ module _ {P : Type 0} where
     links_after links (message.Content recipients encoded priority) = copies_put cmp links encoded priority (addressed links recipients)
     links_after links (message.SubscribePeers subscription) = links
 
+    -- the peers of connections after a message
+    abbrev pub peers_after : List (P × Link) → List (ℕ × P) → Message P → List (ℕ × P)
+    peers_after links peers (message.Ready peer relay conn) = with_conn (link_of cmp links peer) peers conn peer
+    peers_after links peers (message.Release peer) = without_conn (link_of cmp links peer) peers
+    peers_after links peers (message.Content recipients encoded priority) = peers
+    peers_after links peers (message.SubscribePeers subscription) = peers
+
   module _ (cmp : P → P → Ordering) where
     -- what the step answers that took a message, which left the messenger as d
     abbrev pub stepped_by : Routes P → Desk P → Message P → Stepped P
-    stepped_by r d (message.Ready peer relay conn) = stepped.Ready peer conn (told_of d (links_after cmp r.links (message.Ready peer relay conn)) r.subscriptions)
+    stepped_by r d (message.Ready peer relay conn) = stepped.Ready peer conn (link_of cmp r.links peer) (told_of d (links_after cmp r.links (message.Ready peer relay conn)) r.subscriptions)
     stepped_by r d (message.Release peer) = stepped.Release peer (told_of d (links_after cmp r.links (message.Release peer)) r.subscriptions)
     stepped_by r d (message.Content recipients encoded priority) = stepped.Content encoded (copies cmp r.links encoded priority (addressed r.links recipients))
     stepped_by r d (message.SubscribePeers subscription) = stepped.SubscribePeers subscription (told_of d r.links (subscription ∷ []))
 
     -- the router after that step
     abbrev pub routes_by : Routes P → Desk P → Message P → Routes P
-    routes_by r d m = record { links = links_after cmp r.links m; subscriptions = kept_by d m r.subscriptions; failed = r.failed }
+    routes_by r d m = record {
+      links = links_after cmp r.links m;
+      peers = peers_after cmp r.links r.peers m;
+      subscriptions = kept_by d m r.subscriptions;
+      failed = r.failed;
+    }
 
     -- the messenger after that step
     abbrev pub desk_by : Routes P → Desk P → Message P → Desk P

@@ -3,8 +3,9 @@ ghost use Rattle.std.specs.Prelude.{◌≡◌, ◌↔◌, ◌≤◌, length, Non
 ghost use Rattle.std.specs.Borrow.{sem};
 ghost use Rattle.std.specs.List.Sorted.{IsStrictlySortedBy};
 ghost use Rattle.std.specs.Map.{keys_of};
-ghost use Rattle.std.specs.Option.{option_copied_mut};
+ghost use Rattle.std.specs.Option.{is_some, option_copied, option_copied_mut};
 ghost use Rattle.p2p_base.specs.Queue.{empty_queue};
+ghost use Rattle.p2p_router.specs.Connections.{is_over, without_conn, with_conn, peer_at, relay_at};
 ghost use Rattle.p2p_router.specs.Messenger.{message_waiting, told_all};
 ghost use Rattle.p2p_router.specs.Routes.{new_routes};
 ghost use Rattle.p2p_router.specs.Routing.{addressed, copies, copies_put, relay_of};
@@ -28,6 +29,7 @@ use std::marker::Model;
 #[derive(Drop)]
 pub struct Actor<P: Ord> {
     links: BTreeMap<P, Link>,
+    peers: BTreeMap<u64, P>,
     subscriptions: Vec<u64>,
     failed: bool,
 }
@@ -37,11 +39,11 @@ impl<P: Ord> Model for Actor<P> {
 
     ghost Value = { Routes P };
 
-    ghost view = { λ a. record { links = a.links.entries; subscriptions = a.subscriptions.items; failed = a.failed } };
+    ghost view = { λ a. record { links = a.links.entries; peers = a.peers.entries; subscriptions = a.subscriptions.items; failed = a.failed } };
 }
 
 impl<P: PublicKey> Actor<P> {
-    ghost use Rattle.p2p_router.specs.Lends.{lends_relay_of};
+    ghost use Rattle.p2p_router.specs.Lends.{lends_relay_of, lends_relay_at};
 
     /// A router without peers, and the mailbox for its messages.
     ///
@@ -61,6 +63,7 @@ impl<P: PublicKey> Actor<P> {
     {
         Actor {
             links: BTreeMap::new(alloc),
+            peers: BTreeMap::new(alloc),
             subscriptions: Vec::new(alloc),
             failed: false,
         }
@@ -97,8 +100,42 @@ impl<P: PublicKey> Actor<P> {
         Ok(stepped)
     }
 
+    /// The relay of a connection. `None` exactly where no peer is connected over it: it was never ready here, its peer was released, or
+    /// a later connection of its peer was ready.
+    ///
+    /// A connection is ready for one peer: where its number was ready for a second one, it is that one's.
+    pub fn relay(&mut self, conn: u64) -> Option<&mut Relay<EncodedData>>
+        ensures* writes_back { sem 𝓛 (lends_relay_at P.row P.Ord self.entry conn result) }
+        ensures value { option_copied_mut result ≡ relay_at P.cmp self.old conn }
+    {
+        let Some(peer) = self.peer(conn) else {
+            return None;
+        };
+        self.relay_of(&peer)
+    }
+
+    /// The peer that is connected over a connection.
+    pub fn peer(&self, conn: u64) -> Option<P>
+        ensures { result ≡ peer_at P.cmp self.now conn }
+    {
+        let peer = self.peers.get(&conn).copied()?;
+        if is_over(self.links.get(&peer), conn) {
+            Some(peer)
+        } else {
+            None
+        }
+    }
+
+    /// Whether a connection has a relay here.
+    #[tactic(auto, using(crate::proofs::Connected::relay_there))]
+    pub fn has_relay(&self, conn: u64) -> bool
+        ensures { result ≡ is_some (relay_at P.cmp self.now conn) }
+    {
+        self.peer(conn).is_some()
+    }
+
     /// The relay of a peer's connection. `None` exactly where the peer isn't connected.
-    pub fn relay(&mut self, peer: &P) -> Option<&mut Relay<EncodedData>>
+    pub fn relay_of(&mut self, peer: &P) -> Option<&mut Relay<EncodedData>>
         ensures* writes_back { sem 𝓛 (lends_relay_of P.row P.Ord self.entry peer.now result) }
         ensures value { option_copied_mut result ≡ relay_of P.cmp self.old.links peer.now }
     {
@@ -149,10 +186,16 @@ impl<P: PublicKey> Actor<P> {
         ensures subscriptions { length messenger.new.lists ≡ length messenger.old.lists }
     {
         let alloc = *self.subscriptions.allocator();
-        let _ = self.links.insert(peer, Link { conn, relay })?;
+        let replaced = self.links.insert(peer, Link { conn, relay })?;
+        put_conn(&mut self.peers, &replaced, conn, peer)?;
         let told = tell(alloc, &self.links, messenger, &self.subscriptions)?;
         self.subscriptions = Vec::from_slice(alloc, told.subscriptions.as_slice())?;
-        Ok(Stepped::Ready { peer, conn, told })
+        Ok(Stepped::Ready {
+            peer,
+            conn,
+            replaced,
+            told,
+        })
     }
 
     // Drops the relay of a peer's connection, and tells the subscribers.
@@ -164,7 +207,8 @@ impl<P: PublicKey> Actor<P> {
         ensures subscriptions { length messenger.new.lists ≡ length messenger.old.lists }
     {
         let alloc = *self.subscriptions.allocator();
-        let _ = self.links.remove(&peer);
+        let released = self.links.remove(&peer);
+        drop_conn(&mut self.peers, &released);
         let told = tell(alloc, &self.links, messenger, &self.subscriptions)?;
         self.subscriptions = Vec::from_slice(alloc, told.subscriptions.as_slice())?;
         Ok(Stepped::Release { peer, told })
@@ -228,4 +272,40 @@ fn tell<P: PublicKey>(
         peers: List::new(peers),
         subscriptions: List::new(heard),
     })
+}
+
+// Whether a link is that of a connection.
+fn is_over(link: Option<&Link>, conn: u64) -> bool
+    ensures { result ≡ is_over conn (option_copied link.entry) }
+{
+    match link {
+        Some(link) => link.conn == conn,
+        None => false,
+    }
+}
+
+// The connection of a link has no peer.
+fn drop_conn<P: Copy>(peers: &mut BTreeMap<u64, P>, link: &Option<Link>)
+    ensures { peers.new.entries ≡ without_conn link.now peers.old.entries }
+{
+    match link {
+        Some(link) => {
+            let _ = peers.remove(&link.conn);
+        }
+        None => {}
+    }
+}
+
+// A connection is ready for a peer, in place of the link that the peer had.
+fn put_conn<P: Copy>(
+    peers: &mut BTreeMap<u64, P>,
+    replaced: &Option<Link>,
+    conn: u64,
+    peer: P,
+) -> Result<(), AllocError>
+    ensures { OnOk result (peers.new.entries ≡ with_conn replaced.now peers.old.entries conn peer) }
+{
+    drop_conn(peers, replaced);
+    let _ = peers.insert(conn, peer)?;
+    Ok(())
 }

@@ -15,6 +15,7 @@ mod stepped;
 
 pub use actor::Actor;
 pub use config::Config;
+pub use link::Link;
 pub use mailbox::Mailbox;
 pub use message::Message;
 pub use messenger::Messenger;

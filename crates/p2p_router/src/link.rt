@@ -9,8 +9,10 @@ use p2p_wire::EncodedData;
 /// The connection of a peer, and its relay.
 #[derive(Drop)]
 pub struct Link {
-    pub(crate) conn: u64,
-    pub(crate) relay: Relay<EncodedData>,
+    /// The connection.
+    pub conn: u64,
+    /// What waits for it.
+    pub relay: Relay<EncodedData>,
 }
 
 impl Link {

@@ -1,4 +1,5 @@
 //! `Stepped`, what a step of the router answers.
+use crate::Link;
 use p2p_base::List;
 use p2p_wire::EncodedData;
 
@@ -26,7 +27,7 @@ pub enum Routed<P> {
         /// The connection.
         conn: u64,
     },
-    /// It was dropped, since the relay is closed.
+    /// It was dropped, since the relay is closed: the peer's connection has ended, and its release wasn't routed yet.
     Closed {
         /// The peer.
         peer: P,
@@ -55,6 +56,8 @@ pub enum Stepped<P> {
         peer: P,
         /// The connection that was answered.
         conn: u64,
+        /// The connection whose place it took, with its relay and what waits there, where the peer had one.
+        replaced: Option<Link>,
         /// The list, and to whom it was put.
         told: Told<P>,
     },

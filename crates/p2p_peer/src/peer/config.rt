@@ -19,3 +19,16 @@ pub struct Config {
     /// How many bytes a message has at most.
     pub max_message_size: u32,
 }
+
+/// The sizes of a connection.
+#[derive(Clone, Copy, Debug)]
+pub struct Limits {
+    /// How many places each of its relay's two queues has: 1 or more.
+    pub mailbox_size: usize,
+    /// How many frames a batch has at most: 1 or more.
+    pub send_batch_size: usize,
+    /// How long after its last ping the next one goes out, in nanoseconds.
+    pub ping_frequency: u64,
+    /// How many bytes a message has at most.
+    pub max_message_size: u32,
+}

@@ -62,7 +62,8 @@ impl Mailbox {
 }
 
 impl Control for Mailbox {
-    ghost use Rattle.std.specs.Prelude.{None};
+    ghost use Rattle.std.specs.Prelude.{◌≡◌, None, refl};
+    ghost use Rattle.std.proofs.Common.{◌∙◌};
 
     type Message = Message;
 
@@ -71,6 +72,12 @@ impl Control for Mailbox {
     ghost ended = { λ m. m.closed };
 
     ghost frame_of = { λ _. None };
+
+    ghost keeps = { λ old new. new.capacity ≡ old.capacity };
+
+    ghost keeps_itself = { λ _. refl };
+
+    ghost keeps_on = { λ _ _ _ h k. k ∙ h };
 
     fn try_recv(&mut self) -> Option<Message> {
         self.messages.try_recv()

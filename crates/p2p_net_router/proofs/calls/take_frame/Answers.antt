@@ -12,16 +12,16 @@ pub returns-then-priority-clause-after : goal.returns-then-priority-clause-after
 returns-then-priority-clause-after c =
     let links = c.args.actor.now.links in
     let r = c.in-Some.relay.now in
-    (rw c.in-Some.is at (c.relay.follows.holds c.take_high.new.self))
+    (rw c.in-Some.is at (c.relay_of.follows.holds c.take_high.new.self))
     ∙ ap (λ (ls : List (Key × Link)). record c.args.actor.now { links = ls })
-    (popped_links links c.args.key c.args.priority (link_of key_cmp links c.args.key) r c.take_high.new.self (rw c.in-Some.is at c.relay.ensures.value)
+    (popped_links links c.args.key c.args.priority (link_of key_cmp links c.args.key) r c.take_high.new.self (rw c.in-Some.is at c.relay_of.ensures.value)
     (c.take_high.ensures.after ∙ ap (λ (b : Bool). with_lane r b (without_oldest (lane r b))) (sym c.if-priority.true)))
 
 pub returns-else-priority-clause-after : goal.returns-else-priority-clause-after
 returns-else-priority-clause-after c =
     let links = c.args.actor.now.links in
     let r = c.in-Some.relay.now in
-    (rw c.in-Some.is at (c.relay.follows.holds c.take_low.new.self))
+    (rw c.in-Some.is at (c.relay_of.follows.holds c.take_low.new.self))
     ∙ ap (λ (ls : List (Key × Link)). record c.args.actor.now { links = ls })
-    (popped_links links c.args.key c.args.priority (link_of key_cmp links c.args.key) r c.take_low.new.self (rw c.in-Some.is at c.relay.ensures.value)
+    (popped_links links c.args.key c.args.priority (link_of key_cmp links c.args.key) r c.take_low.new.self (rw c.in-Some.is at c.relay_of.ensures.value)
     (c.take_low.ensures.after ∙ ap (λ (b : Bool). with_lane r b (without_oldest (lane r b))) (sym c.if-priority.false)))

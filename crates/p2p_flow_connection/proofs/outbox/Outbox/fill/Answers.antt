@@ -6,6 +6,7 @@ pub loop-self-preserved : goal.loop-self-preserved
 loop-self-preserved g c = record {
   size = c.loop-self.invariant.size;
   ended = c.in_ok-frame.ensures.ended ∙ c.loop-self.invariant.ended;
+  keeps = g.met.C.Control.keeps_on c.args.control.now c.loop-self.control c.take_frame.new.control c.loop-self.invariant.keeps c.in_ok-frame.ensures.keeps;
   same =
       goes_on g.C.Control.frame_of (g.C.Control.ended c.loop-self.control) (g.C.Control.ended c.args.control.now)
       c.loop-self.self-inside.frames.items (g.C.Control.waiting c.loop-self.control) (g.C.Control.waiting c.take_frame.new.control)

@@ -18,10 +18,10 @@ returns-clause-actor g c =
     let old = c.self.inside in
     let d = c.args.messenger.now in
     let one = c.args.subscription ∷ [] in
-    ap (λ l. made_of old.links.entries l old.failed)
+    ap (λ l. made_of old.links.entries old.peers.entries l old.failed)
     (c.in_ok-extend_from_slice.ensures.items
     ∙ ap (λ l. old.subscriptions.items ++ l) (c.as_slice.ensures ∙ ap (λ (t : Told g.row.P.Denot). t.subscriptions) c.in_ok-told.ensures.told))
-    ∙ ap (λ (r : Routes g.row.P.Denot). made_of r.links (r.subscriptions ++ heard d one) r.failed) c.self.view_is
+    ∙ ap (λ (r : Routes g.row.P.Denot). made_of r.links r.peers (r.subscriptions ++ heard d one) r.failed) c.self.view_is
 
 pub returns-clause-messenger : goal.returns-clause-messenger
 returns-clause-messenger g c =
