@@ -22,8 +22,11 @@ module _ {X : Type 0} where
   get-pushed (y ∷ ys) x (suc n) e = get-pushed ys x n (omega arith)
 
   -- what `pop` takes is the last one
-  pub popped : (old new : List X) (r : Option X) → old ≡ new ++ option_to_list r → length new + length (option_to_list r) ≡ length old → (r ≡ None → length old ≡ 0) → r ≡ last_peer old
-  popped old new (Some x) e n z = sym (subst (λ (l : List X). slice_get l (length l - 1) ≡ Some x) (sym e) (get-pushed new x (length (new ++ x ∷ []) - 1) (omega (arith, length-append new (x ∷ [])))))
+  pub popped : (old new : List X) (r : Option X) → old ≡ new ++ option_to_list r
+      → length new + length (option_to_list r) ≡ length old → (r ≡ None → length old ≡ 0) → r ≡ last_peer old
+  popped old new (Some x) e n z =
+      sym (subst (λ (l : List X). slice_get l (length l - 1) ≡ Some x) (sym e)
+      (get-pushed new x (length (new ++ x ∷ []) - 1) (omega (arith, length-append new (x ∷ [])))))
   popped [] new None e n z = refl
   popped (y ∷ ys) new None e n z = absurd (omega (arith, z refl))
 
@@ -33,10 +36,12 @@ module _ {X : Type 0} where
 
   pub without_last-none : (xs : List X) → last_peer xs ≡ None → without_last xs ≡ xs
   without_last-none [] e = refl
-  without_last-none (y ∷ ys) e = absurd (false≢true (sym (ap is_some e) ∙ ap (λ n. is_some (slice_get (y ∷ ys) n)) (omega arith) ∙ last_of y ys))
+  without_last-none (y ∷ ys) e =
+      absurd (false≢true (sym (ap is_some e) ∙ ap (λ n. is_some (slice_get (y ∷ ys) n)) (omega arith) ∙ last_of y ys))
 
   -- the line of one for whom nothing waits
-  pub with_line-none : (lines : Lines X) (n : ℕ) → first_of (line_of lines n) ≡ None → with_line lines n (drop 1) ≡ lines
+  pub with_line-none : (lines : Lines X) (n : ℕ) → first_of (line_of lines n) ≡ None
+      → with_line lines n (drop 1) ≡ lines
   with_line-none lines n e = at (line_of lines n) refl e
     where
       at : (r : Option (List X)) → line_of lines n ≡ r → first_of r ≡ None → replaced r lines n (drop 1) ≡ lines

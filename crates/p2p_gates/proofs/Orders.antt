@@ -19,12 +19,17 @@ derived-is = λ i x y. derived-order x y i
 
 -- an address stands among others by either test
 pub is_registered-is_heard : (ips : List IpAddr) (ip : IpAddr) → is_registered ips ip ≡ is_heard ips ip
-is_registered-is_heard ips ip = sym (any-sorted_once ip_total ip ips) ∙ (sym (among-flip ip_total (sorted_once ip_cmp ips) ip) ∙ among-sorted_once ips ip)
+is_registered-is_heard ips ip =
+    sym (any-sorted_once ip_total ip ips)
+    ∙ (sym (among-flip ip_total (sorted_once ip_cmp ips) ip) ∙ among-sorted_once ips ip)
 
 -- whether a set that is kept by the derived order has an address
 pub kept-is_registered : (ips : List IpAddr) (ip : IpAddr) → list_any (is_at (ghosts.cmp ip)) ips ≡ is_registered ips ip
 kept-is_registered ips ip = ap (λ (cmp : IpAddr → IpAddr → Ordering). list_any (is_at (cmp ip)) ips) derived-is
 
 -- a set that was made of a list has its addresses
-pub made-is_registered : (kept ips : List IpAddr) (ip : IpAddr) → list_any (is_at (ghosts.cmp ip)) kept ≡ list_any (is_at (ghosts.cmp ip)) ips → is_registered kept ip ≡ is_heard ips ip
-made-is_registered kept ips ip e = sym (kept-is_registered kept ip) ∙ (e ∙ (kept-is_registered ips ip ∙ is_registered-is_heard ips ip))
+pub made-is_registered : (kept ips : List IpAddr) (ip : IpAddr)
+    → list_any (is_at (ghosts.cmp ip)) kept ≡ list_any (is_at (ghosts.cmp ip)) ips
+    → is_registered kept ip ≡ is_heard ips ip
+made-is_registered kept ips ip e =
+    sym (kept-is_registered kept ip) ∙ (e ∙ (kept-is_registered ips ip ∙ is_registered-is_heard ips ip))

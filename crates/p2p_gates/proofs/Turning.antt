@@ -1,6 +1,5 @@
 -- The turns of gates for which nothing waits.
 use Rattle.std.proofs.Common.{◌≡◌, ℕ, Bool, cond, false, drop, List, Option, None, sym, ap, ◌∙◌}
-use Rattle.std.specs.Prelude.{slice_get}
 use Rattle.p2p_address.specs.declared.ip.IpAddr.{IpAddr}
 use Rattle.p2p_tracker_mailbox.specs.Lines.{Lines, line_of, first_of, with_line}
 use Rattle.p2p_tracker_mailbox.specs.declared.answer.HandshakeItem.{HandshakeItem}
@@ -8,24 +7,30 @@ use Rattle.p2p_tracker_mailbox.specs.declared.mailbox.Mailbox.{Mailbox}
 use Rattle.p2p_gates.specs.Handshaking.{Handshaking}
 use Rattle.p2p_gates.specs.HandshakeTurns.{line_turn, handshake_turn}
 use Rattle.p2p_gates.specs.Listening.{Listening, Known}
-use Rattle.p2p_gates.specs.ListenerTurns as listening
-use Rattle.p2p_gates.specs.ListenerTurns.{update_turn, listener_turn}
+use Rattle.p2p_gates.specs.ListenerTurns.{receive_turn, update_turn, listener_turn}
 use Rattle.p2p_gates.specs.Stepping.{idle_turn}
 use Rattle.p2p_gates.proofs.Emptied.{with_line-none}
 
 module _ {P : Type 0} where
   -- a handshake for which nothing waits
-  pub handshake-waits : (h : Handshaking P) (m : Mailbox P) (now name : ℕ) (lines : Lines (HandshakeItem P)) → name ≡ h.name → h.has_ended ≡ false
+  pub handshake-waits : (h : Handshaking P) (m : Mailbox P) (now name : ℕ) (lines : Lines (HandshakeItem P))
+      → name ≡ h.name → h.has_ended ≡ false
       → first_of (line_of m.handshakes name) ≡ None → lines ≡ with_line m.handshakes name (drop 1)
       → line_turn None h (record m { handshakes = lines }) now ≡ handshake_turn h m now
   handshake-waits h m now name lines named goes none after =
-      ap (λ (l : Lines (HandshakeItem P)). line_turn None h (record m { handshakes = l }) now) (after ∙ with_line-none m.handshakes name none)
-      ∙ (ap (λ (r : Option (HandshakeItem P)). line_turn r h m now) (sym none ∙ ap (λ (n : ℕ). first_of (line_of m.handshakes n)) named)
-      ∙ ap (λ (b : Bool). cond b (idle_turn h m) (line_turn (first_of (line_of m.handshakes h.name)) h m now)) (sym goes))
+      ap (λ (l : Lines (HandshakeItem P)). line_turn None h (record m { handshakes = l }) now)
+      (after ∙ with_line-none m.handshakes name none)
+      ∙ (ap (λ (r : Option (HandshakeItem P)). line_turn r h m now)
+      (sym none ∙ ap (λ (n : ℕ). first_of (line_of m.handshakes n)) named)
+      ∙ ap (λ (b : Bool). cond b (idle_turn h m) (line_turn (first_of (line_of m.handshakes h.name)) h m now))
+      (sym goes))
 
   -- a listener that no update waits for
-  pub listener-receives : (l : Listening P) (k : Known) (m : Mailbox P) (name now : ℕ) (heard : Option (List IpAddr)) → heard ≡ None → m.heard ≡ None
-      → listening.line_turn l k (record m { heard = heard }) name now (slice_get l.arrivals 0) ≡ listener_turn l k m name now
+  pub listener-receives : (l : Listening P) (k : Known) (m : Mailbox P) (name now : ℕ)
+      (heard : Option (List IpAddr)) → heard ≡ None → m.heard ≡ None
+      → receive_turn l k (record m { heard = heard }) name now
+      ≡ listener_turn l k m name now
   listener-receives l k m name now heard e none =
-      ap (λ (h : Option (List IpAddr)). listening.line_turn l k (record m { heard = h }) name now (slice_get l.arrivals 0)) (e ∙ sym none)
+      ap (λ (h : Option (List IpAddr)). receive_turn l k (record m { heard = h }) name now)
+      (e ∙ sym none)
       ∙ ap (λ (h : Option (List IpAddr)). update_turn l k m name now h) (sym none)

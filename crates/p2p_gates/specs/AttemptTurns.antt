@@ -63,12 +63,17 @@ module _ {P : Type 0} where
   resolves (Some s) addresses a m seed = goes_on input.Item a m
   resolves None addresses a m seed = dials (chosen (may_be_dialed a.allow_private_ips addresses) seed) a m
 
+  -- once it was linked at the moment `now`, it waits no longer than for the keys to be exchanged
+  abbrev pub linked_at : ℕ → Attempting P → Attempting P
+  linked_at now a = record a { deadline = min a.deadline (now + a.handshake_timeout) }
+
   -- an item was taken
   abbrev pub item_turn : AttemptItem → Attempting P → Mailbox P → ℕ → ℕ → Turn (Attempting P) P
   item_turn (item.Addresses addresses) a m now seed = resolves a.address addresses a m seed
-  item_turn item.Linked a m now seed = goes_on input.Item (record a { deadline = min a.deadline (now + a.handshake_timeout) }) m
+  item_turn item.Linked a m now seed = goes_on input.Item (linked_at now a) m
   item_turn item.Refused a m now seed = gives_up a.reserved input.Item a m
-  item_turn (item.Finished true) a m now seed = record { stepped = ready_by a.reserved a.items; actor = ended_by a.reserved a; way = m }
+  item_turn (item.Finished true) a m now seed =
+      record { stepped = ready_by a.reserved a.items; actor = ended_by a.reserved a; way = m }
   item_turn (item.Finished false) a m now seed = gives_up a.reserved input.Item a m
 
   -- nothing waits for it, and its deadline may have come

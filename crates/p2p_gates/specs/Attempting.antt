@@ -7,9 +7,9 @@ use Rattle.p2p_tracker_directory.specs.declared.metadata.Metadata.{Metadata}
 use Rattle.p2p_gates.specs.declared.attempt.item.AttemptItem.{AttemptItem}
 use Rattle.p2p_gates.specs.declared.config.Config.{Config}
 
--- its name; who is reserved for it, until it ends; where the peer is dialed; the address that it dials, once there is one; the moment at which it ends;
--- what waits for it, the oldest item first; whether it may dial addresses that aren't global, and how long it waits once it is linked; and
--- whether a step of it has failed
+-- its name; who is reserved for it, until it ends; where the peer is dialed; the address that it dials, once there is
+-- one; the moment at which it ends; what waits for it, the oldest item first; whether it may dial addresses that aren't
+-- global, and how long it waits once it is linked; and whether a step of it has failed
 pub record Attempting (P : Type 0) : Type 0 where
   pub name : ℕ
   pub reserved : Option (Metadata P)

@@ -5,7 +5,7 @@ use Rattle.p2p_tracker_directory.specs.declared.directory.dials.Dialable.{Dialab
 use Rattle.p2p_tracker_mailbox.specs.declared.answer.DialerAnswer.{DialerAnswer}
 use Rattle.p2p_tracker_mailbox.specs.declared.answer.DialerAnswer.TheVariants as answer
 use Rattle.p2p_tracker_mailbox.specs.declared.mailbox.Mailbox.{Mailbox}
-use Rattle.p2p_gates.specs.Attempting.{new_attempt}
+use Rattle.p2p_gates.specs.Attempting.{Attempting, new_attempt}
 use Rattle.p2p_gates.specs.Dialing.{Dialing}
 use Rattle.p2p_gates.specs.Stepping.{Turn, idle_turn, goes_on, asks}
 use Rattle.p2p_gates.specs.declared.config.Config.{Config}
@@ -14,6 +14,7 @@ use Rattle.p2p_gates.specs.declared.stepped.Input.TheVariants as input
 use Rattle.p2p_gates.specs.declared.stepped.Left.TheVariants as left
 use Rattle.p2p_gates.specs.declared.stepped.Outcome.TheVariants as outcome
 use Rattle.p2p_gates.specs.declared.stepped.Put.TheVariants as put
+use Rattle.p2p_gates.specs.declared.stepped.Stepped.{Stepped}
 use Rattle.p2p_gates.specs.declared.stepped.Stepped.TheVariants as stepped
 
 -- the deadline after a dial at the moment `now`
@@ -24,9 +25,11 @@ after_dial cfg now = now + cfg.dial_frequency
 abbrev pub latest_query : Config → ℕ → ℕ
 latest_query cfg asked = max (asked + cfg.peer_connection_cooldown) (after_dial cfg asked)
 
--- the deadline without anyone to dial: the moment from which there may be more, or else the latest one, and within both bounds
+-- the deadline without anyone to dial: the moment from which there may be more, or else the latest one, and within both
+-- bounds
 abbrev pub next_query : Config → ℕ → Option ℕ → ℕ
-next_query cfg asked next = min (max (unwrap_or next (asked + cfg.peer_connection_cooldown)) (after_dial cfg asked)) (latest_query cfg asked)
+next_query cfg asked next =
+    min (max (unwrap_or next (asked + cfg.peer_connection_cooldown)) (after_dial cfg asked)) (latest_query cfg asked)
 
 module _ {P : Type 0} where
   -- the deadline once it was told whom to dial, which it had asked at the moment `asked`
@@ -52,14 +55,21 @@ module _ {P : Type 0} where
 
   -- once it was told whom to dial: the list in an order that is drawn from the seed
   abbrev pub with_peers : Dialable P → ℕ → Dialing P → Dialing P
-  with_peers list seed d = record d { peers = (shuffled list.peers (seeded seed)).0; deadline = next_deadline d.cfg d.asked_at list.peers list.next_query_at }
+  with_peers list seed d = record d {
+    peers = (shuffled list.peers (seeded seed)).0;
+    deadline = next_deadline d.cfg d.asked_at list.peers list.next_query_at;
+  }
+
+  -- what a step answers that took a grant
+  abbrev pub begun : Attempting P → Stepped P
+  begun a = stepped.Served input.Answer None left.Nothing (outcome.Dialed a)
 
   -- an answer was taken: a grant begins an attempt, and after any other it asks for the next peer
   abbrev pub answer_turn : DialerAnswer P → Dialing P → Mailbox P → ℕ → ℕ → ℕ → Turn (Dialing P) P
   answer_turn (answer.Dialable list) d m name now seed = dials_next input.Answer (with_peers list seed d) m
   answer_turn (answer.Dial None) d m name now seed = dials_next input.Answer d m
   answer_turn (answer.Dial (Some grant)) d m name now seed = record {
-    stepped = stepped.Served input.Answer None left.Nothing (outcome.Dialed (new_attempt name grant.0 grant.1 d.cfg now));
+    stepped = begun (new_attempt name grant.0 grant.1 d.cfg now);
     actor = record d { is_asking = false };
     way = m;
   }

@@ -20,7 +20,8 @@ places_after _ p = p
 
 -- the gates after the quotas: what they say of the address and of the subnet, and then the places of handshakes
 abbrev pub limited_reply : Bool × Bool → Bool → Reply
-limited_reply refused place = cond (refused.0 || refused.1) (reply.Limited refused.0 refused.1) (cond place reply.Admitted reply.TooMany)
+limited_reply refused place =
+    cond (refused.0 || refused.1) (reply.Limited refused.0 refused.1) (cond place reply.Admitted reply.TooMany)
 
 module _ {P : Type 0} (l : Listening P) where
   -- the address may not connect, since it isn't global
@@ -35,8 +36,10 @@ module _ {P : Type 0} (l : Listening P) where
   -- the first gate that refuses an arrival from this address at the moment `now`, or that none does
   abbrev pub reply_to : Known → IpAddr → ℕ → Reply
   reply_to k ip now = cond (is_private l ip) reply.Private
-      (cond (is_unregistered l k ip) reply.Unregistered (limited_reply (verdict l.quotas k.passed ip now) (has_place l.places)))
+      (cond (is_unregistered l k ip) reply.Unregistered
+      (limited_reply (verdict l.quotas k.passed ip now) (has_place l.places)))
 
   -- what the gates go by afterwards: an arrival that comes to the quotas is held against both
   abbrev pub known_after : Known → IpAddr → ℕ → Known
-  known_after k ip now = cond (is_private l ip || is_unregistered l k ip) k (record k { passed = passed_after l.quotas k.passed ip now })
+  known_after k ip now =
+      cond (is_private l ip || is_unregistered l k ip) k (record k { passed = passed_after l.quotas k.passed ip now })

@@ -35,11 +35,13 @@ module _ {P : Type 0} where
     way = without_handshake m h.name;
   }
 
-  -- an item was taken: a peer that may connect is accepted, one whose keys were exchanged is asked for, and one that is granted is ready
+  -- an item was taken: a peer that may connect is accepted, one whose keys were exchanged is asked for, and one that is
+  -- granted is ready
   abbrev pub item_turn : HandshakeItem P → Handshaking P → Mailbox P → Turn (Handshaking P) P
   item_turn (shake.Acceptable true) h m = goes_on input.Item (record h { is_accepted = true }) m
   item_turn (shake.Acceptable false) h m = ends input.Item outcome.Ended h m
-  item_turn (shake.Finished true) h m = asks input.Item (put.Listen h.arrival.key h.arrival.from.ip h.name) (record h { is_finished = true }) m
+  item_turn (shake.Finished true) h m =
+      asks input.Item (put.Listen h.arrival.key h.arrival.from.ip h.name) (record h { is_finished = true }) m
   item_turn (shake.Finished false) h m = ends input.Item outcome.Ended h m
   item_turn (shake.Listen (Some reserved)) h m = ends input.Item (outcome.Ready reserved) h m
   item_turn (shake.Listen None) h m = ends input.Item outcome.Ended h m

@@ -2,8 +2,8 @@
 use Rattle.std.specs.Prelude.{ℕ, ◌+◌, Bool, false}
 use Rattle.p2p_gates.specs.declared.arrival.Arrival.{Arrival}
 
--- its name, by which the tracker answers it; the arrival; the moment up to which its keys are to be exchanged; whether the peer may connect,
--- whether its keys were exchanged, whether it has ended, and whether a step of it has failed
+-- its name, by which the tracker answers it; the arrival; the moment up to which its keys are to be exchanged; whether
+-- the peer may connect, whether its keys were exchanged, whether it has ended, and whether a step of it has failed
 pub record Handshaking (P : Type 0) : Type 0 where
   pub name : ℕ
   pub arrival : Arrival P

@@ -30,7 +30,8 @@ module _ {P : Type 0} where
 
   -- what a step answers that took an arrival, which was told this
   abbrev pub stepped_by : Reply → ℕ → Arrival P → ℕ → ℕ → Stepped P
-  stepped_by reply.Admitted name a timeout now = stepped.Served input.Arrival (Some (asks_for name a)) left.Nothing (outcome.Admitted (new_handshake name a timeout now))
+  stepped_by reply.Admitted name a timeout now = stepped.Served input.Arrival (Some (asks_for name a)) left.Nothing
+      (outcome.Admitted (new_handshake name a timeout now))
   stepped_by r name a timeout now = refused_over a.link r
 
   -- the mailbox after that: the handshake of an admitted arrival has begun, and its question is put
@@ -38,8 +39,8 @@ module _ {P : Type 0} where
   way_by reply.Admitted name a m = with_put (asks_for name a) (record m { handshakes = begun m.handshakes name })
   way_by r name a m = m
 
--- a turn of a listener: what its step answers, the arrivals that still wait, the places of handshakes, what its gates go by, and the tracker's
--- mailbox then
+-- a turn of a listener: what its step answers, the arrivals that still wait, the places of handshakes, what its gates
+-- go by, and the tracker's mailbox then
 pub record ListenerTurn (P : Type 0) : Type 0 where
   pub stepped : Stepped P
   pub arrivals : List (Arrival P)
@@ -63,6 +64,10 @@ module _ {P : Type 0} (l : Listening P) (k : Known) (m : Mailbox P) (name now : 
   line_turn (Some a) = arrival_turn (reply_to l k a.from.ip now) a
   line_turn None = record { stepped = stepped.Idle; arrivals = l.arrivals; places = l.places; known = k; way = m }
 
+  -- the turn where no update waits
+  abbrev pub receive_turn : ListenerTurn P
+  receive_turn = line_turn (slice_get l.arrivals 0)
+
   -- an update is taken, if one waits
   abbrev pub update_turn : Option (List IpAddr) → ListenerTurn P
   update_turn (Some addresses) = record {
@@ -72,7 +77,7 @@ module _ {P : Type 0} (l : Listening P) (k : Known) (m : Mailbox P) (name now : 
     known = record k { addresses = addresses };
     way = record m { heard = None };
   }
-  update_turn None = line_turn (slice_get l.arrivals 0)
+  update_turn None = receive_turn
 
 -- the turn of a listener at the moment `now`
 abbrev pub listener_turn : {P : Type 0} → Listening P → Known → Mailbox P → ℕ → ℕ → ListenerTurn P

@@ -11,8 +11,9 @@ use Rattle.p2p_gates.specs.Quotas.{Quotas, Passed}
 use Rattle.p2p_gates.specs.declared.arrival.Arrival.{Arrival}
 use Rattle.p2p_gates.specs.declared.config.Config.{Config}
 
--- whether addresses that aren't global may connect, and those that aren't registered; how long a handshake waits; the arrivals that wait, the
--- oldest first; the registered addresses, in order; the quotas; the places of handshakes; and whether a step of it has failed
+-- whether addresses that aren't global may connect, and those that aren't registered; how long a handshake waits; the
+-- arrivals that wait, the oldest first; the registered addresses, in order; the quotas; the places of handshakes; and
+-- whether a step of it has failed
 pub record Listening (P : Type 0) : Type 0 where
   pub allow_private_ips : Bool
   pub bypass_ip_check : Bool
@@ -42,7 +43,12 @@ with_arrival l a = record l { arrivals = l.arrivals ++ a ∷ [] }
 
 -- what a step leaves as it was, beside what it may change
 abbrev pub with_rest : {P : Type 0} → Listening P → Listening P → Listening P
-with_rest l new = record l { arrivals = new.arrivals; registered = new.registered; quotas = new.quotas; places = new.places }
+with_rest l new = record l {
+  arrivals = new.arrivals;
+  registered = new.registered;
+  quotas = new.quotas;
+  places = new.places;
+}
 
 -- an address stands among those that are registered
 abbrev pub is_registered : List IpAddr → IpAddr → Bool

@@ -12,7 +12,8 @@ pub record Quotas : Type 0 where
   pub subnets : KeptByKey IpAddr
   pub counted : ℕ
 
--- for each address and each subnet, the moments of the arrivals from it that its quota let pass; and the latest moment at which one was asked
+-- for each address and each subnet, the moments of the arrivals from it that its quota let pass; and the latest moment
+-- at which one was asked
 pub record Passed : Type 0 where
   pub addresses : IpAddr → List ℕ
   pub subnets : IpAddr → List ℕ
@@ -50,7 +51,11 @@ charged rate past ip at = cond (admits rate (past ip) at) (with_admission ip_cmp
 
 -- whether the quota of its address refuses an arrival, and whether that of its subnet does
 abbrev pub verdict : Quotas → Passed → IpAddr → ℕ → Bool × Bool
-verdict q p ip now = (refuses q.addresses.rate p.addresses ip (max p.latest now), refuses q.subnets.rate p.subnets (subnet_of ip) (max p.latest now))
+verdict q p ip now = (
+  refuses q.addresses.rate p.addresses ip (max p.latest now),
+  refuses q.subnets.rate p.subnets
+      (subnet_of ip) (max p.latest now),
+)
 
 -- after an arrival was held against both: each is charged where it doesn't refuse, whatever the other does
 abbrev pub passed_after : Quotas → Passed → IpAddr → ℕ → Passed

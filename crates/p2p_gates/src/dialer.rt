@@ -3,11 +3,8 @@ ghost use Rattle.std.specs.Prelude.{◌≡◌, true, false, [], Some, None, IfOk
 ghost use Rattle.p2p_runtime.specs.Draws.{seeded, shuffled};
 ghost use Rattle.p2p_gates.specs.Attempting.{new_attempt};
 ghost use Rattle.p2p_gates.specs.Dialing.{new_dialer};
-ghost use Rattle.p2p_gates.specs.DialerTurns.{after_dial, next_query, next_deadline, last_peer, without_last, dials_next, with_peers, answer_turn, asks_whom, is_due, waits, dialer_turn};
+ghost use Rattle.p2p_gates.specs.DialerTurns.{after_dial, next_query, next_deadline, last_peer, without_last, dials_next, begun, with_peers, answer_turn, asks_whom, is_due, waits, dialer_turn};
 ghost use Rattle.p2p_gates.specs.declared.stepped.Input.TheVariants as input;
-ghost use Rattle.p2p_gates.specs.declared.stepped.Left.TheVariants as left;
-ghost use Rattle.p2p_gates.specs.declared.stepped.Outcome.TheVariants as outcome;
-ghost use Rattle.p2p_gates.specs.declared.stepped.Stepped.TheVariants as stepped;
 
 use crate::attempt::Attempt;
 use crate::config::Config;
@@ -20,8 +17,8 @@ use p2p_tracker_mailbox::{DialerAnswer, Mailbox};
 use std::alloc::{AllocError, Global};
 use std::marker::Model;
 
-/// Asks the tracker whom to dial, and then for one peer after another, until one is granted: an attempt begins then. It dials at most once
-/// a `dial_frequency`, and asks one question at a time. Its answers wait in the tracker's mailbox.
+/// Asks the tracker whom to dial, and then for one peer after another, until one is granted: an attempt begins then. It
+/// dials at most once a `dial_frequency`, and asks one question at a time. Its answers wait in the tracker's mailbox.
 ///
 /// Ports `Actor` of commonware-p2p's dialer, whose questions wait for their answers.
 #[derive(Drop)]
@@ -101,10 +98,11 @@ impl<P: PublicKey> Dialer<P> {
         }
     }
 
-    /// Takes the oldest answer that waits for it, and does what it says. Where none waits, it asks no question yet and its deadline has
-    /// come, it asks for the next peer of its list, or whom to dial.
+    /// Takes the oldest answer that waits for it, and does what it says. Where none waits, it asks no question yet and
+    /// its deadline has come, it asks for the next peer of its list, or whom to dial.
     ///
-    /// `seed` draws the order of a new list. A grant begins an attempt of the name `name`, which no earlier step was given.
+    /// `seed` draws the order of a new list. A grant begins an attempt of the name `name`, which no earlier step was
+    /// given.
     ///
     /// `Err` only where memory runs out. Each later step then answers so.
     pub fn step(
@@ -231,7 +229,7 @@ impl<P: PublicKey> Dialer<P> {
         ingress: Ingress,
         now: u64,
     ) -> Stepped<P>
-        ensures answer { result ≡ stepped.Served input.Answer None left.Nothing (outcome.Dialed (new_attempt name reservation ingress self.old.cfg now)) }
+        ensures answer { result ≡ begun (new_attempt name reservation ingress self.old.cfg now) }
         ensures after { self.new ≡ record self.old { is_asking = false } }
     {
         self.is_asking = false;

@@ -16,8 +16,8 @@ use std::marker::Model;
 
 /// An arrival that was admitted, until it ends: by a reservation that is ready to spawn, or without a connection.
 ///
-/// It asks the tracker whether the peer may connect, waits until its keys are exchanged, and asks for the peer. What waits for it stands
-/// in the tracker's mailbox, under its name.
+/// It asks the tracker whether the peer may connect, waits until its keys are exchanged, and asks for the peer. What
+/// waits for it stands in the tracker's mailbox, under its name.
 ///
 /// Ports `Actor::handshake` of commonware-p2p's listener.
 #[derive(Drop)]
@@ -48,7 +48,8 @@ impl<P> Model for Handshake<P> {
 }
 
 impl<P: PublicKey> Handshake<P> {
-    // The handshake of an arrival that was admitted at the moment `now`, which may take `timeout` until its keys are exchanged.
+    // The handshake of an arrival that was admitted at the moment `now`, which may take `timeout` until its keys are
+    // exchanged.
     pub(crate) fn new(name: u64, arrival: Arrival<P>, timeout: u64, now: u64) -> Handshake<P>
         ensures { result ≡ new_handshake name arrival timeout now }
     {
@@ -102,8 +103,9 @@ impl<P: PublicKey> Handshake<P> {
         way.finish_handshake(self.name, ok)
     }
 
-    /// Takes the oldest item that waits for it, and does what it says. Where none waits and its keys were not exchanged in time, it ends.
-    /// Whether the peer may connect is asked twice: what it was told before its keys were exchanged is no grant.
+    /// Takes the oldest item that waits for it, and does what it says. Where none waits and its keys were not exchanged
+    /// in time, it ends. Whether the peer may connect is asked twice: what it was told before its keys were exchanged
+    /// is no grant.
     ///
     /// `Err` only where memory runs out. Each later step then answers so.
     pub fn step(&mut self, way: &mut Mailbox<P>, now: u64) -> Result<Stepped<P>, AllocError>

@@ -1,8 +1,9 @@
 //! The gates of a node: whom it dials and whom it lets in, when, and what each waits for.
 //!
-//! `Dialer` asks the tracker whom to dial and begins an `Attempt` for each grant. `Listener` takes an arrival through its gates and begins
-//! a `Handshake` for each that it admits. What waits for them stands in the tracker's mailbox, or in themselves, and each step serves one
-//! input. An attempt and a handshake end with a reservation that is ready to spawn, or without one.
+//! `Dialer` asks the tracker whom to dial and begins an `Attempt` for each grant. `Listener` takes an arrival through
+//! its gates and begins a `Handshake` for each that it admits. What waits for them stands in the tracker's mailbox, or
+//! in themselves, and each step serves one input. An attempt and a handshake end with a reservation that is ready to
+//! spawn, or without one.
 #![tactic(auto)]
 
 mod arrival;

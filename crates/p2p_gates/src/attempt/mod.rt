@@ -1,7 +1,7 @@
 //! `Attempt`, a dial that was granted, until it ends.
 ghost use Rattle.std.specs.Prelude.{◌≡◌, ◌∷◌, ◌++◌, true, false, drop, min, ◌+◌, nat_le, [], not, IfOk, OnOk, OnErr, IsErr, is_some};
 ghost use Rattle.p2p_gates.specs.Attempting.{new_attempt, address_in};
-ghost use Rattle.p2p_gates.specs.AttemptTurns.{may_be_dialed, chosen, with_item, ended_by, ready_by, gives_up, resolves, waits, item_turn, attempt_turn};
+ghost use Rattle.p2p_gates.specs.AttemptTurns.{may_be_dialed, chosen, with_item, ended_by, ready_by, gives_up, resolves, linked_at, waits, item_turn, attempt_turn};
 ghost use Rattle.p2p_gates.specs.Stepping.{gone_on};
 ghost use Rattle.p2p_gates.specs.declared.stepped.Left.TheVariants as left;
 ghost use Rattle.p2p_gates.specs.declared.stepped.Stepped.TheVariants as stepped;
@@ -24,7 +24,8 @@ use std::mem;
 
 /// A dial that was granted, until it ends: by a reservation that is ready to spawn, or without a connection.
 ///
-/// It is told the addresses of its peer and chooses one, is told that it has a link, and waits until its keys are exchanged.
+/// It is told the addresses of its peer and chooses one, is told that it has a link, and waits until its keys are
+/// exchanged.
 ///
 /// Ports `Actor::dial_peer` of commonware-p2p's dialer.
 #[derive(Drop)]
@@ -154,10 +155,11 @@ impl<P: PublicKey> Attempt<P> {
         Ok(())
     }
 
-    /// Takes the oldest item that waits for it, and does what it says. Where none waits and its deadline has come, it ends.
+    /// Takes the oldest item that waits for it, and does what it says. Where none waits and its deadline has come, it
+    /// ends.
     ///
-    /// `seed` draws the address that is dialed. An attempt that has one keeps it. One that ends without a connection gives its reservation
-    /// back.
+    /// `seed` draws the address that is dialed. An attempt that has one keeps it. One that ends without a connection
+    /// gives its reservation back.
     ///
     /// `Err` only where memory runs out. Each later step then answers so, and the attempt keeps its reservation.
     pub fn step(
@@ -276,7 +278,7 @@ impl<P: PublicKey> Attempt<P> {
     // Waits no longer than for the keys to be exchanged.
     fn link(&mut self, now: u64) -> Stepped<P>
         ensures answer { result ≡ gone_on input.Item None }
-        ensures after { self.new ≡ record self.old { deadline = min self.old.deadline (now + self.old.handshake_timeout) } }
+        ensures after { self.new ≡ linked_at now self.old }
     {
         let deadline = now as u128 + self.handshake_timeout as u128;
         self.deadline = self.deadline.min(deadline);

@@ -1,11 +1,11 @@
 //! `Listener`, who takes arrivals through the gates.
-ghost use Rattle.std.specs.Prelude.{◌≡◌, ℕ, ◌<◌, ◌+◌, ◌∷◌, ◌++◌, true, false, [], Some, None, IfOk, OnOk, IsErr, OnErr, drop, slice_get};
+ghost use Rattle.std.specs.Prelude.{◌≡◌, ℕ, ◌<◌, ◌+◌, ◌∷◌, ◌++◌, true, false, [], Some, None, IfOk, OnOk, IsErr, OnErr, drop};
 ghost use Rattle.std.specs.BTreeSet.{IsFromIterResult};
 ghost use Rattle.p2p_address.specs.declared.ip.IpAddr.{IpAddr as Address};
 ghost use Rattle.p2p_tracker_directory.specs.Listed.{is_heard};
 ghost use Rattle.p2p_gates.specs.Gates.{reply_to, known_after, places_after};
 ghost use Rattle.p2p_gates.specs.Listening.{Known, StandsFor, is_registered, with_arrival, with_rest, new_listener, nothing_known};
-ghost use Rattle.p2p_gates.specs.ListenerTurns.{stepped_by, way_by, refused_over, arrival_turn, line_turn, listener_turn};
+ghost use Rattle.p2p_gates.specs.ListenerTurns.{stepped_by, way_by, refused_over, receive_turn, listener_turn};
 ghost use Rattle.p2p_gates.specs.Quotas.{KeepsRates};
 ghost use Rattle.p2p_gates.specs.Stepping.{gone_on};
 ghost use Rattle.p2p_gates.specs.declared.stepped.Input.TheVariants as input;
@@ -27,11 +27,13 @@ use std::alloc::{AllocError, Global};
 use std::collections::BTreeSet;
 use std::marker::Model;
 
-/// Takes arrivals through the gates, in the order in which they came, and begins a handshake for each that none refuses.
+/// Takes arrivals through the gates, in the order in which they came, and begins a handshake for each that none
+/// refuses.
 ///
-/// The gates are, in order: whether the address is global, or others may connect; whether it is one that the listener was told of, or that
-/// isn't looked at; the quotas of its address and of its subnet, each of which is charged where it doesn't refuse; and the places of
-/// handshakes. The cost of an arrival grows with the logarithm of the addresses that are kept.
+/// The gates are, in order: whether the address is global, or others may connect; whether it is one that the listener
+/// was told of, or that isn't looked at; the quotas of its address and of its subnet, each of which is charged where it
+/// doesn't refuse; and the places of handshakes. The cost of an arrival grows with the logarithm of the addresses that
+/// are kept.
 ///
 /// Ports `Actor` of commonware-p2p's listener.
 #[derive(Drop)]
@@ -117,7 +119,8 @@ impl<P: PublicKey> Listener<P> {
     ///
     /// `Err` only where memory runs out, and nothing changes then.
     pub fn arrive(&mut self, from: SocketAddr, key: P, link: u64) -> Result<(), AllocError>
-        ensures after { OnOk result (self.new ≡ with_arrival self.old (record { from = from; key = key; link = link })) }
+        ensures after { OnOk result
+            (self.new ≡ with_arrival self.old (record { from = from; key = key; link = link })) }
         ensures memory { OnErr result (self.new ≡ self.old) }
     {
         self.arrivals.put(Arrival { from, key, link })
@@ -133,8 +136,8 @@ impl<P: PublicKey> Listener<P> {
         self.places.release();
     }
 
-    /// Takes the addresses that the tracker told, if it did. Otherwise takes the oldest arrival through the gates. One that is admitted
-    /// begins a handshake of the name `name`, which no earlier step was given.
+    /// Takes the addresses that the tracker told, if it did. Otherwise takes the oldest arrival through the gates. One
+    /// that is admitted begins a handshake of the name `name`, which no earlier step was given.
     ///
     /// `Err` only where memory runs out. Each later step then answers so.
     pub fn step(
@@ -143,11 +146,16 @@ impl<P: PublicKey> Listener<P> {
         name: u64,
         now: u64,
     ) -> Result<Stepped<P>, AllocError>
-        ensures answer { (k : Known) → StandsFor self.old k → IfOk result (λ s. s ≡ (listener_turn self.old k way.old name now).stepped) }
-        ensures stands { (k : Known) → StandsFor self.old k → OnOk result (StandsFor self.new (listener_turn self.old k way.old name now).known) }
-        ensures way { (k : Known) → StandsFor self.old k → OnOk result (way.new ≡ (listener_turn self.old k way.old name now).way) }
-        ensures arrivals { (k : Known) → StandsFor self.old k → OnOk result (self.new.arrivals ≡ (listener_turn self.old k way.old name now).arrivals) }
-        ensures places { (k : Known) → StandsFor self.old k → OnOk result (self.new.places ≡ (listener_turn self.old k way.old name now).places) }
+        ensures answer { (k : Known) → StandsFor self.old k
+            → IfOk result (λ s. s ≡ (listener_turn self.old k way.old name now).stepped) }
+        ensures stands { (k : Known) → StandsFor self.old k
+            → OnOk result (StandsFor self.new (listener_turn self.old k way.old name now).known) }
+        ensures way { (k : Known) → StandsFor self.old k
+            → OnOk result (way.new ≡ (listener_turn self.old k way.old name now).way) }
+        ensures arrivals { (k : Known) → StandsFor self.old k
+            → OnOk result (self.new.arrivals ≡ (listener_turn self.old k way.old name now).arrivals) }
+        ensures places { (k : Known) → StandsFor self.old k
+            → OnOk result (self.new.places ≡ (listener_turn self.old k way.old name now).places) }
         ensures rest { OnOk result (self.new ≡ with_rest self.old self.new) }
         ensures rates { OnOk result (KeepsRates self.old.quotas self.new.quotas) }
         ensures memory { OnErr result (self.new.has_failed ≡ true) }
@@ -167,11 +175,16 @@ impl<P: PublicKey> Listener<P> {
 
     // What a step does.
     fn work(&mut self, way: &mut Mailbox<P>, name: u64, now: u64) -> Result<Stepped<P>, AllocError>
-        ensures answer { (k : Known) → StandsFor self.old k → IfOk result (λ s. s ≡ (listener_turn self.old k way.old name now).stepped) }
-        ensures stands { (k : Known) → StandsFor self.old k → OnOk result (StandsFor self.new (listener_turn self.old k way.old name now).known) }
-        ensures way { (k : Known) → StandsFor self.old k → OnOk result (way.new ≡ (listener_turn self.old k way.old name now).way) }
-        ensures arrivals { (k : Known) → StandsFor self.old k → OnOk result (self.new.arrivals ≡ (listener_turn self.old k way.old name now).arrivals) }
-        ensures places { (k : Known) → StandsFor self.old k → OnOk result (self.new.places ≡ (listener_turn self.old k way.old name now).places) }
+        ensures answer { (k : Known) → StandsFor self.old k
+            → IfOk result (λ s. s ≡ (listener_turn self.old k way.old name now).stepped) }
+        ensures stands { (k : Known) → StandsFor self.old k
+            → OnOk result (StandsFor self.new (listener_turn self.old k way.old name now).known) }
+        ensures way { (k : Known) → StandsFor self.old k
+            → OnOk result (way.new ≡ (listener_turn self.old k way.old name now).way) }
+        ensures arrivals { (k : Known) → StandsFor self.old k
+            → OnOk result (self.new.arrivals ≡ (listener_turn self.old k way.old name now).arrivals) }
+        ensures places { (k : Known) → StandsFor self.old k
+            → OnOk result (self.new.places ≡ (listener_turn self.old k way.old name now).places) }
         ensures rest { OnOk result (self.new ≡ with_rest self.old self.new) }
         ensures rates { OnOk result (KeepsRates self.old.quotas self.new.quotas) }
     {
@@ -184,7 +197,8 @@ impl<P: PublicKey> Listener<P> {
     // Keeps the addresses that peers may come from.
     fn register(&mut self, addresses: &[IpAddr]) -> Result<Stepped<P>, AllocError>
         ensures answer { IfOk result (λ s. s ≡ gone_on input.Update None) }
-        ensures stands { (k : Known) → StandsFor self.old k → OnOk result (StandsFor self.new (record k { addresses = addresses.now })) }
+        ensures stands { (k : Known) → StandsFor self.old k
+            → OnOk result (StandsFor self.new (record k { addresses = addresses.now })) }
         ensures after { self.new ≡ record self.old { registered = self.new.registered } }
     {
         self.registered = in_order(self.alloc, addresses)?;
@@ -198,11 +212,16 @@ impl<P: PublicKey> Listener<P> {
         name: u64,
         now: u64,
     ) -> Result<Stepped<P>, AllocError>
-        ensures answer { (k : Known) → StandsFor self.old k → IfOk result (λ s. s ≡ (line_turn self.old k way.old name now (slice_get self.old.arrivals 0)).stepped) }
-        ensures stands { (k : Known) → StandsFor self.old k → OnOk result (StandsFor self.new (line_turn self.old k way.old name now (slice_get self.old.arrivals 0)).known) }
-        ensures way { (k : Known) → StandsFor self.old k → OnOk result (way.new ≡ (line_turn self.old k way.old name now (slice_get self.old.arrivals 0)).way) }
-        ensures arrivals { (k : Known) → StandsFor self.old k → OnOk result (self.new.arrivals ≡ (line_turn self.old k way.old name now (slice_get self.old.arrivals 0)).arrivals) }
-        ensures places { (k : Known) → StandsFor self.old k → OnOk result (self.new.places ≡ (line_turn self.old k way.old name now (slice_get self.old.arrivals 0)).places) }
+        ensures answer { (k : Known) → StandsFor self.old k
+            → IfOk result (λ s. s ≡ (receive_turn self.old k way.old name now).stepped) }
+        ensures stands { (k : Known) → StandsFor self.old k
+            → OnOk result (StandsFor self.new (receive_turn self.old k way.old name now).known) }
+        ensures way { (k : Known) → StandsFor self.old k
+            → OnOk result (way.new ≡ (receive_turn self.old k way.old name now).way) }
+        ensures arrivals { (k : Known) → StandsFor self.old k
+            → OnOk result (self.new.arrivals ≡ (receive_turn self.old k way.old name now).arrivals) }
+        ensures places { (k : Known) → StandsFor self.old k
+            → OnOk result (self.new.places ≡ (receive_turn self.old k way.old name now).places) }
         ensures rest { OnOk result (self.new ≡ with_rest self.old self.new) }
         ensures rates { OnOk result (KeepsRates self.old.quotas self.new.quotas) }
     {
@@ -220,11 +239,16 @@ impl<P: PublicKey> Listener<P> {
         now: u64,
         arrival: Arrival<P>,
     ) -> Result<Stepped<P>, AllocError>
-        ensures answer { (k : Known) → StandsFor self.old k → IfOk result (λ s. s ≡ (arrival_turn self.old k way.old name now (reply_to self.old k arrival.from.ip now) arrival).stepped) }
-        ensures stands { (k : Known) → StandsFor self.old k → OnOk result (StandsFor self.new (known_after self.old k arrival.from.ip now)) }
-        ensures way { (k : Known) → StandsFor self.old k → OnOk result (way.new ≡ way_by (reply_to self.old k arrival.from.ip now) name arrival way.old) }
+        ensures answer { (k : Known) → StandsFor self.old k
+            → IfOk result (λ s. s
+            ≡ stepped_by (reply_to self.old k arrival.from.ip now) name arrival self.old.handshake_timeout now) }
+        ensures stands { (k : Known) → StandsFor self.old k
+            → OnOk result (StandsFor self.new (known_after self.old k arrival.from.ip now)) }
+        ensures way { (k : Known) → StandsFor self.old k
+            → OnOk result (way.new ≡ way_by (reply_to self.old k arrival.from.ip now) name arrival way.old) }
         ensures arrivals { self.new.arrivals ≡ self.old.arrivals }
-        ensures places { (k : Known) → StandsFor self.old k → OnOk result (self.new.places ≡ places_after (reply_to self.old k arrival.from.ip now) self.old.places) }
+        ensures places { (k : Known) → StandsFor self.old k
+            → OnOk result (self.new.places ≡ places_after (reply_to self.old k arrival.from.ip now) self.old.places) }
         ensures rest { self.new ≡ with_rest self.old self.new }
         ensures rates { KeepsRates self.old.quotas self.new.quotas }
     {
@@ -232,10 +256,12 @@ impl<P: PublicKey> Listener<P> {
         self.tell(way, name, now, arrival, reply)
     }
 
-    // What the gates tell an arrival from `ip`: the first that refuses it, or that none does. It takes a place where none does.
+    // What the gates tell an arrival from `ip`: the first that refuses it, or that none does. It takes a place where
+    // none does.
     fn judge(&mut self, ip: &IpAddr, now: u64) -> Result<Reply, AllocError>
         ensures reply { (k : Known) → StandsFor self.old k → IfOk result (λ r. r ≡ reply_to self.old k ip.now now) }
-        ensures stands { (k : Known) → StandsFor self.old k → OnOk result (StandsFor self.new (known_after self.old k ip.now now)) }
+        ensures stands { (k : Known) → StandsFor self.old k
+            → OnOk result (StandsFor self.new (known_after self.old k ip.now now)) }
         ensures places { IfOk result (λ r. self.new.places ≡ places_after r self.old.places) }
         ensures arrivals { self.new.arrivals ≡ self.old.arrivals }
         ensures rest { self.new ≡ with_rest self.old self.new }

@@ -32,7 +32,8 @@ impl Model for Quotas {
 // Forgets what no longer matters. No later answer changes.
 fn forget(limiter: &mut KeyedRateLimiter<IpAddr>)
     ensures rate { limiter.new.rate ≡ limiter.old.rate }
-    ensures stands { (past : Address → List ℕ) (latest : ℕ) → StandsForEach ip_cmp limiter.old past latest → StandsForEach ip_cmp limiter.new past latest }
+    ensures stands { (past : Address → List ℕ) (latest : ℕ) → StandsForEach ip_cmp limiter.old past latest
+        → StandsForEach ip_cmp limiter.new past latest }
     ensures forgets { KeepsOnlyRecent ip_cmp limiter.new }
 {
     limiter.retain_recent(0);
@@ -68,7 +69,8 @@ impl Quotas {
         }
     }
 
-    // Counts an arrival. Where more were counted than may be, what no longer matters is forgotten first: no later answer changes.
+    // Counts an arrival. Where more were counted than may be, what no longer matters is forgotten first: no later
+    // answer changes.
     fn count(&mut self)
         ensures rates { KeepsRates self.old self.new }
         ensures stands { (p : Passed) → StandsFor self.old p → StandsFor self.new p }
@@ -85,11 +87,13 @@ impl Quotas {
         self.counted = 1;
     }
 
-    // Holds an arrival from `ip` against both quotas, at the moment `now`. Each is charged where it doesn't refuse, whatever the other does.
+    // Holds an arrival from `ip` against both quotas, at the moment `now`. Each is charged where it doesn't refuse,
+    // whatever the other does.
     pub(super) fn check(&mut self, ip: &IpAddr, now: u64) -> Result<(bool, bool), AllocError>
         ensures rates { KeepsRates self.old self.new }
         ensures answer { (p : Passed) → StandsFor self.old p → IfOk result (λ r. r ≡ verdict self.old p ip.now now) }
-        ensures stands { (p : Passed) → StandsFor self.old p → OnOk result (StandsFor self.new (passed_after self.old p ip.now now)) }
+        ensures stands { (p : Passed) → StandsFor self.old p
+            → OnOk result (StandsFor self.new (passed_after self.old p ip.now now)) }
         ensures counted { OnOk result (self.new.counted ≡ counted_after self.old.counted) }
     {
         self.count();
