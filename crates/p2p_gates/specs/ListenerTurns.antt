@@ -1,5 +1,5 @@
 -- The turns of a listener: an update first, and then its oldest arrival.
-use Rattle.std.specs.Prelude.{ℕ, drop, List, slice_get, Option, Some, None}
+use Rattle.std.specs.Prelude.{ℕ, Bool, true, false, drop, List, slice_get, Option, Some, None}
 use Rattle.p2p_address.specs.declared.ip.IpAddr.{IpAddr}
 use Rattle.p2p_runtime.specs.QuotaPlaces.{Places}
 use Rattle.p2p_tracker_mailbox.specs.Lines.{begun}
@@ -13,6 +13,7 @@ use Rattle.p2p_gates.specs.declared.arrival.Reply.{Reply}
 use Rattle.p2p_gates.specs.declared.arrival.Reply.TheVariants as reply
 use Rattle.p2p_gates.specs.declared.stepped.Input.TheVariants as input
 use Rattle.p2p_gates.specs.declared.stepped.Left.TheVariants as left
+use Rattle.p2p_gates.specs.declared.stepped.Outcome.{Outcome}
 use Rattle.p2p_gates.specs.declared.stepped.Outcome.TheVariants as outcome
 use Rattle.p2p_gates.specs.declared.stepped.Put.{Put}
 use Rattle.p2p_gates.specs.declared.stepped.Put.TheVariants as put
@@ -38,6 +39,17 @@ module _ {P : Type 0} where
   abbrev pub way_by : Reply → ℕ → Arrival P → Mailbox P → Mailbox P
   way_by reply.Admitted name a m = with_put (asks_for name a) (record m { handshakes = begun m.handshakes name })
   way_by r name a m = m
+
+module _ {P : Type 0} where
+  -- a handshake begins
+  abbrev pub is_admitted : Outcome P → Bool
+  is_admitted (outcome.Admitted h) = true
+  is_admitted _ = false
+
+  -- a step began a handshake
+  abbrev pub begins : Stepped P → Bool
+  begins stepped.Idle = false
+  begins (stepped.Served took p dropped o) = is_admitted o
 
 -- a turn of a listener: what its step answers, the arrivals that still wait, the places of handshakes, what its gates
 -- go by, and the tracker's mailbox then

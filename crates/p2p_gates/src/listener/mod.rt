@@ -5,7 +5,7 @@ ghost use Rattle.p2p_address.specs.declared.ip.IpAddr.{IpAddr as Address};
 ghost use Rattle.p2p_tracker_directory.specs.Listed.{is_heard};
 ghost use Rattle.p2p_gates.specs.Gates.{reply_to, known_after, places_after};
 ghost use Rattle.p2p_gates.specs.Listening.{Known, StandsFor, is_registered, with_arrival, with_rest, new_listener, nothing_known};
-ghost use Rattle.p2p_gates.specs.ListenerTurns.{stepped_by, way_by, refused_over, receive_turn, listener_turn};
+ghost use Rattle.p2p_gates.specs.ListenerTurns.{begins, stepped_by, way_by, refused_over, receive_turn, listener_turn};
 ghost use Rattle.p2p_gates.specs.Quotas.{KeepsRates};
 ghost use Rattle.p2p_gates.specs.Stepping.{gone_on};
 ghost use Rattle.p2p_gates.specs.declared.stepped.Input.TheVariants as input;
@@ -126,7 +126,7 @@ impl<P: PublicKey> Listener<P> {
         self.arrivals.put(Arrival { from, key, link })
     }
 
-    /// Frees the place of a handshake that has ended. It takes no memory.
+    /// Frees the place of a handshake that has ended. It takes no memory. A step that began a handshake has taken one.
     pub fn ended(&mut self)
         requires { 0 < self.old.places.held }
         ensures held { self.new.places.held + 1 ≡ self.old.places.held }
@@ -156,6 +156,7 @@ impl<P: PublicKey> Listener<P> {
             → OnOk result (self.new.arrivals ≡ (listener_turn self.old k way.old name now).arrivals) }
         ensures places { (k : Known) → StandsFor self.old k
             → OnOk result (self.new.places ≡ (listener_turn self.old k way.old name now).places) }
+        ensures placed { IfOk result (λ s. begins s ≡ true → 0 < self.new.places.held) }
         ensures rest { OnOk result (self.new ≡ with_rest self.old self.new) }
         ensures rates { OnOk result (KeepsRates self.old.quotas self.new.quotas) }
         ensures memory { OnErr result (self.new.has_failed ≡ true) }
@@ -185,6 +186,7 @@ impl<P: PublicKey> Listener<P> {
             → OnOk result (self.new.arrivals ≡ (listener_turn self.old k way.old name now).arrivals) }
         ensures places { (k : Known) → StandsFor self.old k
             → OnOk result (self.new.places ≡ (listener_turn self.old k way.old name now).places) }
+        ensures placed { IfOk result (λ s. begins s ≡ true → 0 < self.new.places.held) }
         ensures rest { OnOk result (self.new ≡ with_rest self.old self.new) }
         ensures rates { OnOk result (KeepsRates self.old.quotas self.new.quotas) }
     {
@@ -222,6 +224,7 @@ impl<P: PublicKey> Listener<P> {
             → OnOk result (self.new.arrivals ≡ (receive_turn self.old k way.old name now).arrivals) }
         ensures places { (k : Known) → StandsFor self.old k
             → OnOk result (self.new.places ≡ (receive_turn self.old k way.old name now).places) }
+        ensures placed { IfOk result (λ s. begins s ≡ true → 0 < self.new.places.held) }
         ensures rest { OnOk result (self.new ≡ with_rest self.old self.new) }
         ensures rates { OnOk result (KeepsRates self.old.quotas self.new.quotas) }
     {
@@ -249,6 +252,7 @@ impl<P: PublicKey> Listener<P> {
         ensures arrivals { self.new.arrivals ≡ self.old.arrivals }
         ensures places { (k : Known) → StandsFor self.old k
             → OnOk result (self.new.places ≡ places_after (reply_to self.old k arrival.from.ip now) self.old.places) }
+        ensures placed { IfOk result (λ s. begins s ≡ true → 0 < self.new.places.held) }
         ensures rest { self.new ≡ with_rest self.old self.new }
         ensures rates { KeepsRates self.old.quotas self.new.quotas }
     {
