@@ -1,0 +1,4 @@
+pub mod Charged
+pub mod Emptied
+pub mod Orders
+pub mod Turning

@@ -1,0 +1,11 @@
+pub mod AttemptTurns
+pub mod Attempting
+pub mod DialerTurns
+pub mod Dialing
+pub mod Gates
+pub mod HandshakeTurns
+pub mod Handshaking
+pub mod ListenerTurns
+pub mod Listening
+pub mod Quotas
+pub mod Stepping

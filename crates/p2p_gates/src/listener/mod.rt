@@ -1,0 +1,352 @@
+//! `Listener`, who takes arrivals through the gates.
+ghost use Rattle.std.specs.Prelude.{◌≡◌, ℕ, ◌<◌, ◌+◌, ◌∷◌, ◌++◌, true, false, [], Some, None, IfOk, OnOk, IsErr, OnErr, drop};
+ghost use Rattle.std.specs.BTreeSet.{IsFromIterResult};
+ghost use Rattle.p2p_address.specs.declared.ip.IpAddr.{IpAddr as Address};
+ghost use Rattle.p2p_tracker_directory.specs.Listed.{is_heard};
+ghost use Rattle.p2p_gates.specs.Gates.{reply_to, known_after, places_after};
+ghost use Rattle.p2p_gates.specs.Listening.{Known, StandsFor, is_registered, with_arrival, with_rest, new_listener, nothing_known};
+ghost use Rattle.p2p_gates.specs.ListenerTurns.{begins, stepped_by, way_by, refused_over, receive_turn, listener_turn};
+ghost use Rattle.p2p_gates.specs.Quotas.{KeepsRates};
+ghost use Rattle.p2p_gates.specs.Stepping.{gone_on};
+ghost use Rattle.p2p_gates.specs.declared.stepped.Input.TheVariants as input;
+ghost use Rattle.p2p_gates.specs.declared.arrival.Reply.TheVariants as reply;
+
+mod quotas;
+
+use crate::arrival::{Arrival, Reply};
+use crate::config::Config;
+use crate::handshake::Handshake;
+use crate::line::Line;
+use crate::stepped::{Input, Left, Outcome, Put, Stepped};
+use p2p_address::{IpAddr, SocketAddr, is_global};
+use p2p_base::PublicKey;
+use p2p_runtime::Limiter;
+use p2p_tracker_mailbox::Mailbox;
+use quotas::Quotas;
+use std::alloc::{AllocError, Global};
+use std::collections::BTreeSet;
+use std::marker::Model;
+
+/// Takes arrivals through the gates, in the order in which they came, and begins a handshake for each that none
+/// refuses.
+///
+/// The gates are, in order: whether the address is global, or others may connect; whether it is one that the listener
+/// was told of, or that isn't looked at; the quotas of its address and of its subnet, each of which is charged where it
+/// doesn't refuse; and the places of handshakes. The cost of an arrival grows with the logarithm of the addresses that
+/// are kept.
+///
+/// Ports `Actor` of commonware-p2p's listener.
+#[derive(Drop)]
+pub struct Listener<P> {
+    alloc: Global,
+    allow_private_ips: bool,
+    bypass_ip_check: bool,
+    handshake_timeout: u64,
+    arrivals: Line<Arrival<P>>,
+    registered: BTreeSet<IpAddr>,
+    quotas: Quotas,
+    places: Limiter,
+    has_failed: bool,
+}
+
+impl<P> Model for Listener<P> {
+    ghost use Rattle.p2p_gates.specs.Listening.{Listening};
+
+    ghost Value = { Listening P };
+
+    ghost view = { λ l. record {
+      allow_private_ips = l.allow_private_ips;
+      bypass_ip_check = l.bypass_ip_check;
+      handshake_timeout = l.handshake_timeout;
+      arrivals = l.arrivals;
+      registered = l.registered.keys;
+      quotas = l.quotas;
+      places = l.places;
+      has_failed = l.has_failed;
+    } };
+}
+
+// The set of these.
+fn set_of<K: Ord + Copy>(alloc: Global, items: &[K]) -> Result<BTreeSet<K>, AllocError>
+    ensures { IfOk result (λ s. IsFromIterResult K.cmp items.now s) }
+{
+    items.iter().copied().collect(alloc)
+}
+
+// These addresses, in order.
+fn in_order(alloc: Global, addresses: &[IpAddr]) -> Result<BTreeSet<IpAddr>, AllocError>
+    ensures { IfOk result (λ s. (ip : Address) → is_registered s.keys ip ≡ is_heard addresses.now ip) }
+{
+    Ok(set_of(alloc, addresses)?)
+}
+
+// Whether an address stands among these.
+fn is_registered(addresses: &BTreeSet<IpAddr>, ip: &IpAddr) -> bool
+    ensures { result ≡ is_registered addresses.now.keys ip.now }
+{
+    addresses.contains(ip)
+}
+
+impl<P: PublicKey> Listener<P> {
+    /// A listener that was told of no address, for which no arrival waits.
+    ///
+    /// `Err` only where memory runs out.
+    pub fn new(alloc: Global, cfg: Config) -> Result<Listener<P>, AllocError>
+        ensures listener { IfOk result (λ l. l ≡ new_listener cfg l.quotas) }
+        ensures stands { IfOk result (λ l. StandsFor l nothing_known) }
+        ensures ip_rate { IfOk result (λ l. l.quotas.addresses.rate ≡ cfg.allowed_handshake_rate_per_ip) }
+        ensures subnet_rate { IfOk result (λ l. l.quotas.subnets.rate ≡ cfg.allowed_handshake_rate_per_subnet) }
+    {
+        let quotas = Quotas::new(
+            alloc,
+            cfg.allowed_handshake_rate_per_ip,
+            cfg.allowed_handshake_rate_per_subnet,
+        );
+        Ok(Listener {
+            alloc,
+            allow_private_ips: cfg.allow_private_ips,
+            bypass_ip_check: cfg.bypass_ip_check,
+            handshake_timeout: cfg.handshake_timeout,
+            arrivals: Line::none(alloc),
+            registered: BTreeSet::new(alloc),
+            quotas,
+            places: Limiter::new(cfg.max_concurrent_handshakes),
+            has_failed: false,
+        })
+    }
+
+    /// Puts an arrival behind those that wait: a peer with this key connects from there over this link.
+    ///
+    /// `Err` only where memory runs out, and nothing changes then.
+    pub fn arrive(&mut self, from: SocketAddr, key: P, link: u64) -> Result<(), AllocError>
+        ensures after { OnOk result
+            (self.new ≡ with_arrival self.old (record { from = from; key = key; link = link })) }
+        ensures memory { OnErr result (self.new ≡ self.old) }
+    {
+        self.arrivals.put(Arrival { from, key, link })
+    }
+
+    /// Frees the place of a handshake that has ended. It takes no memory. A step that began a handshake has taken one.
+    pub fn ended(&mut self)
+        requires { 0 < self.old.places.held }
+        ensures held { self.new.places.held + 1 ≡ self.old.places.held }
+        ensures max { self.new.places.max ≡ self.old.places.max }
+        ensures rest { self.new ≡ record self.old { places = self.new.places } }
+    {
+        self.places.release();
+    }
+
+    /// Takes the addresses that the tracker told, if it did. Otherwise takes the oldest arrival through the gates. One
+    /// that is admitted begins a handshake of the name `name`, which no earlier step was given.
+    ///
+    /// `Err` only where memory runs out. Each later step then answers so.
+    pub fn step(
+        &mut self,
+        way: &mut Mailbox<P>,
+        name: u64,
+        now: u64,
+    ) -> Result<Stepped<P>, AllocError>
+        ensures answer { (k : Known) → StandsFor self.old k
+            → IfOk result (λ s. s ≡ (listener_turn self.old k way.old name now).stepped) }
+        ensures stands { (k : Known) → StandsFor self.old k
+            → OnOk result (StandsFor self.new (listener_turn self.old k way.old name now).known) }
+        ensures way { (k : Known) → StandsFor self.old k
+            → OnOk result (way.new ≡ (listener_turn self.old k way.old name now).way) }
+        ensures arrivals { (k : Known) → StandsFor self.old k
+            → OnOk result (self.new.arrivals ≡ (listener_turn self.old k way.old name now).arrivals) }
+        ensures places { (k : Known) → StandsFor self.old k
+            → OnOk result (self.new.places ≡ (listener_turn self.old k way.old name now).places) }
+        ensures placed { IfOk result (λ s. begins s ≡ true → 0 < self.new.places.held) }
+        ensures rest { OnOk result (self.new ≡ with_rest self.old self.new) }
+        ensures rates { OnOk result (KeepsRates self.old.quotas self.new.quotas) }
+        ensures memory { OnErr result (self.new.has_failed ≡ true) }
+        ensures failed { self.old.has_failed ≡ true → IsErr result }
+    {
+        if self.has_failed {
+            return Err(AllocError);
+        }
+        match self.work(way, name, now) {
+            Ok(stepped) => Ok(stepped),
+            Err(_) => {
+                self.has_failed = true;
+                Err(AllocError)
+            }
+        }
+    }
+
+    // What a step does.
+    fn work(&mut self, way: &mut Mailbox<P>, name: u64, now: u64) -> Result<Stepped<P>, AllocError>
+        ensures answer { (k : Known) → StandsFor self.old k
+            → IfOk result (λ s. s ≡ (listener_turn self.old k way.old name now).stepped) }
+        ensures stands { (k : Known) → StandsFor self.old k
+            → OnOk result (StandsFor self.new (listener_turn self.old k way.old name now).known) }
+        ensures way { (k : Known) → StandsFor self.old k
+            → OnOk result (way.new ≡ (listener_turn self.old k way.old name now).way) }
+        ensures arrivals { (k : Known) → StandsFor self.old k
+            → OnOk result (self.new.arrivals ≡ (listener_turn self.old k way.old name now).arrivals) }
+        ensures places { (k : Known) → StandsFor self.old k
+            → OnOk result (self.new.places ≡ (listener_turn self.old k way.old name now).places) }
+        ensures placed { IfOk result (λ s. begins s ≡ true → 0 < self.new.places.held) }
+        ensures rest { OnOk result (self.new ≡ with_rest self.old self.new) }
+        ensures rates { OnOk result (KeepsRates self.old.quotas self.new.quotas) }
+    {
+        match way.heard.take() {
+            Some(addresses) => self.register(addresses.as_slice()),
+            None => self.receive(way, name, now),
+        }
+    }
+
+    // Keeps the addresses that peers may come from.
+    fn register(&mut self, addresses: &[IpAddr]) -> Result<Stepped<P>, AllocError>
+        ensures answer { IfOk result (λ s. s ≡ gone_on input.Update None) }
+        ensures stands { (k : Known) → StandsFor self.old k
+            → OnOk result (StandsFor self.new (record k { addresses = addresses.now })) }
+        ensures after { self.new ≡ record self.old { registered = self.new.registered } }
+    {
+        self.registered = in_order(self.alloc, addresses)?;
+        Ok(Stepped::goes_on(Input::Update, None))
+    }
+
+    // Takes the oldest arrival through the gates, if there is one.
+    fn receive(
+        &mut self,
+        way: &mut Mailbox<P>,
+        name: u64,
+        now: u64,
+    ) -> Result<Stepped<P>, AllocError>
+        ensures answer { (k : Known) → StandsFor self.old k
+            → IfOk result (λ s. s ≡ (receive_turn self.old k way.old name now).stepped) }
+        ensures stands { (k : Known) → StandsFor self.old k
+            → OnOk result (StandsFor self.new (receive_turn self.old k way.old name now).known) }
+        ensures way { (k : Known) → StandsFor self.old k
+            → OnOk result (way.new ≡ (receive_turn self.old k way.old name now).way) }
+        ensures arrivals { (k : Known) → StandsFor self.old k
+            → OnOk result (self.new.arrivals ≡ (receive_turn self.old k way.old name now).arrivals) }
+        ensures places { (k : Known) → StandsFor self.old k
+            → OnOk result (self.new.places ≡ (receive_turn self.old k way.old name now).places) }
+        ensures placed { IfOk result (λ s. begins s ≡ true → 0 < self.new.places.held) }
+        ensures rest { OnOk result (self.new ≡ with_rest self.old self.new) }
+        ensures rates { OnOk result (KeepsRates self.old.quotas self.new.quotas) }
+    {
+        match self.arrivals.take() {
+            Some(arrival) => self.pass(way, name, now, arrival),
+            None => Ok(Stepped::Idle),
+        }
+    }
+
+    // Takes an arrival through the gates.
+    fn pass(
+        &mut self,
+        way: &mut Mailbox<P>,
+        name: u64,
+        now: u64,
+        arrival: Arrival<P>,
+    ) -> Result<Stepped<P>, AllocError>
+        ensures answer { (k : Known) → StandsFor self.old k
+            → IfOk result (λ s. s
+            ≡ stepped_by (reply_to self.old k arrival.from.ip now) name arrival self.old.handshake_timeout now) }
+        ensures stands { (k : Known) → StandsFor self.old k
+            → OnOk result (StandsFor self.new (known_after self.old k arrival.from.ip now)) }
+        ensures way { (k : Known) → StandsFor self.old k
+            → OnOk result (way.new ≡ way_by (reply_to self.old k arrival.from.ip now) name arrival way.old) }
+        ensures arrivals { self.new.arrivals ≡ self.old.arrivals }
+        ensures places { (k : Known) → StandsFor self.old k
+            → OnOk result (self.new.places ≡ places_after (reply_to self.old k arrival.from.ip now) self.old.places) }
+        ensures placed { IfOk result (λ s. begins s ≡ true → 0 < self.new.places.held) }
+        ensures rest { self.new ≡ with_rest self.old self.new }
+        ensures rates { KeepsRates self.old.quotas self.new.quotas }
+    {
+        let reply = self.judge(&arrival.from.ip, now)?;
+        self.tell(way, name, now, arrival, reply)
+    }
+
+    // What the gates tell an arrival from `ip`: the first that refuses it, or that none does. It takes a place where
+    // none does.
+    fn judge(&mut self, ip: &IpAddr, now: u64) -> Result<Reply, AllocError>
+        ensures reply { (k : Known) → StandsFor self.old k → IfOk result (λ r. r ≡ reply_to self.old k ip.now now) }
+        ensures stands { (k : Known) → StandsFor self.old k
+            → OnOk result (StandsFor self.new (known_after self.old k ip.now now)) }
+        ensures places { IfOk result (λ r. self.new.places ≡ places_after r self.old.places) }
+        ensures arrivals { self.new.arrivals ≡ self.old.arrivals }
+        ensures rest { self.new ≡ with_rest self.old self.new }
+        ensures rates { KeepsRates self.old.quotas self.new.quotas }
+    {
+        if !self.allow_private_ips && !is_global(ip) {
+            return Ok(Reply::Private);
+        }
+        if !self.bypass_ip_check && !is_registered(&self.registered, ip) {
+            return Ok(Reply::Unregistered);
+        }
+        let (ip, subnet) = self.quotas.check(ip, now)?;
+        if ip || subnet {
+            return Ok(Reply::Limited { ip, subnet });
+        }
+        if !self.places.try_acquire() {
+            return Ok(Reply::TooMany);
+        }
+        Ok(Reply::Admitted)
+    }
+
+    // Begins the handshake of an arrival that was admitted. Any other goes no further.
+    fn tell(
+        &self,
+        way: &mut Mailbox<P>,
+        name: u64,
+        now: u64,
+        arrival: Arrival<P>,
+        reply: Reply,
+    ) -> Result<Stepped<P>, AllocError>
+        ensures answer { IfOk result (λ s. s ≡ stepped_by reply name arrival self.now.handshake_timeout now) }
+        ensures way { OnOk result (way.new ≡ way_by reply name arrival way.old) }
+    {
+        match reply {
+            Reply::Admitted => self.begin(way, name, now, arrival),
+            Reply::Private => Ok(refused(arrival.link, Reply::Private)),
+            Reply::Unregistered => Ok(refused(arrival.link, Reply::Unregistered)),
+            Reply::Limited { ip, subnet } => {
+                Ok(refused(arrival.link, Reply::Limited { ip, subnet }))
+            }
+            Reply::TooMany => Ok(refused(arrival.link, Reply::TooMany)),
+        }
+    }
+
+    // Begins a handshake, and asks for it whether the peer may connect.
+    fn begin(
+        &self,
+        way: &mut Mailbox<P>,
+        name: u64,
+        now: u64,
+        arrival: Arrival<P>,
+    ) -> Result<Stepped<P>, AllocError>
+        ensures answer { IfOk result (λ s. s ≡ stepped_by reply.Admitted name arrival self.now.handshake_timeout now) }
+        ensures way { OnOk result (way.new ≡ way_by reply.Admitted name arrival way.old) }
+    {
+        let public_key = arrival.key;
+        let source_ip = arrival.from.ip;
+        way.handshakes.begin(name)?;
+        way.acceptable(public_key, source_ip, name)?;
+        let handshake = Handshake::new(name, arrival, self.handshake_timeout, now);
+        Ok(Stepped::Served {
+            took: Input::Arrival,
+            put: Some(Put::Acceptable {
+                public_key,
+                source_ip,
+                handshake: name,
+            }),
+            left: Left::Nothing,
+            outcome: Outcome::Admitted(handshake),
+        })
+    }
+}
+
+// An arrival that was refused for this reason.
+fn refused<P: PublicKey>(link: u64, reply: Reply) -> Stepped<P>
+    ensures { result ≡ refused_over link reply }
+{
+    Stepped::Served {
+        took: Input::Arrival,
+        put: None,
+        left: Left::Nothing,
+        outcome: Outcome::Refused { link, reply },
+    }
+}
