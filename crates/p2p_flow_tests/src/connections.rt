@@ -1,4 +1,6 @@
 //! Connections, from the spawner to their end, over a link in memory.
+ghost use Rattle.std.specs.Prelude.{◌≤◌, IfOk};
+
 use bytes::Bytes;
 use p2p_address::{Address, IpAddr, SocketAddr};
 use p2p_base::{Key, List, Map, Sent};
@@ -120,7 +122,10 @@ fn reservation(alloc: Global) -> Result<Reservation<Key>, Fail> {
 }
 
 // Channels 7 and 8 with one message a second, batches of two frames, and a ping every ten seconds.
-fn config(alloc: Global) -> Result<Config, AllocError> {
+fn config(alloc: Global) -> Result<Config, AllocError>
+    ensures mailbox { IfOk result (λ c. 1 ≤ c.mailbox_size) }
+    ensures batch { IfOk result (λ c. 1 ≤ c.send_batch_size) }
+{
     let mut channels = List::empty(alloc);
     if let Some(quota) = Quota::with_period(SECOND) {
         channels.push((7, quota))?;
