@@ -5,6 +5,8 @@
 #[cfg(test)]
 mod blocked;
 #[cfg(test)]
+mod connections;
+#[cfg(test)]
 mod inboxes;
 #[cfg(test)]
 mod killed;

@@ -316,6 +316,48 @@ fn each_recipient_gets_a_copy_or_a_cause(rt: HostRuntime) -> Result<(), Fail> {
     Ok(())
 }
 
+// The connection whose place the next step gives to another, and how many frames without priority wait for it.
+fn replaced(
+    actor: &mut Actor<Key>,
+    messenger: &mut Messenger<Key>,
+) -> Result<Option<(u64, usize)>, AllocError> {
+    match actor.step(messenger)? {
+        Stepped::Ready {
+            replaced: Some(link),
+            ..
+        } => Ok(Some((link.conn, link.relay.low_len()))),
+        _ => Ok(None),
+    }
+}
+
+// Whether the connections 24 and 30 have relays.
+fn lent(actor: &mut Actor<Key>) -> [bool; 2] {
+    let first = actor.relay(24).is_some();
+    [first, actor.relay(30).is_some()]
+}
+
+// What the connection 30 of the key 2 takes the place of, and which of the two has a relay: before that, after it, and after the release.
+fn replace(alloc: Global) -> Result<(Option<(u64, usize)>, [[bool; 2]; 3]), Fail> {
+    let (mut actor, mut messenger) = connected(alloc)?;
+    let _ = sent(alloc, &mut actor, &mut messenger, Recipients::All)?;
+    let before = lent(&mut actor);
+    ready(alloc, &mut messenger, Key(2), 30)?;
+    let replaced = replaced(&mut actor, &mut messenger)?;
+    let after = lent(&mut actor);
+    if let Some(mailbox) = messenger.mailbox() {
+        let _ = mailbox.release(Key(2))?;
+    }
+    let _ = actor.step(&mut messenger)?;
+    Ok((replaced, [before, after, lent(&mut actor)]))
+}
+
+#[test]
+fn a_second_connection_of_a_key_hands_back_the_first(rt: HostRuntime) -> Result<(), Fail> {
+    let lent = [[true, false], [false, true], [false, false]];
+    assert_eq!(rt; replace(rt.alloc())?, (Some((24, 1)), lent));
+    Ok(())
+}
+
 // Whether the next step tells these subscriptions of these peers.
 fn is_told(
     alloc: Global,
