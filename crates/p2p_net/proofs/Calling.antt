@@ -23,13 +23,12 @@ use Rattle.p2p_log_rules.specs.Facts.{events_of, has_started, registered, regist
 use Rattle.p2p_log_rules.specs.Effect.{only, row, effect, entry_of, start_row, sent_row, send_row, read_row, oldest_read, recv_row, mailbox_size_at, router_capacity}
 use Rattle.p2p_log_rules.specs.Valid.{fits_usize, may_register, may_act}
 use Rattle.p2p_net_queues.specs.Tables.{waiting, popped_at}
-use Rattle.p2p_net_queues.proofs.Going.{line-taken}
 use Rattle.p2p_net_router.specs.Stands.{StandsFor}
 use Rattle.p2p_net_router.specs.declared.router.Router.{Router}
 use Rattle.p2p_net_channels.specs.declared.channels.Channels.{Channels}
 use Rattle.p2p_net_channels.specs.Channels.{capacity_at, registered_with, is_message, read_on, read_from}
 use Rattle.p2p_net_channels.specs.Stands.{ChannelsStand}
-use Rattle.p2p_net_queues.proofs.Holding.{waits_taken}
+use Rattle.p2p_net_queues.proofs.Holding.{holds_taken}
 use Rattle.p2p_net_channels.proofs.Changes.{channels_moved, same_channel}
 use Rattle.p2p_net_channels.proofs.Registering.{channels_registered}
 use Rattle.p2p_net_links.specs.Stands.{LinksStand}
@@ -198,19 +197,11 @@ read_stands configs log e n c ch (y ∷ ys) s is acts takes puts ends = read_fir
         → (i : Item) → y.item ≡ i → e.takes ≡ (read_row (name_of y) i).takes → e.puts ≡ (read_row (name_of y) i).puts → e.ends ≡ (read_row (name_of y) i).ends
         → ChannelsStand configs (log ++ e ∷ []) n (cond (is_message i) (record ch { waiting = popped_at ch.waiting c }) ch)
     read_first configs log e n c ch y ys s is acts (item.Message bytes copy from) it takes puts ends =
-        let first : line log (queue.Channel n c) ≡ y ∷ ys = sym (s.waits c) ∙ is in
         channels_moved configs log e n ch (popped_at ch.waiting c) s (ap (registers_at configs n) acts)
-        (λ f.
-        waits_taken (queue.Channel n) (same_channel n) log c y ys ch.waiting s.waits first f
-        ∙ sym
-        (line-taken log e (queue.Channel n c) y ys (queue.Channel n f) first (ap (λ t. t ++ flat_map ended_item e.ends) takes ∙ ap (λ d. name_of y ∷ flat_map ended_item d) ends)
-        ∙ (ap (λ p. cond (same_queue (queue.Channel n c) (queue.Channel n f)) ys (line log (queue.Channel n f)) ++ filter (stands_in (queue.Channel n f)) (placed (length log) 0 p)) puts ∙ append-nil (cond (same_queue (queue.Channel n c) (queue.Channel n f)) ys (line log (queue.Channel n f))))))
-    read_first configs log e n c ch y ys s is acts (item.Subscribe k) it takes puts ends = still configs log e n c ch s acts takes puts ends
-    read_first configs log e n c ch y ys s is acts (item.Ready k key) it takes puts ends = still configs log e n c ch s acts takes puts ends
-    read_first configs log e n c ch y ys s is acts (item.Content k f p d to) it takes puts ends = still configs log e n c ch s acts takes puts ends
-    read_first configs log e n c ch y ys s is acts (item.Peers ks) it takes puts ends = still configs log e n c ch s acts takes puts ends
-    read_first configs log e n c ch y ys s is acts item.Answer it takes puts ends = still configs log e n c ch s acts takes puts ends
-    read_first configs log e n c ch y ys s is acts (item.Frame k f) it takes puts ends = still configs log e n c ch s acts takes puts ends
+        (holds_taken (queue.Channel n) (same_channel n) log e c y ys ch.waiting s.waits
+        (record { first = sym (s.waits c) ∙ is; gone = ap (λ t. t ++ flat_map ended_item e.ends) takes ∙ ap (λ d. name_of y ∷ flat_map ended_item d) ends })
+        (λ f. ap (λ p. filter (stands_in (queue.Channel n f)) (placed (length log) 0 p)) puts))
+    read_first configs log e n c ch y ys s is acts _ it takes puts ends = still configs log e n c ch s acts takes puts ends
 
 read_on_performs : (configs : List Config) (log : List Entry) (at seed n c : ℕ) (o : Option ℕ) (x y : Node) (l links : Links) (r : Row) → NodeStands configs log n x → LinksStand log l
     → capacity_at x.channels c ≡ o → ReadsOn o c x y r → links ≡ l → Performs configs log (asked at seed (act.Recv c n)) n y links r

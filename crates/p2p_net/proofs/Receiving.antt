@@ -29,7 +29,7 @@ use Rattle.p2p_net_channels.specs.declared.channels.Channels.{Channels}
 use Rattle.p2p_net_channels.specs.Arrivals.{arrival_of, arrival_in, delivered}
 use Rattle.p2p_net_channels.specs.Channels.{capacity_at, is_full, message_put, delivered_to}
 use Rattle.p2p_net_channels.specs.Stands.{ChannelsStand}
-use Rattle.p2p_net_queues.proofs.Holding.{waits_put}
+use Rattle.p2p_net_queues.proofs.Holding.{holds_put}
 use Rattle.p2p_net_channels.proofs.Changes.{channels_moved, same_channel}
 use Rattle.p2p_net_connections.specs.Connections.{half_on, runs_on}
 use Rattle.p2p_net_connections.specs.Stands.{ConnectionsStand}
@@ -148,12 +148,9 @@ off_channels configs log e conn n s y ys ch true from m st h none puts =
     ∙ (ap (λ p. line log (queue.Channel n c) ++ filter (stands_in (queue.Channel n c)) (placed (length log) 0 p)) puts ∙ append-nil (line log (queue.Channel n c))))))
 off_channels configs log e conn n s y ys ch false from m st h none puts =
     channels_moved configs log e n ch (pushed_at ch.waiting m.channel (message_put (length log) 0 n from m)) st none
-    (λ c.
-    waits_put (queue.Channel n) (same_channel n) log m.channel (message_put (length log) 0 n from m) ch.waiting st.waits c
-    ∙ sym
-    (line_off log e conn s y ys (queue.Channel n c) h
-    ∙ (ap (λ b. cond b ys (line log (queue.Channel n c)) ++ filter (stands_in (queue.Channel n c)) (placed (length log) 0 e.puts)) (link_channel conn n c s)
-    ∙ ap (λ p. line log (queue.Channel n c) ++ filter (stands_in (queue.Channel n c)) (placed (length log) 0 p)) puts)))
+    (holds_put (queue.Channel n) (same_channel n) log e (queue.Link conn s) y ys m.channel (message_put (length log) 0 n from m) ch.waiting st.waits
+    (record { first = h.first; gone = ap (λ t. t ++ flat_map ended_item e.ends) h.takes ∙ ap (λ d. name_of y ∷ d) h.ends }) (λ c. link_channel conn n c s)
+    (λ c. ap (λ p. filter (stands_in (queue.Channel n c)) (placed (length log) 0 p)) puts))
 
 delivered_takes : (full : Bool) (n : ℕ) (name : ℕ × ℕ) (from : Key) (m : Arrived) → (delivered full n from m (taken_row name)).takes ≡ name ∷ []
 delivered_takes true n name from m = refl

@@ -8,10 +8,11 @@ use Rattle.p2p_log.specs.declared.queue.Queue.{Queue}
 use Rattle.p2p_log.specs.declared.item.Envelope.{Envelope}
 use Rattle.p2p_log.specs.declared.entry.Entry.{Entry}
 use Rattle.p2p_log.specs.QueueCode.{same_queue}
-use Rattle.p2p_log.specs.Lines.{live_from, line}
+use Rattle.p2p_log.specs.Lines.{name_of, goes, live_from, line}
 use Rattle.p2p_log.proofs.Queues.{same_queue-sym}
 use Rattle.p2p_net_queues.specs.Lines.{HoldsLines}
 use Rattle.p2p_net_queues.specs.Tables.{waiting, pushed_at, popped_at, cleared_at, without_at}
+use Rattle.p2p_net_queues.proofs.Going.{put_in, line-taken}
 use Rattle.p2p_net_queues.proofs.Tables.{waiting-pushed_at, waiting-popped_at, waiting-cleared_at, waiting-without_at}
 
 -- an empty table, and no entry
@@ -27,6 +28,11 @@ holds_frame f log e w holds lines k = holds k ∙ sym (lines k)
 pub longer : (b : Bool) (l xs : List Envelope) → cond b (l ++ xs) l ≡ l ++ cond b xs []
 longer true l xs = refl
 longer false l xs = sym (append-nil l)
+
+-- the entry takes the first item of a queue, or ends it, and no other item
+pub record TakesFirst (log : List Entry) (e : Entry) (p : Queue) (x : Envelope) (rest : List Envelope) : Type 0 where
+  pub first : line log p ≡ x ∷ rest
+  pub gone : goes e ≡ name_of x ∷ []
 
 -- the queue of each key is one of these, and different keys have different queues
 module _ (f : ℕ → Queue) (same : (c d : ℕ) → is_at (nat_cmp c) d ≡ same_queue (f c) (f d)) where
@@ -78,3 +84,20 @@ module _ (f : ℕ → Queue) (same : (c d : ℕ) → is_at (nat_cmp c) d ≡ sam
       → (c : ℕ) → waiting (without_at w d i) c ≡ cond (same_queue (f d) (f c)) rest (line log (f c))
   waits_without log d i rest w waits is c =
       changed (λ l. remove l i) log d c w (without_at w d i) (waits c) (waiting-without_at d c i w) ∙ there (λ l. remove l i) log d c (same_queue (f d) (f c)) rest refl is
+
+  -- ---- an entry that takes the first item of a queue
+
+  -- of one of these queues, in which it puts nothing
+  pub holds_taken : (log : List Entry) (e : Entry) (d : ℕ) (x : Envelope) (rest : List Envelope) (w : List (ℕ × List Envelope)) → HoldsLines f log w → TakesFirst log e (f d) x rest → ((c : ℕ) → put_in log e (f c) ≡ [])
+      → HoldsLines f (log ++ e ∷ []) (popped_at w d)
+  holds_taken log e d x rest w holds t none c =
+      let left = cond (same_queue (f d) (f c)) rest (line log (f c)) in
+      waits_taken log d x rest w holds t.first c
+      ∙ sym (line-taken log e (f d) x rest (f c) t.first t.gone ∙ (ap (λ l. left ++ l) (none c) ∙ append-nil left))
+
+  -- of none of these queues, in one of which it puts an item
+  pub holds_put : (log : List Entry) (e : Entry) (p : Queue) (y : Envelope) (rest : List Envelope) (d : ℕ) (x : Envelope) (w : List (ℕ × List Envelope)) → HoldsLines f log w → TakesFirst log e p y rest → ((c : ℕ) → same_queue p (f c) ≡ false)
+      → ((c : ℕ) → put_in log e (f c) ≡ cond (same_queue (f c) (f d)) (x ∷ []) []) → HoldsLines f (log ++ e ∷ []) (pushed_at w d x)
+  holds_put log e p y rest d x w holds t apart puts c =
+      waits_put log d x w holds c
+      ∙ sym (line-taken log e p y rest (f c) t.first t.gone ∙ (ap (λ b. cond b rest (line log (f c)) ++ put_in log e (f c)) (apart c) ∙ ap (λ l. line log (f c) ++ l) (puts c)))
