@@ -43,6 +43,11 @@ abbrev pub has_message_first : Option Envelope → Bool
 has_message_first None = false
 has_message_first (Some x) = is_message x.item
 
+-- the first item, where it is a message
+abbrev pub message_first : Option Envelope → Option Envelope
+message_first None = None
+message_first (Some x) = cond (is_message x.item) (Some x) None
+
 -- the channels once the first item of one was read, where it is a message
 abbrev pub read_on : Option Envelope → ℕ → Channels → Channels
 read_on None c ch = ch

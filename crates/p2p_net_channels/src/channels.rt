@@ -4,7 +4,7 @@ ghost use Rattle.p2p_log_rules.specs.Effect.{oldest_read, read_row as read_row_o
 ghost use Rattle.p2p_log.specs.Lines.{name_of};
 ghost use Rattle.p2p_net_queues.specs.Tables.{waiting};
 ghost use Rattle.p2p_net_channels.specs.Arrivals.{delivered};
-ghost use Rattle.p2p_net_channels.specs.Channels.{no_channels, capacity_at, registered_with, is_full as full_test, delivered_to, is_message as message_test, has_message_first, read_from};
+ghost use Rattle.p2p_net_channels.specs.Channels.{no_channels, capacity_at, registered_with, is_full as full_test, delivered_to, is_message as message_test, has_message_first, message_first, read_from};
 
 use crate::arrival::Arrived;
 use p2p_base::Key;
@@ -157,6 +157,17 @@ impl Channels {
         }
     }
 
+    /// Takes the oldest message of a channel.
+    pub fn take(&mut self, channel: u64) -> Option<Envelope>
+        ensures message { result ≡ message_first (slice_get (waiting self.old.waiting channel) 0) }
+        ensures after { self.new ≡ read_from channel self.old }
+    {
+        if !self.has_message(channel) {
+            return None;
+        }
+        self.waiting.pop_at(channel)
+    }
+
     /// Takes the oldest message of a channel for its reader.
     ///
     /// `Err` only where there is no memory. The message may then be taken and told to nobody, and its node goes no further.
@@ -164,10 +175,7 @@ impl Channels {
         ensures row { IfOk result (λ r. r ≡ oldest_read (waiting self.old.waiting channel)) }
         ensures after { OnOk result (self.new ≡ read_from channel self.old) }
     {
-        if !self.has_message(channel) {
-            return Ok(only(alloc, Reply::Pending));
-        }
-        match self.waiting.pop_at(channel) {
+        match self.take(channel) {
             None => Ok(only(alloc, Reply::Pending)),
             Some(taken) => Ok(read_row(alloc, (taken.entry, taken.place), taken.item)?),
         }
