@@ -26,7 +26,7 @@ use Rattle.p2p_net_queues.specs.Tables.{waiting, popped_at}
 use Rattle.p2p_net_router.specs.Stands.{StandsFor}
 use Rattle.p2p_net_router.specs.declared.router.Router.{Router}
 use Rattle.p2p_net_channels.specs.declared.channels.Channels.{Channels}
-use Rattle.p2p_net_channels.specs.Channels.{capacity_at, registered_with, is_message, read_on, read_from}
+use Rattle.p2p_net_channels.specs.Channels.{capacity_at, registered_with, is_message, message_first, taken_on, read_from}
 use Rattle.p2p_net_channels.specs.Stands.{ChannelsStand}
 use Rattle.p2p_net_queues.proofs.Holding.{holds_taken}
 use Rattle.p2p_net_channels.proofs.Changes.{channels_moved, same_channel}
@@ -182,7 +182,7 @@ recv_is configs log n c k ch s has =
 
 -- the channels, once the first item of one was read
 read_stands : (configs : List Config) (log : List Entry) (e : Entry) (n c : ℕ) (ch : Channels) (xs : List Envelope) → ChannelsStand configs log n ch → waiting ch.waiting c ≡ xs → e.event.act ≡ act.Recv c n
-    → e.takes ≡ (oldest_read xs).takes → e.puts ≡ (oldest_read xs).puts → e.ends ≡ (oldest_read xs).ends → ChannelsStand configs (log ++ e ∷ []) n (read_on (slice_get xs 0) c ch)
+    → e.takes ≡ (oldest_read xs).takes → e.puts ≡ (oldest_read xs).puts → e.ends ≡ (oldest_read xs).ends → ChannelsStand configs (log ++ e ∷ []) n (taken_on (message_first (slice_get xs 0)) c ch)
 read_stands configs log e n c ch [] s is acts takes puts ends =
     channels_moved configs log e n ch ch.waiting s (ap (registers_at configs n) acts)
     (λ f. s.waits f ∙ sym (line-still log e e.reply (queue.Channel n f) (record { reply = refl; takes = takes; puts = puts; ends = ends })))
@@ -195,7 +195,7 @@ read_stands configs log e n c ch (y ∷ ys) s is acts takes puts ends = read_fir
 
     read_first : (configs : List Config) (log : List Entry) (e : Entry) (n c : ℕ) (ch : Channels) (y : Envelope) (ys : List Envelope) → ChannelsStand configs log n ch → waiting ch.waiting c ≡ y ∷ ys → e.event.act ≡ act.Recv c n
         → (i : Item) → y.item ≡ i → e.takes ≡ (read_row (name_of y) i).takes → e.puts ≡ (read_row (name_of y) i).puts → e.ends ≡ (read_row (name_of y) i).ends
-        → ChannelsStand configs (log ++ e ∷ []) n (cond (is_message i) (record ch { waiting = popped_at ch.waiting c }) ch)
+        → ChannelsStand configs (log ++ e ∷ []) n (taken_on (cond (is_message i) (Some y) None) c ch)
     read_first configs log e n c ch y ys s is acts (item.Message bytes copy from) it takes puts ends =
         channels_moved configs log e n ch (popped_at ch.waiting c) s (ap (registers_at configs n) acts)
         (holds_taken (queue.Channel n) (same_channel n) log e c y ys ch.waiting s.waits

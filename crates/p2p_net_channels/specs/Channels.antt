@@ -48,10 +48,11 @@ abbrev pub message_first : Option Envelope → Option Envelope
 message_first None = None
 message_first (Some x) = cond (is_message x.item) (Some x) None
 
--- the channels once the first item of one was read, where it is a message
-abbrev pub read_on : Option Envelope → ℕ → Channels → Channels
-read_on None c ch = ch
-read_on (Some x) c ch = cond (is_message x.item) (record ch { waiting = popped_at ch.waiting c }) ch
+-- the channels once this message of one was taken
+abbrev pub taken_on : Option Envelope → ℕ → Channels → Channels
+taken_on None c ch = ch
+taken_on (Some x) c ch = record ch { waiting = popped_at ch.waiting c }
 
+-- the channels once the oldest message of one was taken, where there is one
 abbrev pub read_from : ℕ → Channels → Channels
-read_from c ch = read_on (slice_get (waiting ch.waiting c) 0) c ch
+read_from c ch = taken_on (message_first (slice_get (waiting ch.waiting c) 0)) c ch
