@@ -134,9 +134,7 @@ router_home n (queue.Router m) h = ap (at router) (let e : m ≡ n = grind (arit
 router_home n (queue.Peers m c) h = ap (at router) (let e : m ≡ n = grind (arith, nat_tests) in e)
 router_home n (queue.High m c) h = ap (at router) (let e : m ≡ n = grind (arith, nat_tests) in e)
 router_home n (queue.Low m c) h = ap (at router) (let e : m ≡ n = grind (arith, nat_tests) in e)
-router_home n (queue.Ready m c) h = cc
-router_home n (queue.Link e s) h = cc
-router_home n (queue.Channel m c) h = cc
+router_home n _ h = cc
 
 line_of : (log : List Entry) (q : Queue) → filter (stands_in q) (live log) ≡ line log q
 unfolding line

@@ -31,35 +31,22 @@ router_kinds n (queue.Peers m c) h k = grind (arith, nat_tests)
 router_kinds n (queue.Ready m c) h k = grind (arith, nat_tests)
 router_kinds n (queue.High m c) h k = grind (arith, nat_tests)
 router_kinds n (queue.Low m c) h k = grind (arith, nat_tests)
-router_kinds n (queue.Link e s) h k = refl
-router_kinds n (queue.Channel m c) h k = refl
+router_kinds n _ h k = refl
 
 half_kinds : (n conn : ℕ) (q : Queue) → same_place (at router n) (home q) ≡ false → same_place (at connections n) (home q) ≡ false → same_place links (home q) ≡ false → in_half n conn q ≡ false
-half_kinds n conn (queue.Router m) h k l = refl
-half_kinds n conn (queue.Peers m c) h k l = refl
 half_kinds n conn (queue.Ready m c) h k l = grind (arith, nat_tests)
 half_kinds n conn (queue.High m c) h k l = grind (arith, nat_tests)
 half_kinds n conn (queue.Low m c) h k l = grind (arith, nat_tests)
 half_kinds n conn (queue.Link e s) h k l = cc
-half_kinds n conn (queue.Channel m c) h k l = refl
+half_kinds n conn _ h k l = refl
 
 link_kinds : (conn : ℕ) (q : Queue) → same_place links (home q) ≡ false → in_link conn q ≡ false
-link_kinds conn (queue.Router m) h = refl
-link_kinds conn (queue.Peers m c) h = refl
-link_kinds conn (queue.Ready m c) h = refl
-link_kinds conn (queue.High m c) h = refl
-link_kinds conn (queue.Low m c) h = refl
 link_kinds conn (queue.Link e s) h = cc
-link_kinds conn (queue.Channel m c) h = refl
+link_kinds conn _ h = refl
 
 channel_kinds : (n : ℕ) (q : Queue) → same_place (at channels n) (home q) ≡ false → in_channels n q ≡ false
-channel_kinds n (queue.Router m) h = refl
-channel_kinds n (queue.Peers m c) h = refl
-channel_kinds n (queue.Ready m c) h = refl
-channel_kinds n (queue.High m c) h = refl
-channel_kinds n (queue.Low m c) h = refl
-channel_kinds n (queue.Link e s) h = refl
 channel_kinds n (queue.Channel m c) h = grind (arith, nat_tests)
+channel_kinds n _ h = refl
 
 channel_queue : (n c : ℕ) (q : Queue) → same_place (at channels n) (home q) ≡ false → same_queue (queue.Channel n c) q ≡ false
 channel_queue n c q h = same_queue-sym (queue.Channel n c) q ∙ away (λ r. same_place (at channels n) (home r)) q (queue.Channel n c) h (eqb-refl n)

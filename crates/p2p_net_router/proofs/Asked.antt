@@ -112,12 +112,9 @@ each_asked size r q m peers names x a (queue.Router n) own =
     ∙ (ap (λ i. map (message_item r.channels.items) (messages_in r.messenger.binding) ++ i ∷ []) a.is
     ∙ ap (λ b. map (message_item r.channels.items) (messages_in r.messenger.binding) ++ cond b (bare_item x ∷ []) []) (sym (same_router r.number n own))))
 each_asked size r q m peers names x a (queue.Peers n c) own = sym (append-nil (items_of r (queue.Peers n c)))
-each_asked size r q m peers names x a (queue.Ready n c) own = refl
 each_asked size r q m peers names x a (queue.High n c) own = ap (map frame_item) (a.frames true c) ∙ sym (append-nil (items_of r (queue.High n c)))
 each_asked size r q m peers names x a (queue.Low n c) own = ap (map frame_item) (a.frames false c) ∙ sym (append-nil (items_of r (queue.Low n c)))
-each_asked size r q m peers names x a (queue.Link e side.Out) own = refl
-each_asked size r q m peers names x a (queue.Link e side.In) own = refl
-each_asked size r q m peers names x a (queue.Channel n c) own = refl
+each_asked size r q m peers names x a _ own = absurd (false≢true own)
 
 pub Holds-asked :
     (size : ℕ) (r : Router) (q : Waiting (Message Key)) (m : Message Key) (peers : BTreeMap ℕ Key) (names : Board Name) (x : Envelope) (items : List Envelope)

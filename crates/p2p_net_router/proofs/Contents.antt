@@ -206,7 +206,6 @@ each_copied size old items entry row desk actor names x rest send frame rs h apa
           (lines (queue.Peers m c)
           ∙ (ap (λ l. map bare_item (filter (stands_in (queue.Peers m c)) items) ++ map item_put l) (other_puts (queue.Peers m c) n send 0 frame rs (record { puts = []; ends = [] }) (away_peers m c n) refl)
           ∙ append-nil (map bare_item (filter (stands_in (queue.Peers m c)) items)))))
-      | queue.Ready m conn ↦ λ k. absurd (false≢true k)
       | queue.High m conn ↦ λ k.
           frames true conn
           ∙ (ap (λ l. l ++ map item_put (filter (goes_to (queue.High n conn)) s.puts)) (h.each (queue.High m conn) k)
@@ -215,8 +214,7 @@ each_copied size old items entry row desk actor names x rest send frame rs h apa
           frames false conn
           ∙ (ap (λ l. l ++ map item_put (filter (goes_to (queue.Low n conn)) s.puts)) (h.each (queue.Low m conn) k)
           ∙ (ap (λ l. map bare_item (filter (stands_in (queue.Low m conn)) items) ++ l) (same_frames n m false conn s.puts k) ∙ sym (lines (queue.Low m conn))))
-      | queue.Link e d ↦ λ k. absurd (false≢true k)
-      | queue.Channel m c ↦ λ k. absurd (false≢true k)
+      | _ ↦ λ k. absurd (false≢true k)
     ]) own
 
 told_nobody : (d : Desk Key) (keys : List Key) → told_all d keys [] ≡ d

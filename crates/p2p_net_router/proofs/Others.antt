@@ -1,11 +1,11 @@
 -- A router's step takes and ends nothing of queues that are not its own.
-use Rattle.std.proofs.Common.{◌≡◌, ℕ, false, cond, List, [], ◌∷◌, ◌++◌, drop, refl, ap, sym, ◌∙◌, append-nil}
-use Rattle.std.specs.Prelude.{filter, flat_map, ◌==◌, ◌&&◌}
+use Rattle.std.proofs.Common.{◌≡◌, ℕ, true, false, cond, List, [], ◌∷◌, ◌++◌, drop, refl, ap, sym, ◌∙◌, append-nil, arith}
+use Rattle.std.specs.Prelude.{filter, flat_map, ◌==◌}
+use Rattle.std.proofs.lemmas.Bool.Decides.{nat_tests}
 use Rattle.std.proofs.lemmas.List.Elements.{filter-append}
 use Rattle.p2p_base.specs.declared.key.Key.{Key}
 use Rattle.p2p_log.specs.declared.queue.Queue.{Queue}
 use Rattle.p2p_log.specs.declared.queue.Queue.TheVariants as queue
-use Rattle.p2p_log.specs.declared.queue.Side.TheVariants as side
 use Rattle.p2p_log.specs.declared.item.Item.{Item}
 use Rattle.p2p_log.specs.declared.item.Envelope.{Envelope}
 use Rattle.p2p_log.specs.declared.entry.Reply.TheVariants as reply
@@ -14,6 +14,8 @@ use Rattle.p2p_log.specs.QueueCode.{same_queue}
 use Rattle.p2p_log.specs.Lines.{name_of, ended_item, stays, placed, stands_in}
 use Rattle.p2p_log_rules.specs.Effect.{only, peers_ends, Spread}
 use Rattle.p2p_log.proofs.Lines.{filter_stays-nil}
+use Rattle.p2p_log.proofs.Queues.{same_queue-sym}
+use Rattle.p2p_log_rules.proofs.Touches.{away}
 use Rattle.p2p_log.specs.Apart.{AreApart}
 use Rattle.p2p_net_queues.specs.Rows.{taken_row}
 use Rattle.p2p_net_router.specs.Relays.{with_spread}
@@ -26,29 +28,15 @@ use Rattle.p2p_net_router.proofs.Ended.{ended_lines}
 use Rattle.p2p_net_router.proofs.Standing.{told_none}
 use Rattle.p2p_net_router.proofs.Telling.{after_row, apart_without}
 
-not_same : (n m a b : ℕ) → (n == m) ≡ false → ((n == m) && (a == b)) ≡ false
-not_same n m a b h = ap (λ t. t && (a == b)) h
+same_node : (n : ℕ) → (n == n) ≡ true
+same_node n = grind (arith, nat_tests)
 
 -- a mailbox that is another's
 pub not_mailbox : (n : ℕ) (q : Queue) → is_routers n q ≡ false → same_queue (queue.Router n) q ≡ false
-not_mailbox n (queue.Router m) h = not_same n m 0 0 h
-not_mailbox n (queue.Peers m c) h = refl
-not_mailbox n (queue.Ready m c) h = refl
-not_mailbox n (queue.High m c) h = refl
-not_mailbox n (queue.Low m c) h = refl
-not_mailbox n (queue.Link e side.Out) h = refl
-not_mailbox n (queue.Link e side.In) h = refl
-not_mailbox n (queue.Channel m c) h = refl
+not_mailbox n q h = same_queue-sym (queue.Router n) q ∙ away (is_routers n) q (queue.Router n) h (same_node n)
 
 not_list : (n c : ℕ) (q : Queue) → is_routers n q ≡ false → same_queue (queue.Peers n c) q ≡ false
-not_list n c (queue.Router m) h = refl
-not_list n c (queue.Peers m d) h = not_same n m c d h
-not_list n c (queue.Ready m d) h = refl
-not_list n c (queue.High m d) h = refl
-not_list n c (queue.Low m d) h = refl
-not_list n c (queue.Link e side.Out) h = refl
-not_list n c (queue.Link e side.In) h = refl
-not_list n c (queue.Channel m d) h = refl
+not_list n c q h = same_queue-sym (queue.Peers n c) q ∙ away (is_routers n) q (queue.Peers n c) h (same_node n)
 
 pub told_adds :
     (n entry : ℕ) (x : Envelope) (rest items : List Envelope) (puts : List (Queue × Item)) (keys : List Key) (cs : List ℕ) (row : Row) (q : Queue)

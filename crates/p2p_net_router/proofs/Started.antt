@@ -148,12 +148,9 @@ each_started size places entry r names items h none (queue.Router m) own =
     ∙ (sym (put_here n m cs own)
     ∙ (ap (λ l. l ++ map item_put (filter (goes_to (queue.Router m)) (map (subscription n) cs))) (sym before) ∙ sym (put_line (queue.Router m) entry items (map (subscription n) cs)))))
 each_started size places entry r names items h none (queue.Peers m c) own = h.each (queue.Peers m c) own ∙ sym (line_elsewhere r.number entry (queue.Peers m c) items r.channels.items refl)
-each_started size places entry r names items h none (queue.Ready m c) own = absurd (false≢true own)
 each_started size places entry r names items h none (queue.High m c) own = h.each (queue.High m c) own ∙ sym (line_elsewhere r.number entry (queue.High m c) items r.channels.items refl)
 each_started size places entry r names items h none (queue.Low m c) own = h.each (queue.Low m c) own ∙ sym (line_elsewhere r.number entry (queue.Low m c) items r.channels.items refl)
-each_started size places entry r names items h none (queue.Link e side.Out) own = absurd (false≢true own)
-each_started size places entry r names items h none (queue.Link e side.In) own = absurd (false≢true own)
-each_started size places entry r names items h none (queue.Channel m c) own = absurd (false≢true own)
+each_started size places entry r names items h none _ own = absurd (false≢true own)
 
 pub is_none : (b : Binding Key) → is_unbound b ≡ true → b ≡ Unbound
 is_none Unbound h = refl

@@ -45,12 +45,9 @@ pub record IsFresh (r : Router) : Type 0 where
 no_items : (r : Router) → IsFresh r → (q : Queue) → items_of r q ≡ []
 no_items r h (queue.Router n) = ap (λ (d : Desk Key). map (message_item r.channels.items) (messages_in d.binding)) h.messenger
 no_items r h (queue.Peers n c) = ap (λ l. map item.Peers (lists_in l r.messenger.lists c)) h.channels
-no_items r h (queue.Ready n c) = refl
 no_items r h (queue.High n c) = ap (λ o. map frame_item (frames_in true (link_to r.actor.links c o))) (h.peers c)
 no_items r h (queue.Low n c) = ap (λ o. map frame_item (frames_in false (link_to r.actor.links c o))) (h.peers c)
-no_items r h (queue.Link e side.Out) = refl
-no_items r h (queue.Link e side.In) = refl
-no_items r h (queue.Channel n c) = refl
+no_items r h _ = refl
 
 sound_fresh : (size : ℕ) (r : Router) → IsFresh r → IsSound size r
 sound_fresh size r h = record {
@@ -187,12 +184,7 @@ items_same size r new d s h (queue.Peers n c) =
     ap (map item.Peers)
     (ap (λ l. lists_in l new.messenger.lists c) h.more
     ∙ (ap (λ l. lists_in (r.channels.items ++ d ∷ []) l c) (ap (λ (m : Desk Key). m.lists) h.desk) ∙ lists_more r.channels.items r.messenger.lists d c s.channels))
-items_same size r new d s h (queue.Ready n c) = refl
-items_same size r new d s h (queue.High n c) = refl
-items_same size r new d s h (queue.Low n c) = refl
-items_same size r new d s h (queue.Link e side.Out) = refl
-items_same size r new d s h (queue.Link e side.In) = refl
-items_same size r new d s h (queue.Channel n c) = refl
+items_same size r new d s h _ = refl
 
 same_number : (n : ℕ) → (n == n) ≡ true
 same_number n = grind (arith, nat_tests)

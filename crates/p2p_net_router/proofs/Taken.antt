@@ -131,12 +131,9 @@ each_taken :
     → items_of (relinked r (with_link key_cmp r.actor.links key (popped l priority)) names) q ≡ cond (same_queue (relay_queue priority r.number conn) q) (drop 1 (items_of r q)) (items_of r q)
 each_taken size r conn key l priority names s h (queue.Router n) own = sym (ap (λ b. cond b (drop 1 (items_of r (queue.Router n))) (items_of r (queue.Router n))) (lane_not_router priority r.number conn n))
 each_taken size r conn key l priority names s h (queue.Peers n c) own = sym (ap (λ b. cond b (drop 1 (items_of r (queue.Peers n c))) (items_of r (queue.Peers n c))) (lane_not_peers priority r.number conn n c))
-each_taken size r conn key l priority names s h (queue.Ready n c) own = absurd (false≢true own)
 each_taken size r conn key l priority names s h (queue.High n c) own = lane_popped size r conn key l priority true names c n s h own
 each_taken size r conn key l priority names s h (queue.Low n c) own = lane_popped size r conn key l priority false names c n s h own
-each_taken size r conn key l priority names s h (queue.Link e side.Out) own = absurd (false≢true own)
-each_taken size r conn key l priority names s h (queue.Link e side.In) own = absurd (false≢true own)
-each_taken size r conn key l priority names s h (queue.Channel n c) own = absurd (false≢true own)
+each_taken size r conn key l priority names s h _ own = absurd (false≢true own)
 
 -- ---- what the call comes to
 

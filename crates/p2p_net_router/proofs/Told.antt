@@ -91,7 +91,6 @@ each_told size old items entry row desk actor names keys ss puts h s frames (que
     ∙ (newest item.Peers (tells channels ss c) keys (lists_in channels old.messenger.lists c) (lists_in-short channels old.messenger.lists c h.sound.rings)
     ∙ (ap (λ l. part (tells channels ss c) false (map bare_item s.rest) l (item.Peers keys ∷ [])) (h.each (queue.Peers m c) own)
     ∙ line_told old items entry row desk keys ss puts (queue.Peers m c) (tells channels ss c) false s own (told_peers n m c channels ss own) refl))
-each_told size old items entry row desk actor names keys ss puts h s frames (queue.Ready m conn) own = absurd (false≢true own)
 each_told size old items entry row desk actor names keys ss puts h s frames (queue.High m conn) own =
     ap (map frame_item) (frames true conn)
     ∙ (h.each (queue.High m conn) own
@@ -102,6 +101,4 @@ each_told size old items entry row desk actor names keys ss puts h s frames (que
     ∙ (h.each (queue.Low m conn) own
     ∙ (sym (append-nil (map bare_item (filter (stands_in (queue.Low m conn)) items)))
     ∙ line_told old items entry row desk keys ss puts (queue.Low m conn) false false s own (told_low old.number m conn (map (channel_of old.channels.items) ss)) refl))
-each_told size old items entry row desk actor names keys ss puts h s frames (queue.Link k side.Out) own = absurd (false≢true own)
-each_told size old items entry row desk actor names keys ss puts h s frames (queue.Link k side.In) own = absurd (false≢true own)
-each_told size old items entry row desk actor names keys ss puts h s frames (queue.Channel m c) own = absurd (false≢true own)
+each_told size old items entry row desk actor names keys ss puts h s frames _ own = absurd (false≢true own)
