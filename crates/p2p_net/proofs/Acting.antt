@@ -17,7 +17,7 @@ use Rattle.p2p_log_rules.specs.Effect.{only, row, effect, entry_of, may_join}
 use Rattle.p2p_log_rules.specs.Valid.{may_act}
 use Rattle.p2p_net_links.specs.Stands.{LinksStand}
 use Rattle.p2p_net_links.specs.declared.links.Links.{Links}
-use Rattle.p2p_net.specs.Places.{Part, router, channels, connections, same_part, at, parts_of, parts_named, names_links, places_at, same_place, names, node_of}
+use Rattle.p2p_net.specs.Places.{Part, router, connections, same_part, at, parts_of, parts_named, names_links, places_at, same_place, names, node_of}
 use Rattle.p2p_net.specs.Acts.{NodeDoes}
 use Rattle.p2p_net.specs.Joining.{Welcomes, Connects, JoinsBy, Joins, OneDoes, pair_of, DoesOn, WorldDoes, joined_row}
 use Rattle.p2p_net.specs.Joining as joining

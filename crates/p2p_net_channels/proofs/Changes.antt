@@ -8,7 +8,6 @@ use Rattle.p2p_log.specs.declared.queue.Queue.TheVariants as queue
 use Rattle.p2p_log.specs.declared.item.Envelope.{Envelope}
 use Rattle.p2p_log.specs.declared.entry.Entry.{Entry}
 use Rattle.p2p_log.specs.QueueCode.{same_queue}
-use Rattle.p2p_log.specs.Lines.{line}
 use Rattle.p2p_log_rules.specs.Facts.{events_of, registers_at, registered, channels, capacity_in, sum_capacities}
 use Rattle.p2p_log_rules.proofs.Facts.{events_of-append, registered-append}
 use Rattle.p2p_net_queues.specs.Lines.{HoldsLines}

@@ -17,7 +17,6 @@ use Rattle.p2p_log.specs.declared.config.Config.{Config}
 use Rattle.p2p_log.specs.declared.entry.Entry.{Entry}
 use Rattle.p2p_log.specs.declared.queue.Queue.{Queue}
 use Rattle.p2p_log.specs.declared.queue.Queue.TheVariants as queue
-use Rattle.p2p_log.specs.declared.queue.Side.TheVariants as side
 use Rattle.p2p_log.specs.declared.item.Item.TheVariants as item
 use Rattle.p2p_log.specs.Lines.{live_from, live, ended_item, stays, placed}
 use Rattle.p2p_log_rules.specs.Facts.{events_of, starts, has_started, capacity_for, registers_at, registered, channels, capacity_in, taken, steps_router, routed_by, routed, history_from, subscriber_of, subscribers, routes_after, routes}
