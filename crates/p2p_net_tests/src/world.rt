@@ -1,8 +1,6 @@
 //! Scripts that a world does not run, with the place of the event that may not be asked for.
 use p2p_base::Key;
-use p2p_net::{
-    Act, Config, Event, Links, Node, NodeError, Rate, Reply, RunError, World,
-};
+use p2p_net::{Act, Config, Event, Links, Node, NodeError, Rate, RunError, World};
 use std::alloc::Global;
 
 // A node of key 1 whose peer sets have at most so many peers.
@@ -97,6 +95,18 @@ fn a_node_keeps_what_it_was_asked(rt: HostRuntime) {
     assert_eq!(rt; capacity(rt.alloc()), Ok(Some(24)));
 }
 
+// The moment that the entry of a router's step names.
+fn step(alloc: Global, node: &mut Node, number: u64, at: u64) -> Result<u64, NodeError> {
+    let mut links = Links::new(alloc);
+    let step = Event {
+        at,
+        seed: 0,
+        act: Act::Router { node: 0 },
+    };
+    let entry = node.apply(alloc, number, &step, &mut links)?;
+    Ok(entry.event.at)
+}
+
 #[test]
 fn a_node_that_found_no_memory_goes_no_further(rt: HostRuntime) {
     let alloc = rt.alloc();
@@ -109,15 +119,7 @@ fn a_node_that_found_no_memory_goes_no_further(rt: HostRuntime) {
         send_batch_size: 8,
     };
     let mut node = Node::new(alloc, 0, config);
-    let mut links = Links::new(alloc);
-    let step = Event {
-        at: 3,
-        seed: 0,
-        act: Act::Router { node: 0 },
-    };
-    let entry = node.apply(alloc, 0, &step, &mut links)?;
-    assert_eq!(rt; (entry.event.at, entry.reply), (3, Reply::Gone));
+    assert_eq!(rt; step(alloc, &mut node, 0, 3), Ok(3));
     node.failed = true;
-    let refused = node.apply(alloc, 1, &step, &mut links).err();
-    assert_eq!(rt; refused, Some(NodeError::Failed));
+    assert_eq!(rt; step(alloc, &mut node, 1, 4), Err(NodeError::Failed));
 }
