@@ -15,7 +15,7 @@ struct Told {
 }
 
 impl Control for Told {
-    ghost use Rattle.std.specs.Prelude.{[], ◌∷◌, None, Some, false, Unit};
+    ghost use Rattle.std.specs.Prelude.{[], ◌∷◌, None, Some, false};
 
     type Message = Option<u8>;
 
