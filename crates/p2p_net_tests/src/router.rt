@@ -321,12 +321,12 @@ fn replaced(
     actor: &mut Actor<Key>,
     messenger: &mut Messenger<Key>,
 ) -> Result<Option<(u64, usize)>, AllocError> {
-    match actor.step(messenger)? {
-        Stepped::Ready {
-            replaced: Some(link),
-            ..
-        } => Ok(Some((link.conn, link.relay.low_len()))),
-        _ => Ok(None),
+    let Stepped::Ready { replaced, .. } = actor.step(messenger)? else {
+        return Ok(None);
+    };
+    match replaced {
+        Some(link) => Ok(Some((link.conn, link.relay.low_len()))),
+        None => Ok(None),
     }
 }
 
