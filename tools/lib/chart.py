@@ -13,11 +13,20 @@ DROPPED = '#c0262d'
 QUIET = '#bbb'
 
 
+def peers_text(peers):
+    """The keys of a peer set, each role after the other, or that there is none."""
+    return 'none' if not isinstance(peers, dict) else '%s, %s' % (peers.get('primary'), peers.get('secondary'))
+
+
 def reply_text(reply):
     if isinstance(reply, dict) and len(reply) == 1:
         (name, value), = reply.items()
         if name == 'message' and isinstance(value, dict):
             return 'message from key %s' % value.get('from')
+        if name == 'update' and isinstance(value, dict):
+            return 'update %s' % value.get('index')
+        if name == 'peer_set':
+            return 'peer set %s' % peers_text(value)
         return '%s %s' % (name, value)
     return str(reply)
 
@@ -26,6 +35,8 @@ def event_text(event):
     """The act of a script's event and what it names."""
     if not isinstance(event.get('do'), str):
         return ''
+    if 'question' in event:
+        return '%s of event %s: ' % (event['do'], event['question'])
     names = [str(event[name]) for name in ('node', 'a', 'b') if name in event]
     return '%s%s %s: ' % ('node ' if len(names) == 1 else 'nodes ' if names else '', ', '.join(names), event['do'])
 

@@ -1,5 +1,6 @@
 """The form of a script: its tree as configurations and events, with what is not built yet told apart."""
 import later
+from address_form import some_peers
 from faults import Fault, perhaps
 from words import U32, Field, a_flag, a_text, an_array, an_object, some_bytes, whole
 
@@ -9,6 +10,22 @@ CONFIGURATION_FORMS = {
     'max_message_size': lambda field: whole(field, 0, U32),
     'mailbox_size': lambda field: whole(field, 1),
 }
+
+PRESETS = ('local', 'recommended')
+
+# What may be left out: the preset gives it.
+GIVEN_FORMS = {
+    'tracked_peer_sets': lambda field: whole(field, 1),
+    'send_batch_size': lambda field: whole(field, 1),
+    'allow_private_ips': a_flag,
+    'allow_dns': a_flag,
+    'bypass_ip_check': a_flag,
+    'peer_connection_cooldown': whole,
+    'block_duration': whole,
+}
+
+# That of both presets.
+TRACKED_PEER_SETS = 4
 
 
 def a_rate(field):
@@ -44,7 +61,19 @@ ACT_FORMS = {
     'send_step': {'conn': whole, 'node': whole},
     'recv_step': {'conn': whole, 'node': whole},
     'recv': {'channel': whole, 'node': whole},
+    'track': {'index': whole, 'node': whole, 'primary': some_peers},
+    'overwrite': {'node': whole, 'peers': some_peers},
+    'block': {'key': whole, 'node': whole},
+    'peer_set': {'index': whole, 'node': whole},
+    'subscribe': {'node': whole},
+    'blocked': {'node': whole},
+    'answer': {'question': whole},
+    'next': {'question': whole},
+    'tracker': {'node': whole},
 }
+
+# The names of an act that may be left out.
+OPTIONAL_FORMS = {'track': {'secondary': some_peers}}
 
 
 class Part:
@@ -82,18 +111,22 @@ class Script:
                 self.faults.append(fault)
 
 
+def read_names(field, forms, optional_forms):
+    """What stands at each name of the first, and at those of the second that are there."""
+    said = {name: form(field.at_name(name)) for name, form in forms.items()}
+    said.update((name, form(field.at_name(name))) for name, form in optional_forms.items() if field.has(name))
+    return said
+
+
 def read_configuration(number, field):
     field.what = 'configuration %d' % number
-    names = ['preset', *CONFIGURATION_FORMS]
-    an_object(field, [*names, *later.CONFIGURATION_NAMES])
+    an_object(field, ['preset', *CONFIGURATION_FORMS, *GIVEN_FORMS, *later.CONFIGURATION_NAMES])
     preset = a_text(field.at_name('preset'))
-    if preset not in ('local', *later.PRESETS):
-        raise field.at_name('preset').fault('"%s" is no preset%s' % (preset, perhaps(preset, ['local', *later.PRESETS])))
-    said = {name: form(field.at_name(name)) for name, form in CONFIGURATION_FORMS.items()}
-    if preset != 'local':
-        raise NotBuilt(field.value.get('preset').at, field.what, 'the preset "%s" is not built yet; "local" is' % preset)
+    if preset not in PRESETS:
+        raise field.at_name('preset').fault('"%s" is no preset%s' % (preset, perhaps(preset, PRESETS)))
+    said = {'tracked_peer_sets': TRACKED_PEER_SETS, **read_names(field, CONFIGURATION_FORMS, GIVEN_FORMS)}
     for name, at, _ in field.value.held:
-        if name not in names:
+        if name in later.CONFIGURATION_NAMES:
             raise NotBuilt(at, field.what, '`%s` is not built yet: the preset gives it' % name)
     return Part(number, field, said)
 
@@ -115,10 +148,10 @@ def read_event(number, field):
 
 
 def read_act(number, field, act, at):
-    forms = ACT_FORMS[act]
+    forms, optional_forms = ACT_FORMS[act], OPTIONAL_FORMS.get(act, {})
     extra = later.START_NAMES if act == 'start' else ()
-    an_object(field, ['at', 'seed', 'do', *forms, *extra])
-    said = {name: form(field.at_name(name)) for name, form in forms.items()}
+    an_object(field, ['at', 'seed', 'do', *forms, *optional_forms, *extra])
+    said = read_names(field, forms, optional_forms)
     for name, name_at, _ in field.value.held:
         if name in extra:
             raise NotBuilt(name_at, field.what, '`%s` is not built yet' % name)

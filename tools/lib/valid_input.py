@@ -2,7 +2,9 @@
 from words import U64
 
 MOST_BYTES = 16_777_200
-RETAINED_SETS = 4
+
+# Which acts ask what these two take.
+ASKED_BY = {'answer': ('peer_set',), 'next': ('subscribe', 'blocked')}
 
 
 def configuration_fault(configurations):
@@ -11,8 +13,9 @@ def configuration_fault(configurations):
     for one in configurations:
         if one.said['max_message_size'] > MOST_BYTES:
             return one.fault('max_message_size', 'a link takes messages of at most %d bytes' % MOST_BYTES)
-        if one.said['max_peers_per_set'] * RETAINED_SETS > U64:
-            return one.fault('max_peers_per_set', 'the peers of %d retained sets cannot be counted in 64 bits' % RETAINED_SETS)
+        sets = one.said['tracked_peer_sets']
+        if one.said['max_peers_per_set'] * sets > U64:
+            return one.fault('max_peers_per_set', 'the peers of %d retained sets cannot be counted in 64 bits' % sets)
         key = one.said['key']
         if key in numbers:
             return one.fault('key', 'key %d is that of configuration %d too' % (key, numbers[key]))
@@ -46,7 +49,7 @@ class Past:
         if channel in held:
             return event.fault('channel', 'channel %d is registered at node %d already' % (channel, node))
         configuration = self.configurations[node].said
-        capacity = configuration['max_peers_per_set'] * RETAINED_SETS * event.said['quota']
+        capacity = configuration['max_peers_per_set'] * configuration['tracked_peer_sets'] * event.said['quota']
         if capacity > U64 or configuration['mailbox_size'] + sum(held.values()) + capacity > U64:
             return event.fault('quota', 'the messages that the channels of node %d hold cannot be counted in 64 bits' % node)
         held[channel] = capacity
@@ -71,6 +74,15 @@ class Past:
                                % (number, named.said['a'], named.said['b'], node))
         return None
 
+    def question_fault(self, event):
+        number, due = event.said['question'], ASKED_BY[event.act]
+        if number >= event.number:
+            return event.fault('question', 'event %d does not come before this one' % number)
+        named = self.events[number].act
+        if named not in due:
+            return event.fault('question', 'event %d is a %s, not a %s' % (number, named, ' or a '.join(due)))
+        return None
+
     def fault_of(self, event):
         """Why this event may not be asked for, if it may not; else it is noted."""
         if event.said['at'] < self.moment:
@@ -81,7 +93,7 @@ class Past:
             if fault:
                 return fault
         judge = {'register': self.register_fault, 'start': self.start_fault, 'send_step': self.connection_fault,
-                 'recv_step': self.connection_fault}.get(event.act)
+                 'recv_step': self.connection_fault, 'answer': self.question_fault, 'next': self.question_fault}.get(event.act)
         return judge(event) if judge else None
 
 

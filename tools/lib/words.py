@@ -5,6 +5,7 @@ from faults import Fault, perhaps
 
 U64 = (1 << 64) - 1
 U32 = (1 << 32) - 1
+U16 = (1 << 16) - 1
 
 
 class Field:

@@ -20,6 +20,11 @@ def examples():
     return sorted(glob.glob(os.path.join(TOP, 'examples', '*.json')))
 
 
+def reports():
+    """The reports of examples/, in order."""
+    return sorted(glob.glob(os.path.join(TOP, 'examples', '*.report')))
+
+
 def broken_scripts():
     """The scripts of the tests, most of them broken, in order."""
     return sorted(glob.glob(os.path.join(TOP, 'tools', 'tests', 'scripts', '*.json')))

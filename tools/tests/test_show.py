@@ -4,10 +4,28 @@ import tempfile
 import unittest
 import xml.dom.minidom
 
-from files import TOP, beside, examples, read_text, run_tool
+from files import TOP, beside, read_text, reports, run_tool
 from report_form import BadReport, read_report
 
 HELLO = os.path.join(TOP, 'examples', 'hello.report')
+TRACKER = r'''{"end":[],"n":0,"put":[["tracker:0",{"call":0}]],"reply":{"feedback":"ok"},"take":[]}
+{"end":[],"n":1,"put":[["control:0:4","kill"],["update:0",[[10,0,0,2]]],["updates:0",{"all":{"primary":[2],"secondary":[]},"index":6,"latest":{"primary":[2],"secondary":[]}}]],"reply":"ok","take":[[0,0]]}
+{"end":[],"n":2,"put":[],"reply":{"update":{"all":{"primary":[2],"secondary":[]},"index":6,"latest":{"primary":[2],"secondary":[]}}},"take":[[1,2]]}
+{"end":[],"n":3,"put":[["tracker:0",{"call":3}]],"reply":{"feedback":"ok"},"take":[]}
+{"end":[["item",1,1]],"n":4,"put":[["update:0",[]],["answer:3",null],["blocked:0",[9]],["dialer:0",{"dial":{"ingress":{"host":"a","port":1},"key":2}}],["dialer:0",{"dialable":{"next":null,"peers":[2]}}]],"reply":"ok","take":[[3,0]]}
+{"end":[],"n":5,"put":[],"reply":{"peer_set":null},"take":[[4,1]]}
+{"end":[],"n":6,"put":[],"reply":{"peer_set":{"primary":[1],"secondary":[]}},"take":[]}
+{"copies":0,"entries":7}
+'''
+TRACKER_SCRIPT = r'''{"configs":[],"script":[
+{"at":0,"do":"subscribe","node":0},
+{"at":0,"do":"tracker","node":0},
+{"at":0,"do":"next","question":0},
+{"at":0,"do":"peer_set","index":6,"node":0},
+{"at":0,"do":"tracker","node":0},
+{"at":0,"do":"answer","question":3},
+{"at":0,"do":"answer","question":3}]}
+'''
 BAD = {
     '': 'the last line, with the counts, is missing',
     '{"copies":0,"entries":0}': 'line 1: the line has no end, so the report was cut off',
@@ -28,18 +46,18 @@ BAD = {
 class Show(unittest.TestCase):
 
     def test_each_example_has_its_table(self):
-        for path in examples():
+        for path in reports():
             with self.subTest(os.path.basename(path)):
-                told = run_tool('show', beside(path, '.report'), '--script', path)
+                told = run_tool('show', path, '--script', beside(path, '.json'))
                 expected = os.path.join(TOP, 'tools', 'tests', 'tables', os.path.basename(beside(path, '.table')))
                 self.assertEqual((told.returncode, told.stdout.decode()), (0, read_text(expected)))
 
     def test_each_picture_is_xml(self):
         with tempfile.TemporaryDirectory() as folder:
             picture = os.path.join(folder, 'picture.svg')
-            for path in examples():
+            for path in reports():
                 with self.subTest(os.path.basename(path)):
-                    self.assertEqual(run_tool('show', beside(path, '.report'), '--svg', picture).returncode, 0)
+                    self.assertEqual(run_tool('show', path, '--svg', picture).returncode, 0)
                     xml.dom.minidom.parse(picture)
 
     def test_the_picture_of_the_readme_is_that_of_its_example(self):
@@ -47,6 +65,20 @@ class Show(unittest.TestCase):
             picture = os.path.join(folder, 'picture.svg')
             run_tool('show', HELLO, '--script', beside(HELLO, '.json'), '--svg', picture)
             self.assertEqual(read_text(picture), read_text(os.path.join(TOP, 'docs', 'hello.svg')))
+
+    def test_a_report_of_a_tracker_is_drawn_by_its_replies(self):
+        with tempfile.TemporaryDirectory() as folder:
+            report, script, picture = (os.path.join(folder, name) for name in ('report', 'script', 'picture.svg'))
+            for path, text in ((report, TRACKER), (script, TRACKER_SCRIPT)):
+                with open(path, 'w', encoding='utf-8') as out:
+                    out.write(text)
+            told = run_tool('show', report, '--script', script, '--svg', picture)
+            self.assertEqual((told.returncode, told.stderr), (0, b''))
+            drawn = read_text(picture)
+            for words in ('node 0 subscribe: feedback ok', 'node 0 tracker: ok', 'next of event 0: update 6', 'kill: control:0:4',
+                          'answer of event 3: peer set none', 'answer of event 3: peer set [1], []', 'node 0, key'):
+                with self.subTest(words):
+                    self.assertEqual(words in drawn, words != 'node 0, key')
 
     def test_a_part_of_a_report_can_be_drawn(self):
         with tempfile.TemporaryDirectory() as folder:

@@ -6,7 +6,7 @@ import xml.dom.minidom
 
 from chart import Chart
 from copy_table import copy_table
-from files import beside, examples, read_bytes, read_text
+from files import examples, read_bytes, read_text, reports
 from journey import journeys
 from judge import judge, lines_of, status_now
 from places import keys_of_nodes
@@ -40,8 +40,8 @@ class Spoiled(unittest.TestCase):
 
     def test_a_spoiled_report_is_told_or_shown(self):
         told = shown = 0
-        for path in examples():
-            for text in spoiled_reports(beside(path, '.report')):
+        for path in reports():
+            for text in spoiled_reports(path):
                 try:
                     report = read_report(text)
                 except BadReport as bad:

@@ -32,13 +32,15 @@ module _ {K : Type 0} where
     unfoldable pub admitted : (K → List ℕ) → ℕ → List K → List K
     admitted past at [] = []
     admitted past at (key ∷ keys) =
-        cond (admits rate (past key) at) (key ∷ admitted (past_with cmp rate past key at) at keys) (admitted (past_with cmp rate past key at) at keys)
+        cond (admits rate (past key) at) (key ∷ admitted (past_with cmp rate past key at) at keys)
+        (admitted (past_with cmp rate past key at) at keys)
 
     -- the latest moment from which one of the refused entries passes
     unfoldable pub latest_retry : (K → List ℕ) → ℕ → List K → ℕ
     latest_retry past at [] = 0
     latest_retry past at (key ∷ keys) =
-        cond (admits rate (past key) at) (latest_retry (past_with cmp rate past key at) at keys) (max (retry rate (past key)) (latest_retry (past_with cmp rate past key at) at keys))
+        cond (admits rate (past key) at) (latest_retry (past_with cmp rate past key at) at keys)
+        (max (retry rate (past key)) (latest_retry (past_with cmp rate past key at) at keys))
 
     -- the admissions of each key after the entries were tested
     unfoldable pub past_after : (K → List ℕ) → ℕ → List K → K → List ℕ

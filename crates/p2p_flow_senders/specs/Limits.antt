@@ -37,7 +37,12 @@ pub record Checked (P : Type 0) : Type 0 where
 module _ {P : Type 0} where
   -- a limit that admitted nothing
   abbrev pub fresh_limit : ℕ → Rate → ℕ → List P → Limit P
-  fresh_limit channel rate subscription known = record { channel = channel; kept = record { rate = rate; arrivals = []; latest = 0 }; subscription = subscription; known = known }
+  fresh_limit channel rate subscription known = record {
+    channel = channel;
+    kept = record { rate = rate; arrivals = []; latest = 0 };
+    subscription = subscription;
+    known = known;
+  }
 
   abbrev pub rate_in : Option (Limit P) → Rate
   rate_in None = rate_of 0 0
@@ -67,7 +72,8 @@ module _ {P M : Type 0} where
 
   abbrev pub IsLimitOf : (M → ℕ) → M → ℕ → Option (Limit P) → Type 0
   IsLimitOf subscriptions messenger channel None = ⊥
-  IsLimitOf subscriptions messenger channel (Some l) = (l.channel ≡ channel) × (l.subscription < subscriptions messenger)
+  IsLimitOf subscriptions messenger channel (Some l) =
+      (l.channel ≡ channel) × (l.subscription < subscriptions messenger)
 
   -- the sender has its limit there
   abbrev pub HasLimit : (M → ℕ) → Named → Limits P M → Type 0

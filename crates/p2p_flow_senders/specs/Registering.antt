@@ -31,7 +31,8 @@ within n = cond (nat_lt n (2 ^ 64)) (Some n) None
 abbrev pub refusal_of : ℕ → List (ℕ × Rate) → ℕ → Rate → Option RegisterError
 refusal_of max_peers quotas channel rate =
     cond (has_channel quotas channel) (Some (register_error.DuplicateChannel channel))
-    (cond (nat_lt (places_of max_peers rate + places_in max_peers quotas) (2 ^ 64)) None (Some (register_error.CapacityOverflow max_peers rate.burst)))
+    (cond (nat_lt (places_of max_peers rate + places_in max_peers quotas) (2 ^ 64)) None
+    (Some (register_error.CapacityOverflow max_peers rate.burst)))
 
 abbrev pub register_refusal : Registered → ℕ → Rate → Option RegisterError
 register_refusal c channel rate = refusal_of c.max_peers c.quotas channel rate
@@ -40,4 +41,5 @@ register_refusal c channel rate = refusal_of c.max_peers c.quotas channel rate
 abbrev pub IsRegisterCause : Option RegisterError → RegisterError → Type 0
 IsRegisterCause due register_error.Memory = Unit {0}
 IsRegisterCause due (register_error.DuplicateChannel channel) = due ≡ Some (register_error.DuplicateChannel channel)
-IsRegisterCause due (register_error.CapacityOverflow bound burst) = due ≡ Some (register_error.CapacityOverflow bound burst)
+IsRegisterCause due (register_error.CapacityOverflow bound burst) =
+    due ≡ Some (register_error.CapacityOverflow bound burst)

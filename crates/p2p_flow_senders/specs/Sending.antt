@@ -7,7 +7,8 @@ use Rattle.p2p_flow_senders.specs.declared.send_error.SendError.TheVariants as s
 
 -- a message is refused where it is longer than the limit
 abbrev pub size_refusal : ℕ → List ℕ → Option SendError
-size_refusal limit message = cond (nat_lt limit (length message)) (Some (send_error.MessageTooLarge (length message) limit)) None
+size_refusal limit message =
+    cond (nat_lt limit (length message)) (Some (send_error.MessageTooLarge (length message) limit)) None
 
 -- the error is want of memory, or the refusal that is due
 abbrev pub IsCause : Option SendError → SendError → Type 0
@@ -18,7 +19,8 @@ IsCause due send_error.NoSubchannel = due ≡ Some send_error.NoSubchannel
 -- the same of a send, which is refused only after its check passed
 abbrev pub IsCauseAfter : Bool → Option SendError → SendError → Type 0
 IsCauseAfter passed due send_error.Memory = Unit {0}
-IsCauseAfter passed due (send_error.MessageTooLarge size limit) = (passed ≡ true) × (due ≡ Some (send_error.MessageTooLarge size limit))
+IsCauseAfter passed due (send_error.MessageTooLarge size limit) =
+    (passed ≡ true) × (due ≡ Some (send_error.MessageTooLarge size limit))
 IsCauseAfter passed due send_error.NoSubchannel = (passed ≡ true) × (due ≡ Some send_error.NoSubchannel)
 
 -- the fact holds, unless memory ran out
@@ -35,7 +37,8 @@ module _ {K : Type 0} where
   keys_checked keys_of (Err at) = Err at
 
   -- what a send leaves: where its check passed and its content was taken, that was handed in after the check, and else the check alone was made
-  abbrev pub IsLeft : {W X : Type 0} → (W → Type 0) → (List K → W → W → Type 0) → Result (List K) ℕ → Result X SendError → W → Type 0
+  abbrev pub IsLeft : {W X : Type 0} → (W → Type 0) → (List K → W → W → Type 0) → Result (List K) ℕ →
+      Result X SendError → W → Type 0
   IsLeft {W = W} asked handed (Ok keys) (Ok x) new = (mid : W) × (asked mid × handed keys mid new)
   IsLeft asked handed (Ok keys) (Err e) new = asked new
   IsLeft asked handed (Err at) r new = asked new

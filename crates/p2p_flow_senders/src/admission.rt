@@ -22,7 +22,8 @@ pub fn admit_all<K: Ord + Copy>(
     ensures law { (past : K → Seq ℕ) (latest : ℕ) → StandsForEach K.cmp limiter.old past latest →
         IfOk result (λ r. r ≡ check_by_law K.cmp limiter.old.rate past (max latest now) keys.now) }
     ensures stands { (past : K → Seq ℕ) (latest : ℕ) → StandsForEach K.cmp limiter.old past latest →
-        OnOk result (StandsForEach K.cmp limiter.new (past_after K.cmp limiter.old.rate past (max latest now) keys.now) (moment_after keys.now latest now)) }
+        OnOk result (StandsForEach K.cmp limiter.new (past_after K.cmp limiter.old.rate past (max latest now) keys.now)
+        (moment_after keys.now latest now)) }
     ensures memory { (past : K → Seq ℕ) (latest : ℕ) → StandsForEach K.cmp limiter.old past latest →
         OnErr result (StandsForEach K.cmp limiter.new past latest) }
 {
@@ -42,7 +43,8 @@ fn reserve_all<K: Ord + Copy>(
     keys: &[K],
 ) -> Result<(), AllocError>
     ensures rate { limiter.new.rate ≡ limiter.old.rate }
-    ensures same { (past : K → Seq ℕ) (latest : ℕ) → StandsForEach K.cmp limiter.old past latest → StandsForEach K.cmp limiter.new past latest }
+    ensures same { (past : K → Seq ℕ) (latest : ℕ) → StandsForEach K.cmp limiter.old past latest →
+        StandsForEach K.cmp limiter.new past latest }
     ensures known { OnOk result (AllKnown K.cmp limiter.new keys.now) }
 {
     for key in keys {

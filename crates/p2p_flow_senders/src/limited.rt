@@ -90,10 +90,15 @@ impl<P: PublicKey, M: Carrier<P>> LimitedSender<P, M> {
         sender: UnlimitedSender<P, M>,
         quota: Quota,
     ) -> Result<LimitedSender<P, M>, AllocError>
-        ensures value { IfOk result (λ s. s ≡ record { channel = sender.channel; max_size = sender.max_size; place = length way.old.limits }) }
+        ensures value { IfOk result (λ s. s ≡ record {
+          channel = sender.channel;
+          max_size = sender.max_size;
+          place = length way.old.limits;
+        }) }
         ensures messenger { OnOk result (way.new.messenger ≡ M.after_subscribe way.old.messenger) }
         ensures serves { IfOk result (λ s. HasLimit M.subscriptions s way.new) }
-        ensures limits { OnOk result (way.new.limits ≡ way.old.limits ++ fresh_limit sender.channel quota (M.subscriptions way.old.messenger) (M.known way.old.messenger) ∷ []) }
+        ensures limits { OnOk result (way.new.limits ≡ way.old.limits
+            ++ fresh_limit sender.channel quota (M.subscriptions way.old.messenger) (M.known way.old.messenger) ∷ []) }
         ensures memory { OnErr result (way.new ≡ way.old) }
     {
         let known = way.messenger.peers(alloc)?;
@@ -138,12 +143,15 @@ fn check_at<P: PublicKey, M: Carrier<P>>(
 ) -> Result<Result<List<P>, u128>, AllocError>
     requires { limit.old.subscription < M.subscriptions messenger.old }
     ensures law { (past : P → Seq ℕ) (latest : ℕ) → StandsForEach P.cmp limit.old.kept past latest →
-        IfOk result (λ r. r ≡ check_by_law P.cmp limit.old.kept.rate past (max latest now) (offered_by M.waiting messenger.old limit.old recipients)) }
+        IfOk result (λ r. r ≡ check_by_law P.cmp limit.old.kept.rate past (max latest now)
+        (offered_by M.waiting messenger.old limit.old recipients)) }
     ensures stands { (past : P → Seq ℕ) (latest : ℕ) → StandsForEach P.cmp limit.old.kept past latest →
         OnOk result (StandsForEach P.cmp limit.new.kept
-        (past_after P.cmp limit.old.kept.rate past (max latest now) (offered_by M.waiting messenger.old limit.old recipients))
+        (past_after P.cmp limit.old.kept.rate past (max latest now)
+        (offered_by M.waiting messenger.old limit.old recipients))
         (moment_after (offered_by M.waiting messenger.old limit.old recipients) latest now)) }
-    ensures memory { (past : P → Seq ℕ) (latest : ℕ) → StandsForEach P.cmp limit.old.kept past latest → OnErr result (StandsForEach P.cmp limit.new.kept past latest) }
+    ensures memory { (past : P → Seq ℕ) (latest : ℕ) → StandsForEach P.cmp limit.old.kept past latest →
+        OnErr result (StandsForEach P.cmp limit.new.kept past latest) }
     ensures rate { limit.new.kept.rate ≡ limit.old.kept.rate }
     ensures channel { limit.new.channel ≡ limit.old.channel }
     ensures subscription { limit.new.subscription ≡ limit.old.subscription }
@@ -174,17 +182,21 @@ fn check_among<P: PublicKey, M: Carrier<P>>(
 ) -> Result<Result<List<P>, u128>, AllocError>
     requires { IsHeard M.subscriptions messenger.old (slice_get limits.old.items place) }
     ensures law { (past : P → Seq ℕ) (latest : ℕ) → StandsIn P.cmp (slice_get limits.old.items place) past latest →
-        IfOk result (λ r. r ≡ check_by_law P.cmp (rate_in (slice_get limits.old.items place)) past (max latest now) (offered_in M.waiting messenger.old (slice_get limits.old.items place) recipients)) }
+        IfOk result (λ r. r ≡ check_by_law P.cmp (rate_in (slice_get limits.old.items place)) past (max latest now)
+        (offered_in M.waiting messenger.old (slice_get limits.old.items place) recipients)) }
     ensures stands { (past : P → Seq ℕ) (latest : ℕ) → StandsIn P.cmp (slice_get limits.old.items place) past latest →
         OnOk result (StandsIn P.cmp (slice_get limits.new.items place)
-        (past_after P.cmp (rate_in (slice_get limits.old.items place)) past (max latest now) (offered_in M.waiting messenger.old (slice_get limits.old.items place) recipients))
+        (past_after P.cmp (rate_in (slice_get limits.old.items place)) past (max latest now)
+        (offered_in M.waiting messenger.old (slice_get limits.old.items place) recipients))
         (moment_after (offered_in M.waiting messenger.old (slice_get limits.old.items place) recipients) latest now)) }
     ensures memory { (past : P → Seq ℕ) (latest : ℕ) → StandsIn P.cmp (slice_get limits.old.items place) past latest →
         OnErr result (StandsIn P.cmp (slice_get limits.new.items place) past latest) }
     ensures rate { rate_in (slice_get limits.new.items place) ≡ rate_in (slice_get limits.old.items place) }
     ensures named { named_in (slice_get limits.new.items place) ≡ named_in (slice_get limits.old.items place) }
-    ensures known { known_at (slice_get limits.new.items place) ≡ known_in M.waiting messenger.old (slice_get limits.old.items place) recipients }
-    ensures messenger { messenger.new ≡ messenger_in M.after_try_peers messenger.old (slice_get limits.old.items place) recipients }
+    ensures known { known_at (slice_get limits.new.items place)
+        ≡ known_in M.waiting messenger.old (slice_get limits.old.items place) recipients }
+    ensures messenger { messenger.new ≡ messenger_in M.after_try_peers messenger.old
+        (slice_get limits.old.items place) recipients }
     ensures others { (other : ℕ) → other ≢ place → slice_get limits.new.items other ≡ slice_get limits.old.items other }
 {
     let limit = &mut limits[place];
@@ -228,14 +240,18 @@ impl<P: PublicKey, M: Carrier<P>> crate::LimitedSender for LimitedSender<P, M> {
 
     ghost due = { λ s message. size_refusal s.max_size message };
 
-    ghost told = { λ s w keys message priority. M.content_answer w.messenger (to.Some keys) s.channel message priority };
+    ghost told = { λ s w keys message priority. M.content_answer w.messenger
+        (to.Some keys) s.channel message priority };
 
-    ghost asked = { λ s w recipients v. v.messenger ≡ messenger_in M.after_try_peers w.messenger (limit_at w s.place) recipients };
+    ghost asked = { λ s w recipients v. v.messenger
+        ≡ messenger_in M.after_try_peers w.messenger (limit_at w s.place) recipients };
 
-    ghost handed = { λ s w keys message priority v. v ≡ with_messenger w (M.after_content w.messenger (to.Some keys) s.channel message priority) };
+    ghost handed = { λ s w keys message priority v. v
+        ≡ with_messenger w (M.after_content w.messenger (to.Some keys) s.channel message priority) };
 
     ghost told_after = { λ s w recipients keys message priority.
-        M.content_answer (messenger_in M.after_try_peers w.messenger (limit_at w s.place) recipients) (to.Some keys) s.channel message priority };
+        M.content_answer (messenger_in M.after_try_peers w.messenger (limit_at w s.place) recipients)
+        (to.Some keys) s.channel message priority };
 
     fn check(
         &self,
@@ -245,21 +261,34 @@ impl<P: PublicKey, M: Carrier<P>> crate::LimitedSender for LimitedSender<P, M> {
         now: u64,
     ) -> Result<Result<CheckedSender<P>, u128>, AllocError>
         requires serves { HasLimit M.subscriptions self.now way.old }
-        ensures law { (past : P → Seq ℕ) (latest : ℕ) → StandsIn P.cmp (limit_at way.old self.now.place) past latest → IfOk result (λ r. keys_checked (λ c. c.recipients) r
-            ≡ check_by_law P.cmp (rate_in (limit_at way.old self.now.place)) past (max latest now) (offered_in M.waiting way.old.messenger (limit_at way.old self.now.place) recipients)) }
-        ensures stands { (past : P → Seq ℕ) (latest : ℕ) → StandsIn P.cmp (limit_at way.old self.now.place) past latest → OnOk result (StandsIn P.cmp (limit_at way.new self.now.place)
-            (past_after P.cmp (rate_in (limit_at way.old self.now.place)) past (max latest now) (offered_in M.waiting way.old.messenger (limit_at way.old self.now.place) recipients))
-            (moment_after (offered_in M.waiting way.old.messenger (limit_at way.old self.now.place) recipients) latest now)) }
-        ensures memory { (past : P → Seq ℕ) (latest : ℕ) → StandsIn P.cmp (limit_at way.old self.now.place) past latest →
+        ensures law { (past : P → Seq ℕ) (latest : ℕ) → StandsIn P.cmp (limit_at way.old self.now.place) past latest →
+            IfOk result (λ r. keys_checked (λ c. c.recipients) r
+            ≡ check_by_law P.cmp (rate_in (limit_at way.old self.now.place)) past (max latest now)
+            (offered_in M.waiting way.old.messenger (limit_at way.old self.now.place) recipients)) }
+        ensures stands { (past : P → Seq ℕ) (latest : ℕ) →
+            StandsIn P.cmp (limit_at way.old self.now.place) past latest →
+            OnOk result (StandsIn P.cmp (limit_at way.new self.now.place)
+            (past_after P.cmp (rate_in (limit_at way.old self.now.place)) past (max latest now)
+            (offered_in M.waiting way.old.messenger (limit_at way.old self.now.place) recipients))
+            (moment_after (offered_in M.waiting way.old.messenger
+            (limit_at way.old self.now.place) recipients) latest now)) }
+        ensures memory { (past : P → Seq ℕ) (latest : ℕ) →
+            StandsIn P.cmp (limit_at way.old self.now.place) past latest →
             OnErr result (StandsIn P.cmp (limit_at way.new self.now.place) past latest) }
         ensures gave { IfOk result (λ r. IfOk r (λ c. c.channel ≡ self.now.channel)) }
-        ensures due { IfOk result (λ r. IfOk r (λ _. (message : Seq ℕ) → size_refusal self.now.max_size message ≡ size_refusal self.now.max_size message)) }
-        ensures told { (keys : Seq P) (message : Seq ℕ) (priority : Bool) → M.content_answer way.new.messenger (to.Some keys) self.now.channel message priority
-            ≡ M.content_answer (messenger_in M.after_try_peers way.old.messenger (limit_at way.old self.now.place) recipients) (to.Some keys) self.now.channel message priority }
+        ensures due { IfOk result (λ r. IfOk r
+            (λ _. (message : Seq ℕ) → size_refusal self.now.max_size message
+            ≡ size_refusal self.now.max_size message)) }
+        ensures told { (keys : Seq P) (message : Seq ℕ) (priority : Bool) →
+            M.content_answer way.new.messenger (to.Some keys) self.now.channel message priority
+            ≡ M.content_answer (messenger_in M.after_try_peers way.old.messenger
+            (limit_at way.old self.now.place) recipients) (to.Some keys) self.now.channel message priority }
         ensures rate { rate_in (limit_at way.new self.now.place) ≡ rate_in (limit_at way.old self.now.place) }
         ensures serves { HasLimit M.subscriptions self.now way.new }
-        ensures asked { way.new.messenger ≡ messenger_in M.after_try_peers way.old.messenger (limit_at way.old self.now.place) recipients }
-        ensures known { known_at (limit_at way.new self.now.place) ≡ known_in M.waiting way.old.messenger (limit_at way.old self.now.place) recipients }
+        ensures asked { way.new.messenger ≡ messenger_in M.after_try_peers way.old.messenger
+            (limit_at way.old self.now.place) recipients }
+        ensures known { known_at (limit_at way.new self.now.place)
+            ≡ known_in M.waiting way.old.messenger (limit_at way.old self.now.place) recipients }
         ensures others { (place : ℕ) → place ≢ self.now.place → limit_at way.new place ≡ limit_at way.old place }
     {
         let limits = &mut way.limits;
@@ -283,12 +312,17 @@ impl<P: PublicKey, M: Carrier<P>> crate::LimitedSender for LimitedSender<P, M> {
     ) -> Result<Unreliable, SendError>
         requires serves { HasLimit M.subscriptions self.now way.old }
         requires gave { checked.channel ≡ self.now.channel }
-        ensures answer { IfOk result (λ u. u ≡ M.content_answer way.old.messenger (to.Some checked.recipients) self.now.channel message priority) }
+        ensures answer { IfOk result (λ u. u ≡ M.content_answer way.old.messenger
+            (to.Some checked.recipients) self.now.channel message priority) }
         ensures fits { OnOk result (size_refusal self.now.max_size message ≡ None) }
         ensures refused { IfErr result (λ e. IsCause (size_refusal self.now.max_size message) e) }
-        ensures handed { OnOk result (way.new ≡ with_messenger way.old (M.after_content way.old.messenger (to.Some checked.recipients) self.now.channel message priority)) }
+        ensures handed { OnOk result (way.new
+            ≡ with_messenger way.old (M.after_content way.old.messenger
+            (to.Some checked.recipients) self.now.channel message priority)) }
         ensures unchanged { OnErr result (way.new ≡ way.old) }
-        ensures stands { (past : P → Seq ℕ) (latest : ℕ) → StandsIn P.cmp (limit_at way.old self.now.place) past latest → StandsIn P.cmp (limit_at way.new self.now.place) past latest }
+        ensures stands { (past : P → Seq ℕ) (latest : ℕ) →
+            StandsIn P.cmp (limit_at way.old self.now.place) past latest →
+            StandsIn P.cmp (limit_at way.new self.now.place) past latest }
         ensures rate { rate_in (limit_at way.new self.now.place) ≡ rate_in (limit_at way.old self.now.place) }
         ensures serves { HasLimit M.subscriptions self.now way.new }
     {

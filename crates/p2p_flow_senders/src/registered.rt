@@ -74,15 +74,19 @@ impl<P: PublicKey> Channels<P> {
         quota: Quota,
     ) -> Result<(Sender<P, M>, Receiver<P>), RegisterError>
         requires { mailbox_of inbounds.old channel ≡ None }
-        ensures sender { IfOk result (λ r. r.0 ≡ record { channel = channel; max_size = self.old.max_size; place = length way.old.limits }) }
+        ensures sender { IfOk result (λ r. r.0
+            ≡ record { channel = channel; max_size = self.old.max_size; place = length way.old.limits }) }
         ensures serves { IfOk result (λ r. HasLimit M.subscriptions r.0 way.new) }
-        ensures receiver { IfOk result (λ r. r.1 ≡ record { channel = channel; capacity = places_of self.old.max_peers quota }) }
+        ensures receiver { IfOk result (λ r. r.1
+            ≡ record { channel = channel; capacity = places_of self.old.max_peers quota }) }
         ensures fits { OnOk result (register_refusal self.old channel quota ≡ None) }
         ensures refused { IfErr result (IsRegisterCause (register_refusal self.old channel quota)) }
         ensures after { OnOk result (self.new ≡ record self.old { quotas = self.old.quotas ++ (channel, quota) ∷ [] }) }
-        ensures inbounds { OnOk result (inbounds.new ≡ with_channel inbounds.old channel (places_of self.old.max_peers quota)) }
+        ensures inbounds { OnOk result (inbounds.new
+            ≡ with_channel inbounds.old channel (places_of self.old.max_peers quota)) }
         ensures messenger { OnOk result (way.new.messenger ≡ M.after_subscribe way.old.messenger) }
-        ensures limits { OnOk result (way.new.limits ≡ way.old.limits ++ fresh_limit channel quota (M.subscriptions way.old.messenger) (M.known way.old.messenger) ∷ []) }
+        ensures limits { OnOk result (way.new.limits ≡ way.old.limits
+            ++ fresh_limit channel quota (M.subscriptions way.old.messenger) (M.known way.old.messenger) ∷ []) }
         ensures self_unchanged { OnErr result (self.new ≡ self.old) }
         ensures inbounds_unchanged { OnErr result (inbounds.new ≡ inbounds.old) }
         ensures way_unchanged { OnErr result (way.new ≡ way.old) }
@@ -180,11 +184,16 @@ fn make<P: PublicKey, M: Carrier<P>>(
 ) -> Result<Sender<P, M>, AllocError>
     requires places { 1 ≤ places }
     requires new { mailbox_of inbounds.old channel ≡ None }
-    ensures sender { IfOk result (λ s. s ≡ record { channel = channel; max_size = max_size; place = length way.old.limits }) }
+    ensures sender { IfOk result (λ s. s ≡ record {
+      channel = channel;
+      max_size = max_size;
+      place = length way.old.limits;
+    }) }
     ensures serves { IfOk result (λ s. HasLimit M.subscriptions s way.new) }
     ensures inbounds { OnOk result (inbounds.new ≡ with_channel inbounds.old channel places) }
     ensures messenger { OnOk result (way.new.messenger ≡ M.after_subscribe way.old.messenger) }
-    ensures limits { OnOk result (way.new.limits ≡ way.old.limits ++ fresh_limit channel quota (M.subscriptions way.old.messenger) (M.known way.old.messenger) ∷ []) }
+    ensures limits { OnOk result (way.new.limits ≡ way.old.limits
+        ++ fresh_limit channel quota (M.subscriptions way.old.messenger) (M.known way.old.messenger) ∷ []) }
     ensures inbounds_unchanged { OnErr result (inbounds.new ≡ inbounds.old) }
     ensures way_unchanged { OnErr result (way.new ≡ way.old) }
 {

@@ -132,15 +132,22 @@ pub trait LimitedSender: Copy {
         now: u64,
     ) -> Result<Result<Self::Checked, u128>, AllocError>
         requires { serves self.now way.old }
-        ensures law { (past : Self.PublicKey → Seq ℕ) (latest : ℕ) → stands self.now way.old past latest → IfOk result (λ r. keys_checked Self.Checked.checked r
-            ≡ check_by_law Self.PublicKey.cmp (rate self.now way.old) past (max latest now) (offered self.now way.old recipients)) }
-        ensures stands { (past : Self.PublicKey → Seq ℕ) (latest : ℕ) → stands self.now way.old past latest → OnOk result (stands self.now way.new
-            (past_after Self.PublicKey.cmp (rate self.now way.old) past (max latest now) (offered self.now way.old recipients))
+        ensures law { (past : Self.PublicKey → Seq ℕ) (latest : ℕ) → stands self.now way.old past latest →
+            IfOk result (λ r. keys_checked Self.Checked.checked r
+            ≡ check_by_law Self.PublicKey.cmp (rate self.now way.old) past (max latest now)
+            (offered self.now way.old recipients)) }
+        ensures stands { (past : Self.PublicKey → Seq ℕ) (latest : ℕ) → stands self.now way.old past latest →
+            OnOk result (stands self.now way.new
+            (past_after Self.PublicKey.cmp (rate self.now way.old) past (max latest now)
+            (offered self.now way.old recipients))
             (moment_after (offered self.now way.old recipients) latest now)) }
-        ensures memory { (past : Self.PublicKey → Seq ℕ) (latest : ℕ) → stands self.now way.old past latest → OnErr result (stands self.now way.new past latest) }
+        ensures memory { (past : Self.PublicKey → Seq ℕ) (latest : ℕ) → stands self.now way.old past latest →
+            OnErr result (stands self.now way.new past latest) }
         ensures gave { IfOk result (λ r. IfOk r (λ c. gave self.now c)) }
-        ensures due { IfOk result (λ r. IfOk r (λ c. (message : Seq ℕ) → refusal self.now c message ≡ due self.now message)) }
-        ensures told { (keys : Seq Self.PublicKey) (message : Seq ℕ) (priority : Bool) → told self.now way.new keys message priority ≡ told_after self.now way.old recipients keys message priority }
+        ensures due { IfOk result (λ r. IfOk r
+            (λ c. (message : Seq ℕ) → refusal self.now c message ≡ due self.now message)) }
+        ensures told { (keys : Seq Self.PublicKey) (message : Seq ℕ) (priority : Bool) →
+            told self.now way.new keys message priority ≡ told_after self.now way.old recipients keys message priority }
         ensures rate { rate self.now way.new ≡ rate self.now way.old }
         ensures asked { asked self.now way.old recipients way.new }
         ensures serves { serves self.now way.new };
@@ -162,7 +169,8 @@ pub trait LimitedSender: Copy {
         ensures refused { IfErr result (λ e. IsCause (refusal self.now checked message) e) }
         ensures handed { OnOk result (handed self.now way.old (Self.Checked.checked checked) message priority way.new) }
         ensures unchanged { OnErr result (way.new ≡ way.old) }
-        ensures stands { (past : Self.PublicKey → Seq ℕ) (latest : ℕ) → stands self.now way.old past latest → stands self.now way.new past latest }
+        ensures stands { (past : Self.PublicKey → Seq ℕ) (latest : ℕ) → stands self.now way.old past latest →
+            stands self.now way.new past latest }
         ensures rate { rate self.now way.new ≡ rate self.now way.old }
         ensures serves { serves self.now way.new };
 }

@@ -28,21 +28,31 @@ pub trait Sender: LimitedSender {
         now: u64,
     ) -> Result<Vec<Self::PublicKey>, SendError>
         requires { Self.serves self.now way.old }
-        ensures sent { (past : Self.PublicKey → Seq ℕ) (latest : ℕ) → Self.stands self.now way.old past latest → IfOk result (λ r. r.items
+        ensures sent { (past : Self.PublicKey → Seq ℕ) (latest : ℕ) → Self.stands self.now way.old past latest →
+            IfOk result (λ r. r.items
             ≡ sent_to (λ keys. Self.told_after self.now way.old recipients keys message priority)
-            (check_by_law Self.PublicKey.cmp (Self.rate self.now way.old) past (max latest now) (Self.offered self.now way.old recipients))) }
-        ensures fits { (past : Self.PublicKey → Seq ℕ) (latest : ℕ) → Self.stands self.now way.old past latest → OnOk result (
-            is_ok (check_by_law Self.PublicKey.cmp (Self.rate self.now way.old) past (max latest now) (Self.offered self.now way.old recipients)) ≡ true →
+            (check_by_law Self.PublicKey.cmp (Self.rate self.now way.old) past (max latest now)
+            (Self.offered self.now way.old recipients))) }
+        ensures fits { (past : Self.PublicKey → Seq ℕ) (latest : ℕ) → Self.stands self.now way.old past latest →
+            OnOk result (
+            is_ok (check_by_law Self.PublicKey.cmp (Self.rate self.now way.old) past (max latest now)
+            (Self.offered self.now way.old recipients)) ≡ true →
             Self.due self.now message ≡ None) }
-        ensures refused { (past : Self.PublicKey → Seq ℕ) (latest : ℕ) → Self.stands self.now way.old past latest → IfErr result (IsCauseAfter
-            (is_ok (check_by_law Self.PublicKey.cmp (Self.rate self.now way.old) past (max latest now) (Self.offered self.now way.old recipients)))
+        ensures refused { (past : Self.PublicKey → Seq ℕ) (latest : ℕ) → Self.stands self.now way.old past latest →
+            IfErr result (IsCauseAfter
+            (is_ok (check_by_law Self.PublicKey.cmp (Self.rate self.now way.old) past (max latest now)
+            (Self.offered self.now way.old recipients)))
             (Self.due self.now message)) }
-        ensures stands { (past : Self.PublicKey → Seq ℕ) (latest : ℕ) → Self.stands self.now way.old past latest → UnlessMemory result (Self.stands self.now way.new
-            (past_after Self.PublicKey.cmp (Self.rate self.now way.old) past (max latest now) (Self.offered self.now way.old recipients))
+        ensures stands { (past : Self.PublicKey → Seq ℕ) (latest : ℕ) → Self.stands self.now way.old past latest →
+            UnlessMemory result (Self.stands self.now way.new
+            (past_after Self.PublicKey.cmp (Self.rate self.now way.old) past (max latest now)
+            (Self.offered self.now way.old recipients))
             (moment_after (Self.offered self.now way.old recipients) latest now)) }
-        ensures left { (past : Self.PublicKey → Seq ℕ) (latest : ℕ) → Self.stands self.now way.old past latest → IsLeft (Self.asked self.now way.old recipients)
+        ensures left { (past : Self.PublicKey → Seq ℕ) (latest : ℕ) → Self.stands self.now way.old past latest →
+            IsLeft (Self.asked self.now way.old recipients)
             (λ keys mid new. Self.handed self.now mid keys message priority new)
-            (check_by_law Self.PublicKey.cmp (Self.rate self.now way.old) past (max latest now) (Self.offered self.now way.old recipients)) result way.new }
+            (check_by_law Self.PublicKey.cmp (Self.rate self.now way.old) past (max latest now)
+            (Self.offered self.now way.old recipients)) result way.new }
         ensures serves { Self.serves self.now way.new }
     {
         match self.check(alloc, way, recipients, now)? {
@@ -63,12 +73,15 @@ fn send_to<S: LimitedSender>(
 ) -> Result<Vec<S::PublicKey>, SendError>
     requires serves { S.serves sender.now way.old }
     requires gave { S.gave sender.now checked }
-    ensures sent { IfOk result (λ r. r.items ≡ cond (is_accepted (S.told sender.now way.old (S.Checked.checked checked) message priority)) (S.Checked.checked checked) []) }
+    ensures sent { IfOk result (λ r. r.items ≡ cond
+        (is_accepted (S.told sender.now way.old (S.Checked.checked checked) message priority))
+        (S.Checked.checked checked) []) }
     ensures fits { OnOk result (S.refusal sender.now checked message ≡ None) }
     ensures refused { IfErr result (λ e. IsCause (S.refusal sender.now checked message) e) }
     ensures handed { OnOk result (S.handed sender.now way.old (S.Checked.checked checked) message priority way.new) }
     ensures unchanged { OnErr result (way.new ≡ way.old) }
-    ensures stands { (past : S.PublicKey → Seq ℕ) (latest : ℕ) → S.stands sender.now way.old past latest → S.stands sender.now way.new past latest }
+    ensures stands { (past : S.PublicKey → Seq ℕ) (latest : ℕ) → S.stands sender.now way.old past latest →
+        S.stands sender.now way.new past latest }
     ensures serves { S.serves sender.now way.new }
 {
     let keys = Vec::from_slice(alloc, checked.recipients())?;

@@ -40,7 +40,12 @@ impl<P: Ord> Model for Limit<P> {
 
     ghost Value = { Limit P };
 
-    ghost view = { λ l. record { channel = l.channel; kept = l.limiter; subscription = l.subscription; known = l.known } };
+    ghost view = { λ l. record {
+      channel = l.channel;
+      kept = l.limiter;
+      subscription = l.subscription;
+      known = l.known;
+    } };
 }
 
 impl<P: Ord, M> Way<P, M> {

@@ -20,7 +20,14 @@ queue_of (suc (suc (suc zero))) n d = queue.High n d
 queue_of (suc (suc (suc (suc zero)))) n d = queue.Low n d
 queue_of (suc (suc (suc (suc (suc zero))))) n d = queue.Link n side.Out
 queue_of (suc (suc (suc (suc (suc (suc zero)))))) n d = queue.Link n side.In
-queue_of k n d = queue.Channel n d
+queue_of (suc (suc (suc (suc (suc (suc (suc zero))))))) n d = queue.Channel n d
+queue_of (suc (suc (suc (suc (suc (suc (suc (suc zero)))))))) n d = queue.Tracker n
+queue_of (suc (suc (suc (suc (suc (suc (suc (suc (suc zero))))))))) n d = queue.Update n
+queue_of (suc (suc (suc (suc (suc (suc (suc (suc (suc (suc zero)))))))))) n d = queue.Dialer n
+queue_of (suc (suc (suc (suc (suc (suc (suc (suc (suc (suc (suc zero))))))))))) n d = queue.Control n d
+queue_of (suc (suc (suc (suc (suc (suc (suc (suc (suc (suc (suc (suc zero)))))))))))) n d = queue.Answer n d
+queue_of (suc (suc (suc (suc (suc (suc (suc (suc (suc (suc (suc (suc (suc zero))))))))))))) n d = queue.Updates n d
+queue_of k n d = queue.Blocked n d
 
 queue_of-code : (q : Queue) → queue_of (kind_of q) (owner_of q) (detail_of q) ≡ q
 unfolding queue_of
@@ -32,6 +39,13 @@ queue_of-code (queue.Low n e) = refl
 queue_of-code (queue.Link e side.Out) = refl
 queue_of-code (queue.Link e side.In) = refl
 queue_of-code (queue.Channel n c) = refl
+queue_of-code (queue.Tracker n) = refl
+queue_of-code (queue.Update n) = refl
+queue_of-code (queue.Dialer n) = refl
+queue_of-code (queue.Control n e) = refl
+queue_of-code (queue.Answer n e) = refl
+queue_of-code (queue.Updates n e) = refl
+queue_of-code (queue.Blocked n e) = refl
 
 pub queue_from_same : (p q : Queue) → same_queue p q ≡ true → q ≡ p
 queue_from_same p q h =

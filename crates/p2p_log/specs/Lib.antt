@@ -4,6 +4,7 @@ pub mod Drained
 pub mod Fates
 pub mod Lines
 pub mod QueueCode
+pub mod QueueLaws
 pub mod QueueOrder
 pub mod Sending
 pub mod Taken

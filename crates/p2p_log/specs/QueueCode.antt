@@ -14,6 +14,13 @@ kind_of (queue.Low n e) = 4
 kind_of (queue.Link e side.Out) = 5
 kind_of (queue.Link e side.In) = 6
 kind_of (queue.Channel n c) = 7
+kind_of (queue.Tracker n) = 8
+kind_of (queue.Update n) = 9
+kind_of (queue.Dialer n) = 10
+kind_of (queue.Control n e) = 11
+kind_of (queue.Answer n e) = 12
+kind_of (queue.Updates n e) = 13
+kind_of (queue.Blocked n e) = 14
 
 -- the node, or the link, that it belongs to
 abbrev pub owner_of : Queue → ℕ
@@ -24,8 +31,15 @@ owner_of (queue.High n e) = n
 owner_of (queue.Low n e) = n
 owner_of (queue.Link e s) = e
 owner_of (queue.Channel n c) = n
+owner_of (queue.Tracker n) = n
+owner_of (queue.Update n) = n
+owner_of (queue.Dialer n) = n
+owner_of (queue.Control n e) = n
+owner_of (queue.Answer n e) = n
+owner_of (queue.Updates n e) = n
+owner_of (queue.Blocked n e) = n
 
--- its channel or connection, or 0 where it has none
+-- its channel, connection or question, or 0 where it has none
 abbrev pub detail_of : Queue → ℕ
 detail_of (queue.Router n) = 0
 detail_of (queue.Peers n c) = c
@@ -34,6 +48,13 @@ detail_of (queue.High n e) = e
 detail_of (queue.Low n e) = e
 detail_of (queue.Link e s) = 0
 detail_of (queue.Channel n c) = c
+detail_of (queue.Tracker n) = 0
+detail_of (queue.Update n) = 0
+detail_of (queue.Dialer n) = 0
+detail_of (queue.Control n e) = e
+detail_of (queue.Answer n e) = e
+detail_of (queue.Updates n e) = e
+detail_of (queue.Blocked n e) = e
 
 -- whether two names are of one queue
 abbrev pub same_queue : Queue → Queue → Bool

@@ -23,4 +23,19 @@ pub struct Config {
 
     /// How many messages are written at once.
     pub send_batch_size: usize,
+
+    /// Whether addresses that are not global may be dialed, and listened to.
+    pub allow_private_ips: bool,
+
+    /// Whether names may be dialed.
+    pub allow_dns: bool,
+
+    /// Whether a peer may dial from another address than its own.
+    pub bypass_ip_check: bool,
+
+    /// The least time between two reservations of a peer, in nanoseconds.
+    pub peer_connection_cooldown: u64,
+
+    /// How long a block lasts, in nanoseconds.
+    pub block_duration: u64,
 }

@@ -4,7 +4,8 @@ use crate::event::Event;
 use crate::item::Item;
 use crate::queue::Queue;
 use bytes::Bytes;
-use p2p_base::{Key, List};
+use p2p_base::{Feedback, Key, List, Set};
+use p2p_flow::{PeerSetUpdate, TrackedPeers};
 
 /// The answer to an event.
 #[derive(Drop)]
@@ -23,6 +24,16 @@ pub enum Reply {
     Sent(List<Key>),
     /// A message, and the key of its sender.
     Message { bytes: Bytes, from: Key },
+    /// What the tracker's mailbox made of a question.
+    Feedback(Feedback),
+    /// The set has this many keys, and this many it may have.
+    PeerSetTooLarge { count: usize, limit: usize },
+    /// The peers of the set, or none where no set of that index is kept.
+    PeerSet(Option<TrackedPeers<Key>>),
+    /// What a subscription to peer sets is told next.
+    Update(PeerSetUpdate<Key>),
+    /// The keys that are blocked.
+    Blocked(Set<Key>),
 }
 
 /// An event, its reply, the names of the items that it took, what it put in which queue, and what it ended.

@@ -3,7 +3,9 @@ ghost use Rattle.std.specs.Prelude.{◌≡◌, IfOk};
 
 use crate::queue::Queue;
 use bytes::Bytes;
-use p2p_base::{Key, List};
+use p2p_address::{Ingress, IpAddr};
+use p2p_base::{Key, List, Set};
+use p2p_flow::{PeerSetUpdate, TrackedPeers};
 use std::alloc::{AllocError, Global};
 
 /// What stands in a queue. A copy is named by its send and its place among that send's copies.
@@ -39,6 +41,36 @@ pub enum Item {
         copy: (u64, u64),
         from: Key,
     },
+    /// To the tracker: what the event of this number asks.
+    Call(u64),
+    /// To the tracker: a connection of a peer has begun.
+    Connect {
+        conn: u64,
+        key: Key,
+    },
+    /// To the tracker: which peers may be dialed.
+    AskDialable,
+    /// To the tracker: a peer is to be reserved for a dial.
+    AskDial(Key),
+    /// To the tracker: a reservation is given back.
+    Release(Key),
+    /// The addresses from which peers may come, each once, IPv4 first and each kind in the order of its bytes.
+    Addresses(List<IpAddr>),
+    /// The peers that may be dialed, and the moment, in nanoseconds, from which others may be.
+    Dialable {
+        next: Option<u128>,
+        peers: List<Key>,
+    },
+    /// The peer that is reserved for a dial and where to dial it, or none where it is not.
+    Dial(Option<(Key, Ingress)>),
+    /// A connection is to end.
+    Kill,
+    /// The peers of the set that was asked for, or none where no set of that index is kept.
+    PeerSet(Option<TrackedPeers<Key>>),
+    /// What a subscription to peer sets is told.
+    Update(PeerSetUpdate<Key>),
+    /// The keys that are blocked.
+    Blocked(Set<Key>),
 }
 
 /// An item in its queue, under its name: the entry that put it there, and its place among that entry's puts.
@@ -85,6 +117,47 @@ impl Item {
                 copy: *copy,
                 from: *from,
             }),
+            Item::Call(event) => Ok(Item::Call(*event)),
+            Item::Connect { conn, key } => Ok(Item::Connect {
+                conn: *conn,
+                key: *key,
+            }),
+            Item::AskDialable => Ok(Item::AskDialable),
+            Item::AskDial(key) => Ok(Item::AskDial(*key)),
+            Item::Release(key) => Ok(Item::Release(*key)),
+            Item::Addresses(addresses) => Ok(Item::Addresses(addresses.try_clone(alloc)?)),
+            Item::Dialable { next, peers } => Ok(Item::Dialable {
+                next: *next,
+                peers: peers.try_clone(alloc)?,
+            }),
+            Item::Dial(grant) => Ok(Item::Dial(clone_grant(alloc, grant)?)),
+            Item::Kill => Ok(Item::Kill),
+            Item::PeerSet(peers) => Ok(Item::PeerSet(clone_peers(peers)?)),
+            Item::Update(update) => Ok(Item::Update(update.try_clone()?)),
+            Item::Blocked(keys) => Ok(Item::Blocked(keys.try_clone()?)),
         }
+    }
+}
+
+/// An equal grant of a dial.
+fn clone_grant(
+    alloc: Global,
+    grant: &Option<(Key, Ingress)>,
+) -> Result<Option<(Key, Ingress)>, AllocError>
+    ensures { IfOk result (λ g. g ≡ grant.now) }
+{
+    match grant {
+        Some((key, ingress)) => Ok(Some((*key, ingress.try_clone(alloc)?))),
+        None => Ok(None),
+    }
+}
+
+/// An equal answer to a question for the peers of a set.
+fn clone_peers(peers: &Option<TrackedPeers<Key>>) -> Result<Option<TrackedPeers<Key>>, AllocError>
+    ensures { IfOk result (λ p. p ≡ peers.now) }
+{
+    match peers {
+        Some(peers) => Ok(Some(peers.try_clone()?)),
+        None => Ok(None),
     }
 }

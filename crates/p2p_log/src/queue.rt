@@ -30,6 +30,20 @@ pub enum Queue {
     Link { link: u64, side: Side },
     /// The messages of a channel that wait for their reader.
     Channel { node: u64, channel: u64 },
+    /// The mailbox of a node's tracker.
+    Tracker(u64),
+    /// The newest addresses from which peers may come, for a node's listener.
+    Update(u64),
+    /// What the tracker answered to a node's dialer.
+    Dialer(u64),
+    /// What a connection of a node is told to do.
+    Control { node: u64, conn: u64 },
+    /// The answer to the question for a peer set that an event asked of a node.
+    Answer { node: u64, question: u64 },
+    /// What waits for the subscription to peer sets that an event made at a node.
+    Updates { node: u64, question: u64 },
+    /// The newest blocked keys for the subscription to them that an event made at a node.
+    Blocked { node: u64, question: u64 },
 }
 
 impl Queue {
@@ -49,6 +63,13 @@ impl Queue {
             } => 5,
             Queue::Link { side: Side::In, .. } => 6,
             Queue::Channel { .. } => 7,
+            Queue::Tracker(_) => 8,
+            Queue::Update(_) => 9,
+            Queue::Dialer(_) => 10,
+            Queue::Control { .. } => 11,
+            Queue::Answer { .. } => 12,
+            Queue::Updates { .. } => 13,
+            Queue::Blocked { .. } => 14,
         }
     }
 
@@ -64,10 +85,17 @@ impl Queue {
             Queue::Low { node, .. } => node,
             Queue::Link { link, .. } => link,
             Queue::Channel { node, .. } => node,
+            Queue::Tracker(node) => node,
+            Queue::Update(node) => node,
+            Queue::Dialer(node) => node,
+            Queue::Control { node, .. } => node,
+            Queue::Answer { node, .. } => node,
+            Queue::Updates { node, .. } => node,
+            Queue::Blocked { node, .. } => node,
         }
     }
 
-    /// The channel or the connection of the queue, or 0 where it has none.
+    /// The channel, the connection or the question of the queue, or 0 where it has none.
     pub fn detail(&self) -> u64
         ensures { result ≡ detail_of self.now }
     {
@@ -79,6 +107,13 @@ impl Queue {
             Queue::Low { conn, .. } => conn,
             Queue::Link { .. } => 0,
             Queue::Channel { channel, .. } => channel,
+            Queue::Tracker(_) => 0,
+            Queue::Update(_) => 0,
+            Queue::Dialer(_) => 0,
+            Queue::Control { conn, .. } => conn,
+            Queue::Answer { question, .. } => question,
+            Queue::Updates { question, .. } => question,
+            Queue::Blocked { question, .. } => question,
         }
     }
 }
@@ -106,6 +141,7 @@ impl Eq for Queue {
 }
 
 impl Ord for Queue {
+    ghost use Rattle.p2p_log.specs.QueueLaws.{matches_eq as queues_match};
     ghost use Rattle.p2p_log.specs.QueueOrder.{queue_cmp};
     ghost use Rattle.std.proofs.Common.{rules};
     ghost use Rattle.std.specs.Cmp.Rules.{comparing};
@@ -116,7 +152,7 @@ impl Ord for Queue {
 
     ghost matches_partial_cmp = { Prim.search (comparing, rules) };
 
-    ghost matches_eq = { Prim.search (comparing, rules) };
+    ghost matches_eq = { queues_match };
 
     fn cmp(&self, other: &Queue) -> Ordering {
         self.kind()
@@ -127,6 +163,7 @@ impl Ord for Queue {
 }
 
 impl PartialOrd for Queue {
+    ghost use Rattle.p2p_log.specs.QueueLaws.{matches_eq as queues_match};
     ghost use Rattle.p2p_log.specs.QueueOrder.{queue_cmp};
     ghost use Rattle.std.proofs.Common.{rules};
     ghost use Rattle.std.specs.Cmp.{partial_order_from_own_ties};
@@ -135,7 +172,7 @@ impl PartialOrd for Queue {
 
     ghost partial_cmp = { as_partial_cmp queue_cmp };
 
-    ghost laws = { partial_order_from_own_ties (Prim.search (comparing, rules)) (Prim.search (comparing, rules)) };
+    ghost laws = { partial_order_from_own_ties (Prim.search (comparing, rules)) queues_match };
 
     fn partial_cmp(&self, other: &Queue) -> Option<Ordering> {
         Some(self.cmp(other))

@@ -1,7 +1,8 @@
 -- Of what kind the items of each queue are, and which items carry no copy.
 use Rattle.std.proofs.Common.{◌≡◌, ℕ, ◌+◌, Bool, true, false, cond, List, [], ◌∷◌, Some, refl, ap, sym, ◌∙◌}
-use Rattle.std.specs.Prelude.{count_by, flat_map}
+use Rattle.std.specs.Prelude.{◌&&◌, not, count_by, flat_map}
 use Rattle.std.specs.List.{AllByRecursion as Each}
+use Rattle.std.proofs.lemmas.Bool.{false≢true}
 use Rattle.std.proofs.lemmas.List.Sums.{sum_by-cons}
 use Rattle.p2p_log.specs.declared.queue.Queue.{Queue}
 use Rattle.p2p_log.specs.declared.queue.Queue.TheVariants as queue
@@ -24,6 +25,18 @@ fits (queue.High n conn) (item.Frame copy frame) = true
 fits (queue.Low n conn) (item.Frame copy frame) = true
 fits (queue.Link link side) (item.Frame copy frame) = true
 fits (queue.Channel n c) (item.Message bytes copy from) = true
+fits (queue.Tracker n) (item.Call e) = true
+fits (queue.Tracker n) (item.Connect conn key) = true
+fits (queue.Tracker n) item.AskDialable = true
+fits (queue.Tracker n) (item.AskDial key) = true
+fits (queue.Tracker n) (item.Release key) = true
+fits (queue.Update n) (item.Addresses ips) = true
+fits (queue.Dialer n) (item.Dialable next peers) = true
+fits (queue.Dialer n) (item.Dial grant) = true
+fits (queue.Control n conn) item.Kill = true
+fits (queue.Answer n e) (item.PeerSet peers) = true
+fits (queue.Updates n e) (item.Update update) = true
+fits (queue.Blocked n e) (item.Blocked keys) = true
 fits _ _ = false
 
 abbrev pub Fits : Queue × Item → Type 0
@@ -34,16 +47,52 @@ StandsFit x = fits x.queue x.item ≡ true
 
 -- whether an item carries no copy
 abbrev pub is_bare : Item → Bool
-is_bare (item.Subscribe c) = true
-is_bare (item.Ready conn key) = true
-is_bare (item.Peers keys) = true
-is_bare item.Answer = true
-is_bare _ = false
+is_bare (item.Content c frame priority send to) = false
+is_bare (item.Frame copy frame) = false
+is_bare (item.Message bytes copy from) = false
+is_bare _ = true
+
+-- whether an item tells of no copy and of no connection
+abbrev pub is_idle : Item → Bool
+is_idle (item.Ready conn key) = false
+is_idle (item.Content c frame priority send to) = false
+is_idle (item.Frame copy frame) = false
+is_idle (item.Message bytes copy from) = false
+is_idle (item.Connect conn key) = false
+is_idle (item.Release key) = false
+is_idle _ = true
+
+-- whether what a queue takes carries no copy
+abbrev pub holds_bare : Queue → Bool
+holds_bare (queue.Router n) = false
+holds_bare (queue.High n conn) = false
+holds_bare (queue.Low n conn) = false
+holds_bare (queue.Link link side) = false
+holds_bare (queue.Channel n c) = false
+holds_bare _ = true
 
 -- whether an end is of an item
 abbrev pub is_item_end : End → Bool
 is_item_end (end.Item n p) = true
 is_item_end (end.Copy n p o) = false
+
+holds_bare-none : (q : Queue) (i : Item) → (holds_bare q && (fits q i && not (is_bare i))) ≡ false
+holds_bare-none (queue.Router n) i = refl
+holds_bare-none (queue.High n conn) i = refl
+holds_bare-none (queue.Low n conn) i = refl
+holds_bare-none (queue.Link link side) i = refl
+holds_bare-none (queue.Channel n c) i = refl
+holds_bare-none _ (item.Content c frame priority send to) = refl
+holds_bare-none _ (item.Frame copy frame) = refl
+holds_bare-none _ (item.Message bytes copy from) = refl
+holds_bare-none _ _ = refl
+
+pub bare_there : (q : Queue) (i : Item) → holds_bare q ≡ true → fits q i ≡ true → is_bare i ≡ true
+bare_there q i holds fit = go (is_bare i) refl
+  where
+    go : (b : Bool) → is_bare i ≡ b → b ≡ true
+    go true e = refl
+    go false e = absurd (false≢true (sym (holds_bare-none q i) ∙ (ap (λ h. h && (fits q i && not (is_bare i))) holds ∙ (ap (λ f. f && not (is_bare i)) fit ∙ ap not e))))
 
 pub bare_carries_none : (copy : ℕ × ℕ) (i : Item) → is_bare i ≡ true → carries_copy copy i ≡ false
 bare_carries_none copy (item.Content c frame priority send to) h = absurd (cc)

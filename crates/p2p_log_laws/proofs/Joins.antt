@@ -125,9 +125,9 @@ get_take (y ∷ ys) zero i x e h = absurd (omega arith)
 get_take (y ∷ ys) (suc n) zero x e h = e
 get_take (y ∷ ys) (suc n) (suc i) x e h = get_take ys n i x e (omega arith)
 
-joined_reply : (configs : List Config) (before : List Entry) (x y : ℕ) → (row configs before (act.Join x y)).reply ≡ reply.Ok → may_join before x y ≡ true
+joined_reply : (configs : List Config) (before : List Entry) (at seed x y : ℕ) → (row configs before at seed (act.Join x y)).reply ≡ reply.Ok → may_join before x y ≡ true
 unfolding row
-joined_reply configs before x y h = go (may_join before x y) h
+joined_reply configs before at seed x y h = go (may_join before x y) h
   where
     done : Row
     done = record {
@@ -151,8 +151,8 @@ unfolding effect is_joined
 later_not configs before ev e a b is joined earlier =
     let j : Joins a b e.event.act e.reply = joins_is a b e.event.act e.reply joined in
     let acts : ev.act ≡ act.Join j.x j.y = ap (λ (d : Entry). d.event.act) (sym is) ∙ j.acts in
-    let replies : (row configs before ev.act).reply ≡ reply.Ok = ap (λ (d : Entry). d.reply) (sym is) ∙ j.replies in
-    let may : may_join before j.x j.y ≡ true = joined_reply configs before j.x j.y (ap (λ (c : Act). (row configs before c).reply) (sym acts) ∙ replies) in
+    let replies : (row configs before ev.at ev.seed ev.act).reply ≡ reply.Ok = ap (λ (d : Entry). d.reply) (sym is) ∙ j.replies in
+    let may : may_join before j.x j.y ≡ true = joined_reply configs before ev.at ev.seed j.x j.y (ap (λ (c : Act). (row configs before ev.at ev.seed c).reply) (sym acts) ∙ replies) in
     let two = and_parts (not (j.x == j.y)) (not (is_joined before j.x j.y)) (and_parts (is_up before j.x && is_up before j.y) (not (j.x == j.y) && not (is_joined before j.x j.y)) may).1 in
     let no : is_joined before j.x j.y ≡ false = not_true (is_joined before j.x j.y) two.1 in
     let same : is_joined before a b ≡ is_joined before j.x j.y = any_same j.x j.y before j.same in

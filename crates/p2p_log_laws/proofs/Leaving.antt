@@ -154,10 +154,10 @@ module _ (configs : List Config) (script : List Event) (log : List Entry) (lawfu
     right_after =
         let due = entry_due configs script log lawful n t.entry t.at in
         let before = take n log in
-        let r = row configs before due.0.act in
+        let r = row configs before due.0.at due.0.seed due.0.act in
         let takes : Has r.takes (name_of x) = subst (λ (d : Entry). Has d.takes (name_of x)) due.1 (Has-get t.entry.takes t.takes.0 (name_of x) t.takes.1) in
         subst AreAfter (sym (take_next log n t.entry t.at)) (subst (λ (d : Entry). AreAfter (before ++ d ∷ [])) (sym due.1)
-        (after_taken before due.0 r (row_shape configs before due.0.act).moves q x stood takes))
+        (after_taken before due.0 r (row_shape configs before due.0.at due.0.seed due.0.act).moves q x stood takes))
 
     one_more : (k : ℕ) (o : Option Entry) → slice_get log k ≡ o → x.entry < length (take k log) → AreAfter (take k log) → AreAfter (take (suc k) log)
     one_more k None at less h = subst AreAfter (sym (take_no_more log k at)) h

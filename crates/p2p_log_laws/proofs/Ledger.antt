@@ -68,14 +68,14 @@ Told-none configs = record {
 }
 
 -- the laws of the row of an event
-pub row_laws : (configs : List Config) (log : List Entry) (a : Act) → Standing configs log → Laws configs log a (row configs log a) (row_shape configs log a).moves
-row_laws configs log a stand = (row_shape configs log a).laws stand
+pub row_laws : (configs : List Config) (log : List Entry) (at seed : ℕ) (a : Act) → Standing configs log → Laws configs log a (row configs log at seed a) (row_shape configs log at seed a).moves
+row_laws configs log at seed a stand = (row_shape configs log at seed a).laws stand
 
 pub Told-more : (configs : List Config) (before : List Entry) (ev : Event) → Told configs before → Told configs (before ++ effect configs before ev ∷ [])
 unfolding effect
 Told-more configs before ev told =
-    let r = row configs before ev.act in
-    let shape : Shape configs before ev.act r = row_shape configs before ev.act in
+    let r = row configs before ev.at ev.seed ev.act in
+    let shape : Shape configs before ev.act r = row_shape configs before ev.at ev.seed ev.act in
     let laws : Laws configs before ev.act r shape.moves = shape.laws told.standing in
     record {
       standing = record {
@@ -133,8 +133,8 @@ delivered_at : (configs : List Config) (before : List Entry) (ev : Event) (q : Q
     → e ≡ effect configs before ev → reading_of configs before e.event.act ≡ Some q → e.reply ≡ reply.Message bytes from → IsDelivery configs before e.ends q bytes from
 unfolding effect
 delivered_at configs before ev q bytes from e told is reads replies =
-    let r = row configs before ev.act in
-    let shape : Shape configs before ev.act r = row_shape configs before ev.act in
+    let r = row configs before ev.at ev.seed ev.act in
+    let shape : Shape configs before ev.act r = row_shape configs before ev.at ev.seed ev.act in
     let acts : reading_of configs before ev.act ≡ Some q = ap (λ (d : Entry). reading_of configs before d.event.act) (sym is) ∙ reads in
     let said : r.reply ≡ reply.Message bytes from = ap (λ (d : Entry). d.reply) (sym is) ∙ replies in
     subst (λ (d : Entry). IsDelivery configs before d.ends q bytes from) (sym is)

@@ -40,6 +40,7 @@ pub mod Spreads
 pub mod Stages
 pub mod Sublists
 pub mod Telling
+pub mod TrackerShape
 pub mod Truth
 pub mod Turns
 pub mod Untouched

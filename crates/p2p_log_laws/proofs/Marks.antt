@@ -18,10 +18,10 @@ use Rattle.p2p_log.specs.Lines.{goes, stays, placed, live}
 use Rattle.p2p_log_rules.specs.Effect.{entry_of, relay_queue}
 use Rattle.p2p_log.proofs.Lines.{live-append}
 use Rattle.p2p_log.proofs.Each.{Each-has, Each-append, Each-filter, Each-weaker}
-use Rattle.p2p_log_laws.proofs.Fitting.{Each-placed}
+use Rattle.p2p_log_laws.proofs.Fitting.{Each-placed, is_idle, is_bare}
 use Rattle.p2p_log_rules.specs.Moves.{Moves}
 use Rattle.p2p_log_rules.proofs.Moves.{taken_stood}
-use Rattle.p2p_log_laws.proofs.Shape.{Origin, OfAct, OfItem, IsSpread, is_idle, Laws, Moved-origins}
+use Rattle.p2p_log_laws.proofs.Shape.{Origin, OfAct, OfItem, IsSpread, Laws, Moved-origins}
 use Rattle.p2p_log.proofs.Taken.{Each-taken}
 
 -- the entry is a send of this sender, with this priority
@@ -39,14 +39,9 @@ Marks all (item.Frame (Some copy) frame) (queue.Low n conn) = IsSentBy all copy.
 -- what has gone over a link is told by the link
 Marks all (item.Frame (Some copy) frame) (queue.Link link side) = Unit {0}
 Marks all (item.Message bytes copy from) q = Unit {0}
--- these carry no copy
-Marks all (item.Subscribe c) q = Unit {0}
-Marks all (item.Ready conn key) q = Unit {0}
-Marks all (item.Peers keys) q = Unit {0}
-Marks all item.Answer q = Unit {0}
 Marks all (item.Frame None frame) q = Unit {0}
--- the others stand in no other queue
-Marks all _ _ = ⊥
+-- what carries no copy has no mark, and the others stand in no other queue
+Marks all i q = elim (is_bare i) [ true ↦ Unit {0} | false ↦ ⊥ ]
 
 abbrev pub StandMarks : List Entry → Envelope → Type 0
 StandMarks all x = Marks all x.item x.queue
@@ -59,15 +54,16 @@ idle_marks all (item.Ready conn key) q h = absurd (cc)
 idle_marks all (item.Content c frame priority send to) q h = absurd (cc)
 idle_marks all (item.Frame copy frame) q h = absurd (cc)
 idle_marks all (item.Message bytes copy from) q h = absurd (cc)
+idle_marks all (item.Connect conn key) q h = absurd (cc)
+idle_marks all (item.Release key) q h = absurd (cc)
 idle_marks all _ q h = tt
 
 -- what is written into a link was marked where it stood
 link_marks : (all : List Entry) (priority : Bool) (n conn : ℕ) (i : Item) (link : ℕ) (s : Side) → Marks all i (relay_queue priority n conn) → Marks all i (queue.Link link s)
-link_marks all true n conn (item.Content c frame p send to) link s h = absurd h
-link_marks all false n conn (item.Content c frame p send to) link s h = absurd h
 link_marks all priority n conn (item.Frame (Some copy) frame) link s h = tt
 link_marks all priority n conn (item.Frame None frame) link s h = tt
-link_marks all priority n conn _ link s h = tt
+link_marks all true n conn _ link s h = h
+link_marks all false n conn _ link s h = h
 
 relay_marks : (all : List Entry) (priority : Bool) (n conn : ℕ) (copy : ℕ × ℕ) (frame : List ℕ) → IsSentBy all copy.0 (Node n) priority
     → Marks all (item.Frame (Some copy) frame) (relay_queue priority n conn)

@@ -90,14 +90,10 @@ module _ (copy : ℕ × ℕ) where
       more s p a b l = grind (arith, nat_tests)
 
   carried_count : (i : Item) → count_by (same_name copy) (copies_of i) ≡ one (carries_copy copy i)
-  carried_count (item.Subscribe c) = refl
-  carried_count (item.Ready conn key) = refl
   carried_count (item.Content c frame priority send to) = from_place send 0 to ∙ zero_place send copy.0 copy.1 (length to)
     where
       zero_place : (s a b l : ℕ) → one ((s == a) && (nat_le 0 b && nat_lt b (0 + l))) ≡ one ((s == a) && nat_lt b l)
       zero_place s a b l = grind (arith, nat_tests)
-  carried_count (item.Peers keys) = refl
-  carried_count item.Answer = refl
   carried_count (item.Frame (Some other) frame) = count_by-first (same_name copy) other [] ∙ plus_zero (same_name copy other)
     where
       plus_zero : (b : Bool) → one b + 0 ≡ one b
@@ -107,6 +103,7 @@ module _ (copy : ℕ × ℕ) where
     where
       plus_zero : (b : Bool) → one b + 0 ≡ one b
       plus_zero b = omega arith
+  carried_count _ = refl
 
   sublist_count : (xs ys : List (ℕ × ℕ)) → IsSublist xs ys → count_by (same_name copy) xs ≤ count_by (same_name copy) ys
   sublist_count xs [] h = let same : count_by (same_name copy) xs ≡ 0 = ap (λ l. count_by (same_name copy) l) h in omega (arith, same)

@@ -204,9 +204,9 @@ module _ (configs : List Config) (all : List Entry) (sender : Sender) (channel :
     ordered_step : (before : List Entry) (ev : Event) → OrderedIn before → OrderedIn (before ++ effect configs before ev ∷ [])
     unfolding effect
     ordered_step before ev h =
-        let r = row configs before ev.act in
+        let r = row configs before ev.at ev.seed ev.act in
         let e = entry_of ev r in
-        let shape : Shape configs before ev.act r = row_shape configs before ev.act in (
+        let shape : Shape configs before ev.act r = row_shape configs before ev.at ev.seed ev.act in (
           Told-more configs before ev h.0,
           λ more whole.
               let parts : before ++ e ∷ more ≡ all = sym (append_assoc before (e ∷ []) more) ∙ whole in
@@ -263,8 +263,8 @@ module _ (configs : List Config) (script : List Event) (log : List Entry) (lawfu
   once_step : (before : List Entry) (ev : Event) → Once before → Once (before ++ effect configs before ev ∷ [])
   unfolding effect Once
   once_step before ev h =
-      let r = row configs before ev.act in
-      let shape : Shape configs before ev.act r = row_shape configs before ev.act in
+      let r = row configs before ev.at ev.seed ev.act in
+      let shape : Shape configs before ev.act r = row_shape configs before ev.at ev.seed ev.act in
       (Told-more configs before ev h.0, λ copy. linked_more copy configs before ev r shape.moves (shape.laws h.0.standing) (h.1 copy))
 
   once_none : Once []

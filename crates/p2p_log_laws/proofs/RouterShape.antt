@@ -24,15 +24,15 @@ use Rattle.p2p_log_rules.specs.Effect
 use Rattle.p2p_log_rules.specs.Effect.{entry_of}
 use Rattle.p2p_log.proofs.Each.{Each-always, Each-filter, Each-map, Each-weaker}
 use Rattle.p2p_log_rules.specs.Moves.{Moves}
-use Rattle.p2p_log_rules.proofs.Moves.{one_taken, stands_first, first_has, rings, rings_gone, rings_queues, rings_taken}
+use Rattle.p2p_log_rules.proofs.Moves.{one_taken, stands_first, first_has, rings, rings_gone, rings_in, rings_taken}
 use Rattle.p2p_log.proofs.Names.{AreApart-filter, AreApart-live_from, filter_stays-first}
 use Rattle.p2p_log.proofs.Queues.{same_queue-refl}
 use Rattle.p2p_log.proofs.Taken.{AreTaken-append}
 use Rattle.p2p_log_rules.proofs.Touches.{reads, in_router}
 use Rattle.p2p_log_laws.specs.Causes.{IsRouted, enters_before}
 use Rattle.p2p_log_laws.proofs.Carried.{IsSublist-frames}
-use Rattle.p2p_log_laws.proofs.Fitting.{Fits, StandsFit, fits, is_bare, is_item_end, ended_item-none}
-use Rattle.p2p_log_laws.proofs.Overwriting.{rings_bare, peers_ends_items}
+use Rattle.p2p_log_laws.proofs.Fitting.{Fits, StandsFit, fits, is_bare, holds_bare, is_item_end, ended_item-none}
+use Rattle.p2p_log_laws.proofs.Overwriting.{rings_bare, ring_ends_items}
 use Rattle.p2p_log_laws.proofs.Shape.{Shape, ComesOf, relay_spread, IsQuiet, Moved-all, accepts, still, one_move, first_in, quiet_laws, no_delivery, count_by-single, accepts-none}
 use Rattle.p2p_log_laws.proofs.Showing.{Standing, EndShows, first_tells, send_accepted}
 use Rattle.p2p_log_laws.proofs.SpreadDrops.{spread_drops}
@@ -68,10 +68,10 @@ module _ (configs : List Config) (log : List Entry) (n : ℕ) (x : Envelope) (re
   abbrev ringed : (puts : List (Queue × Item)) (cs : List ℕ) → Moves log (record { reply = reply.Ok; takes = name_of x ∷ []; puts = puts; ends = Effect.peers_ends left n cs })
   ringed puts cs = record {
     taken = x ∷ [];
-    ended = rings left n cs;
+    ended = rings left (map (queue.Peers n) cs);
     names = refl;
-    gone = rings_gone left n cs;
-    stood = AreTaken-append (live log) (x ∷ []) (rings left n cs) (stands_first log (queue.Router n) x rest first) (rings_taken left n cs apart);
+    gone = rings_gone left (map (queue.Peers n) cs);
+    stood = AreTaken-append (live log) (x ∷ []) (rings left (map (queue.Peers n) cs)) (stands_first log (queue.Router n) x rest first) (rings_taken left (map (queue.Peers n) cs) apart);
   }
 
   -- what carries no copy, and overwrites lists of peers
@@ -81,15 +81,15 @@ module _ (configs : List Config) (log : List Entry) (n : ℕ) (x : Envelope) (re
     moves = ringed puts cs;
     reach = record {
       taken = in_mailbox;
-      ended = Each-weaker (λ y. (c : ℕ) × (y.queue ≡ queue.Peers n c)) (λ y. in_router n y.queue ≡ true) (λ y e. ap (in_router n) e.1 ∙ eq-eqb n n refl)
-          (rings left n cs) (rings_queues left n cs);
+      ended = rings_in (λ q. in_router n q ≡ true) left (map (queue.Peers n) cs) (Each-map (λ q. in_router n q ≡ true) (queue.Peers n) cs (Each-always (λ c. in_router n (queue.Peers n c) ≡ true) (λ c. eq-eqb n n refl) cs));
       puts = near;
     };
     laws = λ stand.
         let r : Row = record { reply = reply.Ok; takes = name_of x ∷ []; puts = puts; ends = Effect.peers_ends left n cs } in
         quiet_laws configs log (act.Router n) r (ringed puts cs) refl refl (light, tt)
-        (rings_bare left n cs apart (Each-filter StandsFit (stays (name_of x ∷ [])) (live log) stand.fitting))
-        (peers_ends_items n cs left) quiet;
+        (rings_bare left (map (queue.Peers n) cs) apart (Each-filter StandsFit (stays (name_of x ∷ [])) (live log) stand.fitting)
+        (Each-map (λ q. holds_bare q ≡ true) (queue.Peers n) cs (Each-always (λ c. holds_bare (queue.Peers n c) ≡ true) (λ c. refl) cs)))
+        (ring_ends_items left (map (queue.Peers n) cs)) quiet;
   }
 
   lists_quiet : (keys : List Key) (cs : List ℕ) → Each IsQuiet (map (Effect.peers_put n keys) cs)

@@ -34,7 +34,7 @@ use Rattle.p2p_log_rules.specs.Moves.{Moves}
 use Rattle.p2p_log_rules.proofs.Moves.{one_taken, stands_first}
 use Rattle.p2p_log_rules.proofs.Touches.{Reach}
 use Rattle.p2p_log_laws.proofs.Carried.{IsSublist-bare, IsSublist-put}
-use Rattle.p2p_log_laws.proofs.Fitting.{Fits, is_bare, is_item_end, bare_carries_none, ends_copy-none, count_by-none}
+use Rattle.p2p_log_laws.proofs.Fitting.{Fits, is_idle, is_bare, is_item_end, bare_carries_none, ends_copy-none, count_by-none}
 use Rattle.p2p_log_laws.proofs.Showing.{Standing, EndShows, item_shows}
 use Rattle.p2p_log_laws.proofs.Spreading.{borne_by, one}
 use Rattle.p2p_log_laws.proofs.Sublists.{IsSublist-nil}
@@ -43,13 +43,6 @@ use Rattle.p2p_log_laws.specs.Flow.{IsSublist, put_copies}
 -- 1 for a copy of the send that this act is, where it is accepted
 abbrev pub accepts : List Entry → Act → Reply → ℕ × ℕ → ℕ
 accepts log a r copy = one ((length log == copy.0) && nat_lt copy.1 (length (keys_sent (sending_of a r))))
-
--- whether an item tells of no copy and of no connection
-abbrev pub is_idle : Item → Bool
-is_idle (item.Subscribe c) = true
-is_idle (item.Peers keys) = true
-is_idle item.Answer = true
-is_idle _ = false
 
 -- ---- where what is put comes from, by the queue that it enters
 

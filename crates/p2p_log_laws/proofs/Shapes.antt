@@ -1,5 +1,5 @@
 -- The shape of each act's row.
-use Rattle.std.specs.Prelude.{List}
+use Rattle.std.specs.Prelude.{ℕ, List}
 use Rattle.p2p_log.specs.declared.config.Config.{Config}
 use Rattle.p2p_log.specs.declared.entry.Entry.{Entry}
 use Rattle.p2p_log.specs.declared.event.Act.{Act}
@@ -9,15 +9,25 @@ use Rattle.p2p_log_laws.proofs.CallShapes.{register_shape, start_shape, join_sha
 use Rattle.p2p_log_laws.proofs.ConnShapes.{send_step_shape, recv_step_shape}
 use Rattle.p2p_log_laws.proofs.RouterShape.{router_shape}
 use Rattle.p2p_log_laws.proofs.Shape.{Shape}
+use Rattle.p2p_log_laws.proofs.TrackerShape.{track_shape, overwrite_shape, block_shape, peer_set_shape, subscribe_shape, blocked_shape, answer_shape, next_shape, tracker_shape}
 
 -- each act has a shape
-pub row_shape : (configs : List Config) (log : List Entry) (a : Act) → Shape configs log a (row configs log a)
+pub row_shape : (configs : List Config) (log : List Entry) (at seed : ℕ) (a : Act) → Shape configs log a (row configs log at seed a)
 unfolding row
-row_shape configs log (act.Register c n rate) = register_shape configs log c n rate
-row_shape configs log (act.Start n) = start_shape configs log n
-row_shape configs log (act.Join a b) = join_shape configs log a b
-row_shape configs log (act.Send bytes c n priority to) = send_shape configs log bytes c n priority to
-row_shape configs log (act.Router n) = router_shape configs log n
-row_shape configs log (act.SendStep conn n) = send_step_shape configs log conn n
-row_shape configs log (act.RecvStep conn n) = recv_step_shape configs log conn n
-row_shape configs log (act.Recv c n) = recv_shape configs log c n
+row_shape configs log at seed (act.Register c n rate) = register_shape configs log c n rate
+row_shape configs log at seed (act.Start n) = start_shape configs log n
+row_shape configs log at seed (act.Join a b) = join_shape configs log a b
+row_shape configs log at seed (act.Send bytes c n priority to) = send_shape configs log bytes c n priority to
+row_shape configs log at seed (act.Router n) = router_shape configs log n
+row_shape configs log at seed (act.SendStep conn n) = send_step_shape configs log conn n
+row_shape configs log at seed (act.RecvStep conn n) = recv_step_shape configs log conn n
+row_shape configs log at seed (act.Recv c n) = recv_shape configs log c n
+row_shape configs log at seed (act.Track index n peers) = track_shape configs log index n peers
+row_shape configs log at seed (act.Overwrite n peers) = overwrite_shape configs log n peers
+row_shape configs log at seed (act.Block key n) = block_shape configs log key n
+row_shape configs log at seed (act.PeerSet index n) = peer_set_shape configs log index n
+row_shape configs log at seed (act.Subscribe n) = subscribe_shape configs log n
+row_shape configs log at seed (act.Blocked n) = blocked_shape configs log n
+row_shape configs log at seed (act.Answer question) = answer_shape configs log question
+row_shape configs log at seed (act.Next question) = next_shape configs log question
+row_shape configs log at seed (act.Tracker n) = tracker_shape configs log n at

@@ -5,9 +5,9 @@ use Rattle.p2p_log.specs.Sending.Sender.{Node, Raw}
 use Rattle.p2p_log.specs.declared.queue.Side.{Side}
 use Rattle.p2p_log_rules.specs.Effect.{other_side}
 use Rattle.p2p_log.specs.QueueCode.{owner_of}
-use Rattle.p2p_log_laws.proofs.Fitting.{fits}
+use Rattle.p2p_log_laws.proofs.Fitting.{fits, is_idle}
 use Rattle.std.specs.Prelude.{true}
-use Rattle.std.proofs.Common.{◌≡◌, ℕ, Bool, List, ◌++◌, Option, Some, None, ◌⊎◌, inl, inr, refl, ap, ◌∙◌}
+use Rattle.std.proofs.Common.{◌≡◌, ℕ, Bool, true, false, List, ◌++◌, Option, Some, None, ◌⊎◌, inl, inr, refl, ap, ◌∙◌}
 use Rattle.std.specs.Prelude.{slice_get}
 use Rattle.p2p_base.specs.declared.key.Key.{Key}
 use Rattle.p2p_log.specs.declared.config.Config.{Config}
@@ -164,13 +164,9 @@ Tells configs log (item.Frame (Some copy) frame) (queue.Low n conn) = (half : Ha
 Tells configs log (item.Frame (Some copy) frame) (queue.Link conn side) = IsOnLink configs log conn side copy frame
 -- the copy arrived here
 Tells configs log (item.Message bytes copy from) (queue.Channel n c) = IsArrived configs log bytes copy from n c
--- these tell nothing
-Tells configs log (item.Subscribe c) q = Unit {0}
-Tells configs log (item.Peers keys) q = Unit {0}
-Tells configs log item.Answer q = Unit {0}
 Tells configs log (item.Frame None frame) q = Unit {0}
--- the others stand in no other queue
-Tells _ _ _ _ = ⊥
+-- what is idle tells nothing, and the others stand in no other queue
+Tells configs log i q = elim (is_idle i) [ true ↦ Unit {0} | false ↦ ⊥ ]
 
 -- what is true stays so
 pub Tells-longer : (configs : List Config) (log more : List Entry) (i : Item) (q : Queue) → Tells configs log i q → Tells configs (log ++ more) i q

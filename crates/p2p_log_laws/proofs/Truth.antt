@@ -32,12 +32,12 @@ use Rattle.p2p_log.proofs.Places.{slice_get-seam}
 use Rattle.p2p_log_laws.specs.Delivered.{IsCopyOf, HasKey}
 use Rattle.p2p_log_laws.specs.Order.{WentOver, Writes}
 use Rattle.p2p_log.proofs.Each.{Each-has, Each-append, Each-filter, Each-weaker}
-use Rattle.p2p_log_laws.proofs.Fitting.{Each-placed}
+use Rattle.p2p_log_laws.proofs.Fitting.{Each-placed, is_idle}
 use Rattle.p2p_log_laws.proofs.Puts.{IsPut, each_put}
 use Rattle.p2p_log_laws.proofs.Routing.{RoutesHold, route_peer}
 use Rattle.p2p_log_rules.specs.Moves.{Moves}
 use Rattle.p2p_log_rules.proofs.Moves.{taken_stood}
-use Rattle.p2p_log_laws.proofs.Shape.{Origin, OfAct, OfItem, IsSpread, IsReceived, is_idle, Laws, Moved-origins}
+use Rattle.p2p_log_laws.proofs.Shape.{Origin, OfAct, OfItem, IsSpread, IsReceived, Laws, Moved-origins}
 use Rattle.p2p_log_laws.proofs.Telling.{IsOnLink, IsArrived, half_at-longer, Tells, Tells-longer, PutTells, StandTells, IsAddressed, copy_of_send}
 use Rattle.p2p_log.proofs.Taken.{Each-taken}
 
@@ -131,6 +131,8 @@ idle_tells configs log (item.Ready conn key) q h = absurd (cc)
 idle_tells configs log (item.Content c frame priority send to) q h = absurd (cc)
 idle_tells configs log (item.Frame copy frame) q h = absurd (cc)
 idle_tells configs log (item.Message bytes copy from) q h = absurd (cc)
+idle_tells configs log (item.Connect conn key) q h = absurd (cc)
+idle_tells configs log (item.Release key) q h = absurd (cc)
 idle_tells configs log _ q h = tt
 
 half_at-new : (configs : List Config) (log : List Entry) (e : Entry) (n : ℕ) (half : Half) → half_of configs n e.event.act e.reply ≡ Some half
@@ -154,13 +156,9 @@ link_tells configs log priority n conn half (item.Frame (Some copy) frame) at h 
     let told = relayed_is configs log priority n conn copy frame h in
     let same : told.0 ≡ half = same_Some told.0 half (sym told.1.at ∙ at) in
     inl (n, told.0, ap (λ (k : Half). k.writes) same, told.1)
-link_tells configs log true n conn half (item.Ready e key) at h = absurd h
-link_tells configs log true n conn half (item.Content c frame p send to) at h = absurd h
-link_tells configs log true n conn half (item.Message bytes copy from) at h = absurd h
-link_tells configs log false n conn half (item.Ready e key) at h = absurd h
-link_tells configs log false n conn half (item.Content c frame p send to) at h = absurd h
-link_tells configs log false n conn half (item.Message bytes copy from) at h = absurd h
-link_tells configs log priority n conn half _ at h = tt
+link_tells configs log priority n conn half (item.Frame None frame) at h = tt
+link_tells configs log true n conn half _ at h = h
+link_tells configs log false n conn half _ at h = h
 
 -- ---- what a half takes from its link
 

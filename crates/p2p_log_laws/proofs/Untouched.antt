@@ -14,5 +14,5 @@ pub line-untouched : (configs : List Config) (log : List Entry) (ev : Event) (q 
     → line (log ++ effect configs log ev ∷ []) q ≡ line log q
 unfolding effect
 line-untouched configs log ev q no_read no_write =
-    let shape : Shape configs log ev.act (row configs log ev.act) = row_shape configs log ev.act in
-    line-out_of_reach configs log ev (row configs log ev.act) shape.moves shape.reach q no_read no_write
+    let shape : Shape configs log ev.act (row configs log ev.at ev.seed ev.act) = row_shape configs log ev.at ev.seed ev.act in
+    line-out_of_reach configs log ev (row configs log ev.at ev.seed ev.act) shape.moves shape.reach q no_read no_write

@@ -1,5 +1,5 @@
 -- Scripts with the logs that they have, written out by hand.
-use Rattle.std.specs.Prelude.{ℕ, false, List, [], ◌∷◌, ◌++◌, Some}
+use Rattle.std.specs.Prelude.{true, ℕ, false, List, [], ◌∷◌, ◌++◌, Some}
 use Rattle.p2p_base.specs.declared.key.Key.{Key}
 use Rattle.p2p_log.specs.declared.config.Config.{Config}
 use Rattle.p2p_log.specs.declared.queue.Queue.{Queue}
@@ -31,6 +31,11 @@ node_of k = record {
   mailbox_size = 4;
   tracked_peer_sets = 4;
   send_batch_size = 8;
+  allow_private_ips = true;
+  allow_dns = true;
+  bypass_ip_check = false;
+  peer_connection_cooldown = 1000000000;
+  block_duration = 3600000000000;
 }
 
 abbrev pub event_of : Act → Event

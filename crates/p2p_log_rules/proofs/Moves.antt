@@ -6,7 +6,6 @@ use Rattle.std.proofs.lemmas.List.{map-append}
 use Rattle.std.proofs.lemmas.Grind.{flat_map-append}
 use Rattle.std.proofs.lemmas.List.Elements.{filter-append}
 use Rattle.p2p_log.specs.declared.queue.Queue.{Queue}
-use Rattle.p2p_log.specs.declared.queue.Queue.TheVariants as queue
 use Rattle.p2p_log.specs.declared.item.Item.{Item}
 use Rattle.p2p_log.specs.declared.item.Envelope.{Envelope}
 use Rattle.p2p_log.specs.declared.entry.Entry.{Entry}
@@ -20,7 +19,7 @@ use Rattle.p2p_log.specs.declared.end.End.TheVariants as end
 use Rattle.p2p_log.specs.declared.end.Cause.{Cause}
 use Rattle.p2p_log.specs.declared.end.Outcome.{Outcome}
 use Rattle.p2p_log.specs.declared.end.Outcome.TheVariants as outcome
-use Rattle.p2p_log_rules.specs.Effect.{entry_of, goes_to, overwritten, peers_ends}
+use Rattle.p2p_log_rules.specs.Effect.{entry_of, goes_to, overwritten, ring_ends}
 use Rattle.p2p_log.specs.Apart.{AreApart}
 use Rattle.p2p_log.proofs.Each.{Each-append, Each-take, Each-weaker}
 use Rattle.p2p_log.proofs.QueueNames.{Each-in_queue}
@@ -122,41 +121,41 @@ all_end-gone c (x ∷ xs) =
 
 -- ---- what rings overwrite
 
--- the lists of peers that are overwritten, in order
-abbrev pub rings : List Envelope → ℕ → List ℕ → List Envelope
-rings items n [] = []
-rings items n (c ∷ cs) =
-    let l = filter (stands_in (queue.Peers n c)) items in
-    take 1 l ++ rings (filter (stays (flat_map ended_item (overwritten l))) items) n cs
+-- the items that are overwritten, in order
+abbrev pub rings : List Envelope → List Queue → List Envelope
+rings items [] = []
+rings items (q ∷ qs) =
+    let l = filter (stands_in q) items in
+    take 1 l ++ rings (filter (stays (flat_map ended_item (overwritten l))) items) qs
 
 overwritten_gone : (l : List Envelope) → flat_map ended_item (overwritten l) ≡ map name_of (take 1 l)
 overwritten_gone [] = refl
 overwritten_gone (x ∷ xs) = refl
 
-pub rings_gone : (items : List Envelope) (n : ℕ) (cs : List ℕ) → flat_map ended_item (peers_ends items n cs) ≡ map name_of (rings items n cs)
-rings_gone items n [] = refl
-rings_gone items n (c ∷ cs) =
-    let l = filter (stands_in (queue.Peers n c)) items in
+pub rings_gone : (items : List Envelope) (qs : List Queue) → flat_map ended_item (ring_ends items qs) ≡ map name_of (rings items qs)
+rings_gone items [] = refl
+rings_gone items (q ∷ qs) =
+    let l = filter (stands_in q) items in
     let left = filter (stays (flat_map ended_item (overwritten l))) items in
-    flat_map-append ended_item (overwritten l) (peers_ends left n cs)
-    ∙ (ap (λ a. a ++ flat_map ended_item (peers_ends left n cs)) (overwritten_gone l)
-    ∙ (ap (λ b. map name_of (take 1 l) ++ b) (rings_gone left n cs) ∙ sym (map-append name_of (take 1 l) (rings left n cs))))
+    flat_map-append ended_item (overwritten l) (ring_ends left qs)
+    ∙ (ap (λ a. a ++ flat_map ended_item (ring_ends left qs)) (overwritten_gone l)
+    ∙ (ap (λ b. map name_of (take 1 l) ++ b) (rings_gone left qs) ∙ sym (map-append name_of (take 1 l) (rings left qs))))
 
-pub rings_taken : (items : List Envelope) (n : ℕ) (cs : List ℕ) → AreApart items → AreTaken items (rings items n cs)
-rings_taken items n [] apart = tt
-rings_taken items n (c ∷ cs) apart =
-    let l = filter (stands_in (queue.Peers n c)) items in
+pub rings_taken : (items : List Envelope) (qs : List Queue) → AreApart items → AreTaken items (rings items qs)
+rings_taken items [] apart = tt
+rings_taken items (q ∷ qs) apart =
+    let l = filter (stands_in q) items in
     let left = filter (stays (flat_map ended_item (overwritten l))) items in
-    AreTaken-append items (take 1 l) (rings left n cs) (AreTaken-take 1 items l (line_taken items (queue.Peers n c) l apart refl))
-    (subst (λ gone. AreTaken (filter (stays gone) items) (rings left n cs)) (overwritten_gone l)
-    (rings_taken left n cs (AreApart-filter (stays (flat_map ended_item (overwritten l))) items apart)))
+    AreTaken-append items (take 1 l) (rings left qs) (AreTaken-take 1 items l (line_taken items q l apart refl))
+    (subst (λ gone. AreTaken (filter (stays gone) items) (rings left qs)) (overwritten_gone l)
+    (rings_taken left qs (AreApart-filter (stays (flat_map ended_item (overwritten l))) items apart)))
 
-pub rings_queues : (items : List Envelope) (n : ℕ) (cs : List ℕ) → Each (λ x. (c : ℕ) × (x.queue ≡ queue.Peers n c)) (rings items n cs)
-rings_queues items n [] = tt
-rings_queues items n (c ∷ cs) =
-    let l = filter (stands_in (queue.Peers n c)) items in
+-- each is in one of those queues
+pub rings_in : (P : Queue → Type 0) (items : List Envelope) (qs : List Queue) → Each P qs → Each (λ x. P x.queue) (rings items qs)
+rings_in P items [] h = tt
+rings_in P items (q ∷ qs) h =
+    let l = filter (stands_in q) items in
     let left = filter (stays (flat_map ended_item (overwritten l))) items in
-    Each-append (λ x. (d : ℕ) × (x.queue ≡ queue.Peers n d)) (take 1 l) (rings left n cs)
-    (Each-take (λ x. (d : ℕ) × (x.queue ≡ queue.Peers n d)) 1 l
-    (Each-weaker (λ x. x.queue ≡ queue.Peers n c) (λ x. (d : ℕ) × (x.queue ≡ queue.Peers n d)) (λ x e. (c, e)) l (Each-in_queue (queue.Peers n c) items)))
-    (rings_queues left n cs)
+    Each-append (λ x. P x.queue) (take 1 l) (rings left qs)
+    (Each-take (λ x. P x.queue) 1 l (Each-weaker (λ x. x.queue ≡ q) (λ x. P x.queue) (λ x e. subst P (sym e) h.0) l (Each-in_queue q items)))
+    (rings_in P left qs h.1)

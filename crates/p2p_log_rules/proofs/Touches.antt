@@ -1,7 +1,7 @@
 -- Which queues an act reaches: from which it takes, and which it changes.
 use Rattle.p2p_log.specs.declared.config.Config.{Config}
 use Rattle.p2p_log.proofs.Queues.{same_queue-refl}
-use Rattle.std.proofs.Common.{◌≡◌, ℕ, Bool, true, false, List, [], ◌∷◌, ◌++◌, Some, None, inl, inr, refl, ap, sym, ◌∙◌}
+use Rattle.std.proofs.Common.{◌≡◌, ℕ, Bool, true, false, List, [], ◌∷◌, ◌++◌, Option, Some, None, inl, inr, refl, ap, sym, ◌∙◌}
 use Rattle.std.specs.Prelude.{◌==◌, ◌&&◌, ◌||◌}
 use Rattle.std.specs.List.{AllByRecursion as Each, list_any}
 use Rattle.std.proofs.lemmas.Bool.{false≢true}
@@ -15,6 +15,7 @@ use Rattle.p2p_log_rules.specs.declared.row.Row.{Row}
 use Rattle.p2p_log.specs.QueueCode.{same_queue}
 use Rattle.p2p_log.specs.Lines.{stands_in, line}
 use Rattle.p2p_log_rules.specs.Reading.{reading_of}
+use Rattle.p2p_log_rules.specs.Tracking.{asked_by}
 use Rattle.p2p_log_rules.specs.Effect.{entry_of, goes_to}
 use Rattle.p2p_log.proofs.Each.{Has, Each-append, Each-weaker}
 use Rattle.p2p_log_rules.specs.Moves.{Moves}
@@ -46,6 +47,24 @@ abbrev pub in_channels : ℕ → Queue → Bool
 in_channels n (queue.Channel m c) = m == n
 in_channels n _ = false
 
+-- what a tracker has: its mailbox, and the queues to which it writes
+abbrev pub in_tracker : ℕ → Queue → Bool
+in_tracker n (queue.Tracker m) = m == n
+in_tracker n (queue.Update m) = m == n
+in_tracker n (queue.Dialer m) = m == n
+in_tracker n (queue.Control m e) = m == n
+in_tracker n (queue.Answer m e) = m == n
+in_tracker n (queue.Updates m e) = m == n
+in_tracker n (queue.Blocked m e) = m == n
+in_tracker n _ = false
+
+-- whether what is told for what the event e asked stands in the queue
+abbrev pub is_told_to : Option Act → ℕ → Queue → Bool
+is_told_to (Some (act.PeerSet index n)) e q = same_queue (queue.Answer n e) q
+is_told_to (Some (act.Subscribe n)) e q = same_queue (queue.Updates n e) q
+is_told_to (Some (act.Blocked n)) e q = same_queue (queue.Blocked n e) q
+is_told_to _ e q = false
+
 -- whether a queue is one of these
 abbrev pub is_among : List Queue → Queue → Bool
 is_among qs q = list_any (λ p. same_queue p q) qs
@@ -55,6 +74,9 @@ abbrev pub reads : List Config → List Entry → Act → Queue → Bool
 reads configs log (act.Router n) q = same_queue (queue.Router n) q
 reads configs log (act.SendStep conn n) q = in_half n conn q
 reads configs log (act.RecvStep conn n) q = in_link conn q
+reads configs log (act.Answer e) q = is_told_to (asked_by log e) e q
+reads configs log (act.Next e) q = is_told_to (asked_by log e) e q
+reads configs log (act.Tracker n) q = same_queue (queue.Tracker n) q
 reads configs log a q = elim (reading_of configs log a) [ None ↦ false | Some p ↦ same_queue p q ]
 
 -- the others in which it puts or ends something
@@ -65,6 +87,13 @@ writes configs log (act.Send bytes c n priority to) q = same_queue (queue.Router
 writes configs log (act.Router n) q = in_router n q
 writes configs log (act.SendStep conn n) q = in_half n conn q
 writes configs log (act.RecvStep conn n) q = in_channels n q
+writes configs log (act.Track index n peers) q = same_queue (queue.Tracker n) q
+writes configs log (act.Overwrite n peers) q = same_queue (queue.Tracker n) q
+writes configs log (act.Block key n) q = same_queue (queue.Tracker n) q
+writes configs log (act.PeerSet index n) q = same_queue (queue.Tracker n) q
+writes configs log (act.Subscribe n) q = same_queue (queue.Tracker n) q
+writes configs log (act.Blocked n) q = same_queue (queue.Tracker n) q
+writes configs log (act.Tracker n) q = in_tracker n q
 writes configs log _ q = false
 
 pub Has-among : (qs : List Queue) (q : Queue) → Has qs q → is_among qs q ≡ true

@@ -1,5 +1,5 @@
 -- The effect of an event: the one entry that it makes, given the configurations and the entries before it.
-use Rattle.std.specs.Prelude.{ℕ, ◌+◌, Bool, true, false, ◌==◌, ◌&&◌, not, cond, nat_le, List, [], ◌∷◌, ◌++◌, map, filter, flat_map, length, take, count_by, Option, Some, None, slice_get}
+use Rattle.std.specs.Prelude.{ℕ, ◌+◌, Bool, true, false, ◌==◌, ◌&&◌, not, cond, nat_le, List, [], ◌∷◌, ◌++◌, map, filter, length, take, count_by, Option, Some, None, slice_get}
 use Rattle.p2p_base.specs.declared.key.Key.{Key}
 use Rattle.p2p_log.specs.declared.config.Config.{Config}
 use Rattle.p2p_log.specs.declared.queue.Queue.{Queue}
@@ -15,7 +15,6 @@ use Rattle.p2p_log.specs.declared.end.Outcome.{Outcome}
 use Rattle.p2p_log.specs.declared.end.Outcome.TheVariants as outcome
 use Rattle.p2p_log.specs.declared.end.Cause.TheVariants as cause
 use Rattle.p2p_log.specs.declared.entry.Entry.{Entry}
-use Rattle.p2p_log.specs.declared.entry.Reply.{Reply}
 use Rattle.p2p_log.specs.declared.entry.Reply.TheVariants as reply
 use Rattle.p2p_log_rules.specs.declared.row.Row.{Row}
 use Rattle.p2p_log.specs.declared.event.Act.{Act}
@@ -24,14 +23,12 @@ use Rattle.p2p_log.specs.declared.event.Rate.{Rate}
 use Rattle.p2p_log.specs.declared.event.Recipients.{Recipients}
 use Rattle.p2p_log.specs.declared.event.Event.{Event}
 use Rattle.p2p_log.specs.QueueCode.{same_queue}
-use Rattle.p2p_log.specs.Lines.{line, live, name_of, stands_in, stays, ended_item}
+use Rattle.p2p_log.specs.Lines.{line, live, name_of, stands_in, stays}
 use Rattle.p2p_log.specs.Copies.{keys_of_recipients}
 use Rattle.p2p_log_rules.specs.Facts.{is_up, channels, capacity_in, capacity_for, sum_capacities, subscribers, routes, with_route, keys_in, route_to, key_at, half_at, is_running, is_joined}
 use Rattle.p2p_log_rules.specs.Frames.{frame_of, message_in}
-
--- a reply that moves nothing
-abbrev pub only : Reply → Row
-only r = record { reply = r; takes = []; puts = []; ends = [] }
+pub use Rattle.p2p_log_rules.specs.Rows.{only, mailbox_size_at, overwritten, ring_ends}
+use Rattle.p2p_log_rules.specs.TrackerRows.{track_row, asked_row, answer_row, next_row, tracker_row}
 
 -- ---- calls
 
@@ -63,9 +60,6 @@ join_row configs log a b =
 abbrev pub copies_end : ℕ → ℕ → List Key → Outcome → List End
 copies_end send p [] o = []
 copies_end send p (k ∷ ks) o = end.Copy send p o ∷ copies_end send (p + 1) ks o
-
-abbrev pub mailbox_size_at : List Config → ℕ → ℕ
-mailbox_size_at configs n = elim (slice_get configs n) [ None ↦ 0 | Some c ↦ c.mailbox_size ]
 
 -- the router's mailbox holds `mailbox_size` messages and the bursts of the node's channels
 abbrev pub router_capacity : List Config → List Entry → ℕ → ℕ
@@ -104,21 +98,13 @@ recv_row configs log c n =
 
 -- ---- the router's step
 
--- an item that the next one overwrites, of a queue that holds one
-abbrev pub overwritten : List Envelope → List End
-overwritten [] = []
-overwritten (x ∷ _) = end.Item x.entry x.place ∷ []
-
 -- the newest list of peers, to this channel
 abbrev pub peers_put : ℕ → List Key → ℕ → Queue × Item
 peers_put n keys c = (queue.Peers n c, item.Peers keys)
 
 -- what comes of the lists that these channels hold, among what stands in queues: each is overwritten
 abbrev pub peers_ends : List Envelope → ℕ → List ℕ → List End
-peers_ends items n [] = []
-peers_ends items n (c ∷ cs) =
-    let ends = overwritten (filter (stands_in (queue.Peers n c)) items) in
-    ends ++ peers_ends (filter (stays (flat_map ended_item ends)) items) n cs
+peers_ends items n cs = ring_ends items (map (queue.Peers n) cs)
 
 -- the queue of a connection that a message of this priority enters
 abbrev pub relay_queue : Bool → ℕ → ℕ → Queue
@@ -270,19 +256,29 @@ recv_step_row configs log conn n =
 
 -- ---- all acts
 
-unfoldable pub row : List Config → List Entry → Act → Row
-row configs log (act.Register c n rate) = register_row configs n rate
-row configs log (act.Start n) = start_row configs log n
-row configs log (act.Join a b) = join_row configs log a b
-row configs log (act.Send bytes c n priority to) = send_row configs log bytes c n priority to
-row configs log (act.Router n) = router_row configs log n
-row configs log (act.SendStep conn n) = send_step_row configs log conn n
-row configs log (act.RecvStep conn n) = recv_step_row configs log conn n
-row configs log (act.Recv c n) = recv_row configs log c n
+-- at a moment and with a seed
+unfoldable pub row : List Config → List Entry → ℕ → ℕ → Act → Row
+row configs log at seed (act.Register c n rate) = register_row configs n rate
+row configs log at seed (act.Start n) = start_row configs log n
+row configs log at seed (act.Join a b) = join_row configs log a b
+row configs log at seed (act.Send bytes c n priority to) = send_row configs log bytes c n priority to
+row configs log at seed (act.Router n) = router_row configs log n
+row configs log at seed (act.SendStep conn n) = send_step_row configs log conn n
+row configs log at seed (act.RecvStep conn n) = recv_step_row configs log conn n
+row configs log at seed (act.Recv c n) = recv_row configs log c n
+row configs log at seed (act.Track index n peers) = track_row configs log n peers
+row configs log at seed (act.Overwrite n peers) = asked_row configs log n
+row configs log at seed (act.Block key n) = asked_row configs log n
+row configs log at seed (act.PeerSet index n) = asked_row configs log n
+row configs log at seed (act.Subscribe n) = asked_row configs log n
+row configs log at seed (act.Blocked n) = asked_row configs log n
+row configs log at seed (act.Answer question) = answer_row log question
+row configs log at seed (act.Next question) = next_row log question
+row configs log at seed (act.Tracker n) = tracker_row configs log n at
 
 abbrev pub entry_of : Event → Row → Entry
 entry_of event r = record { event = event; reply = r.reply; takes = r.takes; puts = r.puts; ends = r.ends }
 
 -- the entry that the event makes after these entries
 unfoldable pub effect : List Config → List Entry → Event → Entry
-effect configs log event = entry_of event (row configs log event.act)
+effect configs log event = entry_of event (row configs log event.at event.seed event.act)

@@ -4,4 +4,8 @@ pub mod Frames
 pub mod Lawful
 pub mod Moves
 pub mod Reading
+pub mod Rows
+pub mod TrackerPuts
+pub mod TrackerRows
+pub mod Tracking
 pub mod Valid

@@ -62,6 +62,20 @@ may_register configs events c n rate =
     (not (has_started events n) && not (is_some (capacity_in channels c)))
     && (fits_usize capacity && fits_usize (mailbox_size_at configs n + (sum_capacities channels + capacity)))
 
+-- the node that an event asks for a peer set
+abbrev pub set_asked_of : Option Event → Option ℕ
+set_asked_of None = None
+set_asked_of (Some v) = elim v.act [ act.PeerSet index n ↦ Some n | _ ↦ None ]
+
+-- the node at which an event subscribes
+abbrev pub subscribed_at : Option Event → Option ℕ
+subscribed_at None = None
+subscribed_at (Some v) = elim v.act [ act.Subscribe n ↦ Some n | act.Blocked n ↦ Some n | _ ↦ None ]
+
+abbrev pub is_node : List Config → Option ℕ → Bool
+is_node configs None = false
+is_node configs (Some n) = nat_lt n (length configs)
+
 -- an event names a node in range, and earlier events of the kind that it needs; a message is as long as the node lets it be
 abbrev pub may_act : List Config → List Event → Act → Bool
 may_act configs events (act.Register c n rate) = nat_lt n (length configs) && may_register configs events c n rate
@@ -72,6 +86,15 @@ may_act configs events (act.Router n) = nat_lt n (length configs)
 may_act configs events (act.SendStep conn n) = nat_lt n (length configs) && names_join events n conn
 may_act configs events (act.RecvStep conn n) = nat_lt n (length configs) && names_join events n conn
 may_act configs events (act.Recv c n) = nat_lt n (length configs)
+may_act configs events (act.Track index n peers) = nat_lt n (length configs)
+may_act configs events (act.Overwrite n peers) = nat_lt n (length configs)
+may_act configs events (act.Block key n) = nat_lt n (length configs)
+may_act configs events (act.PeerSet index n) = nat_lt n (length configs)
+may_act configs events (act.Subscribe n) = nat_lt n (length configs)
+may_act configs events (act.Blocked n) = nat_lt n (length configs)
+may_act configs events (act.Answer e) = is_node configs (set_asked_of (slice_get events e))
+may_act configs events (act.Next e) = is_node configs (subscribed_at (slice_get events e))
+may_act configs events (act.Tracker n) = nat_lt n (length configs)
 
 -- moments never go back
 unfoldable pub is_valid_event : List Config → List Event → Event → Bool

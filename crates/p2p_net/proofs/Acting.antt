@@ -28,20 +28,21 @@ use Rattle.p2p_net.proofs.Frames.{part_frame, links_kept}
 use Rattle.p2p_net.proofs.Performing.{asked, Performs, part_still, links_still, effect-still}
 use Rattle.p2p_net.proofs.Calling.{register_performs, start_performs, send_performs, read_performs}
 use Rattle.p2p_net.proofs.Stepping.{route_performs}
+use Rattle.p2p_net.proofs.Tracking.{track_performs, overwrite_performs, block_performs, peer_set_performs, subscribe_performs, blocked_performs, answer_performs, next_performs, tracker_performs}
 use Rattle.p2p_net.proofs.Writing.{send_step_performs}
 use Rattle.p2p_net.proofs.Receiving.{recv_step_performs}
 use Rattle.p2p_net.proofs.Welcoming.{MayJoin-test, may_join-nodes, Told, ready_row, told_first, told_second, welcome_stands}
 
 -- the row is the act's, and the world stands for the log with its entry
 pub record Simulates (configs : List Config) (log : List Entry) (ev : Event) (nodes : List Node) (links : Links) (r : Row) : Type 0 where
-  pub row_is : r ≡ row configs log ev.act
+  pub row_is : r ≡ row configs log ev.at ev.seed ev.act
   pub stands : WorldStands configs (log ++ effect configs log ev ∷ []) nodes links
 
 -- ---- acts that name one node
 
 -- each of them, a line each
-node_performs : (configs : List Config) (log : List Entry) (moment seed : ℕ) (a : Act) (x y : Node) (l links : Links) (r : Row) → NodeStands configs log (node_of a) x → LinksStand log l
-    → may_act configs (events_of log) a ≡ true → pair_of a ≡ None → NodeDoes (length log) (node_of a) a x y l links r → Performs configs log (asked moment seed a) (node_of a) y links r
+node_performs : (configs : List Config) (log : List Entry) (moment seed : ℕ) (a : Act) (x y : Node) (l links : Links) (r : Row) → NodeStands configs log (node_of log a) x → LinksStand log l
+    → may_act configs (events_of log) a ≡ true → pair_of a ≡ None → NodeDoes (length log) (node_of log a) moment seed a x y l links r → Performs configs log (asked moment seed a) (node_of log a) y links r
 node_performs configs log moment seed (act.Register c n rate) x y l links r s t valid one d = register_performs configs log moment seed n c rate x y l links r s t valid d.0 d.1
 node_performs configs log moment seed (act.Start n) x y l links r s t valid one d = start_performs configs log moment seed n x y l links r s t d.0 d.1
 node_performs configs log moment seed (act.Send bytes c n priority to) x y l links r s t valid one d = send_performs configs log moment seed n c bytes priority to x y l links r s t d.0 d.1
@@ -49,6 +50,15 @@ node_performs configs log moment seed (act.Router n) x y l links r s t valid one
 node_performs configs log moment seed (act.SendStep conn n) x y l links r s t valid one d = send_step_performs configs log moment seed conn n x y l links r s t d
 node_performs configs log moment seed (act.RecvStep conn n) x y l links r s t valid one d = recv_step_performs configs log moment seed conn n x y l links r s t d
 node_performs configs log moment seed (act.Recv c n) x y l links r s t valid one d = read_performs configs log moment seed n c x y l links r s t d.0 d.1
+node_performs configs log moment seed (act.Track index n peers) x y l links r s t valid one d = track_performs configs log moment seed n index peers x y l links r s t d.0.0 d.0.1 d.1
+node_performs configs log moment seed (act.Overwrite n peers) x y l links r s t valid one d = overwrite_performs configs log moment seed n peers x y l links r s t d.0.0 d.0.1 d.1
+node_performs configs log moment seed (act.Block key n) x y l links r s t valid one d = block_performs configs log moment seed n key x y l links r s t d.0.0 d.0.1 d.1
+node_performs configs log moment seed (act.PeerSet index n) x y l links r s t valid one d = peer_set_performs configs log moment seed n index x y l links r s t d.0.0 d.0.1 d.1
+node_performs configs log moment seed (act.Subscribe n) x y l links r s t valid one d = subscribe_performs configs log moment seed n x y l links r s t d.0.0 d.0.1 d.1
+node_performs configs log moment seed (act.Blocked n) x y l links r s t valid one d = blocked_performs configs log moment seed n x y l links r s t d.0.0 d.0.1 d.1
+node_performs configs log moment seed (act.Answer e) x y l links r s t valid one d = answer_performs configs log moment seed e x y l links r s t valid d.0.0 d.0.1 d.1
+node_performs configs log moment seed (act.Next e) x y l links r s t valid one d = next_performs configs log moment seed e x y l links r s t valid d.0.0 d.0.1 d.1
+node_performs configs log moment seed (act.Tracker n) x y l links r s t valid one d = tracker_performs configs log moment seed n x y l links r s t d.0 d.1
 node_performs configs log moment seed (act.Join a b) x y l links r s t valid one d = cc
 
 -- the parts of the other nodes are not named
@@ -67,17 +77,17 @@ unnamed_at : (b : Bool) (ps : List Part) (p : Part) (n m : ℕ) → (n == m) ≡
 unnamed_at false ps p n m ne = parts_elsewhere ps p n m ne
 unnamed_at true ps p n m ne = parts_elsewhere ps p n m ne
 
-others_unnamed : (a : Act) (p : Part) (m : ℕ) → pair_of a ≡ None → (node_of a == m) ≡ false → names a (at p m) ≡ false
-others_unnamed (act.Join a b) p m one ne = cc
-others_unnamed a p m one ne = unnamed_at (names_links a) (parts_named a) p (node_of a) m ne
+others_unnamed : (log : List Entry) (a : Act) (p : Part) (m : ℕ) → pair_of a ≡ None → (node_of log a == m) ≡ false → names log a (at p m) ≡ false
+others_unnamed log (act.Join a b) p m one ne = cc
+others_unnamed log a p m one ne = unnamed_at (names_links a) (parts_named a) p (node_of log a) m ne
 
 -- a node that an act does not name
-node_frame : (configs : List Config) (log : List Entry) (ev : Event) (m : ℕ) (z : Node) → NodeStands configs log m z → ((p : Part) → names ev.act (at p m) ≡ false) → NodeStands configs (log ++ effect configs log ev ∷ []) m z
+node_frame : (configs : List Config) (log : List Entry) (ev : Event) (m : ℕ) (z : Node) → NodeStands configs log m z → ((p : Part) → names log ev.act (at p m) ≡ false) → NodeStands configs (log ++ effect configs log ev ∷ []) m z
 node_frame configs log ev m z s away = record { own = s.own; each = λ p. part_frame p configs log ev m z (s.each p) (away p) }
 
 one_each :
     (configs : List Config) (log : List Entry) (ev : Event) (nodes : List Node) (n : ℕ) (y : Node) (l links : Links) (r : Row) → WorldStands configs log nodes l → Performs configs log ev n y links r
-    → ((p : Part) (m : ℕ) → (n == m) ≡ false → names ev.act (at p m) ≡ false)
+    → ((p : Part) (m : ℕ) → (n == m) ≡ false → names log ev.act (at p m) ≡ false)
     → (m : ℕ) (z : Node) (b : Bool) → (n == m) ≡ b → cond b (Some y) (slice_get nodes m) ≡ Some z → NodeStands configs (log ++ effect configs log ev ∷ []) m z
 one_each configs log ev nodes n y l links r s h away m z true same g =
     let here : n ≡ m = grind (arith, nat_tests) in
@@ -88,11 +98,11 @@ one_each configs log ev nodes n y l links r s h away m z false ne g = node_frame
 
 -- one node changed, as its act says
 one_simulates : (configs : List Config) (log : List Entry) (ev : Event) (nodes new : List Node) (l links : Links) (r : Row) → WorldStands configs log nodes l → may_act configs (events_of log) ev.act ≡ true
-    → pair_of ev.act ≡ None → OneDoes (length log) ev.act nodes new l links r → Simulates configs log ev new links r
+    → pair_of ev.act ≡ None → OneDoes (length log) (node_of log ev.act) ev nodes new l links r → Simulates configs log ev new links r
 one_simulates configs log ev nodes new l links r s valid one d =
     let x : Node = d.0 in
     let y : Node = d.1.0 in
-    let n = node_of ev.act in
+    let n = node_of log ev.act in
     let there : slice_get nodes n ≡ Some x = d.1.1.0 in
     let lt : n < length nodes = below nodes n x there in
     let h : Performs configs log ev n y links r = node_performs configs log ev.at ev.seed ev.act x y l links r (s.each n x there) s.linked valid one d.1.1.1.1 in
@@ -103,7 +113,7 @@ one_simulates configs log ev nodes new l links r s valid one d =
             valid = s.valid;
             long = length-slice_set nodes n y ∙ s.long;
             each = λ m z g.
-                one_each configs log ev nodes n y l links r s h (λ p k ne. others_unnamed ev.act p k one ne) m z (n == m) refl (sym (slice_get-set nodes n m y lt) ∙ g);
+                one_each configs log ev nodes n y l links r s h (λ p k ne. others_unnamed log ev.act p k one ne) m z (n == m) refl (sym (slice_get-set nodes n m y lt) ∙ g);
             linked = h.linked;
           });
     }
@@ -127,23 +137,23 @@ both_each configs log ev a b nodes l v w is s hv hw m z false true i j g =
     let it : v ≡ z = cc in
     subst (λ (x : Node). NodeStands configs (log ++ effect configs log ev ∷ []) m x) it (subst (λ k. NodeStands configs (log ++ effect configs log ev ∷ []) k v) same hv)
 both_each configs log ev a b nodes l v w is s hv hw m z false false i j g =
-    node_frame configs log ev m z (s.each m z g) (λ p. ap (λ c. names c (at p m)) is ∙ unjoined (router ∷ connections ∷ []) (router ∷ connections ∷ []) p a b m j i)
+    node_frame configs log ev m z (s.each m z g) (λ p. ap (λ c. names log c (at p m)) is ∙ unjoined (router ∷ connections ∷ []) (router ∷ connections ∷ []) p a b m j i)
 
 -- the row of a join that comes about
-joined_is : (configs : List Config) (log : List Entry) (a b : ℕ) → may_join log a b ≡ true → ready_row configs log a b ≡ row configs log (act.Join a b)
+joined_is : (configs : List Config) (log : List Entry) (moment seed a b : ℕ) → may_join log a b ≡ true → ready_row configs log a b ≡ row configs log moment seed (act.Join a b)
 unfolding row
-joined_is configs log a b may = sym (ap (λ t. cond t (ready_row configs log a b) (only reply.Gone)) may)
+joined_is configs log moment seed a b may = sym (ap (λ t. cond t (ready_row configs log a b) (only reply.Gone)) may)
 
-gone_is : (configs : List Config) (log : List Entry) (a b : ℕ) → may_join log a b ≡ false → row configs log (act.Join a b) ≡ only reply.Gone
+gone_is : (configs : List Config) (log : List Entry) (moment seed a b : ℕ) → may_join log a b ≡ false → row configs log moment seed (act.Join a b) ≡ only reply.Gone
 unfolding row
-gone_is configs log a b may = ap (λ t. cond t (ready_row configs log a b) (only reply.Gone)) may
+gone_is configs log moment seed a b may = ap (λ t. cond t (ready_row configs log a b) (only reply.Gone)) may
 
 key_is : (configs : List Config) (n : ℕ) (x : Node) → OwnStands configs n x → x.config.public_key ≡ key_at configs n
 key_is configs n x s = sym (ap (λ (o : Option Config). elim o [ None ↦ record { 0 = 0 } | Some c ↦ c.public_key ]) s.config)
 
 made_is : (configs : List Config) (log : List Entry) (moment seed a b : ℕ) → may_join log a b ≡ true → entry_of (asked moment seed (act.Join a b)) (ready_row configs log a b) ≡ effect configs log (asked moment seed (act.Join a b))
 unfolding effect
-made_is configs log moment seed a b may = ap (entry_of (asked moment seed (act.Join a b))) (joined_is configs log a b may)
+made_is configs log moment seed a b may = ap (entry_of (asked moment seed (act.Join a b))) (joined_is configs log moment seed a b may)
 
 asks : (configs : List Config) (log : List Entry) (ev : Event) → (effect configs log ev).event.act ≡ ev.act
 unfolding effect
@@ -154,7 +164,7 @@ join_by : (configs : List Config) (log : List Entry) (moment seed a b : ℕ) (t 
 join_by configs log moment seed a b false x y nodes new l links r s first second may d kept =
     let ev = asked moment seed (act.Join a b) in
     let e = effect configs log ev in
-    let is = gone_is configs log a b may in
+    let is = gone_is configs log moment seed a b may in
     let still = effect-still configs log ev reply.Gone is in
     record {
       row_is = d.0 ∙ sym is;
@@ -199,7 +209,7 @@ join_by configs log moment seed a b true x y nodes new l links r s first second 
     in
     let mid : length (slice_set nodes a v) ≡ length nodes = length-slice_set nodes a v in
     record {
-      row_is = d.0 ∙ (ap (λ k. joined_row (length log) a b k y.config.public_key) first_key ∙ (ap (λ k. joined_row (length log) a b (key_at configs a) k) second_key ∙ joined_is configs log a b may));
+      row_is = d.0 ∙ (ap (λ k. joined_row (length log) a b k y.config.public_key) first_key ∙ (ap (λ k. joined_row (length log) a b (key_at configs a) k) second_key ∙ joined_is configs log moment seed a b may));
       stands = subst (λ (ns : List Node). WorldStands configs (log ++ e ∷ []) ns links) (sym set)
           (record {
             valid = s.valid;
@@ -222,7 +232,7 @@ join_simulates configs log moment seed a b nodes new l links r s d kept =
 -- ---- all acts
 
 by_pair : (configs : List Config) (log : List Entry) (moment seed : ℕ) (a : Act) (o : Option (ℕ × ℕ)) (nodes new : List Node) (l links : Links) (r : Row) → WorldStands configs log nodes l → may_act configs (events_of log) a ≡ true
-    → pair_of a ≡ o → DoesOn o (length log) a nodes new l links r → Simulates configs log (asked moment seed a) new links r
+    → pair_of a ≡ o → DoesOn o (length log) (node_of log a) (asked moment seed a) nodes new l links r → Simulates configs log (asked moment seed a) new links r
 by_pair configs log moment seed a None nodes new l links r s valid is d = one_simulates configs log (asked moment seed a) nodes new l links r s valid is d
 by_pair configs log moment seed (act.Join m k) (Some ends) nodes new l links r s valid is d =
     let one : m ≡ ends.0 = cc in
@@ -231,5 +241,5 @@ by_pair configs log moment seed (act.Join m k) (Some ends) nodes new l links r s
 by_pair configs log moment seed a (Some ends) nodes new l links r s valid is d = cc
 
 pub simulates : (configs : List Config) (log : List Entry) (ev : Event) (nodes new : List Node) (l links : Links) (r : Row) → WorldStands configs log nodes l → may_act configs (events_of log) ev.act ≡ true
-    → WorldDoes (length log) ev.act nodes new l links r → Simulates configs log ev new links r
+    → WorldDoes (length log) (node_of log ev.act) ev nodes new l links r → Simulates configs log ev new links r
 simulates configs log ev nodes new l links r s valid d = by_pair configs log ev.at ev.seed ev.act (pair_of ev.act) nodes new l links r s valid refl d

@@ -9,7 +9,8 @@ use Rattle.p2p_log.specs.declared.event.Event.{Event}
 use Rattle.p2p_log_rules.specs.Effect.{effect}
 use Rattle.p2p_net_channels.specs.Stands.{ChannelsStand}
 use Rattle.p2p_net_connections.specs.Stands.{ConnectionsStand}
-use Rattle.p2p_net.specs.Places.{Part, router, channels, connections, code, same_part, at, links, parts_of, and_links, same_place, names}
+use Rattle.p2p_net_tracker.specs.Stands.{TrackerStands}
+use Rattle.p2p_net.specs.Places.{Part, router, channels, connections, tracker, code, same_part, at, links, parts_of, and_links, same_place, names}
 use Rattle.p2p_net.specs.Stands.{RouterStands, PartStands, OwnStands, NodeStands}
 use Rattle.p2p_net.specs.declared.node.Node.{Node}
 use Rattle.p2p_net.proofs.Touching.{first_false, second_false}
@@ -25,6 +26,7 @@ with_parts ps x y = record x {
   router = cond (is_in router ps) y.router x.router;
   channels = cond (is_in channels ps) y.channels x.channels;
   connections = cond (is_in connections ps) y.connections x.connections;
+  tracker = cond (is_in tracker ps) y.tracker x.tracker;
 }
 
 abbrev pub AllOf : (Part → Type 0) → List Part → Type 0
@@ -36,16 +38,19 @@ kept_part : (p : Part) (ps : List Part) (configs : List Config) (log : List Entr
 kept_part router ps configs log n x y out s = subst (RouterStands configs log n) (sym (ap (λ b. cond b y.router x.router) out)) s
 kept_part channels ps configs log n x y out s = subst (ChannelsStand configs log n) (sym (ap (λ b. cond b y.channels x.channels) out)) s
 kept_part connections ps configs log n x y out s = subst (ConnectionsStand configs log n) (sym (ap (λ b. cond b y.connections x.connections) out)) s
+kept_part tracker ps configs log n x y out s = subst (TrackerStands configs log n) (sym (ap (λ b. cond b y.tracker x.tracker) out)) s
 
 abbrev part_of : ℕ → Part
 part_of zero = router
 part_of (suc zero) = channels
-part_of (suc (suc k)) = connections
+part_of (suc (suc zero)) = connections
+part_of (suc (suc (suc k))) = tracker
 
 part_of-code : (p : Part) → part_of (code p) ≡ p
 part_of-code router = refl
 part_of-code channels = refl
 part_of-code connections = refl
+part_of-code tracker = refl
 
 same_part-is : (q p : Part) → same_part q p ≡ true → q ≡ p
 same_part-is q p h = let same : code q ≡ code p = grind (arith, nat_tests) in sym (part_of-code q) ∙ (ap part_of same ∙ part_of-code p)
@@ -80,7 +85,7 @@ not_among-links ps p n out = ap (λ b. b || list_any (λ r. same_place r (at p n
 -- a node of which an act changed these parts
 pub each_part :
     (configs : List Config) (log : List Entry) (ev : Event) (n : ℕ) (x y : Node) (ps : List Part) → NodeStands configs log n x → y ≡ with_parts ps x y
-    → ((p : Part) → is_in p ps ≡ false → names ev.act (at p n) ≡ false) → AllOf (λ p. PartStands p configs (log ++ effect configs log ev ∷ []) n y) ps
+    → ((p : Part) → is_in p ps ≡ false → names log ev.act (at p n) ≡ false) → AllOf (λ p. PartStands p configs (log ++ effect configs log ev ∷ []) n y) ps
     → NodeStands configs (log ++ effect configs log ev ∷ []) n y
 each_part configs log ev n x y ps s same unnamed all = record {
   own = subst (OwnStands configs n) (sym same) (record { config = s.own.config; retained = s.own.retained; works = s.own.works });

@@ -1,6 +1,8 @@
 -- A part of a node that an act does not name stands for the log with its entry.
-use Rattle.std.proofs.Common.{◌≡◌, ℕ, Bool, true, false, cond, List, [], ◌∷◌, ◌++◌, refl, ap, sym, subst, ◌∙◌, arith, Option, Some, None}
-use Rattle.std.specs.Prelude.{map, filter, slice_get, ◌==◌, ◌&&◌}
+use Rattle.std.proofs.Common.{◌≡◌, ℕ, ◌≤◌, Bool, true, false, cond, List, [], ◌∷◌, ◌++◌, length, refl, ap, sym, subst, ◌∙◌, arith, eqb-true, Option, Some, None}
+use Rattle.std.specs.Prelude.{map, filter, slice_get, ◌==◌, ◌&&◌, ◌||◌}
+use Rattle.std.proofs.lemmas.Bool.{false≢true}
+use Rattle.std.proofs.lemmas.Option.{slice_get_past}
 use Rattle.std.proofs.lemmas.Bool.Decides.{nat_tests}
 use Rattle.p2p_log.specs.declared.config.Config.{Config}
 use Rattle.p2p_log.specs.declared.queue.Queue.{Queue}
@@ -15,8 +17,15 @@ use Rattle.p2p_log.specs.declared.event.Act.{Act}
 use Rattle.p2p_log.specs.declared.event.Act.TheVariants as act
 use Rattle.p2p_log.specs.Lines.{live, line, stands_in}
 use Rattle.p2p_log_rules.specs.declared.row.Half.{Half}
+use Rattle.p2p_log_rules.specs.declared.row.Row.{Row}
 use Rattle.p2p_log_rules.specs.Facts.{starts, registers_at, capacity_for, taken, steps_router, steps_sender, is_answer, half_of, key_at, answers_by, joins}
-use Rattle.p2p_log_rules.specs.Effect.{effect}
+use Rattle.p2p_log_rules.specs.Effect.{only, row, effect}
+use Rattle.p2p_log_rules.specs.Tracking.{asked_by, steps_tracker}
+use Rattle.p2p_log_rules.specs.TrackerRows.{answers, is_answer as gives_answer, answer_at}
+use Rattle.p2p_net_tracker.specs.declared.question.Question.{Question}
+use Rattle.p2p_net_tracker.specs.declared.question.Question.TheVariants as question
+use Rattle.p2p_net_tracker.specs.Stands.{asks_of, asks_at, is_told}
+use Rattle.p2p_net_tracker.proofs.Changes.{tracker_frame}
 use Rattle.p2p_net_router.specs.Names.{is_routers}
 use Rattle.p2p_net_router.specs.Stands.{IsBeside}
 use Rattle.p2p_net_router.specs.declared.router.Router.{Router}
@@ -27,7 +36,7 @@ use Rattle.p2p_net_connections.proofs.Changes.{connections_frame}
 use Rattle.p2p_net_links.specs.Stands.{LinksStand}
 use Rattle.p2p_net_links.specs.declared.links.Links.{Links}
 use Rattle.p2p_net_links.proofs.Changes.{links_frame}
-use Rattle.p2p_net.specs.Places.{Part, router, channels, connections, links, home, names, at}
+use Rattle.p2p_net.specs.Places.{Part, router, channels, connections, tracker, same_part, links, home, names, at, asked_node, or_first, node_asked}
 use Rattle.p2p_net.specs.Stands.{RouterStands, PartStands}
 use Rattle.p2p_net.specs.declared.node.Node.{Node}
 use Rattle.p2p_net.proofs.ActKinds.{registers_unless, starts_unless, half_unless, joins_unless, routes_unless, sends_unless}
@@ -45,10 +54,10 @@ unregistered : (n m : ℕ) (cs : List (ℕ × ℕ)) → (m == n) ≡ false → c
 unregistered n m cs h = ap (λ b. cond b cs []) h
 
 -- the entry registers no channel at a node whose part the act does not name, where a registration names it
-registers_none : (configs : List Config) (n : ℕ) (p : Part) (a : Act) → ((c m : ℕ) (rate : Rate) → names (act.Register c m rate) (at p n) ≡ false → (m == n) ≡ false) → names a (at p n) ≡ false → registers_at configs n a ≡ []
-registers_none configs n p a apart h =
+registers_none : (configs : List Config) (log : List Entry) (n : ℕ) (p : Part) (a : Act) → ((c m : ℕ) (rate : Rate) → names log (act.Register c m rate) (at p n) ≡ false → (m == n) ≡ false) → names log a (at p n) ≡ false → registers_at configs n a ≡ []
+registers_none configs log n p a apart h =
     registers_unless configs n a
-    (λ c m rate is. unregistered n m ((c, capacity_for (slice_get configs n) rate) ∷ []) (apart c m rate (sym (ap (λ x. names x (at p n)) is) ∙ h)))
+    (λ c m rate is. unregistered n m ((c, capacity_for (slice_get configs n) rate) ∷ []) (apart c m rate (sym (ap (λ x. names log x (at p n)) is) ∙ h)))
 
 -- ---- connections
 
@@ -60,21 +69,11 @@ half_other configs n a b reply.Ok p q =
     let first : Option Half = Some (record { peer = key_at configs b; writes = side.Out }) in
     let second : Option Half = Some (record { peer = key_at configs a; writes = side.In }) in
     ap (λ t. cond t first (cond (n == b) second None)) p' ∙ ap (λ t. cond t second None) q'
-half_other configs n a b reply.Idle p q = refl
-half_other configs n a b reply.Pending p q = refl
-half_other configs n a b reply.Gone p q = refl
-half_other configs n a b (reply.Capacity k) p q = refl
-half_other configs n a b (reply.Sent ks) p q = refl
-half_other configs n a b (reply.Message bytes from) p q = refl
+half_other configs n a b _ p q = refl
 
 joins_other : (n m a b : ℕ) (r : Reply) → (a == n) ≡ false → (b == n) ≡ false → joins n m (act.Join a b) r ≡ false
 joins_other n m a b reply.Ok p q = grind (arith, nat_tests)
-joins_other n m a b reply.Idle p q = refl
-joins_other n m a b reply.Pending p q = refl
-joins_other n m a b reply.Gone p q = refl
-joins_other n m a b (reply.Capacity k) p q = refl
-joins_other n m a b (reply.Sent ks) p q = refl
-joins_other n m a b (reply.Message bytes from) p q = refl
+joins_other n m a b _ p q = refl
 
 -- whether an act joins nodes
 abbrev pub is_join : Act → Bool
@@ -88,10 +87,10 @@ makes_none configs log e n a is h = record {
   no_partner = λ k. ap (λ x. joins n k x e.reply) is ∙ joins_unless n k a e.reply (λ l m j. let t : true ≡ false = sym (ap is_join j) ∙ h in cc);
 }
 
-join_ends : (n a b : ℕ) → names (act.Join a b) (at connections n) ≡ false → ((a == n) ≡ false) × ((b == n) ≡ false)
-join_ends n a b h = (grind (arith, nat_tests), grind (arith, nat_tests))
+join_ends : (log : List Entry) (n a b : ℕ) → names log (act.Join a b) (at connections n) ≡ false → ((a == n) ≡ false) × ((b == n) ≡ false)
+join_ends log n a b h = (grind (arith, nat_tests), grind (arith, nat_tests))
 
-makes_unnamed : (configs : List Config) (log : List Entry) (e : Entry) (n : ℕ) (a : Act) → e.event.act ≡ a → names a (at connections n) ≡ false → MakesNone configs log e n
+makes_unnamed : (configs : List Config) (log : List Entry) (e : Entry) (n : ℕ) (a : Act) → e.event.act ≡ a → names log a (at connections n) ≡ false → MakesNone configs log e n
 makes_unnamed configs log e n a is h = record {
   no_half = ap (λ x. half_of configs n x e.reply) is
       ∙ half_unless configs n a e.reply (λ l m j. let ends = away l m j in half_other configs n l m e.reply ends.0 ends.1);
@@ -100,33 +99,33 @@ makes_unnamed configs log e n a is h = record {
 }
   where
     away : (l m : ℕ) → a ≡ act.Join l m → ((l == n) ≡ false) × ((m == n) ≡ false)
-    away l m j = join_ends n l m (sym (ap (λ x. names x (at connections n)) j) ∙ h)
+    away l m j = join_ends log n l m (sym (ap (λ x. names log x (at connections n)) j) ∙ h)
 
-steps_other : (n conn d m : ℕ) → names (act.SendStep d m) (at connections n) ≡ false → ((m == n) && (d == conn)) ≡ false
-steps_other n conn d m h = grind (arith, nat_tests)
+steps_other : (log : List Entry) (n conn d m : ℕ) → names log (act.SendStep d m) (at connections n) ≡ false → ((m == n) && (d == conn)) ≡ false
+steps_other log n conn d m h = grind (arith, nat_tests)
 
-begins_none : (log : List Entry) (e : Entry) (n conn : ℕ) (a : Act) → names a (at connections n) ≡ false → cond (steps_sender n conn a) (map is_answer (taken log e)) [] ≡ []
+begins_none : (log : List Entry) (e : Entry) (n conn : ℕ) (a : Act) → names log a (at connections n) ≡ false → cond (steps_sender n conn a) (map is_answer (taken log e)) [] ≡ []
 begins_none log e n conn a h =
-    ap (λ b. cond b (map is_answer (taken log e)) []) (sends_unless n conn a (λ d m is. steps_other n conn d m (sym (ap (λ x. names x (at connections n)) is) ∙ h)))
+    ap (λ b. cond b (map is_answer (taken log e)) []) (sends_unless n conn a (λ d m is. steps_other log n conn d m (sym (ap (λ x. names log x (at connections n)) is) ∙ h)))
 
 -- the entry begins no connection, where its act is no step of a sending half
-pub begins_by : (log : List Entry) (e : Entry) (n conn : ℕ) (a : Act) → e.event.act ≡ a → names a (at connections n) ≡ false → answers_by n conn log e ≡ []
+pub begins_by : (log : List Entry) (e : Entry) (n conn : ℕ) (a : Act) → e.event.act ≡ a → names log a (at connections n) ≡ false → answers_by n conn log e ≡ []
 begins_by log e n conn a is h = ap (λ x. cond (steps_sender n conn x) (map is_answer (taken log e)) []) is ∙ begins_none log e n conn a h
 
 -- ---- the router
 
-routed_none : (log : List Entry) (e : Entry) (n : ℕ) (a : Act) → names a (at router n) ≡ false → cond (steps_router n a) (taken log e) [] ≡ []
+routed_none : (log : List Entry) (e : Entry) (n : ℕ) (a : Act) → names log a (at router n) ≡ false → cond (steps_router n a) (taken log e) [] ≡ []
 routed_none log e n a h =
-    ap (λ b. cond b (taken log e) []) (routes_unless n a (λ m is. let f : names (act.Router m) (at router n) ≡ false = sym (ap (λ x. names x (at router n)) is) ∙ h in grind (arith, nat_tests)))
+    ap (λ b. cond b (taken log e) []) (routes_unless n a (λ m is. let f : names log (act.Router m) (at router n) ≡ false = sym (ap (λ x. names log x (at router n)) is) ∙ h in grind (arith, nat_tests)))
 
-starts_none : (n : ℕ) (a : Act) → names a (at router n) ≡ false → starts n a ≡ false
-starts_none n a h = starts_unless n a (λ m is. let f : names (act.Start m) (at router n) ≡ false = sym (ap (λ x. names x (at router n)) is) ∙ h in grind (arith, nat_tests))
+starts_none : (log : List Entry) (n : ℕ) (a : Act) → names log a (at router n) ≡ false → starts n a ≡ false
+starts_none log n a h = starts_unless n a (λ m is. let f : names log (act.Start m) (at router n) ≡ false = sym (ap (λ x. names log x (at router n)) is) ∙ h in grind (arith, nat_tests))
 
-pub beside_by : (configs : List Config) (log : List Entry) (e : Entry) (n : ℕ) (a : Act) → e.event.act ≡ a → names a (at router n) ≡ false → IsBeside configs log e n
+pub beside_by : (configs : List Config) (log : List Entry) (e : Entry) (n : ℕ) (a : Act) → e.event.act ≡ a → names log a (at router n) ≡ false → IsBeside configs log e n
 beside_by configs log e n a is h = record {
   no_step = ap (λ x. cond (steps_router n x) (taken log e) []) is ∙ routed_none log e n a h;
-  no_channel = ap (registers_at configs n) is ∙ registers_none configs n router a (λ c m rate k. grind (arith, nat_tests)) h;
-  no_start = ap (starts n) is ∙ starts_none n a h;
+  no_channel = ap (registers_at configs n) is ∙ registers_none configs log n router a (λ c m rate k. grind (arith, nat_tests)) h;
+  no_start = ap (starts n) is ∙ starts_none log n a h;
 }
 
 router_home : (n : ℕ) (q : Queue) → is_routers n q ≡ true → home q ≡ at router n
@@ -141,24 +140,104 @@ unfolding line
 line_of log q = refl
 
 -- the router of a node that an act does not name
-pub router_frame : (configs : List Config) (log : List Entry) (ev : Event) (n : ℕ) (r : Router) → RouterStands configs log n r → names ev.act (at router n) ≡ false → RouterStands configs (log ++ effect configs log ev ∷ []) n r
+pub router_frame : (configs : List Config) (log : List Entry) (ev : Event) (n : ℕ) (r : Router) → RouterStands configs log n r → names log ev.act (at router n) ≡ false → RouterStands configs (log ++ effect configs log ev ∷ []) n r
 router_frame configs log ev n r s h =
     let e = effect configs log ev in
     RouterStands-moved configs log e n r r s
     (stands_beside configs log e r s.stands (subst (IsBeside configs log e) (sym s.number) (beside_by configs log e n ev.act (effect-act configs log ev) h))
     (λ q own.
     line_of (log ++ e ∷ []) q
-    ∙ (line-unnamed configs log ev q (ap (names ev.act) (router_home n q (subst (λ k. is_routers k q ≡ true) s.number own)) ∙ h) ∙ sym (line_of log q))))
+    ∙ (line-unnamed configs log ev q (ap (names log ev.act) (router_home n q (subst (λ k. is_routers k q ≡ true) s.number own)) ∙ h) ∙ sym (line_of log q))))
     refl refl
+
+-- ---- the tracker
+
+tracks_none : (log : List Entry) (n : ℕ) (a : Act) → names log a (at tracker n) ≡ false → steps_tracker n a ≡ false
+tracks_none log n (act.Tracker m) h = grind (arith, nat_tests)
+tracks_none log n _ h = refl
+
+asks_none : (log : List Entry) (n : ℕ) (a : Act) → names log a (at tracker n) ≡ false → asks_of n a ≡ None
+asks_none log n (act.PeerSet index m) h = ap (λ b. cond b (Some question.PeerSet) None) (let f : (m == n) ≡ false = grind (arith, nat_tests) in f)
+asks_none log n (act.Subscribe m) h = ap (λ b. cond b (Some question.Updates) None) (let f : (m == n) ≡ false = grind (arith, nat_tests) in f)
+asks_none log n (act.Blocked m) h = ap (λ b. cond b (Some question.Blocked) None) (let f : (m == n) ≡ false = grind (arith, nat_tests) in f)
+asks_none log n _ h = refl
+
+-- a question for a peer set is of the node that it names
+asked_here : (n : ℕ) (o : Option Entry) → (elim o [ None ↦ None | Some e ↦ asks_of n e.event.act ]) ≡ Some question.PeerSet → (node_asked o == n) ≡ true
+asked_here n None h = cc
+asked_here n (Some e) h = by e.event.act h
+  where
+    there : (m : ℕ) (k : Question) (b : Bool) → (m == n) ≡ b → cond b (Some k) None ≡ Some question.PeerSet → (m == n) ≡ true
+    there m k true is h = is
+    there m k false is h = cc
+
+    by : (a : Act) → asks_of n a ≡ Some question.PeerSet → (or_first (asked_node a) == n) ≡ true
+    by (act.PeerSet index m) h = there m question.PeerSet (m == n) refl h
+    by (act.Subscribe m) h = there m question.Updates (m == n) refl h
+    by (act.Blocked m) h = there m question.Blocked (m == n) refl h
+    by _ h = cc
+
+-- the answer that an act takes is of a node that it names
+answers_none : (log : List Entry) (n d : ℕ) (a : Act) (r : Reply) → names log a (at tracker n) ≡ false → asks_at log n d ≡ Some question.PeerSet → answers d a r ≡ false
+answers_none log n d (act.Answer e) r h asked = by (e == d) refl
+  where
+    elsewhere : (node_asked (slice_get log e) == n) ≡ false
+    elsewhere = let m = node_asked (slice_get log e) in not_there m h
+      where
+        not_there : (m : ℕ) → ((same_part tracker tracker && (m == n)) || false) ≡ false → (m == n) ≡ false
+        not_there m k = grind (arith, nat_tests)
+
+    by : (b : Bool) → (e == d) ≡ b → ((e == d) && gives_answer r) ≡ false
+    by false is = ap (λ b. b && gives_answer r) is
+    by true is =
+        let same : e ≡ d = eqb-true e d is in
+        let here : (node_asked (slice_get log e) == n) ≡ true = ap (λ k. node_asked (slice_get log k) == n) same ∙ asked_here n (slice_get log d) asked in
+        absurd (false≢true (sym elsewhere ∙ here))
+answers_none log n d _ r h asked = refl
+
+-- no answer is taken to a question that comes later
+late_answer : (configs : List Config) (log : List Entry) (ev : Event) (d : ℕ) → length log ≤ d → answers d (effect configs log ev).event.act (effect configs log ev).reply ≡ false
+unfolding effect row
+late_answer configs log ev d past = by ev.act
+  where
+    and_false : (b : Bool) → (b && false) ≡ false
+    and_false true = refl
+    and_false false = refl
+
+    row_of : Option Act → ℕ → Row
+    row_of o e = elim o [ None ↦ only reply.Gone | Some b ↦ elim b [ act.PeerSet index n ↦ answer_at log n e | _ ↦ only reply.Gone ] ]
+
+    reply_of : Option Act → ℕ → Reply
+    reply_of o e = (row_of o e).reply
+
+    at_end : (e : ℕ) (b : Bool) → (e == d) ≡ b → ((e == d) && gives_answer (reply_of (asked_by log e) e)) ≡ false
+    at_end e false is = ap (λ b. b && gives_answer (reply_of (asked_by log e) e)) is
+    at_end e true is =
+        let same : d ≡ e = sym (eqb-true e d is) in
+        let none : asked_by log e ≡ None = ap (λ (o : Option Entry). elim o [ None ↦ None | Some k ↦ Some k.event.act ]) (slice_get_past log e (subst (λ k. length log ≤ k) same past)) in
+        ap (λ o. (e == d) && gives_answer (reply_of o e)) none ∙ and_false (e == d)
+
+    by : (a : Act) → answers d a (row configs log ev.at ev.seed a).reply ≡ false
+    by (act.Answer e) = at_end e (e == d) refl
+    by _ = refl
+
+told_home : (n : ℕ) (q : Queue) → is_told n q ≡ true → home q ≡ at tracker n
+told_home n (queue.Update m) h = ap (at tracker) (let e : m ≡ n = grind (arith, nat_tests) in e)
+told_home n (queue.Dialer m) h = ap (at tracker) (let e : m ≡ n = grind (arith, nat_tests) in e)
+told_home n (queue.Control m c) h = ap (at tracker) (let e : m ≡ n = grind (arith, nat_tests) in e)
+told_home n (queue.Answer m e) h = ap (at tracker) (let e : m ≡ n = grind (arith, nat_tests) in e)
+told_home n (queue.Updates m e) h = ap (at tracker) (let e : m ≡ n = grind (arith, nat_tests) in e)
+told_home n (queue.Blocked m e) h = ap (at tracker) (let e : m ≡ n = grind (arith, nat_tests) in e)
+told_home n _ h = cc
 
 -- ---- all parts
 
-pub part_frame : (p : Part) (configs : List Config) (log : List Entry) (ev : Event) (n : ℕ) (x : Node) → PartStands p configs log n x → names ev.act (at p n) ≡ false → PartStands p configs (log ++ effect configs log ev ∷ []) n x
+pub part_frame : (p : Part) (configs : List Config) (log : List Entry) (ev : Event) (n : ℕ) (x : Node) → PartStands p configs log n x → names log ev.act (at p n) ≡ false → PartStands p configs (log ++ effect configs log ev ∷ []) n x
 part_frame router configs log ev n x s h = router_frame configs log ev n x.router s h
 part_frame channels configs log ev n x s h =
     channels_frame configs log (effect configs log ev) n x.channels s
     (record {
-      registers = ap (registers_at configs n) (effect-act configs log ev) ∙ registers_none configs n channels ev.act (λ c m rate k. grind (arith, nat_tests)) h;
+      registers = ap (registers_at configs n) (effect-act configs log ev) ∙ registers_none configs log n channels ev.act (λ c m rate k. grind (arith, nat_tests)) h;
       lines = λ c. line-unnamed configs log ev (queue.Channel n c) h;
     })
 part_frame connections configs log ev n x s h =
@@ -169,7 +248,18 @@ part_frame connections configs log ev n x s h =
       begins = λ conn. begins_by log e n conn ev.act (effect-act configs log ev) h;
       lines = λ conn. line-unnamed configs log ev (queue.Ready n conn) h;
     })
+part_frame tracker configs log ev n x s h =
+    let e = effect configs log ev in
+    tracker_frame configs log e n x.tracker s
+    (record {
+      no_step = ap (steps_tracker n) (effect-act configs log ev) ∙ tracks_none log n ev.act h;
+      no_question = ap (asks_of n) (effect-act configs log ev) ∙ asks_none log n ev.act h;
+      no_answer = λ d asked. ap (λ a. answers d a e.reply) (effect-act configs log ev) ∙ answers_none log n d ev.act e.reply h asked;
+      no_late_answer = λ d past. late_answer configs log ev d past;
+      mailbox = line-unnamed configs log ev (queue.Tracker n) h;
+      told = λ q own. line-unnamed configs log ev q (ap (names log ev.act) (told_home n q own) ∙ h);
+    })
 
 -- the links, where an act does not name them
-pub links_kept : (configs : List Config) (log : List Entry) (ev : Event) (l : Links) → LinksStand log l → names ev.act links ≡ false → LinksStand (log ++ effect configs log ev ∷ []) l
+pub links_kept : (configs : List Config) (log : List Entry) (ev : Event) (l : Links) → LinksStand log l → names log ev.act links ≡ false → LinksStand (log ++ effect configs log ev ∷ []) l
 links_kept configs log ev l s h = links_frame log (effect configs log ev) l s (λ t link. line-unnamed configs log ev (queue.Link link t) h)

@@ -59,13 +59,13 @@ joins_both k a b nodes new x y t r first second is allowed row_is connects =
     (x, (y, (first, (second, subst (λ m. JoinsBy m k a b x y nodes new r) (sym allowed ∙ is) (row_is, connects)))))
 
 -- an act that has two nodes is their join
-does_join : (o : Option (ℕ × ℕ)) (ends : Ends) (k : ℕ) (a : Act) (old new : List Node) (l : Links) (r : Row) → ends_by o ≡ Some ends
-    → Joins k ends.dials ends.listens old new r → DoesOn o k a old new l l r
-does_join None ends k a old new l r is h = cc
-does_join (Some two) ends k a old new l r is h =
+does_join : (o : Option (ℕ × ℕ)) (ends : Ends) (k n : ℕ) (ev : Event) (old new : List Node) (l : Links) (r : Row) → ends_by o ≡ Some ends
+    → Joins k ends.dials ends.listens old new r → DoesOn o k n ev old new l l r
+does_join None ends k n ev old new l r is h = cc
+does_join (Some two) ends k n ev old new l r is h =
     let same : ends ≡ record { dials = two.0; listens = two.1 } = cc in
     (subst (λ (e : Ends). Joins k e.dials e.listens old new r) same h, refl)
 
-pub join_records : (o : Option (ℕ × ℕ)) (ends : Ends) (k : ℕ) (ev : Event) (old new : List Node) (l : Links) (e : Entry) → ends_by o ≡ Some ends
-    → JoinRecords k ev ends.dials ends.listens old new e → (r : Row) × ((e ≡ entry_of ev r) × DoesOn o k ev.act old new l l r)
-join_records o ends k ev old new l e is h = (h.0, (h.1.0, does_join o ends k ev.act old new l h.0 is h.1.1))
+pub join_records : (o : Option (ℕ × ℕ)) (ends : Ends) (k n : ℕ) (ev : Event) (old new : List Node) (l : Links) (e : Entry) → ends_by o ≡ Some ends
+    → JoinRecords k ev ends.dials ends.listens old new e → (r : Row) × ((e ≡ entry_of ev r) × DoesOn o k n ev old new l l r)
+join_records o ends k n ev old new l e is h = (h.0, (h.1.0, does_join o ends k n ev old new l h.0 is h.1.1))

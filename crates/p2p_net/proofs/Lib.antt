@@ -16,5 +16,6 @@ pub mod Running
 pub mod Starts
 pub mod Stepping
 pub mod Touching
+pub mod Tracking
 pub mod Welcoming
 pub mod Writing

@@ -14,13 +14,17 @@ use Rattle.p2p_log.specs.Lines.{line, placed, ended_item, stands_in}
 use Rattle.p2p_log_rules.specs.declared.row.Row.{Row}
 use Rattle.p2p_log_rules.specs.Facts.{starts, registers_at, taken, item_named, steps_router, steps_sender, is_answer, half_of, joins}
 use Rattle.p2p_log_rules.specs.Effect.{only, row, effect}
+use Rattle.p2p_log_rules.specs.Tracking.{steps_tracker}
+use Rattle.p2p_log_rules.specs.TrackerRows.{answers}
+use Rattle.p2p_net_tracker.specs.Stands.{asks_of}
+use Rattle.p2p_net_tracker.proofs.Changes.{tracker_frame}
 use Rattle.p2p_net_queues.proofs.Going.{line-kept}
 use Rattle.p2p_net_channels.proofs.Changes.{channels_frame}
 use Rattle.p2p_net_connections.proofs.Changes.{connections_frame}
 use Rattle.p2p_net_links.specs.Stands.{LinksStand}
 use Rattle.p2p_net_links.specs.declared.links.Links.{Links}
 use Rattle.p2p_net_links.proofs.Changes.{links_frame}
-use Rattle.p2p_net.specs.Places.{Part, router, channels, connections}
+use Rattle.p2p_net.specs.Places.{Part, router, channels, connections, tracker}
 use Rattle.p2p_net.specs.Stands.{PartStands, NodeStands}
 use Rattle.p2p_net.specs.declared.node.Node.{Node}
 use Rattle.p2p_net.proofs.ActKinds.{registers_unless, starts_unless, half_unless, joins_unless}
@@ -32,18 +36,23 @@ asked at seed a = record { at = at; seed = seed; act = a }
 
 -- the row is the act's, and the node and the links stand for the log with its entry
 pub record Performs (configs : List Config) (log : List Entry) (ev : Event) (n : ℕ) (y : Node) (links : Links) (r : Row) : Type 0 where
-  pub row_is : r ≡ row configs log ev.act
+  pub row_is : r ≡ row configs log ev.at ev.seed ev.act
   pub node : NodeStands configs (log ++ effect configs log ev ∷ []) n y
   pub linked : LinksStand (log ++ effect configs log ev ∷ []) links
 
 -- ---- acts that move nothing
 
--- whether an act with this reply registers nothing, starts nothing and joins nothing
+-- whether an act with this reply registers, starts and joins nothing, and leaves the trackers alone
 abbrev pub is_quiet : Act → Reply → Bool
 is_quiet (act.Register c n rate) r = false
 is_quiet (act.Start n) r = false
 is_quiet (act.Join a b) reply.Gone = true
 is_quiet (act.Join a b) r = false
+is_quiet (act.PeerSet index n) r = false
+is_quiet (act.Subscribe n) r = false
+is_quiet (act.Blocked n) r = false
+is_quiet (act.Answer e) r = false
+is_quiet (act.Tracker n) r = false
 is_quiet a r = true
 
 quiet_registers : (configs : List Config) (n : ℕ) (a : Act) (r : Reply) → is_quiet a r ≡ true → registers_at configs n a ≡ []
@@ -56,26 +65,32 @@ quiet_starts n a r h = starts_unless n a (λ m is. let t : false ≡ true = sym 
 half_refused : (configs : List Config) (n l m : ℕ) (r : Reply) → is_quiet (act.Join l m) r ≡ true → half_of configs n (act.Join l m) r ≡ None
 half_refused configs n l m reply.Gone h = refl
 half_refused configs n l m reply.Ok h = cc
-half_refused configs n l m reply.Idle h = refl
-half_refused configs n l m reply.Pending h = refl
-half_refused configs n l m (reply.Capacity k) h = refl
-half_refused configs n l m (reply.Sent ks) h = refl
-half_refused configs n l m (reply.Message bytes from) h = refl
+half_refused configs n l m _ h = refl
 
 joins_refused : (n k l m : ℕ) (r : Reply) → is_quiet (act.Join l m) r ≡ true → joins n k (act.Join l m) r ≡ false
 joins_refused n k l m reply.Gone h = refl
 joins_refused n k l m reply.Ok h = cc
-joins_refused n k l m reply.Idle h = refl
-joins_refused n k l m reply.Pending h = refl
-joins_refused n k l m (reply.Capacity c) h = refl
-joins_refused n k l m (reply.Sent ks) h = refl
-joins_refused n k l m (reply.Message bytes from) h = refl
+joins_refused n k l m _ h = refl
 
 quiet_half : (configs : List Config) (n : ℕ) (a : Act) (r : Reply) → is_quiet a r ≡ true → half_of configs n a r ≡ None
 quiet_half configs n a r h = half_unless configs n a r (λ l m is. half_refused configs n l m r (sym (ap (λ x. is_quiet x r) is) ∙ h))
 
 quiet_joins : (n k : ℕ) (a : Act) (r : Reply) → is_quiet a r ≡ true → joins n k a r ≡ false
 quiet_joins n k a r h = joins_unless n k a r (λ l m is. joins_refused n k l m r (sym (ap (λ x. is_quiet x r) is) ∙ h))
+
+quiet_tracks : (n : ℕ) (a : Act) (r : Reply) → is_quiet a r ≡ true → steps_tracker n a ≡ false
+quiet_tracks n (act.Tracker m) r h = cc
+quiet_tracks n _ r h = refl
+
+quiet_asks : (n : ℕ) (a : Act) (r : Reply) → is_quiet a r ≡ true → asks_of n a ≡ None
+quiet_asks n (act.PeerSet index m) r h = cc
+quiet_asks n (act.Subscribe m) r h = cc
+quiet_asks n (act.Blocked m) r h = cc
+quiet_asks n _ r h = refl
+
+quiet_answers : (d : ℕ) (a : Act) (r s : Reply) → is_quiet a r ≡ true → answers d a s ≡ false
+quiet_answers d (act.Answer e) r s h = cc
+quiet_answers d _ r s h = refl
 
 pub taken-none : (log : List Entry) (e : Entry) → e.takes ≡ [] → taken log e ≡ []
 unfolding taken
@@ -120,12 +135,22 @@ part_still connections configs log e n x a rep s is q h =
       begins = λ conn. ap (λ b. cond (steps_sender n conn b) (map is_answer (taken log e)) []) is ∙ either_nothing (steps_sender n conn a) (map is_answer (taken log e)) (ap (map is_answer) (taken-none log e h.takes));
       lines = λ conn. line-still log e rep (queue.Ready n conn) h;
     })
+part_still tracker configs log e n x a rep s is q h =
+    tracker_frame configs log e n x.tracker s
+    (record {
+      no_step = ap (steps_tracker n) is ∙ quiet_tracks n a rep q;
+      no_question = ap (asks_of n) is ∙ quiet_asks n a rep q;
+      no_answer = λ d asked. ap (λ b. answers d b e.reply) is ∙ quiet_answers d a rep e.reply q;
+      no_late_answer = λ d past. ap (λ b. answers d b e.reply) is ∙ quiet_answers d a rep e.reply q;
+      mailbox = line-still log e rep (queue.Tracker n) h;
+      told = λ p own. line-still log e rep p h;
+    })
 
 pub links_still : (log : List Entry) (e : Entry) (rep : Reply) (l : Links) → LinksStand log l → IsStill e rep → LinksStand (log ++ e ∷ []) l
 links_still log e rep l s h = links_frame log e l s (λ t link. line-still log e rep (queue.Link link t) h)
 
 -- the entry of an act whose row moves nothing
-pub effect-still : (configs : List Config) (log : List Entry) (ev : Event) (rep : Reply) → row configs log ev.act ≡ only rep → IsStill (effect configs log ev) rep
+pub effect-still : (configs : List Config) (log : List Entry) (ev : Event) (rep : Reply) → row configs log ev.at ev.seed ev.act ≡ only rep → IsStill (effect configs log ev) rep
 unfolding effect
 effect-still configs log ev rep h = record {
   reply = ap (λ (r : Row). r.reply) h;
@@ -140,7 +165,7 @@ effect-asks configs log ev = refl
 
 -- a node and links that stay as they were
 pub stays_performs : (configs : List Config) (log : List Entry) (ev : Event) (n : ℕ) (x y : Node) (l links : Links) (r : Row) (rep : Reply) → NodeStands configs log n x → LinksStand log l
-    → row configs log ev.act ≡ only rep → is_quiet ev.act rep ≡ true → r ≡ only rep → y ≡ x → links ≡ l → Performs configs log ev n y links r
+    → row configs log ev.at ev.seed ev.act ≡ only rep → is_quiet ev.act rep ≡ true → r ≡ only rep → y ≡ x → links ≡ l → Performs configs log ev n y links r
 stays_performs configs log ev n x y l links r rep s t is quiet row_is same kept =
     let e = effect configs log ev in
     let still = effect-still configs log ev rep is in

@@ -16,8 +16,9 @@ use Rattle.p2p_net_channels.specs.Channels.{capacity_at}
 use Rattle.p2p_net_channels.specs.Stands.{ChannelsStand}
 use Rattle.p2p_net_links.specs.declared.links.Links.{Links}
 use Rattle.p2p_net.specs.Places as place
-use Rattle.p2p_net.specs.Places.{node_of, other_of}
-use Rattle.p2p_net.specs.Ready.{is_started, capacity_by, may_register, names_node, may_ask, may_at, may_act, IsReady, MayPerform}
+use Rattle.p2p_net_tracker.proofs.Begins.{may_take}
+use Rattle.p2p_net.specs.Places.{asked_node, or_first, node_asked, node_of, other_of}
+use Rattle.p2p_net.specs.Ready.{is_started, capacity_by, may_register, names_node, asks_set, subscribes, may_ask, may_at, may_act, IsReady, MayPerform}
 use Rattle.p2p_net.specs.Stands.{RouterStands, OwnStands, NodeStands, WorldStands}
 use Rattle.p2p_net.specs.declared.node.Node.{Node}
 use Rattle.p2p_net.proofs.Nodes.{some_at}
@@ -26,7 +27,7 @@ use Rattle.p2p_net.proofs.Starts.{fits_there}
 
 -- ---- what the code tests is what the log says
 
-started_is : (configs : List Config) (log : List Entry) (n : ℕ) (x : Node) → NodeStands configs log n x → is_started x ≡ has_started (events_of log) n
+pub started_is : (configs : List Config) (log : List Entry) (n : ℕ) (x : Node) → NodeStands configs log n x → is_started x ≡ has_started (events_of log) n
 started_is configs log n x s = let rout : RouterStands configs log n x.router = s.each place.router in rout.stands.bound ∙ ap (is_up log) rout.number
 
 size_is : (configs : List Config) (n : ℕ) (x : Node) → OwnStands configs n x → x.config.mailbox_size ≡ mailbox_size_at configs n
@@ -52,6 +53,41 @@ named_is : (log : List Entry) (n conn : ℕ) → names_node n (slice_get log con
 named_is [] n conn = refl
 named_is (e ∷ es) n zero = refl
 named_is (e ∷ es) n (suc i) = named_is es n i
+
+and-true : (b : Bool) → (b && true) ≡ b
+and-true true = refl
+and-true false = refl
+
+and-false : (b : Bool) → (b && false) ≡ false
+and-false true = refl
+and-false false = refl
+
+-- a question for a peer set names a node
+set_is : (configs : List Config) (log : List Entry) (e : ℕ)
+    → (nat_lt (node_asked (slice_get log e)) (length configs) && asks_set (slice_get log e)) ≡ valid.is_node configs (valid.set_asked_of (slice_get (events_of log) e))
+set_is configs [] e = and-false (nat_lt 0 (length configs))
+set_is configs (d ∷ ds) zero = by d.event.act
+  where
+    by : (a : Act) → (nat_lt (or_first (asked_node a)) (length configs) && (elim a [ act.PeerSet index n ↦ true | _ ↦ false ])) ≡ valid.is_node configs (elim a [ act.PeerSet index n ↦ Some n | _ ↦ None ])
+    by (act.PeerSet index n) = and-true (nat_lt n (length configs))
+    by (act.Subscribe n) = and-false (nat_lt n (length configs))
+    by (act.Blocked n) = and-false (nat_lt n (length configs))
+    by _ = and-false (nat_lt 0 (length configs))
+set_is configs (d ∷ ds) (suc i) = set_is configs ds i
+
+-- and so does a subscription
+subscription_is : (configs : List Config) (log : List Entry) (e : ℕ)
+    → (nat_lt (node_asked (slice_get log e)) (length configs) && subscribes (slice_get log e)) ≡ valid.is_node configs (valid.subscribed_at (slice_get (events_of log) e))
+subscription_is configs [] e = and-false (nat_lt 0 (length configs))
+subscription_is configs (d ∷ ds) zero = by d.event.act
+  where
+    by : (a : Act) → (nat_lt (or_first (asked_node a)) (length configs) && (elim a [ act.Subscribe n ↦ true | act.Blocked n ↦ true | _ ↦ false ]))
+        ≡ valid.is_node configs (elim a [ act.Subscribe n ↦ Some n | act.Blocked n ↦ Some n | _ ↦ None ])
+    by (act.PeerSet index n) = and-false (nat_lt n (length configs))
+    by (act.Subscribe n) = and-true (nat_lt n (length configs))
+    by (act.Blocked n) = and-true (nat_lt n (length configs))
+    by _ = and-false (nat_lt 0 (length configs))
+subscription_is configs (d ∷ ds) (suc i) = subscription_is configs ds i
 
 -- by whether the node is there
 there : (b : Bool) (at rest : Bool) → (b ≡ true → at ≡ rest) → (b && (b && at)) ≡ (b && rest)
@@ -81,12 +117,12 @@ module _ (configs : List Config) (log : List Entry) (nodes : List Node) (links :
   counted : (n : ℕ) → nat_lt n (length nodes) ≡ nat_lt n (length configs)
   counted n = ap (nat_lt n) s.long
 
-  asks : (a : Act) (b : Bool) → nat_lt (node_of a) (length nodes) ≡ true → ((x : Node) → NodeStands configs log (node_of a) x → may_ask log x a ≡ b) → may_at (slice_get nodes (node_of a)) log a ≡ b
-  asks a b lt h = at_by a (slice_get nodes (node_of a)) ∙ asked_at (node_of a) (λ x. may_ask log x a) b lt h
+  asks : (a : Act) (b : Bool) → nat_lt (node_of log a) (length nodes) ≡ true → ((x : Node) → NodeStands configs log (node_of log a) x → may_ask log x a ≡ b) → may_at (slice_get nodes (node_of log a)) log a ≡ b
+  asks a b lt h = at_by a (slice_get nodes (node_of log a)) ∙ asked_at (node_of log a) (λ x. may_ask log x a) b lt h
 
   -- an act of which nothing is asked but its node
-  free : (a : Act) → ((x : Node) → may_ask log x a ≡ true) → nat_lt (node_of a) (length nodes) && (nat_lt (node_of a) (length nodes) && may_at (slice_get nodes (node_of a)) log a) ≡ nat_lt (node_of a) (length configs)
-  free a h = there_plain (nat_lt (node_of a) (length nodes)) (may_at (slice_get nodes (node_of a)) log a) (λ lt. asks a true lt (λ x t. h x)) ∙ counted (node_of a)
+  free : (a : Act) → ((x : Node) → may_ask log x a ≡ true) → nat_lt (node_of log a) (length nodes) && (nat_lt (node_of log a) (length nodes) && may_at (slice_get nodes (node_of log a)) log a) ≡ nat_lt (node_of log a) (length configs)
+  free a h = there_plain (nat_lt (node_of log a) (length nodes)) (may_at (slice_get nodes (node_of log a)) log a) (λ lt. asks a true lt (λ x t. h x)) ∙ counted (node_of log a)
 
   may_by : (a : Act) → may_act nodes log a ≡ valid.may_act configs (events_of log) a
   may_by (act.Register c n rate) =
@@ -112,6 +148,14 @@ module _ (configs : List Config) (log : List Entry) (nodes : List Node) (links :
       there (nat_lt n (length nodes)) (may_at (slice_get nodes n) log (act.RecvStep conn n)) (names_join (events_of log) n conn)
       (λ lt. asks (act.RecvStep conn n) (names_join (events_of log) n conn) lt (λ x t. named_is log n conn))
       ∙ ap (λ b. b && names_join (events_of log) n conn) (counted n)
+  may_by (act.Answer e) =
+      let n = node_asked (slice_get log e) in
+      there (nat_lt n (length nodes)) (may_at (slice_get nodes n) log (act.Answer e)) (asks_set (slice_get log e)) (λ lt. asks (act.Answer e) (asks_set (slice_get log e)) lt (λ x t. refl))
+      ∙ (ap (λ b. b && asks_set (slice_get log e)) (counted n) ∙ set_is configs log e)
+  may_by (act.Next e) =
+      let n = node_asked (slice_get log e) in
+      there (nat_lt n (length nodes)) (may_at (slice_get nodes n) log (act.Next e)) (subscribes (slice_get log e)) (λ lt. asks (act.Next e) (subscribes (slice_get log e)) lt (λ x t. refl))
+      ∙ (ap (λ b. b && subscribes (slice_get log e)) (counted n) ∙ subscription_is configs log e)
   may_by a = free a (λ x. refl)
 
 pub may_act-nodes : (configs : List Config) (log : List Entry) (nodes : List Node) (links : Links) (a : Act) → WorldStands configs log nodes links → may_act nodes log a ≡ valid.may_act configs (events_of log) a
@@ -153,22 +197,27 @@ ready_by configs log n (act.Start m) x s fit may =
       (one_mailbox x.config fit, subst (λ k. k + x.channels.total < 2 ^ 64) (sym (size_is configs n x s.own)) chan.room),
     )
 ready_by configs log n (act.Send bytes c m priority to) x s fit may = short (length bytes) x.config.max_message_size may (short_message x.config fit)
+ready_by configs log n (act.Tracker m) x s fit may = λ now. may_take configs log n now x.tracker (s.each place.tracker)
 ready_by configs log n _ x s fit may = tt
 
 -- an act that may be asked for finds its nodes there, and ready
-pub may_perform : (configs : List Config) (log : List Entry) (nodes : List Node) (links : Links) (a : Act) → WorldStands configs log nodes links → valid.may_act configs (events_of log) a ≡ true → MayPerform nodes a
+pub may_perform : (configs : List Config) (log : List Entry) (nodes : List Node) (links : Links) (a : Act) → WorldStands configs log nodes links → valid.may_act configs (events_of log) a ≡ true
+    → MayPerform nodes (node_of log a) a
 may_perform configs log nodes links a s may =
+    let n = node_of log a in
+    let m = other_of n a in
     let test : may_act nodes log a ≡ true = may_act-nodes configs log nodes links a s ∙ may in
-    let one = and_parts (nat_lt (node_of a) (length nodes)) (nat_lt (other_of a) (length nodes) && may_at (slice_get nodes (node_of a)) log a) test in
-    let two = and_parts (nat_lt (other_of a) (length nodes)) (may_at (slice_get nodes (node_of a)) log a) one.1 in
-    let f = one.0 in
-    let g = two.0 in
+    let one = and_parts (nat_lt n (length nodes)) (nat_lt m (length nodes) && may_at (slice_get nodes n) log a) test in
+    let two = and_parts (nat_lt m (length nodes)) (may_at (slice_get nodes n) log a) one.1 in
     record {
-      first = grind (arith, nat_tests);
-      second = grind (arith, nat_tests);
+      first = lower n (length nodes) one.0;
+      second = lower m (length nodes) two.0;
       ready = λ x there.
-          ready_by configs log (node_of a) a x (s.each (node_of a) x there) (sizes_there configs log nodes links s (node_of a) x there)
-          (sym (ap (λ o. may_at o log a) there) ∙ two.1);
-      sizes = λ n x there. one_mailbox x.config (sizes_there configs log nodes links s n x there);
-      numbers = λ n x there. let r : RouterStands configs log n x.router = (s.each n x there).each place.router in r.number;
+          ready_by configs log n a x (s.each n x there) (sizes_there configs log nodes links s n x there) (sym (ap (λ o. may_at o log a) there) ∙ two.1);
+      ends = λ i k is. ap (node_of log) is;
+      sizes = λ i x there. one_mailbox x.config (sizes_there configs log nodes links s i x there);
+      numbers = λ i x there. let r : RouterStands configs log i x.router = (s.each i x there).each place.router in r.number;
     }
+  where
+    lower : (i k : ℕ) → nat_lt i k ≡ true → i < k
+    lower i k h = grind (arith, nat_tests)

@@ -72,14 +72,9 @@ arrived_of configs log n name from copy (Some message) ch s =
 
 frame_arrived : (configs : List Config) (log : List Entry) (n : ℕ) (name : ℕ × ℕ) (from : Key) (i : Item) (ch : Channels) → ChannelsStand configs log n ch
     → frame_row configs log n from name i ≡ arrived_row (arrival_in (limit_at configs n) i) n name from ch
-frame_arrived configs log n name from (item.Subscribe c) ch s = refl
-frame_arrived configs log n name from (item.Ready c k) ch s = refl
-frame_arrived configs log n name from (item.Content c f p d t) ch s = refl
-frame_arrived configs log n name from (item.Peers ks) ch s = refl
-frame_arrived configs log n name from item.Answer ch s = refl
 frame_arrived configs log n name from (item.Frame (Some copy) frame) ch s = arrived_of configs log n name from copy (message_in frame (limit_at configs n)) ch s
 frame_arrived configs log n name from (item.Frame None frame) ch s = refl
-frame_arrived configs log n name from (item.Message b c f) ch s = refl
+frame_arrived configs log n name from _ ch s = refl
 
 received_is : (configs : List Config) (log : List Entry) (n limit : ℕ) (from : Key) (xs : List Envelope) (ch : Channels) → ChannelsStand configs log n ch → limit ≡ limit_at configs n
     → received_row limit (slice_get xs 0) n from ch ≡ receive_row configs log n from xs
@@ -163,7 +158,7 @@ delivered_ends false n name from m = refl
 -- ---- what becomes of the first frame
 
 -- a node whose channels and links these are
-built : (configs : List Config) (log : List Entry) (at seed conn n : ℕ) (x y : Node) (ch : Channels) (l links : Links) (r : Row) → NodeStands configs log n x → r ≡ row configs log (act.RecvStep conn n) → y ≡ record x { channels = ch }
+built : (configs : List Config) (log : List Entry) (at seed conn n : ℕ) (x y : Node) (ch : Channels) (l links : Links) (r : Row) → NodeStands configs log n x → r ≡ row configs log at seed (act.RecvStep conn n) → y ≡ record x { channels = ch }
     → ChannelsStand configs (log ++ effect configs log (asked at seed (act.RecvStep conn n)) ∷ []) n ch → LinksStand (log ++ effect configs log (asked at seed (act.RecvStep conn n)) ∷ []) links
     → Performs configs log (asked at seed (act.RecvStep conn n)) n y links r
 built configs log at seed conn n x y ch l links r s row_is parts chan linked =
@@ -181,13 +176,13 @@ built configs log at seed conn n x y ch l links r s row_is parts chan linked =
     }
 
 -- nothing becomes of it
-idle_performs : (configs : List Config) (log : List Entry) (at seed conn n : ℕ) (x y : Node) (l links : Links) (r : Row) → NodeStands configs log n x → LinksStand log l → row configs log (act.RecvStep conn n) ≡ only reply.Idle
+idle_performs : (configs : List Config) (log : List Entry) (at seed conn n : ℕ) (x y : Node) (l links : Links) (r : Row) → NodeStands configs log n x → LinksStand log l → row configs log at seed (act.RecvStep conn n) ≡ only reply.Idle
     → r ≡ only reply.Idle → y ≡ x → links ≡ l → Performs configs log (asked at seed (act.RecvStep conn n)) n y links r
 idle_performs configs log at seed conn n x y l links r s t is row_is same kept = stays_performs configs log (asked at seed (act.RecvStep conn n)) n x y l links r reply.Idle s t is refl row_is same kept
 
 -- by the capacity of its channel
 accepted_performs : (configs : List Config) (log : List Entry) (at seed conn n : ℕ) (u : Side) (from : Key) (f : Envelope) (fs : List Envelope) (m : Arrived) (o : Option ℕ) (x y : Node) (l links : Links) (r : Row) → NodeStands configs log n x → LinksStand log l
-    → line log (queue.Link conn u) ≡ f ∷ fs → row configs log (act.RecvStep conn n) ≡ accepted_row o n (name_of f) from m x.channels
+    → line log (queue.Link conn u) ≡ f ∷ fs → row configs log at seed (act.RecvStep conn n) ≡ accepted_row o n (name_of f) from m x.channels
     → r ≡ accepted_row o n (name_of f) from m x.channels → y ≡ record x { channels = accepted_into o (length log) n from m x.channels } → links ≡ accepted_off o conn u l
     → Performs configs log (asked at seed (act.RecvStep conn n)) n y links r
 unfolding effect
@@ -208,7 +203,7 @@ accepted_performs configs log at seed conn n u from f fs m (Some capacity) x y l
 
 -- by its message
 arrived_performs : (configs : List Config) (log : List Entry) (at seed conn n : ℕ) (u : Side) (from : Key) (f : Envelope) (fs : List Envelope) (o : Option Arrived) (x y : Node) (l links : Links) (r : Row) → NodeStands configs log n x → LinksStand log l
-    → line log (queue.Link conn u) ≡ f ∷ fs → row configs log (act.RecvStep conn n) ≡ arrived_row o n (name_of f) from x.channels
+    → line log (queue.Link conn u) ≡ f ∷ fs → row configs log at seed (act.RecvStep conn n) ≡ arrived_row o n (name_of f) from x.channels
     → r ≡ arrived_row o n (name_of f) from x.channels → y ≡ record x { channels = arrived_into o (length log) n from x.channels } → links ≡ arrived_off o conn u x.channels l
     → Performs configs log (asked at seed (act.RecvStep conn n)) n y links r
 arrived_performs configs log at seed conn n u from f fs None x y l links r s t first is row_is parts off = idle_performs configs log at seed conn n x y l links r s t is row_is parts off
@@ -217,7 +212,7 @@ arrived_performs configs log at seed conn n u from f fs (Some m) x y l links r s
 
 -- by what is in flight
 receive_on : (configs : List Config) (log : List Entry) (at seed conn n limit : ℕ) (u : Side) (from : Key) (fs : List Envelope) (x y : Node) (l links : Links) (r : Row) → NodeStands configs log n x → LinksStand log l
-    → line log (queue.Link conn u) ≡ fs → row configs log (act.RecvStep conn n) ≡ received_row limit (slice_get fs 0) n from x.channels
+    → line log (queue.Link conn u) ≡ fs → row configs log at seed (act.RecvStep conn n) ≡ received_row limit (slice_get fs 0) n from x.channels
     → r ≡ received_row limit (slice_get fs 0) n from x.channels → y ≡ record x { channels = received_into limit (slice_get fs 0) (length log) n from x.channels } → links ≡ received_off limit (slice_get fs 0) conn u x.channels l
     → Performs configs log (asked at seed (act.RecvStep conn n)) n y links r
 receive_on configs log at seed conn n limit u from [] x y l links r s t first is row_is parts off = idle_performs configs log at seed conn n x y l links r s t is row_is parts off

@@ -19,6 +19,7 @@ use Rattle.p2p_net.specs.Refusals.{ApplyRefused}
 use Rattle.p2p_net.specs.declared.error.RunError.{RunError}
 use Rattle.p2p_net.specs.declared.error.RunError.TheVariants as error
 use Rattle.p2p_net_links.specs.Links.{no_links}
+use Rattle.p2p_net.specs.Places.{node_of}
 use Rattle.p2p_net.specs.Joining.{WorldDoes, WorldRecords}
 use Rattle.p2p_net.proofs.Acting.{Simulates, simulates}
 use Rattle.p2p_net.proofs.Readying.{may_act-nodes}
@@ -55,16 +56,16 @@ kept_more configs log later nodes links v is s = record {
       ∙ (ap (λ e. last_moment (events_of log ++ e ∷ [])) (event-effect configs log v) ∙ last_moment-append (events_of log) v)));
 }
 
-pub entry_of-effect : (configs : List Config) (log : List Entry) (v : Event) (r : Row) → r ≡ row configs log v.act → entry_of v r ≡ effect configs log v
+pub entry_of-effect : (configs : List Config) (log : List Entry) (v : Event) (r : Row) → r ≡ row configs log v.at v.seed v.act → entry_of v r ≡ effect configs log v
 unfolding effect
 entry_of-effect configs log v r h = ap (entry_of v) h
 
 -- what the code records of an event
 pub recorded : (configs : List Config) (log later : List Entry) (v : Event) (k : ℕ) (nodes new : List Node) (l links : Links) (e : Entry) → WorldStands configs log nodes l → is_valid_event configs (events_of log) v ≡ true
-    → k ≡ length log → WorldRecords k v nodes new l links e → later ≡ log ++ e ∷ [] → IsRecorded configs log v later new links
+    → k ≡ length log → WorldRecords k (node_of log v.act) v nodes new l links e → later ≡ log ++ e ∷ [] → IsRecorded configs log v later new links
 recorded configs log later v k nodes new l links e s valid at made grown =
     let r : Row = made.0 in
-    let h : Simulates configs log v new links r = simulates configs log v nodes new l links r s (valid_act configs (events_of log) v valid) (subst (λ i. WorldDoes i v.act nodes new l links r) at made.1.1) in
+    let h : Simulates configs log v new links r = simulates configs log v nodes new l links r s (valid_act configs (events_of log) v valid) (subst (λ i. WorldDoes i (node_of log v.act) v nodes new l links r) at made.1.1) in
     let log_is : later ≡ log ++ effect configs log v ∷ [] = grown ∙ (ap (λ x. log ++ x ∷ []) made.1.0 ∙ ap (λ x. log ++ x ∷ []) (entry_of-effect configs log v r h.row_is)) in
     record { log_is = log_is; stands = subst (λ ls. WorldStands configs ls new links) (sym log_is) h.stands }
 

@@ -18,6 +18,8 @@ use Rattle.p2p_net_channels.specs.Channels.{no_channels}
 use Rattle.p2p_net_channels.specs.Stands.{ChannelsStand}
 use Rattle.p2p_net_connections.specs.Connections.{no_connections}
 use Rattle.p2p_net_connections.specs.Stands.{ConnectionsStand}
+use Rattle.p2p_net_tracker.specs.Begins.{IsNew}
+use Rattle.p2p_net_tracker.proofs.Begins.{tracker_new}
 use Rattle.p2p_net_queues.specs.Lines.{HoldsLines}
 use Rattle.p2p_net_queues.proofs.Holding.{holds_none}
 use Rattle.p2p_net_links.specs.Links.{no_links, way_of}
@@ -82,8 +84,8 @@ links_new = record {
 -- a node that was asked for nothing
 pub node_new :
     (configs : List Config) (n : ℕ) (x : Node) → slice_get configs n ≡ Some x.config → x.retained ≡ x.config.max_peers_per_set * x.config.tracked_peer_sets → x.failed ≡ false → x.config.mailbox_size < 2 ^ 64
-    → x.router.number ≡ n → StandsFor configs [] x.router → ((c : ℕ) → tree.get nat_cmp x.router.peers c ≡ None) → x.channels ≡ no_channels → x.connections ≡ no_connections → NodeStands configs [] n x
-node_new configs n x config retained works small number stands none ch cs = record {
+    → x.router.number ≡ n → StandsFor configs [] x.router → ((c : ℕ) → tree.get nat_cmp x.router.peers c ≡ None) → x.channels ≡ no_channels → x.connections ≡ no_connections → IsNew x.config x.tracker → NodeStands configs [] n x
+node_new configs n x config retained works small number stands none ch cs tr = record {
   own = record { config = config; retained = retained; works = works };
   each = λ p. elim p as (λ q. PartStands q configs [] n x) [
     | place.router ↦
@@ -99,9 +101,22 @@ node_new configs n x config retained works small number stands none ch cs = reco
         subst (ChannelsStand configs [] n) (sym ch)
         (channels_new configs n (subst (λ k. k < 2 ^ 64) (sym (ap (λ (o : Option Config). elim o [ None ↦ 0 | Some c ↦ c.mailbox_size ]) config)) small))
     | place.connections ↦ subst (ConnectionsStand configs [] n) (sym cs) (connections_new configs n)
+    | place.tracker ↦ tracker_new configs n x.config x.tracker config tr
   ];
 }
 
 -- what an index past the end gives
 abbrev pub absent : Config
-absent = record { public_key = record { 0 = 0 }; max_peers_per_set = 0; max_message_size = 0; mailbox_size = 0; tracked_peer_sets = 0; send_batch_size = 0 }
+absent = record {
+  public_key = record { 0 = 0 };
+  max_peers_per_set = 0;
+  max_message_size = 0;
+  mailbox_size = 0;
+  tracked_peer_sets = 0;
+  send_batch_size = 0;
+  allow_private_ips = false;
+  allow_dns = false;
+  bypass_ip_check = false;
+  peer_connection_cooldown = 0;
+  block_duration = 0;
+}

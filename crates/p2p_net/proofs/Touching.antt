@@ -1,6 +1,6 @@
 -- A queue of a place that an act does not name stays as it was.
-use Rattle.std.proofs.Common.{◌≡◌, ℕ, Bool, true, false, List, [], ◌∷◌, ◌++◌, refl, ◌∙◌, arith}
-use Rattle.std.specs.Prelude.{◌||◌, ◌==◌}
+use Rattle.std.proofs.Common.{◌≡◌, ℕ, Bool, true, false, List, [], ◌∷◌, ◌++◌, refl, ◌∙◌, arith, Option, Some, None}
+use Rattle.std.specs.Prelude.{◌||◌, ◌==◌, slice_get}
 use Rattle.std.proofs.lemmas.Bool.Decides.{nat_tests}
 use Rattle.p2p_log.specs.declared.config.Config.{Config}
 use Rattle.p2p_log.specs.declared.queue.Queue.{Queue}
@@ -13,9 +13,10 @@ use Rattle.p2p_log.specs.QueueCode.{same_queue}
 use Rattle.p2p_log.specs.Lines.{line}
 use Rattle.p2p_log.proofs.Queues.{same_queue-sym}
 use Rattle.p2p_log_rules.specs.Effect.{effect}
-use Rattle.p2p_log_rules.proofs.Touches.{in_router, in_half, in_link, in_channels, reads, writes, away}
+use Rattle.p2p_log_rules.proofs.Touches.{in_router, in_half, in_link, in_channels, in_tracker, is_told_to, reads, writes, away}
+use Rattle.p2p_log_rules.specs.Tracking.{asked_by}
 use Rattle.p2p_log_laws.proofs.Untouched.{line-untouched}
-use Rattle.p2p_net.specs.Places.{home, names, at, router, channels, connections, links, same_place}
+use Rattle.p2p_net.specs.Places.{home, names, at, router, channels, connections, tracker, links, same_place, asked_node, or_first, node_asked}
 
 -- ---- what the kinds of queues that an act reaches are of
 
@@ -51,6 +52,36 @@ channel_kinds n _ h = refl
 channel_queue : (n c : ℕ) (q : Queue) → same_place (at channels n) (home q) ≡ false → same_queue (queue.Channel n c) q ≡ false
 channel_queue n c q h = same_queue-sym (queue.Channel n c) q ∙ away (λ r. same_place (at channels n) (home r)) q (queue.Channel n c) h (eqb-refl n)
 
+tracker_queue : (n : ℕ) (q : Queue) → same_place (at tracker n) (home q) ≡ false → same_queue (queue.Tracker n) q ≡ false
+tracker_queue n q h = same_queue-sym (queue.Tracker n) q ∙ away (λ r. same_place (at tracker n) (home r)) q (queue.Tracker n) h (eqb-refl n)
+
+tracker_kinds : (n : ℕ) (q : Queue) → same_place (at tracker n) (home q) ≡ false → in_tracker n q ≡ false
+tracker_kinds n (queue.Tracker m) h = grind (arith, nat_tests)
+tracker_kinds n (queue.Update m) h = grind (arith, nat_tests)
+tracker_kinds n (queue.Dialer m) h = grind (arith, nat_tests)
+tracker_kinds n (queue.Control m c) h = grind (arith, nat_tests)
+tracker_kinds n (queue.Answer m e) h = grind (arith, nat_tests)
+tracker_kinds n (queue.Updates m e) h = grind (arith, nat_tests)
+tracker_kinds n (queue.Blocked m e) h = grind (arith, nat_tests)
+tracker_kinds n _ h = refl
+
+-- what is told for what an event asked
+told_queue : (log : List Entry) (e : ℕ) (q : Queue) → same_place (at tracker (node_asked (slice_get log e))) (home q) ≡ false → is_told_to (asked_by log e) e q ≡ false
+told_queue log e q h = go (slice_get log e) h
+  where
+    apart : (n : ℕ) (p : Queue) → same_place (at tracker n) (home q) ≡ false → same_place (at tracker n) (home p) ≡ true → same_queue p q ≡ false
+    apart n p none here = same_queue-sym p q ∙ away (λ r. same_place (at tracker n) (home r)) q p none here
+
+    by : (a : Act) → same_place (at tracker (or_first (asked_node a))) (home q) ≡ false → is_told_to (Some a) e q ≡ false
+    by (act.PeerSet index n) h = apart n (queue.Answer n e) h (eqb-refl n)
+    by (act.Subscribe n) h = apart n (queue.Updates n e) h (eqb-refl n)
+    by (act.Blocked n) h = apart n (queue.Blocked n e) h (eqb-refl n)
+    by _ h = refl
+
+    go : (o : Option Entry) → same_place (at tracker (node_asked o)) (home q) ≡ false → is_told_to (elim o [ None ↦ None | Some d ↦ Some d.event.act ]) e q ≡ false
+    go None h = refl
+    go (Some d) h = by d.event.act h
+
 -- ---- by the places that an act names
 
 pub first_false : (a b : Bool) → (a || b) ≡ false → a ≡ false
@@ -62,11 +93,7 @@ second_false false b h = h
 second_false true false h = refl
 second_false true true h = h
 
-reads-named : (configs : List Config) (log : List Entry) (a : Act) (q : Queue) → names a (home q) ≡ false → reads configs log a q ≡ false
-reads-named configs log (act.Register c n rate) q h = refl
-reads-named configs log (act.Start n) q h = refl
-reads-named configs log (act.Join a b) q h = refl
-reads-named configs log (act.Send bytes c n priority to) q h = refl
+reads-named : (configs : List Config) (log : List Entry) (a : Act) (q : Queue) → names log a (home q) ≡ false → reads configs log a q ≡ false
 reads-named configs log (act.Router n) q h = router_queue n q (first_false (same_place (at router n) (home q)) (same_place (at connections n) (home q) || false) h)
 reads-named configs log (act.SendStep conn n) q h =
     let rest = second_false (same_place links (home q)) (same_place (at connections n) (home q) || (same_place (at router n) (home q) || false)) h in
@@ -77,13 +104,16 @@ reads-named configs log (act.SendStep conn n) q h =
 reads-named configs log (act.RecvStep conn n) q h =
     link_kinds conn q (first_false (same_place links (home q)) (same_place (at channels n) (home q) || false) h)
 reads-named configs log (act.Recv c n) q h = channel_queue n c q (first_false (same_place (at channels n) (home q)) false h)
+reads-named configs log (act.Answer e) q h = told_queue log e q (first_false (same_place (at tracker (node_asked (slice_get log e))) (home q)) false h)
+reads-named configs log (act.Next e) q h = told_queue log e q (first_false (same_place (at tracker (node_asked (slice_get log e))) (home q)) false h)
+reads-named configs log (act.Tracker n) q h = tracker_queue n q (first_false (same_place (at tracker n) (home q)) false h)
+reads-named configs log _ q h = refl
 
 both_false : (a b : Bool) → a ≡ false → b ≡ false → (a || b) ≡ false
 both_false true b h k = h
 both_false false b h k = k
 
-writes-named : (configs : List Config) (log : List Entry) (a : Act) (q : Queue) → names a (home q) ≡ false → writes configs log a q ≡ false
-writes-named configs log (act.Register c n rate) q h = refl
+writes-named : (configs : List Config) (log : List Entry) (a : Act) (q : Queue) → names log a (home q) ≡ false → writes configs log a q ≡ false
 writes-named configs log (act.Start n) q h = router_queue n q (first_false (same_place (at router n) (home q)) false h)
 writes-named configs log (act.Join a b) q h =
     let rest = second_false (same_place (at router a) (home q)) (same_place (at connections a) (home q) || (same_place (at router b) (home q) || (same_place (at connections b) (home q) || false))) h in
@@ -97,7 +127,14 @@ writes-named configs log (act.Router n) q h =
     (first_false (same_place (at connections n) (home q)) false (second_false (same_place (at router n) (home q)) (same_place (at connections n) (home q) || false) h))
 writes-named configs log (act.SendStep conn n) q h = reads-named configs log (act.SendStep conn n) q h
 writes-named configs log (act.RecvStep conn n) q h = channel_kinds n q (first_false (same_place (at channels n) (home q)) false (second_false (same_place links (home q)) (same_place (at channels n) (home q) || false) h))
-writes-named configs log (act.Recv c n) q h = refl
+writes-named configs log (act.Track index n peers) q h = tracker_queue n q (first_false (same_place (at tracker n) (home q)) false h)
+writes-named configs log (act.Overwrite n peers) q h = tracker_queue n q (first_false (same_place (at tracker n) (home q)) false h)
+writes-named configs log (act.Block key n) q h = tracker_queue n q (first_false (same_place (at tracker n) (home q)) false h)
+writes-named configs log (act.PeerSet index n) q h = tracker_queue n q (first_false (same_place (at tracker n) (home q)) false h)
+writes-named configs log (act.Subscribe n) q h = tracker_queue n q (first_false (same_place (at tracker n) (home q)) false h)
+writes-named configs log (act.Blocked n) q h = tracker_queue n q (first_false (same_place (at tracker n) (home q)) false h)
+writes-named configs log (act.Tracker n) q h = tracker_kinds n q (first_false (same_place (at tracker n) (home q)) false h)
+writes-named configs log _ q h = refl
 
-pub line-unnamed : (configs : List Config) (log : List Entry) (ev : Event) (q : Queue) → names ev.act (home q) ≡ false → line (log ++ effect configs log ev ∷ []) q ≡ line log q
+pub line-unnamed : (configs : List Config) (log : List Entry) (ev : Event) (q : Queue) → names log ev.act (home q) ≡ false → line (log ++ effect configs log ev ∷ []) q ≡ line log q
 line-unnamed configs log ev q h = line-untouched configs log ev q (reads-named configs log ev.act q h) (writes-named configs log ev.act q h)

@@ -62,12 +62,7 @@ or-turned false false = refl
 
 joined-turned : (a b x y : ℕ) (r : Reply) → joins a b (act.Join x y) r ≡ joins b a (act.Join x y) r
 joined-turned a b x y reply.Ok = or-turned ((x == a) && (y == b)) ((x == b) && (y == a))
-joined-turned a b x y reply.Idle = refl
-joined-turned a b x y reply.Pending = refl
-joined-turned a b x y reply.Gone = refl
-joined-turned a b x y (reply.Capacity k) = refl
-joined-turned a b x y (reply.Sent ks) = refl
-joined-turned a b x y (reply.Message bytes from) = refl
+joined-turned a b x y _ = refl
 
 joins-turned : (a b : ℕ) (x : Act) (r : Reply) → joins a b x r ≡ joins b a x r
 joins-turned a b x r = by (kind_of x)
@@ -209,7 +204,7 @@ welcome_stands configs log ev n a b place_at partner half x y valid s t acts d =
     sym (ap (λ (o : Option Config). elim o [ None ↦ 0 | Some c ↦ c.mailbox_size ]) s.own.config) ∙ ap (mailbox_size_at configs) (sym rout.number)
     in
     each_part configs log ev n x y (place.router ∷ place.connections ∷ []) s (subst (λ z. z ≡ with_parts (place.router ∷ place.connections ∷ []) x z) (sym parts) refl)
-    (λ p out. ap (λ c. place.names c (place.at p n)) acts ∙ not_among-both (place.router ∷ place.connections ∷ []) (place.router ∷ place.connections ∷ []) p a b n out out) (
+    (λ p out. ap (λ c. place.names log c (place.at p n)) acts ∙ not_among-both (place.router ∷ place.connections ∷ []) (place.router ∷ place.connections ∷ []) p a b n out out) (
       (record {
         number = ap (λ (z : Router). z.number) calls.rest ∙ rout.number;
         stands = calls.stands configs log e rout.stands refl size (IsStranger-apart configs log n partner (length log) half.peer x.router rout refl t.key t.in_range t.apart) (join_beside configs log e x.router.number a b t.is)

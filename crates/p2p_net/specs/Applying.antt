@@ -12,7 +12,7 @@ use Rattle.p2p_net.specs.declared.node.Node.{Node}
 
 -- the entry k of an event at the node n has the row that its act comes to
 abbrev pub NodeRecords : ℕ → ℕ → Event → Node → Node → Links → Links → Entry → Type 0
-NodeRecords k n event old new l links e = (r : Row) × ((e ≡ entry_of event r) × NodeDoes k n event.act old new l links r)
+NodeRecords k n event old new l links e = (r : Row) × ((e ≡ entry_of event r) × NodeDoes k n event.at event.seed event.act old new l links r)
 
 abbrev pub NodeApplies : ℕ → Event → Node → Node → Links → Links → Entry → Type 0
 NodeApplies k event old new l links e = NodeRecords k old.router.number event old new l links e

@@ -16,7 +16,6 @@ use Rattle.p2p_net_queues.specs.Tables as table
 use Rattle.p2p_net_connections.specs.Connections.{joined_with}
 use Rattle.p2p_net_links.specs.declared.links.Links.{Links}
 use Rattle.p2p_net.specs.Ready.{is_started}
-use Rattle.p2p_net.specs.Places.{node_of}
 use Rattle.p2p_net.specs.Acts.{NodeDoes}
 use Rattle.p2p_net.specs.Routing as routing
 use Rattle.p2p_net.specs.declared.node.Node.{Node}
@@ -58,10 +57,10 @@ abbrev pub Joins : ℕ → ℕ → ℕ → List Node → List Node → Row → T
 Joins k a b old new r =
     (x : Node) × ((y : Node) × ((slice_get old a ≡ Some x) × ((slice_get old b ≡ Some y) × JoinsBy (may_join a b x y) k a b x y old new r)))
 
--- what the entry k of an act that names one node comes to
-abbrev pub OneDoes : ℕ → Act → List Node → List Node → Links → Links → Row → Type 0
-OneDoes k a old new l links r =
-    (x : Node) × ((y : Node) × ((slice_get old (node_of a) ≡ Some x) × ((new ≡ slice_set old (node_of a) y) × NodeDoes k (node_of a) a x y l links r)))
+-- what the entry k of an event that names the node n alone comes to
+abbrev pub OneDoes : ℕ → ℕ → Event → List Node → List Node → Links → Links → Row → Type 0
+OneDoes k n ev old new l links r =
+    (x : Node) × ((y : Node) × ((slice_get old n ≡ Some x) × ((new ≡ slice_set old n y) × NodeDoes k n ev.at ev.seed ev.act x y l links r)))
 
 -- the two nodes of a join
 abbrev pub pair_of : Act → Option (ℕ × ℕ)
@@ -72,21 +71,21 @@ abbrev pub ends_by : Option (ℕ × ℕ) → Option Ends
 ends_by None = None
 ends_by (Some ends) = Some (record { dials = ends.0; listens = ends.1 })
 
-abbrev pub DoesOn : Option (ℕ × ℕ) → ℕ → Act → List Node → List Node → Links → Links → Row → Type 0
-DoesOn None k a old new l links r = OneDoes k a old new l links r
-DoesOn (Some ends) k a old new l links r = Joins k ends.0 ends.1 old new r × (links ≡ l)
+abbrev pub DoesOn : Option (ℕ × ℕ) → ℕ → ℕ → Event → List Node → List Node → Links → Links → Row → Type 0
+DoesOn None k n ev old new l links r = OneDoes k n ev old new l links r
+DoesOn (Some ends) k n ev old new l links r = Joins k ends.0 ends.1 old new r × (links ≡ l)
 
 -- what the entry k of an event is, where its act names one node, and where it joins two
-abbrev pub OneRecords : ℕ → Event → List Node → List Node → Links → Links → Entry → Type 0
-OneRecords k ev old new l links e = (r : Row) × ((e ≡ entry_of ev r) × OneDoes k ev.act old new l links r)
+abbrev pub OneRecords : ℕ → ℕ → Event → List Node → List Node → Links → Links → Entry → Type 0
+OneRecords k n ev old new l links e = (r : Row) × ((e ≡ entry_of ev r) × OneDoes k n ev old new l links r)
 
 abbrev pub JoinRecords : ℕ → Event → ℕ → ℕ → List Node → List Node → Entry → Type 0
 JoinRecords k ev a b old new e = (r : Row) × ((e ≡ entry_of ev r) × Joins k a b old new r)
 
--- what the entry k of an act comes to
-abbrev pub WorldDoes : ℕ → Act → List Node → List Node → Links → Links → Row → Type 0
-WorldDoes k a old new l links r = DoesOn (pair_of a) k a old new l links r
+-- what the entry k of an event comes to, which names the node n first
+abbrev pub WorldDoes : ℕ → ℕ → Event → List Node → List Node → Links → Links → Row → Type 0
+WorldDoes k n ev old new l links r = DoesOn (pair_of ev.act) k n ev old new l links r
 
 -- what the entry k of an event is
-abbrev pub WorldRecords : ℕ → Event → List Node → List Node → Links → Links → Entry → Type 0
-WorldRecords k ev old new l links e = (r : Row) × ((e ≡ entry_of ev r) × WorldDoes k ev.act old new l links r)
+abbrev pub WorldRecords : ℕ → ℕ → Event → List Node → List Node → Links → Links → Entry → Type 0
+WorldRecords k n ev old new l links e = (r : Row) × ((e ≡ entry_of ev r) × WorldDoes k n ev old new l links r)

@@ -1,9 +1,10 @@
 -- The parts of a node, and which of them an act names: its entry moves items of their queues alone, and changes what stands of
 -- them alone.
-use Rattle.std.specs.Prelude.{ℕ, Bool, true, false, ◌==◌, ◌&&◌, List, [], ◌∷◌, ◌++◌, map}
+use Rattle.std.specs.Prelude.{ℕ, Bool, true, false, ◌==◌, ◌&&◌, List, [], ◌∷◌, ◌++◌, map, Option, Some, None, slice_get}
 use Rattle.std.specs.List.{list_any}
 use Rattle.p2p_log.specs.declared.queue.Queue.{Queue}
 use Rattle.p2p_log.specs.declared.queue.Queue.TheVariants as queue
+use Rattle.p2p_log.specs.declared.entry.Entry.{Entry}
 use Rattle.p2p_log.specs.declared.event.Act.{Act}
 use Rattle.p2p_log.specs.declared.event.Act.TheVariants as act
 
@@ -11,6 +12,7 @@ pub data Part : Type 0 where
   router : Part
   channels : Part
   connections : Part
+  tracker : Part
 
 -- where queues stand: at a part of a node, or at the links
 pub data Place : Type 0 where
@@ -22,6 +24,7 @@ abbrev pub code : Part → ℕ
 code router = 0
 code channels = 1
 code connections = 2
+code tracker = 3
 
 abbrev pub same_part : Part → Part → Bool
 same_part p q = code p == code q
@@ -34,6 +37,13 @@ home (queue.High n conn) = at router n
 home (queue.Low n conn) = at router n
 home (queue.Ready n conn) = at connections n
 home (queue.Channel n c) = at channels n
+home (queue.Tracker n) = at tracker n
+home (queue.Update n) = at tracker n
+home (queue.Dialer n) = at tracker n
+home (queue.Control n conn) = at tracker n
+home (queue.Answer n e) = at tracker n
+home (queue.Updates n e) = at tracker n
+home (queue.Blocked n e) = at tracker n
 home (queue.Link link s) = links
 
 -- parts of one node, and the links
@@ -53,6 +63,7 @@ parts_named (act.Router n) = router ∷ connections ∷ []
 parts_named (act.SendStep conn n) = connections ∷ router ∷ []
 parts_named (act.RecvStep conn n) = channels ∷ []
 parts_named (act.Recv c n) = channels ∷ []
+parts_named _ = tracker ∷ []
 
 -- whether it names the links
 abbrev pub names_links : Act → Bool
@@ -69,26 +80,51 @@ same_place (at p n) (at q m) = same_part p q && (n == m)
 same_place links links = true
 same_place _ _ = false
 
--- the node that an act names, where it names one
-abbrev pub node_of : Act → ℕ
-node_of (act.Register c n rate) = n
-node_of (act.Start n) = n
-node_of (act.Join a b) = a
-node_of (act.Send bytes c n priority to) = n
-node_of (act.Router n) = n
-node_of (act.SendStep conn n) = n
-node_of (act.RecvStep conn n) = n
-node_of (act.Recv c n) = n
+-- the node of which an act asks what it may be answered
+abbrev pub asked_node : Act → Option ℕ
+asked_node (act.PeerSet index n) = Some n
+asked_node (act.Subscribe n) = Some n
+asked_node (act.Blocked n) = Some n
+asked_node _ = None
+
+abbrev pub or_first : Option ℕ → ℕ
+or_first None = 0
+or_first (Some n) = n
+
+-- the node of which the event of this number asked, or the first
+abbrev pub node_asked : Option Entry → ℕ
+node_asked None = 0
+node_asked (Some e) = or_first (asked_node e.event.act)
+
+-- the node that an act names, where it names one, after these entries
+abbrev pub node_of : List Entry → Act → ℕ
+node_of log (act.Register c n rate) = n
+node_of log (act.Start n) = n
+node_of log (act.Join a b) = a
+node_of log (act.Send bytes c n priority to) = n
+node_of log (act.Router n) = n
+node_of log (act.SendStep conn n) = n
+node_of log (act.RecvStep conn n) = n
+node_of log (act.Recv c n) = n
+node_of log (act.Track index n peers) = n
+node_of log (act.Overwrite n peers) = n
+node_of log (act.Block key n) = n
+node_of log (act.PeerSet index n) = n
+node_of log (act.Subscribe n) = n
+node_of log (act.Blocked n) = n
+node_of log (act.Answer e) = node_asked (slice_get log e)
+node_of log (act.Next e) = node_asked (slice_get log e)
+node_of log (act.Tracker n) = n
 
 -- and the other one that it names
-abbrev pub other_of : Act → ℕ
-other_of (act.Join a b) = b
-other_of a = node_of a
+abbrev pub other_of : ℕ → Act → ℕ
+other_of n (act.Join a b) = b
+other_of n a = n
 
 -- the places that an act names
-abbrev pub places : Act → List Place
-places (act.Join a b) = parts_of a (parts_named (act.Join a b)) ++ parts_of b (parts_named (act.Join a b))
-places a = places_at (names_links a) (node_of a) (parts_named a)
+abbrev pub places : List Entry → Act → List Place
+places log (act.Join a b) = parts_of a (parts_named (act.Join a b)) ++ parts_of b (parts_named (act.Join a b))
+places log a = places_at (names_links a) (node_of log a) (parts_named a)
 
-abbrev pub names : Act → Place → Bool
-names a p = list_any (λ q. same_place q p) (places a)
+abbrev pub names : List Entry → Act → Place → Bool
+names log a p = list_any (λ q. same_place q p) (places log a)

@@ -1,5 +1,5 @@
 -- When a node may be asked for an act, by what it is.
-use Rattle.std.specs.Prelude.{◌≡◌, ℕ, ◌+◌, ◌*◌, ◌^◌, ◌<◌, ◌≤◌, Bool, true, false, ◌&&◌, ◌||◌, ◌==◌, not, nat_lt, nat_le, List, length, Option, Some, None, IsTrue, is_some, slice_get}
+use Rattle.std.specs.Prelude.{◌≡◌, ℕ, ◌+◌, ◌*◌, ◌^◌, ◌<◌, ◌≤◌, Bool, true, false, ◌&&◌, ◌||◌, ◌==◌, not, nat_lt, nat_le, List, length, Option, Some, None, IsTrue, IfSome, is_some, slice_get}
 use Rattle.p2p_log.specs.declared.event.Rate.{Rate}
 use Rattle.p2p_log.specs.declared.entry.Entry.{Entry}
 use Rattle.p2p_log.specs.declared.event.Event.{Event}
@@ -8,6 +8,9 @@ use Rattle.p2p_log.specs.declared.event.Act.TheVariants as act
 use Rattle.p2p_log_rules.specs.Valid.{fits_usize}
 use Rattle.p2p_router.specs.Messenger.{is_unbound, is_bound}
 use Rattle.p2p_net_channels.specs.Channels.{capacity_at}
+use Rattle.p2p_log_rules.specs.Tracking.{key_cmp}
+use Rattle.p2p_tracker_mailbox.specs.Desk.{next_message}
+use Rattle.p2p_tracker.specs.Serving.{MayTake}
 use Rattle.p2p_net.specs.Places.{node_of, other_of}
 use Rattle.p2p_net.specs.declared.node.Node.{Node}
 
@@ -32,6 +35,16 @@ abbrev pub names_node : ℕ → Option Entry → Bool
 names_node n None = false
 names_node n (Some e) = is_join_of n e.event.act
 
+-- whether this entry is of a question for a peer set
+abbrev pub asks_set : Option Entry → Bool
+asks_set None = false
+asks_set (Some e) = elim e.event.act [ act.PeerSet index n ↦ true | _ ↦ false ]
+
+-- whether this entry is of a subscription
+abbrev pub subscribes : Option Entry → Bool
+subscribes None = false
+subscribes (Some e) = elim e.event.act [ act.Subscribe n ↦ true | act.Blocked n ↦ true | _ ↦ false ]
+
 -- whether a node may be asked, after these entries
 abbrev pub may_ask : List Entry → Node → Act → Bool
 may_ask log x (act.Register c n rate) = may_register x c rate
@@ -39,13 +52,16 @@ may_ask log x (act.Start n) = not (is_started x)
 may_ask log x (act.Send bytes c n priority to) = nat_le (length bytes) x.config.max_message_size
 may_ask log x (act.SendStep conn n) = names_node n (slice_get log conn)
 may_ask log x (act.RecvStep conn n) = names_node n (slice_get log conn)
+may_ask log x (act.Answer e) = asks_set (slice_get log e)
+may_ask log x (act.Next e) = subscribes (slice_get log e)
 may_ask log x _ = true
 
--- the sizes of a node, where it is asked for an act
+-- the sizes of a node, where it is asked for an act, and that its tracker may take what waits for it
 abbrev pub IsReady : Act → Node → Type 0
 IsReady (act.Register c n rate) x = x.channels.total + capacity_by x rate < 2 ^ 64
 IsReady (act.Start n) x = IsTrue (is_unbound x.router.messenger.binding) × ((1 ≤ x.config.mailbox_size) × (x.config.mailbox_size + x.channels.total < 2 ^ 64))
 IsReady (act.Send bytes c n priority to) x = length bytes < 2 ^ 32
+IsReady (act.Tracker n) x = (now : ℕ) → IfSome (next_message x.tracker.mailbox.desk) (λ m. MayTake key_cmp x.tracker.actor.directory m now)
 IsReady _ x = Unit {0}
 
 abbrev pub may_at : Option Node → List Entry → Act → Bool
@@ -54,16 +70,19 @@ may_at (Some x) log a = may_ask log x a
 
 -- whether an act names nodes that are there, and its node may be asked
 abbrev pub may_act : List Node → List Entry → Act → Bool
-may_act nodes log a = nat_lt (node_of a) (length nodes) && (nat_lt (other_of a) (length nodes) && may_at (slice_get nodes (node_of a)) log a)
+may_act nodes log a =
+    nat_lt (node_of log a) (length nodes) && (nat_lt (other_of (node_of log a) a) (length nodes) && may_at (slice_get nodes (node_of log a)) log a)
 
 -- whether an event may be asked for, after these entries and this last moment
 abbrev pub may_apply : List Node → List Entry → ℕ → Event → Bool
 may_apply nodes log last v = nat_le last v.at && may_act nodes log v.act
 
--- an act finds its nodes there, and ready
-pub record MayPerform (nodes : List Node) (a : Act) : Type 0 where
-  pub first : node_of a < length nodes
-  pub second : other_of a < length nodes
-  pub ready : (x : Node) → slice_get nodes (node_of a) ≡ Some x → IsReady a x
+-- an act that names the node n first finds its nodes there, and ready
+pub record MayPerform (nodes : List Node) (n : ℕ) (a : Act) : Type 0 where
+  pub first : n < length nodes
+  pub second : other_of n a < length nodes
+  pub ready : (x : Node) → slice_get nodes n ≡ Some x → IsReady a x
+  -- a join names its nodes itself
+  pub ends : (m k : ℕ) → a ≡ act.Join m k → n ≡ m
   pub sizes : (n : ℕ) (x : Node) → slice_get nodes n ≡ Some x → 1 ≤ x.config.mailbox_size
   pub numbers : (n : ℕ) (x : Node) → slice_get nodes n ≡ Some x → x.router.number ≡ n

@@ -2,11 +2,10 @@
 ghost use Rattle.std.specs.Prelude.{◌≡◌, ◌==◌, ℕ, ◌<◌, ◌≤◌, false, length, slice_get, IfOk, OnOk, IsTrue, Some};
 ghost use Rattle.p2p_router.specs.Messenger.{is_bound};
 ghost use Rattle.p2p_net.specs.Ready.{IsReady, MayPerform};
-ghost use Rattle.p2p_net.specs.Places.{node_of as node_of_act};
 ghost use Rattle.p2p_net.specs.Joining.{Welcomes, Connects, may_join as may_join_test, joined_row, Joins, pair_of, ends_by, OneRecords, JoinRecords, WorldRecords};
 ghost use Rattle.p2p_net.specs.declared.node.Node.{Node};
 
-use crate::node::{Node, entry_of, node_of};
+use crate::node::{Node, entry_of};
 use p2p_base::Key;
 use p2p_log::{Act, Entry, Event, Item, Queue, Reply, Side};
 use p2p_log_rules::{Half, Row};
@@ -145,20 +144,20 @@ fn ends_of(act: &Act) -> Option<Ends>
     }
 }
 
-/// Does an event at the one node that it names.
+/// Does an event at this node, the one that it names.
 fn apply_at(
     alloc: Global,
     nodes: &mut Vec<Node>,
     links: &mut Links,
     entry: u64,
+    node: u64,
     event: &Event,
 ) -> Result<Entry, AllocError>
-    requires in_range { node_of_act event.now.act < length nodes.old.items }
-    requires ready { (x : Node) → slice_get nodes.old.items (node_of_act event.now.act) ≡ Some x → IsReady event.now.act x }
+    requires in_range { node < length nodes.old.items }
+    requires ready { (x : Node) → slice_get nodes.old.items node ≡ Some x → IsReady event.now.act x }
     requires numbers { (n : ℕ) (x : Node) → slice_get nodes.old.items n ≡ Some x → x.router.number ≡ n }
-    ensures { IfOk result (λ e. OneRecords entry event.now nodes.old.items nodes.new.items links.old links.new e) }
+    ensures { IfOk result (λ e. OneRecords entry node event.now nodes.old.items nodes.new.items links.old links.new e) }
 {
-    let node = node_of(&event.act);
     match nodes[node as usize].apply(alloc, entry, event, links) {
         Ok(made) => Ok(made),
         Err(_) => Err(AllocError),
@@ -179,24 +178,24 @@ fn join_at(
     ensures { IfOk result (λ e. JoinRecords entry event.now ends.dials ends.listens nodes.old.items nodes.new.items e) }
 {
     let row = join(alloc, nodes, entry, ends)?;
-    let kept = event.try_clone(alloc)?;
-    Ok(entry_of(kept, row))
+    Ok(entry_of(alloc, event, row)?)
 }
 
-/// Does an event, and gives the entry that comes of it: at the node that it names, or at the two nodes of a join, the dialing
+/// Does an event, and gives the entry that comes of it: at this node, which it names, or at the two nodes of a join, the dialing
 /// one first.
 pub fn perform(
     alloc: Global,
     nodes: &mut Vec<Node>,
     links: &mut Links,
     entry: u64,
+    node: u64,
     event: &Event,
 ) -> Result<Entry, AllocError>
-    requires { MayPerform nodes.old.items event.now.act }
-    ensures { IfOk result (λ e. WorldRecords entry event.now nodes.old.items nodes.new.items links.old links.new e) }
+    requires { MayPerform nodes.old.items node event.now.act }
+    ensures { IfOk result (λ e. WorldRecords entry node event.now nodes.old.items nodes.new.items links.old links.new e) }
 {
     match ends_of(&event.act) {
         Some(ends) => Ok(join_at(alloc, nodes, entry, event, ends)?),
-        None => Ok(apply_at(alloc, nodes, links, entry, event)?),
+        None => Ok(apply_at(alloc, nodes, links, entry, node, event)?),
     }
 }

@@ -11,6 +11,7 @@ mod steps;
 mod valid;
 mod world;
 
+pub use crate::configs::fits;
 pub use crate::error::{NodeError, RunError};
 pub use crate::node::Node;
 pub use crate::world::World;

@@ -1,5 +1,5 @@
 //! `Node`, the parts of a node, and what each act does at it.
-ghost use Rattle.std.specs.Prelude.{◌≡◌, ◌*◌, ◌<◌, ◌^◌, ℕ, [], IfOk, OnOk, IfErr, true, false, None};
+ghost use Rattle.std.specs.Prelude.{◌≡◌, ◌*◌, ◌<◌, ◌^◌, ℕ, [], IfOk, OnOk, IfErr, true, false, None, slice_get};
 ghost use Rattle.std.specs.Ordering.{nat_cmp};
 ghost use Rattle.std.specs.BTreeMap as tree;
 ghost use Rattle.p2p_log_rules.specs.Effect.{entry_of as entry_of_row};
@@ -7,7 +7,8 @@ ghost use Rattle.p2p_log_rules.specs.Valid.{fits};
 ghost use Rattle.p2p_net_channels.specs.Channels.{no_channels};
 ghost use Rattle.p2p_net_connections.specs.Connections.{no_connections};
 ghost use Rattle.p2p_net_router.specs.Stands.{StandsFor};
-ghost use Rattle.p2p_net.specs.Places.{node_of as node_of_act, other_of as other_of_act};
+ghost use Rattle.p2p_net_tracker.specs.Begins.{IsNew};
+ghost use Rattle.p2p_net.specs.Places.{asked_node as asked_node_of, node_asked as node_asked_by, node_of as node_of_act, other_of as other_of_act};
 ghost use Rattle.p2p_net.specs.Ready.{is_started as started_test, IsReady};
 ghost use Rattle.p2p_net.specs.Acts.{NodeDoes};
 ghost use Rattle.p2p_net.specs.Applying.{NodeRecords, NodeApplies, NodeRefused};
@@ -21,6 +22,7 @@ use p2p_net_connections::Connections;
 use p2p_net_links::Links;
 use p2p_net_queues::{Turn, only};
 use p2p_net_router::Router;
+use p2p_net_tracker::Tracker;
 use std::alloc::{AllocError, Global};
 
 /// A node: what it is made of, and its parts.
@@ -36,13 +38,17 @@ pub struct Node {
     pub channels: Channels,
     /// Its connections, and the router's answers to them.
     pub connections: Connections,
+    /// Its tracker, with what waits for those who asked it.
+    pub tracker: Tracker,
     /// Whether it found no memory.
     pub failed: bool,
 }
 
 /// The entry of an event that came to this row.
-pub fn entry_of(event: Event, row: Row) -> Entry
-    ensures { result ≡ entry_of_row event row }
+///
+/// `Err` only where memory runs out.
+pub fn entry_of(alloc: Global, event: &Event, row: Row) -> Result<Entry, AllocError>
+    ensures { IfOk result (λ e. e ≡ entry_of_row event.now row) }
 {
     let Row {
         reply,
@@ -50,18 +56,43 @@ pub fn entry_of(event: Event, row: Row) -> Entry
         puts,
         ends,
     } = row;
-    Entry {
-        event,
+    Ok(Entry {
+        event: event.try_clone(alloc)?,
         reply,
         takes,
         puts,
         ends,
+    })
+}
+
+/// The node of which an act asks what it may be answered.
+fn asked_node(act: &Act) -> Option<u64>
+    ensures { result ≡ asked_node_of act.now }
+{
+    match act {
+        Act::PeerSet { node, .. } => Some(*node),
+        Act::Subscribe { node } => Some(*node),
+        Act::Blocked { node } => Some(*node),
+        _ => None,
     }
 }
 
-/// The node that an act names first.
-pub fn node_of(act: &Act) -> u64
-    ensures { result ≡ node_of_act act.now }
+/// The node of which the event of this number asked, or the first.
+fn node_asked(log: &[Entry], question: u64) -> u64
+    ensures { result ≡ node_asked_by (slice_get log.now question) }
+{
+    match log.get(question as usize) {
+        Some(entry) => match asked_node(&entry.event.act) {
+            Some(node) => node,
+            None => 0,
+        },
+        None => 0,
+    }
+}
+
+/// The node that an act names first, after these entries.
+pub fn node_of(log: &[Entry], act: &Act) -> u64
+    ensures { result ≡ node_of_act log.now act.now }
 {
     match act {
         Act::Register { node, .. } => *node,
@@ -72,43 +103,57 @@ pub fn node_of(act: &Act) -> u64
         Act::SendStep { node, .. } => *node,
         Act::RecvStep { node, .. } => *node,
         Act::Recv { node, .. } => *node,
+        Act::Track { node, .. } => *node,
+        Act::Overwrite { node, .. } => *node,
+        Act::Block { node, .. } => *node,
+        Act::PeerSet { node, .. } => *node,
+        Act::Subscribe { node } => *node,
+        Act::Blocked { node } => *node,
+        Act::Answer { question } => node_asked(log, *question),
+        Act::Next { question } => node_asked(log, *question),
+        Act::Tracker { node } => *node,
     }
 }
 
-/// The other node that an act names, or the same one.
-pub fn other_of(act: &Act) -> u64
-    ensures { result ≡ other_of_act act.now }
+/// The other node that an act names, or the first one again.
+pub fn other_of(first: u64, act: &Act) -> u64
+    ensures { result ≡ other_of_act first act.now }
 {
     match act {
         Act::Join { b, .. } => *b,
-        _ => node_of(act),
+        _ => first,
     }
 }
 
 impl Node {
     /// A node that was asked for nothing.
-    pub fn new(alloc: Global, number: u64, config: Config) -> Node
+    ///
+    /// `Err` only where there is no memory.
+    pub fn new(alloc: Global, number: u64, config: Config) -> Result<Node, AllocError>
         requires { fits config ≡ true }
-        ensures config { result.config ≡ config }
+        ensures config { IfOk result (λ x. x.config ≡ config) }
         ensures counted { config.mailbox_size < 2 ^ 64 }
-        ensures retained { result.retained ≡ config.max_peers_per_set * config.tracked_peer_sets }
-        ensures number { result.router.number ≡ number }
-        ensures router { (configs : _) → StandsFor configs [] result.router }
-        ensures peers { (c : ℕ) → tree.get nat_cmp result.router.peers c ≡ None }
-        ensures channels { result.channels ≡ no_channels }
-        ensures connections { result.connections ≡ no_connections }
-        ensures works { result.failed ≡ false }
+        ensures retained { IfOk result (λ x. x.retained ≡ config.max_peers_per_set * config.tracked_peer_sets) }
+        ensures number { IfOk result (λ x. x.router.number ≡ number) }
+        ensures router { IfOk result (λ x. (configs : _) → StandsFor configs [] x.router) }
+        ensures peers { IfOk result (λ x. (c : ℕ) → tree.get nat_cmp x.router.peers c ≡ None) }
+        ensures tracker { IfOk result (λ x. IsNew config x.tracker) }
+        ensures channels { IfOk result (λ x. x.channels ≡ no_channels) }
+        ensures connections { IfOk result (λ x. x.connections ≡ no_connections) }
+        ensures works { IfOk result (λ x. x.failed ≡ false) }
     {
         let size = config.mailbox_size;
         prove!(size <= usize::MAX);
-        Node {
+        let tracker = Tracker::new(alloc, &config)?;
+        Ok(Node {
             config,
             retained: retained(&config),
             router: Router::new(alloc, number),
             channels: Channels::new(alloc),
             connections: Connections::new(alloc),
+            tracker,
             failed: false,
-        }
+        })
     }
 
     /// Whether it has started.
@@ -157,18 +202,17 @@ impl Node {
         ensures does { IfOk result (λ e. NodeRecords turn.entry turn.node event.now self.old self.new links.old links.new e) }
         ensures failed { OnOk result (self.new.failed ≡ self.old.failed) }
     {
-        let row = self.perform(turn, links, &event.act)?;
-        let kept = event.try_clone(turn.alloc)?;
-        Ok(entry_of(kept, row))
+        let row = self.perform(turn, links, event)?;
+        Ok(entry_of(turn.alloc, event, row)?)
     }
 
-    /// Does this node's part of an act that names it alone.
-    fn perform(&mut self, turn: Turn, links: &mut Links, act: &Act) -> Result<Row, AllocError>
-        requires { IsReady act.now self.old }
-        ensures does { IfOk result (λ r. NodeDoes turn.entry turn.node act.now self.old self.new links.old links.new r) }
+    /// Does this node's part of an event that names it alone.
+    fn perform(&mut self, turn: Turn, links: &mut Links, event: &Event) -> Result<Row, AllocError>
+        requires { IsReady event.now.act self.old }
+        ensures does { IfOk result (λ r. NodeDoes turn.entry turn.node event.now.at event.now.seed event.now.act self.old self.new links.old links.new r) }
         ensures failed { OnOk result (self.new.failed ≡ self.old.failed) }
     {
-        match act {
+        match &event.act {
             Act::Register { channel, quota, .. } => Ok(self.register(turn, *channel, *quota)?),
             Act::Start { .. } => Ok(self.start(turn)?),
             Act::Send {
@@ -183,6 +227,15 @@ impl Node {
             Act::RecvStep { conn, .. } => Ok(self.recv_step(turn, links, *conn)?),
             Act::Recv { channel, .. } => Ok(self.read(turn, *channel)?),
             Act::Join { .. } => Ok(only(turn.alloc, Reply::Idle)),
+            Act::Track { index, peers, .. } => Ok(self.tracker.track(turn, *index, peers)?),
+            Act::Overwrite { peers, .. } => Ok(self.tracker.overwrite(turn, peers)?),
+            Act::Block { key, .. } => Ok(self.tracker.block(turn, *key)?),
+            Act::PeerSet { index, .. } => Ok(self.tracker.peer_set(turn, *index)?),
+            Act::Subscribe { .. } => Ok(self.tracker.subscribe(turn)?),
+            Act::Blocked { .. } => Ok(self.tracker.blocked(turn)?),
+            Act::Answer { question } => Ok(self.tracker.answer(turn, *question)?),
+            Act::Next { question } => Ok(self.tracker.next(turn, *question)?),
+            Act::Tracker { .. } => Ok(self.track_step(turn, event.at, event.seed)?),
         }
     }
 }

@@ -1,9 +1,13 @@
 //! The steps of a node: of its router, and of the two halves of each connection.
-ghost use Rattle.std.specs.Prelude.{◌≡◌, ℕ, IfOk, OnOk, Option, slice_get};
+ghost use Rattle.std.specs.Prelude.{◌≡◌, ℕ, IfOk, OnOk, IfSome, Option, slice_get};
 ghost use Rattle.p2p_log_rules.specs.Effect.{other_side as other_side_of};
 ghost use Rattle.p2p_log.specs.Lines.{name_of};
 ghost use Rattle.p2p_net_channels.specs.Arrivals.{arrival_in};
-ghost use Rattle.p2p_net.specs.Acts.{Routes, Writes, Begins, SendSteps, Receives, RecvSteps, arrived_row, arrived_into, arrived_off, accepted_row, accepted_into, accepted_off, first_in, frame_in};
+ghost use Rattle.p2p_log_rules.specs.Tracking.{key_cmp};
+ghost use Rattle.p2p_tracker_mailbox.specs.Desk.{next_message};
+ghost use Rattle.p2p_tracker.specs.Serving.{MayTake};
+ghost use Rattle.p2p_net.specs.Ready.{is_started as is_started_test};
+ghost use Rattle.p2p_net.specs.Acts.{TrackerStepsBy, Routes, Writes, Begins, SendSteps, Receives, RecvSteps, arrived_row, arrived_into, arrived_off, accepted_row, accepted_into, accepted_off, first_in, frame_in};
 
 use crate::node::Node;
 use p2p_base::Key;
@@ -57,6 +61,18 @@ impl Node {
         let row = self.router.step(turn)?;
         self.connections.answer(turn, row.puts.as_slice())?;
         Ok(row)
+    }
+
+    /// One step of the tracker, at a moment and with a seed.
+    pub(crate) fn track_step(&mut self, turn: Turn, at: u64, seed: u64) -> Result<Row, AllocError>
+        requires { (now : ℕ) → IfSome (next_message self.old.tracker.mailbox.desk) (λ m. MayTake key_cmp self.old.tracker.actor.directory m now) }
+        ensures does { IfOk result (λ r. TrackerStepsBy (is_started_test self.old) turn.entry turn.node at seed self.old self.new r) }
+        ensures failed { OnOk result (self.new.failed ≡ self.old.failed) }
+    {
+        if !self.is_started() {
+            return Ok(only(turn.alloc, Reply::Gone));
+        }
+        Ok(self.tracker.step(turn, at, seed)?)
     }
 
     /// Writes a batch of a connection to its link.

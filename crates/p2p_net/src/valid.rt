@@ -1,6 +1,6 @@
 //! Whether an event may be asked for, after those before it.
 ghost use Rattle.std.specs.Prelude.{◌≡◌, ◌<◌, ◌^◌, ◌&&◌, Some, slice_get, length, nat_le};
-ghost use Rattle.p2p_net.specs.Ready.{capacity_by, is_join_of as is_join_of_test, names_node, may_register as may_register_test, may_ask as may_ask_test, may_at as may_at_test, may_act as may_act_test};
+ghost use Rattle.p2p_net.specs.Ready.{capacity_by, is_join_of as is_join_of_test, names_node, asks_set as asks_set_test, subscribes as subscribes_test, may_register as may_register_test, may_ask as may_ask_test, may_at as may_at_test, may_act as may_act_test};
 
 use crate::node::{Node, node_of, other_of};
 use p2p_log::{Act, Entry, Event, Rate};
@@ -37,6 +37,26 @@ fn is_named(log: &[Entry], conn: u64, number: u64) -> bool
     }
 }
 
+/// Whether the entry of this number is of a question for a peer set.
+fn asks_set(log: &[Entry], question: u64) -> bool
+    ensures { result ≡ asks_set_test (slice_get log.now question) }
+{
+    match log.get(question as usize) {
+        Some(entry) => matches!(entry.event.act, Act::PeerSet { .. }),
+        None => false,
+    }
+}
+
+/// Whether the entry of this number is of a subscription.
+fn subscribes(log: &[Entry], question: u64) -> bool
+    ensures { result ≡ subscribes_test (slice_get log.now question) }
+{
+    match log.get(question as usize) {
+        Some(entry) => matches!(entry.event.act, Act::Subscribe { .. } | Act::Blocked { .. }),
+        None => false,
+    }
+}
+
 /// Whether a node may be asked for an act, after these entries.
 fn may_ask(log: &[Entry], node: &Node, act: &Act) -> bool
     ensures { result ≡ may_ask_test log.now node.now act.now }
@@ -47,6 +67,8 @@ fn may_ask(log: &[Entry], node: &Node, act: &Act) -> bool
         Act::Send { bytes, .. } => bytes.len() <= node.config.max_message_size as usize,
         Act::SendStep { conn, node } => is_named(log, *conn, *node),
         Act::RecvStep { conn, node } => is_named(log, *conn, *node),
+        Act::Answer { question } => asks_set(log, *question),
+        Act::Next { question } => subscribes(log, *question),
         _ => true,
     }
 }
@@ -56,8 +78,8 @@ fn may_act(nodes: &[Node], log: &[Entry], act: &Act) -> bool
     ensures { result ≡ may_act_test nodes.now log.now act.now }
 {
     let count = nodes.len() as u64;
-    let number = node_of(act);
-    number < count && other_of(act) < count && may_ask(log, &nodes[number as usize], act)
+    let number = node_of(log, act);
+    number < count && other_of(number, act) < count && may_ask(log, &nodes[number as usize], act)
 }
 
 /// Whether an event may be asked for after these entries, of which the last was at the moment `last`.

@@ -8,6 +8,7 @@ ghost use Rattle.p2p_log_rules.specs.Effect.{effect};
 ghost use Rattle.p2p_log_rules.specs.Lawful.{IsLawful};
 ghost use Rattle.p2p_log_rules.specs.Valid.{config_fault as config_fault_of, event_fault, is_valid_event};
 ghost use Rattle.p2p_net_links.specs.Links.{no_links};
+ghost use Rattle.p2p_net.specs.Places.{node_of as node_of_act};
 ghost use Rattle.p2p_net.specs.Ready.{may_apply, MayPerform};
 ghost use Rattle.p2p_net.specs.Stands.{WorldStands};
 ghost use Rattle.p2p_net.specs.World.{IsRecorded, Stands};
@@ -17,7 +18,7 @@ ghost use Rattle.p2p_net.specs.declared.error.RunError.TheVariants as error;
 use crate::configs::config_fault;
 use crate::error::RunError;
 use crate::joins::perform;
-use crate::node::Node;
+use crate::node::{Node, node_of};
 use crate::valid::is_valid;
 use p2p_base::List;
 use p2p_log::{Config, Event, Report};
@@ -62,15 +63,16 @@ fn record(
     report: &mut Report,
     event: &Event,
 ) -> Result<(), AllocError>
-    requires { MayPerform nodes.old.items event.now.act }
+    requires { MayPerform nodes.old.items (node_of_act report.old.log event.now.act) event.now.act }
     ensures ok { OnOk result ((configs : List Config) → WorldStands configs report.old.log nodes.old.items links.old → is_valid_event configs (events_of report.old.log) event.now ≡ true
         → IsRecorded configs report.old.log event.now report.new.log nodes.new.items links.new) }
     ensures err { OnErr result (report.new.log ≡ report.old.log) }
 {
     let entry = report.log.len() as u64;
+    let node = node_of(report.log.as_slice(), &event.act);
     report
         .log
-        .push(perform(alloc, nodes, links, entry, event)?)?;
+        .push(perform(alloc, nodes, links, entry, node, event)?)?;
     Ok(())
 }
 
@@ -92,7 +94,7 @@ fn new_nodes(alloc: Global, configs: &[Config]) -> Result<Vec<Node>, AllocError>
 {
     let mut nodes = Vec::new(alloc);
     for number in 0..configs.len() {
-        nodes.push(Node::new(alloc, number as u64, configs[number]))?;
+        nodes.push(Node::new(alloc, number as u64, configs[number])?)?;
     }
     Ok(nodes)
 }

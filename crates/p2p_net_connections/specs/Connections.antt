@@ -56,6 +56,11 @@ ran_by (Some c) conn halves = insert_entry nat_cmp halves conn (record { half = 
 abbrev pub ran : ℕ → List (ℕ × Connection) → List (ℕ × Connection)
 ran conn halves = ran_by (at halves conn) conn halves
 
+-- the name of what stands first, and whether it is the router's answer
+abbrev pub named_answer : Option Envelope → Option ((ℕ × ℕ) × Bool)
+named_answer None = None
+named_answer (Some x) = Some ((x.entry, x.place), is_answer x.item)
+
 abbrev pub begun_on : Option Envelope → ℕ → Connections → Connections
 begun_on None conn cs = record cs { answers = popped_at cs.answers conn }
 begun_on (Some x) conn cs = record { halves = cond (is_answer x.item) (ran conn cs.halves) cs.halves; partners = cs.partners; answers = popped_at cs.answers conn }

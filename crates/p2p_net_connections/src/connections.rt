@@ -3,8 +3,8 @@ ghost use Rattle.std.specs.Prelude.{◌≡◌, ◌++◌, [], is_some, slice_get,
 ghost use Rattle.p2p_log_rules.specs.Facts.{is_answer as answer_test};
 ghost use Rattle.p2p_log_rules.specs.Effect.{begin_row};
 ghost use Rattle.p2p_log.specs.Lines.{name_of};
-ghost use Rattle.p2p_net_queues.specs.Tables.{at, waiting};
-ghost use Rattle.p2p_net_connections.specs.Connections.{no_connections, joined_with, answered_by, answered, ran_by, ran, begun};
+ghost use Rattle.p2p_net_queues.specs.Tables.{at, waiting, popped_at};
+ghost use Rattle.p2p_net_connections.specs.Connections.{no_connections, joined_with, answered_by, answered, ran_by, ran, begun, named_answer};
 
 use p2p_log::{Envelope, Item, Queue, Reply};
 use p2p_log_rules::{Half, Row};
@@ -133,6 +133,17 @@ impl Connections {
         Ok(())
     }
 
+    /// Takes what stands first for a connection: its name, and whether it is the router's answer.
+    fn pop(&mut self, conn: u64) -> Option<((u64, u64), bool)>
+        ensures first { result ≡ named_answer (slice_get (waiting self.old.answers conn) 0) }
+        ensures after { self.new ≡ record self.old { answers = popped_at self.old.answers conn } }
+    {
+        match self.answers.pop_at(conn) {
+            None => None,
+            Some(taken) => Some(((taken.entry, taken.place), is_answer(&taken.item))),
+        }
+    }
+
     /// Takes the router's answer to a connection, which runs from then on.
     ///
     /// `Err` only where there is no memory. The answer may then be taken and the connection not run, and its node goes no
@@ -141,13 +152,13 @@ impl Connections {
         ensures row { IfOk result (λ r. r ≡ begin_row (waiting self.old.answers conn)) }
         ensures after { OnOk result (self.new ≡ begun conn self.old) }
     {
-        match self.answers.pop_at(conn) {
+        match self.pop(conn) {
             None => Ok(only(alloc, Reply::Idle)),
-            Some(taken) => {
-                if is_answer(&taken.item) {
+            Some((name, is_answer)) => {
+                if is_answer {
                     self.run(conn)?;
                 }
-                let row = taking(alloc, (taken.entry, taken.place))?;
+                let row = taking(alloc, name)?;
                 Ok(row)
             }
         }

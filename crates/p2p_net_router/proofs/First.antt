@@ -56,42 +56,22 @@ none_same f g (y ∷ ys) h = cc
 -- ---- an item by what is left without its name
 
 pub bare-ready : (conn : ℕ) (k : Key) (i : Item) → item.Ready conn k ≡ bare i → i ≡ item.Ready conn k
-bare-ready conn k (item.Subscribe c) h = cc
 bare-ready conn k (item.Ready c j) h = sym h
-bare-ready conn k (item.Content c f p s t) h = cc
-bare-ready conn k (item.Peers ks) h = cc
-bare-ready conn k item.Answer h = cc
-bare-ready conn k (item.Frame c f) h = cc
-bare-ready conn k (item.Message b c f) h = cc
+bare-ready conn k _ h = cc
 
 pub bare-subscribe : (n : ℕ) (i : Item) → item.Subscribe n ≡ bare i → i ≡ item.Subscribe n
 bare-subscribe n (item.Subscribe c) h = sym h
-bare-subscribe n (item.Ready c j) h = cc
-bare-subscribe n (item.Content c f p s t) h = cc
-bare-subscribe n (item.Peers ks) h = cc
-bare-subscribe n item.Answer h = cc
-bare-subscribe n (item.Frame c f) h = cc
-bare-subscribe n (item.Message b c f) h = cc
+bare-subscribe n _ h = cc
 
 pub bare-content : (n : ℕ) (frame : List ℕ) (priority : Bool) (to : List Key) (i : Item) → item.Content n frame priority 0 to ≡ bare i → i ≡ item.Content n frame priority (send_of (tag_of i)) to
-bare-content n frame priority to (item.Subscribe c) h = cc
-bare-content n frame priority to (item.Ready c j) h = cc
 bare-content n frame priority to (item.Content c f p s t) h =
     let a : c ≡ n = cc in
     let b : f ≡ frame = cc in
     let d : p ≡ priority = cc in
     let e : t ≡ to = cc in
     ap (λ x. item.Content x f p s t) a ∙ (ap (λ x. item.Content n x p s t) b ∙ (ap (λ x. item.Content n frame x s t) d ∙ ap (λ x. item.Content n frame priority s x) e))
-bare-content n frame priority to (item.Peers ks) h = cc
-bare-content n frame priority to item.Answer h = cc
-bare-content n frame priority to (item.Frame c f) h = cc
-bare-content n frame priority to (item.Message b c f) h = cc
+bare-content n frame priority to _ h = cc
 
 pub bare-frame : (frame : List ℕ) (i : Item) → item.Frame None frame ≡ bare i → i ≡ item.Frame (tag_of i) frame
-bare-frame frame (item.Subscribe c) h = cc
-bare-frame frame (item.Ready c j) h = cc
-bare-frame frame (item.Content c f p s t) h = cc
-bare-frame frame (item.Peers ks) h = cc
-bare-frame frame item.Answer h = cc
 bare-frame frame (item.Frame c f) h = let e : f ≡ frame = cc in ap (λ x. item.Frame c x) e
-bare-frame frame (item.Message b c f) h = cc
+bare-frame frame _ h = cc

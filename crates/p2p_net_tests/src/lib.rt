@@ -1,15 +1,19 @@
 //! The tests of the router, of the parts of a node and of the world, through their public names alone. They stand together so
 //! that the gate proves each of those crates once.
 //!
-//! Of `p2p_router` is `router`, of `p2p_net_router` is `routers`, of `p2p_net_channels` and `p2p_net_links` is `parts`, and of
-//! `p2p_net` is `world`.
+//! Of `p2p_router` is `router`, of `p2p_net_queues` is `queues`, of `p2p_net_router` is `routers`, of `p2p_net_channels` and
+//! `p2p_net_links` is `parts`, and of `p2p_net` are `world` and, with `p2p_net_tracker`, `tracker`.
 #![tactic(auto)]
 
 #[cfg(test)]
 mod parts;
 #[cfg(test)]
+mod queues;
+#[cfg(test)]
 mod router;
 #[cfg(test)]
 mod routers;
+#[cfg(test)]
+mod tracker;
 #[cfg(test)]
 mod world;

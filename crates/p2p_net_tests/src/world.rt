@@ -1,6 +1,6 @@
 //! Scripts that a world does not run, with the place of the event that may not be asked for.
 use p2p_base::Key;
-use p2p_net::{Act, Config, Event, Links, Node, NodeError, Rate, RunError, World};
+use p2p_net::{Act, Config, Event, Links, Node, NodeError, Rate, RunError, World, fits};
 use std::alloc::Global;
 
 // A node of key 1 whose peer sets have at most so many peers.
@@ -12,6 +12,11 @@ fn node(max_peers_per_set: usize) -> Config {
         mailbox_size: 4,
         tracked_peer_sets: 4,
         send_batch_size: 8,
+        allow_private_ips: true,
+        allow_dns: true,
+        bypass_ip_check: false,
+        peer_connection_cooldown: 1_000_000_000,
+        block_duration: 3_600_000_000_000,
     }
 }
 
@@ -95,31 +100,55 @@ fn a_node_keeps_what_it_was_asked(rt: HostRuntime) {
     assert_eq!(rt; capacity(rt.alloc()), Ok(Some(24)));
 }
 
-// The moment that the entry of a router's step names.
+// The moment of the entry that comes of a step of the node's router.
 fn step(alloc: Global, node: &mut Node, number: u64, at: u64) -> Result<u64, NodeError> {
     let mut links = Links::new(alloc);
-    let step = Event {
+    let event = Event {
         at,
         seed: 0,
         act: Act::Router { node: 0 },
     };
-    let entry = node.apply(alloc, number, &step, &mut links)?;
+    let entry = node.apply(alloc, number, &event, &mut links)?;
     Ok(entry.event.at)
+}
+
+// A node of a configuration that fits. `None` where it does not.
+fn new_node(alloc: Global, config: Config) -> Result<Option<Node>, NodeError> {
+    if fits(&config) {
+        match Node::new(alloc, 0, config) {
+            Ok(node) => Ok(Some(node)),
+            Err(_) => Err(NodeError::Memory),
+        }
+    } else {
+        Ok(None)
+    }
+}
+
+fn is_made(alloc: Global, config: Config) -> Result<bool, NodeError> {
+    Ok(new_node(alloc, config)?.is_some())
+}
+
+// The moment of a node's second entry, before which it found no memory or did.
+fn second_step(alloc: Global, failed: bool) -> Result<Option<u64>, NodeError> {
+    match new_node(alloc, node(2))? {
+        Some(node) => {
+            let mut node = node;
+            step(alloc, &mut node, 0, 3)?;
+            node.failed = failed;
+            Ok(Some(step(alloc, &mut node, 1, 4)?))
+        }
+        None => Ok(None),
+    }
 }
 
 #[test]
 fn a_node_that_found_no_memory_goes_no_further(rt: HostRuntime) {
-    let alloc = rt.alloc();
-    let config = Config {
-        public_key: Key(1),
-        max_peers_per_set: 2,
-        max_message_size: 1024,
-        mailbox_size: 4,
-        tracked_peer_sets: 4,
-        send_batch_size: 8,
-    };
-    let mut node = Node::new(alloc, 0, config);
-    assert_eq!(rt; step(alloc, &mut node, 0, 3), Ok(3));
-    node.failed = true;
-    assert_eq!(rt; step(alloc, &mut node, 1, 4), Err(NodeError::Failed));
+    assert_eq!(rt; second_step(rt.alloc(), false), Ok(Some(4)));
+    assert_eq!(rt; second_step(rt.alloc(), true), Err(NodeError::Failed));
+}
+
+#[test]
+fn a_configuration_of_no_peers_makes_no_node(rt: HostRuntime) {
+    assert_eq!(rt; is_made(rt.alloc(), node(1)), Ok(true));
+    assert_eq!(rt; is_made(rt.alloc(), node(0)), Ok(false));
 }

@@ -41,7 +41,13 @@ pub record IsNew {P : Type 0} (cfg : Config) (conn : ℕ) (reservation : Metadat
     conn = conn;
     limits = limits_of cfg;
     control = empty_queue cfg.mailbox_size;
-    live = Some (record { reservation = reservation; stage = stage.New; inbox = inbox; pings = fresh (ping_rate cfg.ping_frequency); holds_ping = false });
+    live = Some (record {
+      reservation = reservation;
+      stage = stage.New;
+      inbox = inbox;
+      pings = fresh (ping_rate cfg.ping_frequency);
+      holds_ping = false;
+    });
     failed = false;
   }
 
@@ -53,4 +59,5 @@ module _ {P : Type 0} (cfg : Config) (name : ℕ) where
   IsSpawned None stepped.Idle = Unit {0}
   IsSpawned None (stepped.Spawned connection actor) = ⊥
   IsSpawned (Some m) stepped.Idle = ⊥
-  IsSpawned (Some (message.Spawn peer connection reservation)) (stepped.Spawned link actor) = (link ≡ connection) × IsNew cfg name reservation actor
+  IsSpawned (Some (message.Spawn peer connection reservation)) (stepped.Spawned link actor) =
+      (link ≡ connection) × IsNew cfg name reservation actor

@@ -50,11 +50,18 @@ module _ {P : Type 0} where
   waiting_after _ waiting = waiting
 
   abbrev pub settled : Connection P → Stepped P → Queue Message → Live P → Connection P
-  settled c s control l = record { conn = c.conn; limits = c.limits; control = control_after s control; live = live_after s l; failed = c.failed }
+  settled c s control l = record {
+    conn = c.conn;
+    limits = c.limits;
+    control = control_after s control;
+    live = live_after s l;
+    failed = c.failed;
+  }
 
   -- with one more message for the router
   abbrev pub put_to_router : Desk P → RouterMessage P → Desk P
-  put_to_router d m = record { binding = in_mailbox (λ q. appended q m) d.binding; waiting = d.waiting; lists = d.lists }
+  put_to_router d m =
+      record { binding = in_mailbox (λ q. appended q m) d.binding; waiting = d.waiting; lists = d.lists }
 
   -- the router is told that it is ready where it begins, and to release its peer where it ends
   abbrev pub told_to_router : Stepped P → P → ℕ → ℕ → Desk P → Desk P

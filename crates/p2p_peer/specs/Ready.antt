@@ -24,7 +24,8 @@ abbrev pub sends_at : Stage → Queue Message → Option (Lanes EncodedData) →
 sends_at stage.New control lanes now = true
 sends_at stage.Waiting control lanes now = is_some lanes
 sends_at (stage.Running ping_at) control None now = true
-sends_at (stage.Running ping_at) control (Some l) now = nat_le ping_at now || is_some (next_of (slice_get control.items 0) control.closed l)
+sends_at (stage.Running ping_at) control (Some l) now =
+    nat_le ping_at now || is_some (next_of (slice_get control.items 0) control.closed l)
 
 -- the link has a frame, or met a fault
 abbrev pub comes : Result (Option (List ℕ)) Failed → Bool
@@ -57,7 +58,8 @@ module _ {P : Type 0} where
 
   abbrev pub receives_of : ℕ → Result (Option (List ℕ)) Failed → Option (Live P) → Bool
   receives_of now heard None = false
-  receives_of now heard (Some l) = is_running l.stage && cond l.holds_ping (ping_admitted now l) (receives_held l now heard l.inbox.held)
+  receives_of now heard (Some l) =
+      is_running l.stage && cond l.holds_ping (ping_admitted now l) (receives_held l now heard l.inbox.held)
 
   -- an input of the receiving half is ready, where this is heard of the link
   abbrev pub receives : Connection P → ℕ → Result (Option (List ℕ)) Failed → Bool

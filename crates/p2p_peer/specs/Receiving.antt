@@ -56,20 +56,36 @@ module _ {P : Type 0} where
 
   module _ (now : ℕ) where
     abbrev pub ping_taken : Bool → Live P → Live P
-    ping_taken admitted l = record { reservation = l.reservation; stage = l.stage; inbox = l.inbox; pings = after_rate l.pings now; holds_ping = not admitted }
+    ping_taken admitted l = record {
+      reservation = l.reservation;
+      stage = l.stage;
+      inbox = l.inbox;
+      pings = after_rate l.pings now;
+      holds_ping = not admitted;
+    }
 
     abbrev pub ping_admitted : Live P → Bool
     ping_admitted l = is_ok (rate_answer l.pings now)
 
     -- a ping waits for its quota, and is dropped then
     abbrev pub with_ping : Bool → Live P → Arrived P → Received P
-    with_ping was_held l a = record { stepped = pinged was_held (ping_admitted l); live = ping_taken (ping_admitted l) l; arrived = a }
+    with_ping was_held l a = record {
+      stepped = pinged was_held (ping_admitted l);
+      live = ping_taken (ping_admitted l) l;
+      arrived = a;
+    }
 
     -- a message waits for the quota of its channel, and goes into the channel's mailbox then
     abbrev pub with_message : Bool → P → Data → Live P → Arrived P → Received P
     with_message was_held from m l a = record {
       stepped = received_as was_held m (deliver_answer l.inbox a from m now);
-      live = record { reservation = l.reservation; stage = l.stage; inbox = after_deliver l.inbox from m now; pings = l.pings; holds_ping = l.holds_ping };
+      live = record {
+        reservation = l.reservation;
+        stage = l.stage;
+        inbox = after_deliver l.inbox from m now;
+        pings = l.pings;
+        holds_ping = l.holds_ping;
+      };
       arrived = arrived_after l.inbox a from m now;
     }
 

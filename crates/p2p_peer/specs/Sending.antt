@@ -32,7 +32,8 @@ ping_first false = []
 
 -- the batch that begins with the ping, and takes what is next until it has so many frames
 abbrev pub batch : ℕ → Bool → Queue Message → Lanes EncodedData → Filled Message
-batch size due control lanes = filled (λ _. None) control.closed (size - length (ping_first due)) (ping_first due) control.items lanes
+batch size due control lanes =
+    filled (λ _. None) control.closed (size - length (ping_first due)) (ping_first due) control.items lanes
 
 -- a kill that is met leaves no batch; without a frame nothing is ready, or no more comes
 abbrev pub gathered_as : Bool → List (List ℕ) → Bool → Gathered
@@ -79,7 +80,8 @@ module _ {P : Type 0} where
 
   -- a batch of which the link took so many frames
   abbrev pub wrote : Bool → List (List ℕ) → ℕ → Stepped P
-  wrote due frames written = cond (written == length frames) (stepped.Sent due frames) (stepped.Ended error.SendFailed frames written)
+  wrote due frames written =
+      cond (written == length frames) (stepped.Sent due frames) (stepped.Ended error.SendFailed frames written)
 
   abbrev pub sent_as : P → Bool → ℕ → Gathered → Stepped P
   sent_as peer due written gathered.Nothing = stepped.Idle
@@ -98,11 +100,18 @@ module _ {P : Type 0} where
   -- ---- what is left
 
   abbrev pub with_stage : Live P → Stage → Live P
-  with_stage l s = record { reservation = l.reservation; stage = s; inbox = l.inbox; pings = l.pings; holds_ping = l.holds_ping }
+  with_stage l s = record {
+    reservation = l.reservation;
+    stage = s;
+    inbox = l.inbox;
+    pings = l.pings;
+    holds_ping = l.holds_ping;
+  }
 
   module _ (cmp : P → P → Ordering) where
     abbrev pub router_by : Stage → ℕ → Queue Message → Routes P → ℕ → Option (Lanes EncodedData) → ℕ → Routes P
-    router_by (stage.Running ping_at) size control r conn lanes now = router_over cmp size (nat_le ping_at now) control r conn lanes
+    router_by (stage.Running ping_at) size control r conn lanes now =
+        router_over cmp size (nat_le ping_at now) control r conn lanes
     router_by _ size control r conn lanes now = r
 
   -- ---- a step, by what the link took
@@ -128,18 +137,21 @@ module _ {P : Type 0} where
 
     abbrev pub send_answer_of : Option (Live P) → ℕ → Stepped P
     send_answer_of None written = stepped.Idle
-    send_answer_of (Some l) written = sent_by l.stage (peer_of l.reservation) c.limits.send_batch_size c.control lanes_at now written
+    send_answer_of (Some l) written =
+        sent_by l.stage (peer_of l.reservation) c.limits.send_batch_size c.control lanes_at now written
 
     abbrev pub live_sent : Live P → Live P
     live_sent l = with_stage l (stage_by l.stage c.limits.ping_frequency lanes_at now)
 
     abbrev pub after_send_of : Option (Live P) → Stepped P → Connection P
     after_send_of None s = c
-    after_send_of (Some l) s = settled c s (control_by l.stage c.limits.send_batch_size c.control lanes_at now) (live_sent l)
+    after_send_of (Some l) s =
+        settled c s (control_by l.stage c.limits.send_batch_size c.control lanes_at now) (live_sent l)
 
     abbrev pub router_sent_of : Option (Live P) → Stepped P → Routes P
     router_sent_of None s = r
-    router_sent_of (Some l) s = router_after cmp s (router_by cmp l.stage c.limits.send_batch_size c.control r c.conn lanes_at now) c.conn
+    router_sent_of (Some l) s =
+        router_after cmp s (router_by cmp l.stage c.limits.send_batch_size c.control r c.conn lanes_at now) c.conn
 
   module _ (cmp : P → P → Ordering) (c : Connection P) (r : Routes P) (now : ℕ) where
     -- what a step answers, of whose batch the link took so many frames

@@ -31,12 +31,19 @@ module _ (P : RattleType) where
 
   -- once the borrow ends, the messenger has the mailbox that was left behind it
   abbrev pub lends_mailbox : MutBor (Desk P.Denot) → Option (MutBor (Mailbox P.Denot)) → Fml
-  lends_mailbox m r = LendsIf (messenger.the_row P) (mailbox.the_row P) m r (λ w. record m.now { binding = Bound w }) m.now
+  lends_mailbox m r = LendsIf (messenger.the_row P) (mailbox.the_row P) m r
+      (λ w. record m.now { binding = Bound w }) m.now
 
   -- once the borrow ends, the peer's connection has the relay that was left behind it, and without one nothing has changed
-  abbrev pub lends_relay_of : OrdMembers P.Denot → MutBor (Routes P.Denot) → P.Denot → Option (MutBor (Lanes EncodedData)) → Fml
-  lends_relay_of g a peer r = LendsSo (actor.the_row P (record { cmp = g.cmp }) (record { eq = g.eq }) (record { partial_cmp = g.partial_cmp })) (relay.the_row encoded.the_row) a r (λ n w. OnSome r (n ≡ record a.now { links = with_relay g.cmp a.now.links peer w })) (λ n. n ≡ a.now)
+  abbrev pub lends_relay_of : OrdMembers P.Denot → MutBor (Routes P.Denot) → P.Denot →
+      Option (MutBor (Lanes EncodedData)) → Fml
+  lends_relay_of g a peer r = LendsSo (actor.the_row P (record { cmp = g.cmp }) (record { eq = g.eq })
+      (record { partial_cmp = g.partial_cmp })) (relay.the_row encoded.the_row) a r
+      (λ n w. OnSome r (n ≡ record a.now { links = with_relay g.cmp a.now.links peer w })) (λ n. n ≡ a.now)
 
   -- once the borrow ends, the connection has the relay that was left behind it, and without one nothing has changed
-  abbrev pub lends_relay_at : OrdMembers P.Denot → MutBor (Routes P.Denot) → ℕ → Option (MutBor (Lanes EncodedData)) → Fml
-  lends_relay_at g a conn r = LendsSo (actor.the_row P (record { cmp = g.cmp }) (record { eq = g.eq }) (record { partial_cmp = g.partial_cmp })) (relay.the_row encoded.the_row) a r (λ n w. OnSome r (n ≡ with_relay_at g.cmp a.now conn w)) (λ n. n ≡ a.now)
+  abbrev pub lends_relay_at : OrdMembers P.Denot → MutBor (Routes P.Denot) → ℕ →
+      Option (MutBor (Lanes EncodedData)) → Fml
+  lends_relay_at g a conn r = LendsSo (actor.the_row P (record { cmp = g.cmp }) (record { eq = g.eq })
+      (record { partial_cmp = g.partial_cmp })) (relay.the_row encoded.the_row) a r
+      (λ n w. OnSome r (n ≡ with_relay_at g.cmp a.now conn w)) (λ n. n ≡ a.now)

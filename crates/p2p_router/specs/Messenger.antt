@@ -23,7 +23,8 @@ pub record Desk (P : Type 0) : Type 0 where
 
 -- the frame of a message on a channel
 abbrev pub encoded_of : ℕ → List ℕ → EncodedData
-encoded_of channel message = record { channel = channel; payload = frame (wire.Data (record { channel = channel; message = message })) }
+encoded_of channel message =
+    record { channel = channel; payload = frame (wire.Data (record { channel = channel; message = message })) }
 
 module _ {X : Type 0} where
   -- there is such a queue, and it isn't closed

@@ -54,7 +54,8 @@ module _ {P : Type 0} where
   module _ (cmp : P → P → Ordering) where
     abbrev pub put_over : Option Link → List (P × Link) → P → EncodedData → Bool → List (P × Link)
     put_over None links peer encoded priority = links
-    put_over (Some l) links peer encoded priority = with_link cmp links peer (record { conn = l.conn; relay = sent_on l.relay encoded priority })
+    put_over (Some l) links peer encoded priority =
+        with_link cmp links peer (record { conn = l.conn; relay = sent_on l.relay encoded priority })
 
     -- where the copy for a peer goes
     abbrev pub copy_routed : List (P × Link) → EncodedData → Bool → P → Routed P
@@ -68,12 +69,15 @@ module _ {P : Type 0} where
     -- where the copies for these peers go, each after the ones before it
     unfoldable pub copies : List (P × Link) → EncodedData → Bool → List P → List (Routed P)
     copies links encoded priority [] = []
-    copies links encoded priority (peer ∷ peers) = copy_routed cmp links encoded priority peer ∷ copies (copy_put cmp links encoded priority peer) encoded priority peers
+    copies links encoded priority (peer ∷ peers) =
+        copy_routed cmp links encoded priority peer
+        ∷ copies (copy_put cmp links encoded priority peer) encoded priority peers
 
     -- the links after the copies for these peers
     unfoldable pub copies_put : List (P × Link) → EncodedData → Bool → List P → List (P × Link)
     copies_put links encoded priority [] = links
-    copies_put links encoded priority (peer ∷ peers) = copies_put (copy_put cmp links encoded priority peer) encoded priority peers
+    copies_put links encoded priority (peer ∷ peers) =
+        copies_put (copy_put cmp links encoded priority peer) encoded priority peers
 
   -- the recipients, in order: for all peers those with a link
   abbrev pub addressed : List (P × Link) → Recipients P → List P

@@ -40,9 +40,11 @@ module _ {P : Type 0} where
   module _ (cmp : P → P → Ordering) where
     -- the links after a message: a peer that is ready takes the place of its older connection
     abbrev pub links_after : List (P × Link) → Message P → List (P × Link)
-    links_after links (message.Ready peer relay conn) = insert_entry cmp links peer (record { conn = conn; relay = relay })
+    links_after links (message.Ready peer relay conn) =
+        insert_entry cmp links peer (record { conn = conn; relay = relay })
     links_after links (message.Release peer) = remove_entry (is_at (cmp peer)) links
-    links_after links (message.Content recipients encoded priority) = copies_put cmp links encoded priority (addressed links recipients)
+    links_after links (message.Content recipients encoded priority) =
+        copies_put cmp links encoded priority (addressed links recipients)
     links_after links (message.SubscribePeers subscription) = links
 
     -- the peers of connections after a message
@@ -55,10 +57,14 @@ module _ {P : Type 0} where
   module _ (cmp : P → P → Ordering) where
     -- what the step answers that took a message, which left the messenger as d
     abbrev pub stepped_by : Routes P → Desk P → Message P → Stepped P
-    stepped_by r d (message.Ready peer relay conn) = stepped.Ready peer conn (link_of cmp r.links peer) (told_of d (links_after cmp r.links (message.Ready peer relay conn)) r.subscriptions)
-    stepped_by r d (message.Release peer) = stepped.Release peer (told_of d (links_after cmp r.links (message.Release peer)) r.subscriptions)
-    stepped_by r d (message.Content recipients encoded priority) = stepped.Content encoded (copies cmp r.links encoded priority (addressed r.links recipients))
-    stepped_by r d (message.SubscribePeers subscription) = stepped.SubscribePeers subscription (told_of d r.links (subscription ∷ []))
+    stepped_by r d (message.Ready peer relay conn) = stepped.Ready peer conn (link_of cmp r.links peer)
+        (told_of d (links_after cmp r.links (message.Ready peer relay conn)) r.subscriptions)
+    stepped_by r d (message.Release peer) =
+        stepped.Release peer (told_of d (links_after cmp r.links (message.Release peer)) r.subscriptions)
+    stepped_by r d (message.Content recipients encoded priority) =
+        stepped.Content encoded (copies cmp r.links encoded priority (addressed r.links recipients))
+    stepped_by r d (message.SubscribePeers subscription) =
+        stepped.SubscribePeers subscription (told_of d r.links (subscription ∷ []))
 
     -- the router after that step
     abbrev pub routes_by : Routes P → Desk P → Message P → Routes P

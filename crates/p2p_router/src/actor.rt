@@ -1,14 +1,15 @@
 //! `Actor`, the router itself: one message a step.
-ghost use Rattle.std.specs.Prelude.{◌≡◌, ◌↔◌, ◌≤◌, length, None, IfOk, OnOk, OnErr, IsErr, IsTrue};
+ghost use Rattle.std.specs.Prelude.{◌≡◌, ◌↔◌, ◌≤◌, length, None, Some, IfOk, OnOk, OnErr, IsErr, IsTrue};
 ghost use Rattle.std.specs.Borrow.{sem};
 ghost use Rattle.std.specs.List.Sorted.{IsStrictlySortedBy};
 ghost use Rattle.std.specs.Map.{keys_of};
 ghost use Rattle.std.specs.Option.{is_some, option_copied, option_copied_mut};
 ghost use Rattle.p2p_base.specs.Queue.{empty_queue};
-ghost use Rattle.p2p_router.specs.Connections.{is_over, without_conn, with_conn, peer_at, relay_at};
+ghost use Rattle.p2p_router.specs.Connections.{is_over, without_conn, with_conn, peer_at, relay_at, IsOfOnePeer, IsIndexed};
 ghost use Rattle.p2p_router.specs.Messenger.{message_waiting, told_all};
 ghost use Rattle.p2p_router.specs.Routes.{new_routes};
-ghost use Rattle.p2p_router.specs.Routing.{addressed, copies, copies_put, relay_of};
+ghost use Rattle.p2p_router.specs.Routing.{addressed, copies, copies_put, link_of, relay_of};
+ghost use Rattle.p2p_router.specs.declared.link.Link.{Link};
 ghost use Rattle.p2p_router.specs.Step.{heard, told_of, stepped_by, routes_by, desk_by, stepped_on, routes_on, desk_on};
 ghost use Rattle.p2p_router.specs.declared.message.Message.TheVariants as message;
 ghost use Rattle.p2p_router.specs.declared.stepped.Stepped.TheVariants as stepped;
@@ -39,7 +40,12 @@ impl<P: Ord> Model for Actor<P> {
 
     ghost Value = { Routes P };
 
-    ghost view = { λ a. record { links = a.links.entries; peers = a.peers.entries; subscriptions = a.subscriptions.items; failed = a.failed } };
+    ghost view = { λ a. record {
+      links = a.links.entries;
+      peers = a.peers.entries;
+      subscriptions = a.subscriptions.items;
+      failed = a.failed;
+    } };
 }
 
 impl<P: PublicKey> Actor<P> {
@@ -52,6 +58,7 @@ impl<P: PublicKey> Actor<P> {
         requires { 1 ≤ cfg.mailbox_size }
         ensures actor { IfOk result (λ r. r.0 ≡ new_routes) }
         ensures mailbox { IfOk result (λ r. r.1 ≡ empty_queue cfg.mailbox_size) }
+        ensures indexed { IfOk result (λ r. IsIndexed P.cmp r.0) }
     {
         let mailbox = Mailbox::new(alloc, cfg.mailbox_size)?;
         Ok((Actor::without_peers(alloc), mailbox))
@@ -59,7 +66,8 @@ impl<P: PublicKey> Actor<P> {
 
     /// A router without peers, whose mailbox is made elsewhere.
     pub fn without_peers(alloc: Global) -> Actor<P>
-        ensures { result ≡ new_routes }
+        ensures routes { result ≡ new_routes }
+        ensures indexed { IsIndexed P.cmp result }
     {
         Actor {
             links: BTreeMap::new(alloc),
@@ -83,13 +91,18 @@ impl<P: PublicKey> Actor<P> {
     ///
     /// Ports the turn of the loop of commonware-p2p's router.
     pub fn step(&mut self, messenger: &mut Messenger<P>) -> Result<Stepped<P>, AllocError>
-        ensures stepped { IfOk result (λ s. s ≡ stepped_on P.cmp self.old messenger.old (message_waiting messenger.old)) }
+        ensures stepped { IfOk result (λ s. s
+            ≡ stepped_on P.cmp self.old messenger.old (message_waiting messenger.old)) }
         ensures idle { IfOk result (λ s. (s ≡ stepped.Idle) ↔ (message_waiting messenger.old ≡ None)) }
-        ensures actor { OnOk result (self.new ≡ routes_on P.cmp self.old messenger.old (message_waiting messenger.old)) }
-        ensures messenger { OnOk result (messenger.new ≡ desk_on P.cmp self.old messenger.old (message_waiting messenger.old)) }
+        ensures actor { OnOk result (self.new
+            ≡ routes_on P.cmp self.old messenger.old (message_waiting messenger.old)) }
+        ensures messenger { OnOk result (messenger.new
+            ≡ desk_on P.cmp self.old messenger.old (message_waiting messenger.old)) }
         ensures memory { OnErr result (IsTrue self.new.failed) }
         ensures failed { IsTrue self.old.failed → IsErr result }
         ensures subscriptions { length messenger.new.lists ≡ length messenger.old.lists }
+        ensures indexed { OnOk result (IsStrictlySortedBy P.cmp (keys_of self.old.links) → IsIndexed P.cmp self.old →
+            IsOfOnePeer P.cmp self.old.links (message_waiting messenger.old) → IsIndexed P.cmp self.new) }
     {
         if self.failed {
             return Err(AllocError);
@@ -103,10 +116,13 @@ impl<P: PublicKey> Actor<P> {
     /// The relay of a connection. `None` exactly where no peer is connected over it: it was never ready here, its peer was released, or
     /// a later connection of its peer was ready.
     ///
-    /// A connection is ready for one peer: where its number was ready for a second one, it is that one's.
+    /// That every connected peer's relay is found holds as long as each connection is ready for one peer. Where the number of one was
+    /// ready for a second peer, it is that one's.
     pub fn relay(&mut self, conn: u64) -> Option<&mut Relay<EncodedData>>
         ensures* writes_back { sem 𝓛 (lends_relay_at P.row P.Ord self.entry conn result) }
         ensures value { option_copied_mut result ≡ relay_at P.cmp self.old conn }
+        ensures found { IsIndexed P.cmp self.old → (peer : P) (l : Link) → link_of P.cmp self.old.links peer ≡ Some l →
+            l.conn ≡ conn → option_copied_mut result ≡ Some l.relay }
     {
         let Some(peer) = self.peer(conn) else {
             return None;
@@ -148,9 +164,12 @@ impl<P: PublicKey> Actor<P> {
     // Takes the oldest message and does what it says.
     #[tactic(auto, unfolding(crate::specs::Messenger::told_all))]
     fn work(&mut self, messenger: &mut Messenger<P>) -> Result<Stepped<P>, AllocError>
-        ensures stepped { IfOk result (λ s. s ≡ stepped_on P.cmp self.old messenger.old (message_waiting messenger.old)) }
-        ensures actor { OnOk result (self.new ≡ routes_on P.cmp self.old messenger.old (message_waiting messenger.old)) }
-        ensures messenger { OnOk result (messenger.new ≡ desk_on P.cmp self.old messenger.old (message_waiting messenger.old)) }
+        ensures stepped { IfOk result (λ s. s
+            ≡ stepped_on P.cmp self.old messenger.old (message_waiting messenger.old)) }
+        ensures actor { OnOk result (self.new
+            ≡ routes_on P.cmp self.old messenger.old (message_waiting messenger.old)) }
+        ensures messenger { OnOk result (messenger.new
+            ≡ desk_on P.cmp self.old messenger.old (message_waiting messenger.old)) }
         ensures failed { self.new.failed ≡ self.old.failed }
         ensures subscriptions { length messenger.new.lists ≡ length messenger.old.lists }
     {
@@ -179,9 +198,12 @@ impl<P: PublicKey> Actor<P> {
         relay: Relay<EncodedData>,
         conn: u64,
     ) -> Result<Stepped<P>, AllocError>
-        ensures stepped { IfOk result (λ s. s ≡ stepped_by P.cmp self.old messenger.old (message.Ready peer relay conn)) }
-        ensures actor { OnOk result (self.new ≡ routes_by P.cmp self.old messenger.old (message.Ready peer relay conn)) }
-        ensures messenger { OnOk result (messenger.new ≡ desk_by P.cmp self.old messenger.old (message.Ready peer relay conn)) }
+        ensures stepped { IfOk result (λ s. s
+            ≡ stepped_by P.cmp self.old messenger.old (message.Ready peer relay conn)) }
+        ensures actor { OnOk result (self.new
+            ≡ routes_by P.cmp self.old messenger.old (message.Ready peer relay conn)) }
+        ensures messenger { OnOk result (messenger.new
+            ≡ desk_by P.cmp self.old messenger.old (message.Ready peer relay conn)) }
         ensures failed { self.new.failed ≡ self.old.failed }
         ensures subscriptions { length messenger.new.lists ≡ length messenger.old.lists }
     {
@@ -221,8 +243,14 @@ impl<P: PublicKey> Actor<P> {
         encoded: EncodedData,
         priority: bool,
     ) -> Result<Stepped<P>, AllocError>
-        ensures stepped { IfOk result (λ s. s ≡ stepped.Content encoded (copies P.cmp self.old.links encoded priority (addressed self.old.links recipients))) }
-        ensures actor { OnOk result (self.new ≡ record self.old { links = copies_put P.cmp self.old.links encoded priority (addressed self.old.links recipients) }) }
+        ensures stepped { IfOk result (λ s. s
+            ≡ stepped.Content encoded (copies P.cmp self.old.links encoded priority
+            (addressed self.old.links recipients))) }
+        ensures actor { OnOk result (self.new
+            ≡ record self.old {
+              links = copies_put P.cmp self.old.links encoded priority
+                  (addressed self.old.links recipients);
+            }) }
         ensures failed { self.new.failed ≡ self.old.failed }
     {
         let alloc = *self.subscriptions.allocator();
@@ -240,9 +268,12 @@ impl<P: PublicKey> Actor<P> {
         messenger: &mut Messenger<P>,
         subscription: u64,
     ) -> Result<Stepped<P>, AllocError>
-        ensures stepped { IfOk result (λ s. s ≡ stepped_by P.cmp self.old messenger.old (message.SubscribePeers subscription)) }
-        ensures actor { OnOk result (self.new ≡ routes_by P.cmp self.old messenger.old (message.SubscribePeers subscription)) }
-        ensures messenger { OnOk result (messenger.new ≡ desk_by P.cmp self.old messenger.old (message.SubscribePeers subscription)) }
+        ensures stepped { IfOk result (λ s. s
+            ≡ stepped_by P.cmp self.old messenger.old (message.SubscribePeers subscription)) }
+        ensures actor { OnOk result (self.new
+            ≡ routes_by P.cmp self.old messenger.old (message.SubscribePeers subscription)) }
+        ensures messenger { OnOk result (messenger.new
+            ≡ desk_by P.cmp self.old messenger.old (message.SubscribePeers subscription)) }
         ensures failed { self.new.failed ≡ self.old.failed }
         ensures subscriptions { length messenger.new.lists ≡ length messenger.old.lists }
     {
@@ -262,7 +293,8 @@ fn tell<P: PublicKey>(
     subscriptions: &[u64],
 ) -> Result<Told<P>, AllocError>
     ensures told { IfOk result (λ t. t ≡ told_of messenger.old links.now.entries subscriptions.now) }
-    ensures messenger { OnOk result (messenger.new ≡ told_all messenger.old (keys_of links.now.entries) (heard messenger.old subscriptions.now)) }
+    ensures messenger { OnOk result (messenger.new
+        ≡ told_all messenger.old (keys_of links.now.entries) (heard messenger.old subscriptions.now)) }
     ensures subscriptions { length messenger.new.lists ≡ length messenger.old.lists }
 {
     let peers = peers_of(alloc, links)?;

@@ -63,8 +63,12 @@ fn put_on_link<P: Copy>(
     copy: EncodedData,
     priority: bool,
 ) -> Result<Routed<P>, AllocError>
-    ensures answer { IfOk result (λ r. r ≡ routed_as (send_answer link.old.relay copy priority) peer link.old.conn priority) }
-    ensures after { OnOk result (link.new ≡ record { conn = link.old.conn; relay = sent_on link.old.relay copy priority }) }
+    ensures answer { IfOk result (λ r. r ≡ routed_as
+        (send_answer link.old.relay copy priority) peer link.old.conn priority) }
+    ensures after { OnOk result (link.new ≡ record {
+      conn = link.old.conn;
+      relay = sent_on link.old.relay copy priority;
+    }) }
 {
     match link.relay.send(copy, priority) {
         Ok(sent) => Ok(by_answer(&sent, peer, link.conn, priority)),
@@ -97,7 +101,8 @@ pub fn route<P: Ord + Copy>(
     priority: bool,
 ) -> Result<Vec<Routed<P>>, AllocError>
     ensures answer { IfOk result (λ v. v.items ≡ copies P.cmp links.old.entries encoded.now priority peers.now) }
-    ensures after { OnOk result (links.new.entries ≡ copies_put P.cmp links.old.entries encoded.now priority peers.now) }
+    ensures after { OnOk result (links.new.entries
+        ≡ copies_put P.cmp links.old.entries encoded.now priority peers.now) }
 {
     let mut routed = Vec::with_capacity(alloc, peers.len())?;
     for peer in peers {

@@ -6,6 +6,9 @@ use Rattle.p2p_log.specs.declared.item.Item.{Item}
 use Rattle.p2p_log.specs.declared.item.Item.TheVariants as item
 use Rattle.p2p_sim_report.specs.Text.{number_onto, flag_onto, key_onto, hex_onto, name_onto, list_onto}
 use Rattle.p2p_sim_report.specs.QueueText.{queue_onto}
+use Rattle.p2p_sim_report.specs.AddressText.{ip_onto}
+use Rattle.p2p_sim_report.specs.PeersText.{peer_set_onto, update_onto}
+use Rattle.p2p_sim_report.specs.TrackerItemText.{call_onto, connect_onto, ask_dial_onto, release_onto, dialable_onto, dial_onto}
 
 abbrev pub subscribe_onto : List ℕ → ℕ → List ℕ
 subscribe_onto out c = number_onto (out ++ codes "{\"subscribe\":") c ++ codes "}"
@@ -43,6 +46,18 @@ item_onto out (item.Peers keys) = list_onto key_onto out keys
 item_onto out item.Answer = out ++ codes "true"
 item_onto out (item.Frame copy frame) = frame_onto out copy frame
 item_onto out (item.Message bytes copy from) = message_onto out bytes copy from
+item_onto out (item.Call e) = call_onto out e
+item_onto out (item.Connect conn k) = connect_onto out conn k
+item_onto out item.AskDialable = out ++ codes "{\"dialable\":true}"
+item_onto out (item.AskDial k) = ask_dial_onto out k
+item_onto out (item.Release k) = release_onto out k
+item_onto out (item.Addresses addresses) = list_onto ip_onto out addresses
+item_onto out (item.Dialable next peers) = dialable_onto out next peers
+item_onto out (item.Dial grant) = dial_onto out grant
+item_onto out item.Kill = out ++ codes "\"kill\""
+item_onto out (item.PeerSet peers) = peer_set_onto out peers
+item_onto out (item.Update update) = update_onto out update
+item_onto out (item.Blocked keys) = list_onto key_onto out keys
 
 -- a put: [queue,item]
 abbrev pub put_onto : List ℕ → Queue × Item → List ℕ

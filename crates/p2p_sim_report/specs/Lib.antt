@@ -1,7 +1,10 @@
+pub mod AddressText
 pub mod EndText
 pub mod Found
 pub mod ItemText
+pub mod PeersText
 pub mod QueueText
 pub mod ReplyText
 pub mod ReportText
 pub mod Text
+pub mod TrackerItemText

@@ -1,9 +1,14 @@
 -- The text of a reply.
-use Rattle.std.specs.Prelude.{ℕ, List, ◌++◌, codes}
+use Rattle.std.specs.Prelude.{ℕ, List, ◌++◌, codes, Option}
 use Rattle.p2p_base.specs.declared.key.Key.{Key}
+use Rattle.p2p_base.specs.declared.outcome.Feedback.{Feedback}
+use Rattle.p2p_base.specs.declared.outcome.Feedback.TheVariants as feedback
+use Rattle.p2p_flow.specs.declared.tracked.TrackedPeers.{TrackedPeers}
+use Rattle.p2p_flow.specs.declared.update.PeerSetUpdate.{PeerSetUpdate}
 use Rattle.p2p_log.specs.declared.entry.Reply.{Reply}
 use Rattle.p2p_log.specs.declared.entry.Reply.TheVariants as reply
 use Rattle.p2p_sim_report.specs.Text.{number_onto, key_onto, hex_onto, list_onto}
+use Rattle.p2p_sim_report.specs.PeersText.{peer_set_onto, update_onto}
 
 abbrev pub capacity_onto : List ℕ → ℕ → List ℕ
 capacity_onto out n = number_onto (out ++ codes "{\"capacity\":") n ++ codes "}"
@@ -15,6 +20,24 @@ abbrev pub received_onto : List ℕ → List ℕ → Key → List ℕ
 received_onto out bytes from =
     key_onto (hex_onto (out ++ codes "{\"message\":{\"bytes\":") bytes ++ codes ",\"from\":") from ++ codes "}}"
 
+abbrev pub feedback_onto : List ℕ → Feedback → List ℕ
+feedback_onto out feedback.Ok = out ++ codes "{\"feedback\":\"ok\"}"
+feedback_onto out feedback.Backoff = out ++ codes "{\"feedback\":\"backoff\"}"
+feedback_onto out feedback.Closed = out ++ codes "{\"feedback\":\"closed\"}"
+
+abbrev pub too_large_onto : List ℕ → ℕ → ℕ → List ℕ
+too_large_onto out count limit =
+    number_onto (number_onto (out ++ codes "{\"peer_set_too_large\":[") count ++ codes ",") limit ++ codes "]}"
+
+abbrev pub answered_onto : List ℕ → Option (TrackedPeers Key) → List ℕ
+answered_onto out peers = peer_set_onto (out ++ codes "{\"peer_set\":") peers ++ codes "}"
+
+abbrev pub updated_onto : List ℕ → PeerSetUpdate Key → List ℕ
+updated_onto out update = update_onto (out ++ codes "{\"update\":") update ++ codes "}"
+
+abbrev pub blocked_onto : List ℕ → List Key → List ℕ
+blocked_onto out keys = list_onto key_onto (out ++ codes "{\"blocked\":") keys ++ codes "}"
+
 abbrev pub reply_onto : List ℕ → Reply → List ℕ
 reply_onto out reply.Ok = out ++ codes "\"ok\""
 reply_onto out reply.Idle = out ++ codes "\"idle\""
@@ -23,3 +46,8 @@ reply_onto out reply.Gone = out ++ codes "\"gone\""
 reply_onto out (reply.Capacity n) = capacity_onto out n
 reply_onto out (reply.Sent keys) = sent_onto out keys
 reply_onto out (reply.Message bytes from) = received_onto out bytes from
+reply_onto out (reply.Feedback told) = feedback_onto out told
+reply_onto out (reply.PeerSetTooLarge count limit) = too_large_onto out count limit
+reply_onto out (reply.PeerSet peers) = answered_onto out peers
+reply_onto out (reply.Update update) = updated_onto out update
+reply_onto out (reply.Blocked keys) = blocked_onto out keys

@@ -3,7 +3,11 @@ ghost use Rattle.std.specs.Prelude.{◌≡◌, OnOk};
 ghost use Rattle.std.specs.String.{string_bytes};
 ghost use Rattle.p2p_sim_report.specs.ItemText.{subscribe_onto, ready_onto, content_start_onto, content_onto, copy_onto, frame_onto, message_onto};
 
+use crate::peers::{put_peer_set, put_update};
 use crate::text::{ToText, put, put_flag, put_hex, put_list, put_number};
+use crate::tracker_item::{
+    put_ask_dial, put_call, put_connect, put_dial, put_dialable, put_release,
+};
 use p2p_base::Key;
 use p2p_log::{Item, Queue};
 use std::alloc::AllocError;
@@ -123,6 +127,18 @@ impl ToText for Item {
             Item::Answer => put(out, "true"),
             Item::Frame { copy, frame } => put_frame(out, *copy, frame.as_slice()),
             Item::Message { bytes, copy, from } => put_message(out, bytes.as_slice(), *copy, *from),
+            Item::Call(event) => put_call(out, *event),
+            Item::Connect { conn, key } => put_connect(out, *conn, *key),
+            Item::AskDialable => put(out, "{\"dialable\":true}"),
+            Item::AskDial(key) => put_ask_dial(out, *key),
+            Item::Release(key) => put_release(out, *key),
+            Item::Addresses(addresses) => put_list(out, addresses.as_slice()),
+            Item::Dialable { next, peers } => put_dialable(out, *next, peers.as_slice()),
+            Item::Dial(grant) => put_dial(out, grant),
+            Item::Kill => put(out, "\"kill\""),
+            Item::PeerSet(peers) => put_peer_set(out, peers),
+            Item::Update(update) => put_update(out, update),
+            Item::Blocked(keys) => put_list(out, keys.as_slice()),
         }
     }
 }

@@ -1,7 +1,7 @@
 //! The text of a queue's name.
 ghost use Rattle.std.specs.Prelude.{◌≡◌, ◌++◌, OnOk};
 ghost use Rattle.std.specs.String.{string_bytes};
-ghost use Rattle.p2p_sim_report.specs.QueueText.{numbers_onto, side_onto, router_onto, link_onto};
+ghost use Rattle.p2p_sim_report.specs.QueueText.{number_end_onto, numbers_onto, side_onto, link_onto};
 
 use crate::text::{ToText, put, put_number};
 use p2p_log::{Queue, Side};
@@ -37,11 +37,12 @@ fn put_numbers(out: &mut String, start: &str, a: u64, b: u64) -> Result<(), Allo
     put(out, "\"")
 }
 
-fn put_router(out: &mut String, node: u64) -> Result<(), AllocError>
-    ensures { OnOk result (string_bytes out.new ≡ router_onto (string_bytes out.old) node) }
+// A queue of one number, of which `start` is the quote, the kind and the colon.
+fn put_one(out: &mut String, start: &str, a: u64) -> Result<(), AllocError>
+    ensures { OnOk result (string_bytes out.new ≡ number_end_onto (string_bytes out.old ++ start.now) a) }
 {
-    put(out, "\"router:")?;
-    put_number(out, node)?;
+    put(out, start)?;
+    put_number(out, a)?;
     put(out, "\"")
 }
 
@@ -52,13 +53,20 @@ impl ToText for Queue {
 
     fn write_onto(&self, out: &mut String) -> Result<(), AllocError> {
         match *self {
-            Queue::Router(node) => put_router(out, node),
+            Queue::Router(node) => put_one(out, "\"router:", node),
             Queue::Peers { node, channel } => put_numbers(out, "\"peers:", node, channel),
             Queue::Ready { node, conn } => put_numbers(out, "\"ready:", node, conn),
             Queue::High { node, conn } => put_numbers(out, "\"high:", node, conn),
             Queue::Low { node, conn } => put_numbers(out, "\"low:", node, conn),
             Queue::Link { link, side } => put_link(out, link, side),
             Queue::Channel { node, channel } => put_numbers(out, "\"channel:", node, channel),
+            Queue::Tracker(node) => put_one(out, "\"tracker:", node),
+            Queue::Update(node) => put_one(out, "\"update:", node),
+            Queue::Dialer(node) => put_one(out, "\"dialer:", node),
+            Queue::Control { node, conn } => put_numbers(out, "\"control:", node, conn),
+            Queue::Answer { question, .. } => put_one(out, "\"answer:", question),
+            Queue::Updates { question, .. } => put_one(out, "\"updates:", question),
+            Queue::Blocked { question, .. } => put_one(out, "\"blocked:", question),
         }
     }
 }

@@ -1,10 +1,12 @@
 //! The text of replies.
 ghost use Rattle.std.specs.Prelude.{◌≡◌, OnOk};
 ghost use Rattle.std.specs.String.{string_bytes};
-ghost use Rattle.p2p_sim_report.specs.ReplyText.{capacity_onto, sent_onto, received_onto};
+ghost use Rattle.p2p_sim_report.specs.ReplyText.{capacity_onto, sent_onto, received_onto, feedback_onto, too_large_onto, answered_onto, updated_onto, blocked_onto};
 
+use crate::peers::{put_peer_set, put_update};
 use crate::text::{ToText, put, put_hex, put_list, put_number};
-use p2p_base::Key;
+use p2p_base::{Feedback, Key};
+use p2p_flow::{PeerSetUpdate, TrackedPeers};
 use p2p_log::Reply;
 use std::alloc::AllocError;
 
@@ -34,6 +36,50 @@ fn put_received(out: &mut String, bytes: &[u8], from: Key) -> Result<(), AllocEr
     put(out, "}}")
 }
 
+fn put_feedback(out: &mut String, feedback: Feedback) -> Result<(), AllocError>
+    ensures { OnOk result (string_bytes out.new ≡ feedback_onto (string_bytes out.old) feedback) }
+{
+    match feedback {
+        Feedback::Ok => put(out, "{\"feedback\":\"ok\"}"),
+        Feedback::Backoff => put(out, "{\"feedback\":\"backoff\"}"),
+        Feedback::Closed => put(out, "{\"feedback\":\"closed\"}"),
+    }
+}
+
+fn put_too_large(out: &mut String, count: u64, limit: u64) -> Result<(), AllocError>
+    ensures { OnOk result (string_bytes out.new ≡ too_large_onto (string_bytes out.old) count limit) }
+{
+    put(out, "{\"peer_set_too_large\":[")?;
+    put_number(out, count)?;
+    put(out, ",")?;
+    put_number(out, limit)?;
+    put(out, "]}")
+}
+
+fn put_answered(out: &mut String, peers: &Option<TrackedPeers<Key>>) -> Result<(), AllocError>
+    ensures { OnOk result (string_bytes out.new ≡ answered_onto (string_bytes out.old) peers.now) }
+{
+    put(out, "{\"peer_set\":")?;
+    put_peer_set(out, peers)?;
+    put(out, "}")
+}
+
+fn put_updated(out: &mut String, update: &PeerSetUpdate<Key>) -> Result<(), AllocError>
+    ensures { OnOk result (string_bytes out.new ≡ updated_onto (string_bytes out.old) update.now) }
+{
+    put(out, "{\"update\":")?;
+    put_update(out, update)?;
+    put(out, "}")
+}
+
+fn put_blocked(out: &mut String, keys: &[Key]) -> Result<(), AllocError>
+    ensures { OnOk result (string_bytes out.new ≡ blocked_onto (string_bytes out.old) keys.now) }
+{
+    put(out, "{\"blocked\":")?;
+    put_list(out, keys)?;
+    put(out, "}")
+}
+
 impl ToText for Reply {
     ghost use Rattle.p2p_sim_report.specs.ReplyText.{reply_onto};
 
@@ -48,6 +94,13 @@ impl ToText for Reply {
             Reply::Capacity(capacity) => put_capacity(out, *capacity as u64),
             Reply::Sent(keys) => put_sent(out, keys.as_slice()),
             Reply::Message { bytes, from } => put_received(out, bytes.as_slice(), *from),
+            Reply::Feedback(feedback) => put_feedback(out, *feedback),
+            Reply::PeerSetTooLarge { count, limit } => {
+                put_too_large(out, *count as u64, *limit as u64)
+            }
+            Reply::PeerSet(peers) => put_answered(out, peers),
+            Reply::Update(update) => put_updated(out, update),
+            Reply::Blocked(keys) => put_blocked(out, keys.as_slice()),
         }
     }
 }

@@ -1,15 +1,12 @@
 -- The form of each act: beside the names that every event has, an event has exactly the names of its act.
-use Prim.Native.String.{String as Name}
-use Rattle.std.specs.Prelude.{ℕ, Bool, List, [], ◌∷◌, codes, bytes_eq, Option, Some, None, if◌then◌else◌}
+use Rattle.std.specs.Prelude.{ℕ, List, [], ◌∷◌, codes, bytes_eq, Option, Some, if◌then◌else◌}
 use Rattle.serde_json.specs.Data.{Data}
 use Rattle.serde_json.specs.Find.{as_str, as_bool}
 use Rattle.p2p_log.specs.declared.event.Act.{Act}
 use Rattle.p2p_log.specs.declared.event.Act.TheVariants as act
-use Rattle.p2p_sim_script.specs.Tree.{◌>>=◌, ◌>>◌, field, only, whole}
-use Rattle.p2p_sim_script.specs.Parts.{bytes_of, rate_of, recipients_of}
-
-abbrev pub has : List Name → Data → Bool
-has names d = only ("at" ∷ "seed" ∷ "do" ∷ names) d
+use Rattle.p2p_sim_script.specs.Tree.{◌>>=◌, ◌>>◌, field, whole}
+use Rattle.p2p_sim_script.specs.Parts.{has, node_of, bytes_of, rate_of, recipients_of}
+use Rattle.p2p_sim_script.specs.TrackerActForm.{tracker_act_named}
 
 abbrev pub register_of : Data → Option Act
 register_of d = do
@@ -21,8 +18,7 @@ register_of d = do
 
 abbrev pub start_of : Data → Option Act
 start_of d = do
-  has ("node" ∷ []) d
-  node ← field "node" whole d
+  node ← node_of d
   Some (act.Start node)
 
 abbrev pub join_of : Data → Option Act
@@ -44,8 +40,7 @@ send_of d = do
 
 abbrev pub router_of : Data → Option Act
 router_of d = do
-  has ("node" ∷ []) d
-  node ← field "node" whole d
+  node ← node_of d
   Some (act.Router node)
 
 abbrev pub send_step_of : Data → Option Act
@@ -80,7 +75,7 @@ act_named word d =
     else if bytes_eq word (codes "send_step") then send_step_of d
     else if bytes_eq word (codes "recv_step") then recv_step_of d
     else if bytes_eq word (codes "recv") then recv_of d
-    else None
+    else tracker_act_named word d
 
 abbrev pub act_of : Data → Option Act
 act_of d = do

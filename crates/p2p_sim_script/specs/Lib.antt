@@ -1,8 +1,11 @@
 pub mod ActForm
+pub mod AddressForm
 pub mod ConfigForm
 pub mod FirstForm
 pub mod Form
 pub mod Gives
 pub mod Pairs
 pub mod Parts
+pub mod Presets
+pub mod TrackerActForm
 pub mod Tree

@@ -1,5 +1,6 @@
 -- The forms of what an event names: keys, bytes, recipients, rates.
-use Rattle.std.specs.Prelude.{ℕ, ◌-◌, ◌^◌, List, [], ◌∷◌, Option, Some, None}
+use Prim.Native.String.{String as Name}
+use Rattle.std.specs.Prelude.{ℕ, Bool, ◌-◌, ◌^◌, List, [], ◌∷◌, Option, Some, None}
 use Rattle.std.specs.Result.{result_ok}
 use Rattle.hex.specs.Hex.{decode_of}
 use Rattle.serde_json.specs.Data.{Data}
@@ -9,6 +10,16 @@ use Rattle.p2p_log.specs.declared.event.Rate.{Rate}
 use Rattle.p2p_log.specs.declared.event.Recipients.{Recipients}
 use Rattle.p2p_log.specs.declared.event.Recipients.TheVariants as recipients
 use Rattle.p2p_sim_script.specs.Tree.{◌>>=◌, ◌>>◌, field, only, whole, within, list_of}
+
+-- whether there are no names but these and those that every event has
+abbrev pub has : List Name → Data → Bool
+has names d = only ("at" ∷ "seed" ∷ "do" ∷ names) d
+
+-- the node of an act that names nothing else
+abbrev pub node_of : Data → Option ℕ
+node_of d = do
+  has ("node" ∷ []) d
+  field "node" whole d
 
 abbrev pub key_of : Data → Option Key
 key_of d = do

@@ -5,7 +5,8 @@ ghost use Rattle.p2p_sim_script.specs.Gives.{Gives};
 ghost use Rattle.p2p_sim_script.specs.ActForm.{act_named, act_of, join_of, recv_of, recv_step_of, register_of, router_of, send_of, send_step_of, start_of};
 
 use crate::error::ScriptError;
-use crate::parts::read_rate;
+use crate::parts::{read_node, read_rate};
+use crate::tracker_act::read_tracker_named;
 use crate::tree::{field, only, whole};
 use p2p_log::Act;
 use serde_json::Value;
@@ -30,10 +31,7 @@ fn read_register(tree: &Value) -> Option<Act>
 fn read_start(tree: &Value) -> Option<Act>
     ensures { result ≡ start_of (view tree.now) }
 {
-    if !only(tree, &["at", "seed", "do", "node"]) {
-        return None;
-    }
-    let node = whole(tree, "node")?;
+    let node = read_node(tree)?;
     Some(Act::Start { node })
 }
 
@@ -51,10 +49,7 @@ fn read_join(tree: &Value) -> Option<Act>
 fn read_router(tree: &Value) -> Option<Act>
     ensures { result ≡ router_of (view tree.now) }
 {
-    if !only(tree, &["at", "seed", "do", "node"]) {
-        return None;
-    }
-    let node = whole(tree, "node")?;
+    let node = read_node(tree)?;
     Some(Act::Router { node })
 }
 
@@ -123,7 +118,7 @@ fn read_named(alloc: Global, word: &str, tree: &Value) -> Result<Act, ScriptErro
         "send_step" => read_send_step(tree),
         "recv_step" => read_recv_step(tree),
         "recv" => read_recv(tree),
-        _ => None,
+        _ => return read_tracker_named(alloc, word, tree),
     };
     act.ok_or(ScriptError::NotScript)
 }

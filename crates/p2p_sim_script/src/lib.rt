@@ -2,6 +2,7 @@
 #![tactic(auto)]
 
 mod act;
+mod address;
 mod config;
 mod error;
 mod event;
@@ -9,7 +10,9 @@ mod first_form;
 mod list;
 mod pairs;
 mod parts;
+mod preset;
 mod script;
+mod tracker_act;
 mod tree;
 
 pub use error::ScriptError;

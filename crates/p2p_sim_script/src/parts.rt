@@ -3,16 +3,26 @@ ghost use Rattle.std.specs.Prelude.{◌≡◌};
 ghost use Rattle.serde_json.specs.View.{view};
 ghost use Rattle.p2p_sim_script.specs.Gives.{Gives};
 ghost use Rattle.p2p_sim_script.specs.Tree.{field_at};
-ghost use Rattle.p2p_sim_script.specs.Parts.{bytes_of, key_of, one_of, rate_of, recipients_of, some_of};
+ghost use Rattle.p2p_sim_script.specs.Parts.{bytes_of, key_of, node_of, one_of, rate_of, recipients_of, some_of};
 
 use crate::error::ScriptError;
-use crate::tree::{FromTree, field, only, within};
+use crate::tree::{FromTree, field, only, whole, within};
 use bytes::Bytes;
 use hex::FromHexError;
 use p2p_base::{Key, List};
 use p2p_log::{Rate, Recipients};
 use serde_json::Value;
 use std::alloc::Global;
+
+/// The node of an act that names nothing else.
+pub(crate) fn read_node(tree: &Value) -> Option<u64>
+    ensures { result ≡ node_of (view tree.now) }
+{
+    if !only(tree, &["at", "seed", "do", "node"]) {
+        return None;
+    }
+    whole(tree, "node")
+}
 
 fn read_key(tree: &Value) -> Option<Key>
     ensures { result ≡ key_of (view tree.now) }

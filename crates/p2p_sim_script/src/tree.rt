@@ -1,7 +1,7 @@
 //! What the forms of all parts stand on: an object's names and fields, and whole numbers.
-ghost use Rattle.std.specs.Prelude.{◌≡◌, ℕ, List, map, Option};
+ghost use Rattle.std.specs.Prelude.{◌≡◌, ℕ, ◌-◌, ◌^◌, List, map, Option};
 ghost use Rattle.serde_json.specs.Data.{Data};
-ghost use Rattle.serde_json.specs.Find.{get};
+ghost use Rattle.serde_json.specs.Find.{get, as_bool};
 ghost use Rattle.serde_json.specs.View.{view, members_view};
 ghost use Rattle.p2p_sim_script.specs.Gives.{Gives};
 ghost use Rattle.p2p_sim_script.specs.Tree.{field_at, form_or, only_at, has_only, whole as a_whole, within as a_within};
@@ -83,6 +83,16 @@ pub(crate) fn whole_or(tree: &Value, name: &str, default: u64) -> Option<u64>
     }
 }
 
+/// The flag at `name`, or `default` where there is no such name.
+pub(crate) fn flag_or(tree: &Value, name: &str, default: bool) -> Option<bool>
+    ensures { result ≡ form_or default as_bool (get name.now (view tree.now)) }
+{
+    match tree.get(name) {
+        Some(value) => value.as_bool(),
+        None => Some(default),
+    }
+}
+
 /// The whole number at `name`, where it is at least `least` and at most `most`.
 pub(crate) fn within(tree: &Value, name: &str, least: u64, most: u64) -> Option<u64>
     ensures { result ≡ field_at name.now (a_within least most) (view tree.now) }
@@ -92,5 +102,15 @@ pub(crate) fn within(tree: &Value, name: &str, least: u64, most: u64) -> Option<
         Some(number)
     } else {
         None
+    }
+}
+
+/// The whole number at `name`, where it is at least `least`, or `default` where there is no such name.
+pub(crate) fn within_or(tree: &Value, name: &str, least: u64, default: u64) -> Option<u64>
+    ensures { result ≡ form_or default (a_within least (2 ^ 64 - 1)) (get name.now (view tree.now)) }
+{
+    match tree.get(name) {
+        Some(_) => within(tree, name, least, u64::MAX),
+        None => Some(default),
     }
 }

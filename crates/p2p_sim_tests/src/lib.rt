@@ -1,8 +1,8 @@
 //! The tests of the program's crates, through their public names alone. They stand together so that the gate proves each
 //! of those crates once.
 //!
-//! Of `p2p_sim_script` is `scripts`, of `p2p_sim_report` is `reports`, of `p2p_sim_command` and `p2p_sim` are `command` and
-//! `runs`.
+//! Of `p2p_sim_script` are `scripts` and `tracker_scripts`, of `p2p_sim_report` are `reports` and `tracker_reports`, of
+//! `p2p_sim_command` and `p2p_sim` are `command` and `runs`.
 #![tactic(auto)]
 
 #[cfg(test)]
@@ -15,3 +15,7 @@ mod rows;
 mod runs;
 #[cfg(test)]
 mod scripts;
+#[cfg(test)]
+mod tracker_reports;
+#[cfg(test)]
+mod tracker_scripts;

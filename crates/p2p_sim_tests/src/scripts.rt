@@ -73,7 +73,11 @@ const CHANGES_OF_KIND: &[(&str, &str, &str)] = &[
         "none",
     ),
     (r#""mailbox_size":4"#, r#""mailbox_size":0"#, "none"),
-    (r#""preset":"local""#, r#""preset":"recommended""#, "none"),
+    (
+        r#""preset":"local""#,
+        r#""preset":"recommended""#,
+        "a script",
+    ),
     (r#""preset":"local","#, r#""#, "none"),
     (r#""key":1"#, r#""key":1,"ping_frequency":1"#, "none"),
     (r#""burst":1"#, r#""burst":0"#, "none"),

@@ -71,7 +71,8 @@ impl<P: PublicKey, M: Carrier<P>> crate::UnlimitedSender for UnlimitedSender<P, 
 
     ghost told = { λ s w to message priority. M.content_answer w.messenger to s.channel message priority };
 
-    ghost after_send = { λ s w to message priority. with_messenger w (M.after_content w.messenger to s.channel message priority) };
+    ghost after_send = { λ s w to message priority. with_messenger w
+        (M.after_content w.messenger to s.channel message priority) };
 
     fn send(
         &self,
@@ -81,10 +82,12 @@ impl<P: PublicKey, M: Carrier<P>> crate::UnlimitedSender for UnlimitedSender<P, 
         message: Bytes,
         priority: bool,
     ) -> Result<Unreliable, SendError>
-        ensures answer { IfOk result (λ u. u ≡ M.content_answer way.old.messenger recipients self.now.channel message priority) }
+        ensures answer { IfOk result (λ u. u
+            ≡ M.content_answer way.old.messenger recipients self.now.channel message priority) }
         ensures fits { OnOk result (size_refusal self.now.max_size message ≡ None) }
         ensures refused { IfErr result (λ e. IsCause (size_refusal self.now.max_size message) e) }
-        ensures after { OnOk result (way.new ≡ with_messenger way.old (M.after_content way.old.messenger recipients self.now.channel message priority)) }
+        ensures after { OnOk result (way.new ≡ with_messenger way.old
+            (M.after_content way.old.messenger recipients self.now.channel message priority)) }
         ensures unchanged { OnErr result (way.new ≡ way.old) }
         ensures serves { Unit {0} }
     {

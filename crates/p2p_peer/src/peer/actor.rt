@@ -44,7 +44,13 @@ impl<P> Model for Actor<P> {
 
     ghost Value = { Connection P };
 
-    ghost view = { λ a. record { conn = a.conn; limits = a.limits; control = a.control; live = a.live; failed = a.failed } };
+    ghost view = { λ a. record {
+      conn = a.conn;
+      limits = a.limits;
+      control = a.control;
+      live = a.live;
+      failed = a.failed;
+    } };
 
     ghost invariant = { λ a. (1 ≤ a.limits.mailbox_size) × (1 ≤ a.limits.send_batch_size) };
 }
@@ -81,7 +87,8 @@ fn put_ready<P: PublicKey>(
     conn: u64,
 ) -> Result<(), AllocError>
     requires { 1 ≤ size }
-    ensures { OnOk result (messenger.new ≡ put_to_router messenger.old (router_message.Ready peer (empty_lanes size) conn)) }
+    ensures { OnOk result (messenger.new ≡ put_to_router messenger.old
+        (router_message.Ready peer (empty_lanes size) conn)) }
 {
     let relay = Relay::new(alloc, size)?;
     match messenger.mailbox() {
@@ -202,7 +209,8 @@ impl<P: PublicKey> Actor<P> {
         ensures router { IfOk result (λ s. router.new ≡ router_sent P.cmp self.old router.old now s) }
         ensures messenger { IfOk result (λ s. messenger.new ≡ desk_after self.old s messenger.old) }
         ensures way { IfOk result (λ s. way.new ≡ way_after self.old s way.old) }
-        ensures in_flight { IfOk result (λ s. L.in_flight link.new ≡ L.in_flight link.old ++ first_of (written_in s) (frames_in s)) }
+        ensures in_flight { IfOk result (λ s. L.in_flight link.new ≡ L.in_flight link.old
+            ++ first_of (written_in s) (frames_in s)) }
         ensures waiting { IfOk result (λ s. L.waiting link.new ≡ waiting_after s (L.waiting link.old)) }
         ensures fault { IfOk result (λ s. IsTrue (send_fails s) → Rose (L.faults_of link.old) (L.faults_of link.new)) }
         ensures memory { OnErr result (IsTrue self.new.failed) }
@@ -232,7 +240,8 @@ impl<P: PublicKey> Actor<P> {
         ensures router { IfOk result (λ s. router.new ≡ router_sent P.cmp self.old router.old now s) }
         ensures messenger { IfOk result (λ s. messenger.new ≡ desk_after self.old s messenger.old) }
         ensures way { IfOk result (λ s. way.new ≡ way_after self.old s way.old) }
-        ensures in_flight { IfOk result (λ s. L.in_flight link.new ≡ L.in_flight link.old ++ first_of (written_in s) (frames_in s)) }
+        ensures in_flight { IfOk result (λ s. L.in_flight link.new ≡ L.in_flight link.old
+            ++ first_of (written_in s) (frames_in s)) }
         ensures waiting { IfOk result (λ s. L.waiting link.new ≡ waiting_after s (L.waiting link.old)) }
         ensures fault { IfOk result (λ s. IsTrue (send_fails s) → Rose (L.faults_of link.old) (L.faults_of link.new)) }
         ensures failed { self.new.failed ≡ self.old.failed }
@@ -269,16 +278,21 @@ impl<P: PublicKey> Actor<P> {
         way: &mut tracker::Mailbox<P>,
         now: u64,
     ) -> Result<Stepped<P>, AllocError>
-        ensures stepped { IfOk result (λ s. s ≡ receive_answer self.old inbounds.old now (heard_in s (L.waiting link.old))) }
+        ensures stepped { IfOk result (λ s. s
+            ≡ receive_answer self.old inbounds.old now (heard_in s (L.waiting link.old))) }
         ensures idle { IfOk result (λ s. is_idle s ≡ not (receives self.old now (heard_in s (L.waiting link.old)))) }
-        ensures actor { IfOk result (λ s. self.new ≡ after_receive self.old inbounds.old now (heard_in s (L.waiting link.old)) s) }
-        ensures inbounds { IfOk result (λ s. inbounds.new ≡ arrived_then self.old inbounds.old now (heard_in s (L.waiting link.old))) }
+        ensures actor { IfOk result (λ s. self.new
+            ≡ after_receive self.old inbounds.old now (heard_in s (L.waiting link.old)) s) }
+        ensures inbounds { IfOk result (λ s. inbounds.new
+            ≡ arrived_then self.old inbounds.old now (heard_in s (L.waiting link.old))) }
         ensures router { IfOk result (λ s. router.new ≡ router_after P.cmp s router.old self.old.conn) }
         ensures messenger { IfOk result (λ s. messenger.new ≡ desk_after self.old s messenger.old) }
         ensures way { IfOk result (λ s. way.new ≡ way_after self.old s way.old) }
         ensures in_flight { L.in_flight link.new ≡ L.in_flight link.old }
-        ensures waiting { IfOk result (λ s. L.waiting link.new ≡ waiting_after s (left_waiting (reads_from self.old.live) (L.waiting link.old))) }
-        ensures fault { IfOk result (λ s. IsTrue (receive_fails s) → Rose (L.faults_of link.old) (L.faults_of link.new)) }
+        ensures waiting { IfOk result (λ s. L.waiting link.new
+            ≡ waiting_after s (left_waiting (reads_from self.old.live) (L.waiting link.old))) }
+        ensures fault { IfOk result (λ s. IsTrue (receive_fails s) →
+            Rose (L.faults_of link.old) (L.faults_of link.new)) }
         ensures memory { OnErr result (IsTrue self.new.failed) }
         ensures failed { IsTrue self.old.failed → IsErr result }
     {
@@ -302,15 +316,20 @@ impl<P: PublicKey> Actor<P> {
         way: &mut tracker::Mailbox<P>,
         now: u64,
     ) -> Result<Stepped<P>, AllocError>
-        ensures stepped { IfOk result (λ s. s ≡ receive_answer self.old inbounds.old now (heard_in s (L.waiting link.old))) }
-        ensures actor { IfOk result (λ s. self.new ≡ after_receive self.old inbounds.old now (heard_in s (L.waiting link.old)) s) }
-        ensures inbounds { IfOk result (λ s. inbounds.new ≡ arrived_then self.old inbounds.old now (heard_in s (L.waiting link.old))) }
+        ensures stepped { IfOk result (λ s. s
+            ≡ receive_answer self.old inbounds.old now (heard_in s (L.waiting link.old))) }
+        ensures actor { IfOk result (λ s. self.new
+            ≡ after_receive self.old inbounds.old now (heard_in s (L.waiting link.old)) s) }
+        ensures inbounds { IfOk result (λ s. inbounds.new
+            ≡ arrived_then self.old inbounds.old now (heard_in s (L.waiting link.old))) }
         ensures router { IfOk result (λ s. router.new ≡ router_after P.cmp s router.old self.old.conn) }
         ensures messenger { IfOk result (λ s. messenger.new ≡ desk_after self.old s messenger.old) }
         ensures way { IfOk result (λ s. way.new ≡ way_after self.old s way.old) }
         ensures in_flight { L.in_flight link.new ≡ L.in_flight link.old }
-        ensures waiting { IfOk result (λ s. L.waiting link.new ≡ waiting_after s (left_waiting (reads_from self.old.live) (L.waiting link.old))) }
-        ensures fault { IfOk result (λ s. IsTrue (receive_fails s) → Rose (L.faults_of link.old) (L.faults_of link.new)) }
+        ensures waiting { IfOk result (λ s. L.waiting link.new
+            ≡ waiting_after s (left_waiting (reads_from self.old.live) (L.waiting link.old))) }
+        ensures fault { IfOk result (λ s. IsTrue (receive_fails s) →
+            Rose (L.faults_of link.old) (L.faults_of link.new)) }
         ensures failed { self.new.failed ≡ self.old.failed }
     {
         let Some(mut live) = self.live.take() else {
@@ -334,7 +353,9 @@ impl<P: PublicKey> Actor<P> {
     ) -> Result<(), AllocError>
         ensures actor { OnOk result (self.new ≡ settled self.old stepped.now self.old.control live) }
         ensures router { OnOk result (router.new ≡ router_after P.cmp stepped.now router.old self.old.conn) }
-        ensures messenger { OnOk result (messenger.new ≡ told_to_router stepped.now (peer_of live.reservation) self.old.limits.mailbox_size self.old.conn messenger.old) }
+        ensures messenger { OnOk result (messenger.new
+            ≡ told_to_router stepped.now (peer_of live.reservation) self.old.limits.mailbox_size self.old.conn
+            messenger.old) }
         ensures way { OnOk result (way.new ≡ told_to_tracker self.old stepped.now live way.old) }
         ensures waiting { OnOk result (L.waiting link.new ≡ waiting_after stepped.now (L.waiting link.old)) }
         ensures in_flight { L.in_flight link.new ≡ L.in_flight link.old }
@@ -360,8 +381,11 @@ impl<P: PublicKey> Actor<P> {
         way: &mut tracker::Mailbox<P>,
     ) -> Result<(), AllocError>
         ensures actor { OnOk result (self.new ≡ record self.old { live = Some live }) }
-        ensures messenger { OnOk result (messenger.new ≡ put_to_router messenger.old (router_message.Ready (peer_of live.reservation) (empty_lanes self.old.limits.mailbox_size) self.old.conn)) }
-        ensures way { OnOk result (way.new ≡ with_message_in way.old (tracker_message.Connect (peer_of live.reservation) self.old.conn)) }
+        ensures messenger { OnOk result (messenger.new
+            ≡ put_to_router messenger.old (router_message.Ready (peer_of live.reservation)
+            (empty_lanes self.old.limits.mailbox_size) self.old.conn)) }
+        ensures way { OnOk result (way.new ≡ with_message_in way.old
+            (tracker_message.Connect (peer_of live.reservation) self.old.conn)) }
         ensures failed { self.new.failed ≡ self.old.failed }
     {
         let peer = *live.reservation.metadata().public_key();
@@ -380,9 +404,11 @@ impl<P: PublicKey> Actor<P> {
         messenger: &mut Messenger<P>,
         way: &mut tracker::Mailbox<P>,
     ) -> Result<(), AllocError>
-        ensures actor { OnOk result (self.new ≡ record self.old { control = closed_queue self.old.control; live = None }) }
+        ensures actor { OnOk result (self.new
+            ≡ record self.old { control = closed_queue self.old.control; live = None }) }
         ensures router { OnOk result (router.new ≡ with_closed P.cmp router.old self.old.conn) }
-        ensures messenger { OnOk result (messenger.new ≡ put_to_router messenger.old (router_message.Release (peer_of live.reservation))) }
+        ensures messenger { OnOk result (messenger.new
+            ≡ put_to_router messenger.old (router_message.Release (peer_of live.reservation))) }
         ensures way { OnOk result (way.new ≡ with_message_in way.old (tracker_message.Release live.reservation)) }
         ensures waiting { OnOk result (L.waiting link.new ≡ []) }
         ensures in_flight { L.in_flight link.new ≡ L.in_flight link.old }

@@ -100,9 +100,12 @@ impl<P: PublicKey> Live<P> {
         now: u64,
     ) -> Result<Stepped<P>, AllocError>
         requires { self.old.inbox.held ≡ None }
-        ensures stepped { IfOk result (λ s. s ≡ (with_message now false (peer_of self.old.reservation) message self.old inbounds.old).stepped) }
-        ensures live { OnOk result (self.new ≡ (with_message now false (peer_of self.old.reservation) message self.old inbounds.old).live) }
-        ensures arrived { OnOk result (inbounds.new ≡ (with_message now false (peer_of self.old.reservation) message self.old inbounds.old).arrived) }
+        ensures stepped { IfOk result (λ s. s
+            ≡ (with_message now false (peer_of self.old.reservation) message self.old inbounds.old).stepped) }
+        ensures live { OnOk result (self.new ≡ (with_message now false
+            (peer_of self.old.reservation) message self.old inbounds.old).live) }
+        ensures arrived { OnOk result (inbounds.new
+            ≡ (with_message now false (peer_of self.old.reservation) message self.old inbounds.old).arrived) }
     {
         let peer = *self.reservation.metadata().public_key();
         let copy = copy_of(&message)?;
@@ -120,9 +123,12 @@ impl<P: PublicKey> Live<P> {
     ) -> Result<Stepped<P>, AllocError>
         requires holds { IsSome self.old.inbox.held }
         requires copy { IfSome self.old.inbox.held (λ h. copy ≡ h.1) }
-        ensures stepped { IfOk result (λ s. IfSome self.old.inbox.held (λ h. s ≡ (with_message now true h.0 h.1 self.old inbounds.old).stepped)) }
-        ensures live { OnOk result (IfSome self.old.inbox.held (λ h. self.new ≡ (with_message now true h.0 h.1 self.old inbounds.old).live)) }
-        ensures arrived { OnOk result (IfSome self.old.inbox.held (λ h. inbounds.new ≡ (with_message now true h.0 h.1 self.old inbounds.old).arrived)) }
+        ensures stepped { IfOk result (λ s. IfSome self.old.inbox.held
+            (λ h. s ≡ (with_message now true h.0 h.1 self.old inbounds.old).stepped)) }
+        ensures live { OnOk result (IfSome self.old.inbox.held
+            (λ h. self.new ≡ (with_message now true h.0 h.1 self.old inbounds.old).live)) }
+        ensures arrived { OnOk result (IfSome self.old.inbox.held
+            (λ h. inbounds.new ≡ (with_message now true h.0 h.1 self.old inbounds.old).arrived)) }
     {
         let delivered = self.inbox.retry(inbounds, now)?;
         Ok(message_answer(alloc, true, copy, delivered))
@@ -183,13 +189,18 @@ impl<P: PublicKey> Live<P> {
         limit: u32,
         now: u64,
     ) -> Result<Stepped<P>, AllocError>
-        ensures stepped { IfOk result (λ s. s ≡ (received limit now self.old inbounds.old (heard_in s (L.waiting link.old))).stepped) }
-        ensures live { IfOk result (λ s. self.new ≡ (received limit now self.old inbounds.old (heard_in s (L.waiting link.old))).live) }
-        ensures arrived { IfOk result (λ s. inbounds.new ≡ (received limit now self.old inbounds.old (heard_in s (L.waiting link.old))).arrived) }
+        ensures stepped { IfOk result (λ s. s
+            ≡ (received limit now self.old inbounds.old (heard_in s (L.waiting link.old))).stepped) }
+        ensures live { IfOk result (λ s. self.new
+            ≡ (received limit now self.old inbounds.old (heard_in s (L.waiting link.old))).live) }
+        ensures arrived { IfOk result (λ s. inbounds.new
+            ≡ (received limit now self.old inbounds.old (heard_in s (L.waiting link.old))).arrived) }
         ensures reservation { OnOk result (self.new.reservation ≡ self.old.reservation) }
-        ensures fault { IfOk result (λ s. IsTrue (receive_fails s) → Rose (L.faults_of link.old) (L.faults_of link.new)) }
+        ensures fault { IfOk result (λ s. IsTrue (receive_fails s) →
+            Rose (L.faults_of link.old) (L.faults_of link.new)) }
         ensures no_fault { IfOk result (λ s. receive_fails s ≡ false → L.faults_of link.new ≡ L.faults_of link.old) }
-        ensures waiting { IfOk result (λ s. receive_fails s ≡ false → L.waiting link.new ≡ left_waiting (reads self.old) (L.waiting link.old)) }
+        ensures waiting { IfOk result (λ s. receive_fails s ≡ false →
+            L.waiting link.new ≡ left_waiting (reads self.old) (L.waiting link.old)) }
         ensures in_flight { L.in_flight link.new ≡ L.in_flight link.old }
         ensures count { L.faults_of link.old ≤ L.faults_of link.new }
     {

@@ -71,7 +71,8 @@ fn gather(
     due: bool,
 ) -> Result<Gathered, AllocError>
     ensures value { IfOk result (λ g. g ≡ gathered_of control.old (batch size due control.old relay.old)) }
-    ensures control { OnOk result (control.new ≡ with_items control.old (batch size due control.old relay.old).control) }
+    ensures control { OnOk result (control.new
+        ≡ with_items control.old (batch size due control.old relay.old).control) }
     ensures relay { OnOk result (relay.new ≡ (batch size due control.old relay.old).lanes) }
 {
     let mut outbox = begin_batch(alloc, size, due)?;
@@ -91,7 +92,8 @@ pub(crate) fn gather_for<P: PublicKey>(
 ) -> Result<Gathered, AllocError>
     ensures value { IfOk result (λ g. g ≡ gathered_over size due control.old (relay_at P.cmp router.old conn)) }
     ensures control { OnOk result (control.new ≡ control_over size due control.old (relay_at P.cmp router.old conn)) }
-    ensures router { OnOk result (router.new ≡ router_over P.cmp size due control.old router.old conn (relay_at P.cmp router.old conn)) }
+    ensures router { OnOk result (router.new ≡ router_over P.cmp size due control.old router.old conn
+        (relay_at P.cmp router.old conn)) }
 {
     match router.relay(conn) {
         Some(relay) => gather(alloc, control, relay, size, due),
@@ -132,7 +134,8 @@ fn write_batch<P: PublicKey, L: Link>(
     frames: List<Bytes>,
 ) -> Result<Stepped<P>, AllocError>
     ensures stepped { IfOk result (λ s. s ≡ wrote ping frames (written_in s)) }
-    ensures in_flight { IfOk result (λ s. L.in_flight link.new ≡ L.in_flight link.old ++ first_of (written_in s) (frames_in s)) }
+    ensures in_flight { IfOk result (λ s. L.in_flight link.new ≡ L.in_flight link.old
+        ++ first_of (written_in s) (frames_in s)) }
     ensures fault { IfOk result (λ s. IsTrue (send_fails s) → Rose (L.faults_of link.old) (L.faults_of link.new)) }
     ensures no_fault { IfOk result (λ s. send_fails s ≡ false → L.faults_of link.new ≡ L.faults_of link.old) }
     ensures count { L.faults_of link.old ≤ L.faults_of link.new }
@@ -161,11 +164,18 @@ impl<P: PublicKey> Live<P> {
         router: &mut Actor<P>,
         now: u64,
     ) -> Result<Stepped<P>, AllocError>
-        ensures stepped { IfOk result (λ s. s ≡ sent_by self.old.stage (peer_of self.old.reservation) limits.send_batch_size control.old (relay_at P.cmp router.old conn) now (written_in s)) }
-        ensures live { OnOk result (self.new ≡ with_stage self.old (stage_by self.old.stage limits.ping_frequency (relay_at P.cmp router.old conn) now)) }
-        ensures control { OnOk result (control.new ≡ control_by self.old.stage limits.send_batch_size control.old (relay_at P.cmp router.old conn) now) }
-        ensures router { OnOk result (router.new ≡ router_by P.cmp self.old.stage limits.send_batch_size control.old router.old conn (relay_at P.cmp router.old conn) now) }
-        ensures in_flight { IfOk result (λ s. L.in_flight link.new ≡ L.in_flight link.old ++ first_of (written_in s) (frames_in s)) }
+        ensures stepped { IfOk result (λ s. s
+            ≡ sent_by self.old.stage (peer_of self.old.reservation) limits.send_batch_size control.old
+            (relay_at P.cmp router.old conn) now (written_in s)) }
+        ensures live { OnOk result (self.new ≡ with_stage self.old
+            (stage_by self.old.stage limits.ping_frequency (relay_at P.cmp router.old conn) now)) }
+        ensures control { OnOk result (control.new
+            ≡ control_by self.old.stage limits.send_batch_size control.old (relay_at P.cmp router.old conn) now) }
+        ensures router { OnOk result (router.new
+            ≡ router_by P.cmp self.old.stage limits.send_batch_size control.old router.old conn
+            (relay_at P.cmp router.old conn) now) }
+        ensures in_flight { IfOk result (λ s. L.in_flight link.new ≡ L.in_flight link.old
+            ++ first_of (written_in s) (frames_in s)) }
         ensures fault { IfOk result (λ s. IsTrue (send_fails s) → Rose (L.faults_of link.old) (L.faults_of link.new)) }
         ensures no_fault { IfOk result (λ s. send_fails s ≡ false → L.faults_of link.new ≡ L.faults_of link.old) }
         ensures count { L.faults_of link.old ≤ L.faults_of link.new }
@@ -191,7 +201,8 @@ impl<P: PublicKey> Live<P> {
     // Takes the router's answer, where it is there.
     fn take_answer(&mut self, answered: bool, limits: Limits, now: u64) -> Stepped<P>
         ensures stepped { result ≡ (if answered then stepped.Running else stepped.Idle) }
-        ensures live { self.new ≡ with_stage self.old (if answered then stage.Running (now + limits.ping_frequency) else self.old.stage) }
+        ensures live { self.new ≡ with_stage self.old
+            (if answered then stage.Running (now + limits.ping_frequency) else self.old.stage) }
     {
         if !answered {
             return Stepped::Idle;
@@ -221,7 +232,8 @@ fn send_gathered<P: PublicKey, L: Link>(
     gathered: Gathered,
 ) -> Result<Stepped<P>, AllocError>
     ensures stepped { IfOk result (λ s. s ≡ sent_as peer due (written_in s) gathered) }
-    ensures in_flight { IfOk result (λ s. L.in_flight link.new ≡ L.in_flight link.old ++ first_of (written_in s) (frames_in s)) }
+    ensures in_flight { IfOk result (λ s. L.in_flight link.new ≡ L.in_flight link.old
+        ++ first_of (written_in s) (frames_in s)) }
     ensures fault { IfOk result (λ s. IsTrue (send_fails s) → Rose (L.faults_of link.old) (L.faults_of link.new)) }
     ensures no_fault { IfOk result (λ s. send_fails s ≡ false → L.faults_of link.new ≡ L.faults_of link.old) }
     ensures count { L.faults_of link.old ≤ L.faults_of link.new }

@@ -1,14 +1,10 @@
 use Rattle.std.proofs.Common.{◌≡◌, true, false, take, get_or, sym, ◌∙◌, rules}
 use Rattle.std.specs.BTreeSet as sorted
 use Rattle.std.specs.Ordering.{nat_cmp}
-use Rattle.p2p_log.specs.declared.config.Config.{Config}
+use Rattle.p2p_net.proofs.Starts.{absent}
 use Rattle.p2p_net.proofs.Faults.{fault_here, fault_later, unfit, repeated, good_one, keys_later, config_fault-end}
 use Rattle.p2p_net.proofs.configs.config_fault.Goals as goal
 use Rattle.p2p_net.proofs.configs.config_fault.Goals.{then-not-fits-via-then-not-fits, then-not-fits-via-else-not-fits+then-contains}
-
--- what an index past the end gives
-abbrev absent : Config
-absent = record { public_key = record { 0 = 0 }; max_peers_per_set = 0; max_message_size = 0; mailbox_size = 0; tracked_peer_sets = 0; send_batch_size = 0 }
 
 pub returns-then-not-fits : goal.returns-then-not-fits
 returns-then-not-fits c =

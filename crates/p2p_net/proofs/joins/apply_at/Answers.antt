@@ -1,5 +1,5 @@
-use Rattle.std.proofs.Common.{◌≡◌, ◌<◌, ◌∙◌, ap, sym, subst, length, Some}
-use Rattle.std.specs.Prelude.{slice_get, slice_set}
+use Rattle.std.proofs.Common.{◌≡◌, refl, subst, Some}
+use Rattle.std.specs.Prelude.{slice_get}
 use Rattle.p2p_net.specs.Acts.{NodeDoes}
 use Rattle.p2p_net.proofs.Nodes.{found}
 use Rattle.p2p_net.proofs.joins.apply_at.Goals as goal
@@ -8,10 +8,11 @@ pub returns-in-Ok : goal.returns-in-Ok
 returns-in-Ok c =
     let nodes = c.args.nodes.now.items in
     let x = c.index_mut.result.now in
-    let at = c.node_of-node.ensures in
-    let there = found nodes c.node_of-node.result x (subst (λ n. n < length nodes) (sym at) c.requires.in_range) c.index_mut.ensures.value in
+    let n = c.args.node in
+    let ev = c.args.event.now in
+    let there : slice_get nodes n ≡ Some x = found nodes n x c.requires.in_range c.index_mut.ensures.value in
     let made = c.in-Ok.ensures.does in
-    let number = c.requires.numbers c.node_of-node.result x there ∙ at in (
+    let number = c.requires.numbers n x there in (
       made.0,
       (
         made.1.0,
@@ -20,11 +21,8 @@ returns-in-Ok c =
           (
             c.apply.new.self,
             (
-              subst (λ n. slice_get nodes n ≡ Some x) at there,
-              (
-                ap (λ n. slice_set nodes n c.apply.new.self) at,
-                subst (λ n. NodeDoes c.args.entry n c.args.event.now.act x c.apply.new.self c.args.links.now c.apply.new.links made.0) number made.1.1,
-              ),
+              there,
+              (refl, subst (λ m. NodeDoes c.args.entry m ev.at ev.seed ev.act x c.apply.new.self c.args.links.now c.apply.new.links made.0) number made.1.1),
             ),
           ),
         ),

@@ -2,6 +2,7 @@ use Rattle.std.proofs.Common.{arith, ◌≡◌, ◌*◌, ◌<◌, ◌^◌, ◌�
 use Rattle.std.specs.Prelude.{slice_get, Some, slice_index_or}
 use Rattle.std.proofs.lemmas.Option.{slice_get-get_or}
 use Rattle.p2p_log.specs.declared.config.Config.{Config}
+use Rattle.p2p_net_tracker.specs.Begins.{IsNew}
 use Rattle.p2p_net.specs.Stands.{NodeStands}
 use Rattle.p2p_net.proofs.Starts.{absent, fits_there, each-append, node_new, links_new}
 use Rattle.p2p_net.proofs.world.new_nodes.Goals as goal
@@ -16,12 +17,12 @@ loop-number-preserved c =
     let configs = c.args.configs.now in
     let old = c.loop-number.nodes.items in
     let n = c.loop-number.number in
-    let new = c.new.result in
-    let there = slice_get-get_or configs n absent c.loop-number-test.true ∙ ap Some (sym c.new.ensures.config) in
+    let new = c.in_ok-new.field-0 in
+    let there = slice_get-get_or configs n absent c.loop-number-test.true ∙ ap Some (sym c.in_ok-new.ensures.config) in
     let stands : NodeStands configs [] n new =
-    node_new configs n new there (c.new.ensures.retained ∙ ap (λ (z : Config). z.max_peers_per_set * z.tracked_peer_sets) (sym c.new.ensures.config)) c.new.ensures.works
-    (subst (λ (z : Config). z.mailbox_size < 2 ^ 64) (sym c.new.ensures.config) c.new.ensures.counted) c.new.ensures.number (c.new.ensures.router configs) c.new.ensures.peers
-    c.new.ensures.channels c.new.ensures.connections
+    node_new configs n new there (c.in_ok-new.ensures.retained ∙ ap (λ (z : Config). z.max_peers_per_set * z.tracked_peer_sets) (sym c.in_ok-new.ensures.config)) c.in_ok-new.ensures.works
+    (subst (λ (z : Config). z.mailbox_size < 2 ^ 64) (sym c.in_ok-new.ensures.config) c.in_ok-new.ensures.counted) c.in_ok-new.ensures.number (c.in_ok-new.ensures.router configs) c.in_ok-new.ensures.peers
+    c.in_ok-new.ensures.channels c.in_ok-new.ensures.connections (subst (λ (z : Config). IsNew z new.tracker) (sym c.in_ok-new.ensures.config) c.in_ok-new.ensures.tracker)
     in
     record {
       long = ap length c.in_ok-push.ensures.items ∙ (length-append old (new ∷ []) ∙ ap (λ k. k + 1) c.loop-number.invariant.long);

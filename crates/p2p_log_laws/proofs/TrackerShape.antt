@@ -1,0 +1,347 @@
+-- The shapes of the acts of a node's tracker: none moves a copy.
+use Rattle.std.proofs.Common.{◌≡◌, ℕ, Bool, true, false, cond, List, [], ◌∷◌, ◌++◌, Option, Some, None, refl, ap, ◌∙◌, eq-eqb, subst}
+use Rattle.std.specs.Prelude.{nat_lt, filter, flat_map}
+use Rattle.std.specs.List.{AllByRecursion as Each}
+use Rattle.p2p_base.specs.declared.key.Key.{Key}
+use Rattle.p2p_address.specs.declared.peer.Address.{Address}
+use Rattle.p2p_flow.specs.declared.addressable.AddressableTrackedPeers.{AddressableTrackedPeers}
+use Rattle.p2p_flow.specs.declared.update.PeerSetUpdate.{PeerSetUpdate}
+use Rattle.p2p_tracker_calls.specs.declared.call.Call.{Call}
+use Rattle.p2p_tracker_calls.specs.declared.call.Call.TheVariants as call
+use Rattle.p2p_tracker_calls.specs.Kills.{killed_keys}
+use Rattle.p2p_tracker_calls.specs.Keeping.{kept_of}
+use Rattle.p2p_tracker_calls.specs.Rules.{Rules}
+use Rattle.p2p_tracker_calls.specs.Lives.{accepts, is_overwritten}
+use Rattle.p2p_tracker_calls.specs.Blocks.{is_blockable}
+use Rattle.p2p_tracker_calls.specs.Sets.{is_above, accepted_sets}
+use Rattle.p2p_tracker_calls.specs.Overwrites.{overwritten, overwritten_keys}
+use Rattle.p2p_tracker_calls.specs.BlockedKeys.{due_keys, blocked_keys}
+use Rattle.p2p_tracker_calls.specs.Peers.{latest_update}
+use Rattle.p2p_log.specs.declared.config.Config.{Config}
+use Rattle.p2p_log.specs.declared.queue.Queue.{Queue}
+use Rattle.p2p_log.specs.declared.queue.Queue.TheVariants as queue
+use Rattle.p2p_log.specs.declared.item.Item.{Item}
+use Rattle.p2p_log.specs.declared.item.Item.TheVariants as item
+use Rattle.p2p_log.specs.declared.item.Envelope.{Envelope}
+use Rattle.p2p_log.specs.declared.entry.Entry.{Entry}
+use Rattle.p2p_log.specs.declared.entry.Reply.{Reply}
+use Rattle.p2p_log.specs.declared.entry.Reply.TheVariants as reply
+use Rattle.p2p_log.specs.declared.event.Act.{Act}
+use Rattle.p2p_log.specs.declared.event.Act.TheVariants as act
+use Rattle.p2p_log_rules.specs.declared.row.Row.{Row}
+use Rattle.p2p_log.specs.Apart.{AreApart}
+use Rattle.p2p_log.specs.Lines.{name_of, stays, live, line}
+use Rattle.p2p_log.specs.Sending.{keys_sent, sending_of}
+use Rattle.p2p_log_rules.specs.Facts.{is_up}
+use Rattle.p2p_log_rules.specs.Reading.{is_read}
+use Rattle.p2p_log_rules.specs.Rows.{only}
+use Rattle.p2p_log_rules.specs.Tracking.{key_cmp, rules_at, asked_by, calls_of, update_subscriptions, blocked_subscriptions}
+use Rattle.p2p_log_rules.specs.TrackerPuts as puts
+use Rattle.p2p_log_rules.specs.TrackerPuts.{Put}
+use Rattle.p2p_log_rules.specs.TrackerRows as rows
+use Rattle.p2p_log.proofs.Each.{Each-always, Each-append, Each-filter, Each-map, Each-weaker}
+use Rattle.p2p_log.proofs.Lines.{filter_stays-nil}
+use Rattle.p2p_log.proofs.Names.{AreApart-filter, AreApart-live_from}
+use Rattle.p2p_log.proofs.Queues.{same_queue-refl}
+use Rattle.p2p_log.specs.Taken.{AreTaken}
+use Rattle.p2p_log.proofs.Taken.{AreTaken-append}
+use Rattle.p2p_log_rules.specs.Moves.{Moves}
+use Rattle.p2p_log_rules.proofs.Moves.{one_taken, stands_first, first_has, rings, rings_gone, rings_in, rings_taken}
+use Rattle.p2p_log_rules.proofs.Touches.{reads, writes, in_tracker, is_told_to}
+use Rattle.p2p_log_laws.proofs.Fitting.{StandsFit, fits, is_bare, holds_bare, bare_there}
+use Rattle.p2p_log_laws.proofs.Overwriting.{rings_bare, ring_ends_items}
+use Rattle.p2p_log_laws.proofs.Shape.{Shape, IsQuiet, still, no_moves, one_move, first_in, quiet_laws}
+use Rattle.p2p_log_laws.proofs.Showing.{Standing}
+
+-- ---- what it is asked
+
+asked_shape : (configs : List Config) (log : List Entry) (a : Act) (n : ℕ) → ((r : Reply) → keys_sent (sending_of a r) ≡ []) → writes configs log a (queue.Tracker n) ≡ true
+    → Shape configs log a (rows.asked_row configs log n)
+asked_shape configs log a n none near =
+    let r : Row = rows.asked_row configs log n in
+    record {
+      moves = no_moves log r refl refl;
+      reach = record { taken = tt; ended = tt; puts = (near, tt) };
+      laws = λ stand. quiet_laws configs log a r (no_moves log r refl refl) (none r.reply) refl tt tt tt ((refl, refl), tt);
+    }
+
+pub track_shape : (configs : List Config) (log : List Entry) (index n : ℕ) (peers : AddressableTrackedPeers Key) → Shape configs log (act.Track index n peers) (rows.track_row configs log n peers)
+track_shape configs log index n peers = by_size (nat_lt (rows.most_peers_at configs n) (rows.size_at configs n peers))
+  where
+    by_size : (b : Bool) → Shape configs log (act.Track index n peers) (cond b (only (reply.PeerSetTooLarge (rows.size_at configs n peers) (rows.most_peers_at configs n))) (rows.asked_row configs log n))
+    by_size true = still configs log (act.Track index n peers) (reply.PeerSetTooLarge (rows.size_at configs n peers) (rows.most_peers_at configs n)) refl refl
+    by_size false = asked_shape configs log (act.Track index n peers) n (λ r. refl) (same_queue-refl (queue.Tracker n))
+
+pub overwrite_shape : (configs : List Config) (log : List Entry) (n : ℕ) (peers : List (Key × Address)) → Shape configs log (act.Overwrite n peers) (rows.asked_row configs log n)
+overwrite_shape configs log n peers = asked_shape configs log (act.Overwrite n peers) n (λ r. refl) (same_queue-refl (queue.Tracker n))
+
+pub block_shape : (configs : List Config) (log : List Entry) (key : Key) (n : ℕ) → Shape configs log (act.Block key n) (rows.asked_row configs log n)
+block_shape configs log key n = asked_shape configs log (act.Block key n) n (λ r. refl) (same_queue-refl (queue.Tracker n))
+
+pub peer_set_shape : (configs : List Config) (log : List Entry) (index n : ℕ) → Shape configs log (act.PeerSet index n) (rows.asked_row configs log n)
+peer_set_shape configs log index n = asked_shape configs log (act.PeerSet index n) n (λ r. refl) (same_queue-refl (queue.Tracker n))
+
+pub subscribe_shape : (configs : List Config) (log : List Entry) (n : ℕ) → Shape configs log (act.Subscribe n) (rows.asked_row configs log n)
+subscribe_shape configs log n = asked_shape configs log (act.Subscribe n) n (λ r. refl) (same_queue-refl (queue.Tracker n))
+
+pub blocked_shape : (configs : List Config) (log : List Entry) (n : ℕ) → Shape configs log (act.Blocked n) (rows.asked_row configs log n)
+blocked_shape configs log n = asked_shape configs log (act.Blocked n) n (λ r. refl) (same_queue-refl (queue.Tracker n))
+
+-- ---- what those who asked take
+
+told_silent : (i : Item) → is_read (rows.told_of i) ≡ false
+told_silent (item.PeerSet peers) = refl
+told_silent _ = refl
+
+module _ (configs : List Config) (log : List Entry) (a : Act) (q : Queue) (none : (r : Reply) → keys_sent (sending_of a r) ≡ []) (read : reads configs log a q ≡ true) (bare : holds_bare q ≡ true) where
+  taken_shape : (x : Envelope) (rest : List Envelope) → line log q ≡ x ∷ rest → Shape configs log a (rows.taken_row (rows.told_of x.item) x)
+  taken_shape x rest first =
+      let r : Row = rows.taken_row (rows.told_of x.item) x in
+      record {
+        moves = one_move log q x rest first r refl refl;
+        reach = record { taken = (first_in (reads configs log a) log q x rest first read, tt); ended = tt; puts = tt };
+        laws = λ stand.
+            let whole : fits x.queue x.item ≡ true = first_has StandsFit log q x rest stand.fitting first in
+            let fit : fits q x.item ≡ true = subst (λ p. fits p x.item ≡ true) (one_taken log q x rest first) whole in
+            quiet_laws configs log a r (one_move log q x rest first r refl refl) (none r.reply) (told_silent x.item) (bare_there q x.item bare fit, tt) tt tt tt;
+      }
+
+  oldest_shape : (empty : Reply) → is_read empty ≡ false → (xs : List Envelope) → line log q ≡ xs → Shape configs log a (rows.oldest_row empty xs)
+  oldest_shape empty silent [] first = still configs log a empty (none empty) silent
+  oldest_shape empty silent (x ∷ rest) first = taken_shape x rest first
+
+-- what was told for what the event e asked
+told_read : (configs : List Config) (log : List Entry) (e : ℕ) (a b : Act) (q : Queue) → asked_by log e ≡ Some b → is_told_to (Some b) e q ≡ true → reads configs log a q ≡ is_told_to (asked_by log e) e q
+    → reads configs log a q ≡ true
+told_read configs log e a b q asked there reading = reading ∙ (ap (λ o. is_told_to o e q) asked ∙ there)
+
+pub answer_shape : (configs : List Config) (log : List Entry) (e : ℕ) → Shape configs log (act.Answer e) (rows.answer_row log e)
+answer_shape configs log e = by_asked (asked_by log e) refl
+  where
+    gone : Shape configs log (act.Answer e) (only reply.Gone)
+    gone = still configs log (act.Answer e) reply.Gone refl refl
+
+    by_taken : (n : ℕ) (b : Bool) → reads configs log (act.Answer e) (queue.Answer n e) ≡ true
+        → Shape configs log (act.Answer e) (cond b (only reply.Gone) (rows.oldest_row reply.Pending (line log (queue.Answer n e))))
+    by_taken n true read = gone
+    by_taken n false read = oldest_shape configs log (act.Answer e) (queue.Answer n e) (λ r. refl) read refl reply.Pending refl (line log (queue.Answer n e)) refl
+
+    by_asked : (o : Option Act) → asked_by log e ≡ o
+        → Shape configs log (act.Answer e) (elim o [ None ↦ only reply.Gone | Some b ↦ elim b [ act.PeerSet index n ↦ rows.answer_at log n e | _ ↦ only reply.Gone ] ])
+    by_asked None asked = gone
+    by_asked (Some (act.PeerSet index n)) asked =
+        by_taken n (rows.was_answered log e) (told_read configs log e (act.Answer e) (act.PeerSet index n) (queue.Answer n e) asked (same_queue-refl (queue.Answer n e)) refl)
+    by_asked (Some _) asked = gone
+
+pub next_shape : (configs : List Config) (log : List Entry) (e : ℕ) → Shape configs log (act.Next e) (rows.next_row log e)
+next_shape configs log e = by_asked (asked_by log e) refl
+  where
+    gone : Shape configs log (act.Next e) (only reply.Gone)
+    gone = still configs log (act.Next e) reply.Gone refl refl
+
+    by_asked : (o : Option Act) → asked_by log e ≡ o → Shape configs log (act.Next e) (elim o [
+      | None ↦ only reply.Gone
+      | Some b ↦ elim b [
+        | act.Subscribe n ↦ rows.oldest_row reply.Pending (line log (queue.Updates n e))
+        | act.Blocked n ↦ rows.oldest_row reply.Pending (line log (queue.Blocked n e))
+        | _ ↦ only reply.Gone
+      ]
+    ])
+    by_asked None asked = gone
+    by_asked (Some (act.Subscribe n)) asked =
+        oldest_shape configs log (act.Next e) (queue.Updates n e) (λ r. refl)
+        (told_read configs log e (act.Next e) (act.Subscribe n) (queue.Updates n e) asked (same_queue-refl (queue.Updates n e)) refl) refl reply.Pending refl (line log (queue.Updates n e)) refl
+    by_asked (Some (act.Blocked n)) asked =
+        oldest_shape configs log (act.Next e) (queue.Blocked n e) (λ r. refl)
+        (told_read configs log e (act.Next e) (act.Blocked n) (queue.Blocked n e) asked (same_queue-refl (queue.Blocked n e)) refl) refl reply.Pending refl (line log (queue.Blocked n e)) refl
+    by_asked (Some _) asked = gone
+
+-- ---- its step
+
+-- a put of a node's tracker: it tells of no copy and of no connection
+abbrev IsTold : ℕ → Put → Type 0
+IsTold n x = IsQuiet x × (in_tracker n x.0 ≡ true)
+
+told_at : (n : ℕ) (x : Put) → IsQuiet x → in_tracker n x.0 ≡ true → IsTold n x
+told_at n x quiet near = (quiet, near)
+
+module _ (n : ℕ) where
+  kill_told : (o : Option ℕ) → Each (IsTold n) (puts.kill_put n o)
+  kill_told None = tt
+  kill_told (Some conn) = (((refl, refl), eq-eqb n n refl), tt)
+
+  updates_told : (es : List ℕ) (o : Option (PeerSetUpdate Key)) → Each (IsTold n) (puts.update_puts n es o)
+  updates_told es None = tt
+  updates_told es (Some u) = Each-map (IsTold n) (λ e. (queue.Updates n e, item.Update u)) es (Each-always (λ e. IsTold n (queue.Updates n e, item.Update u)) (λ e. ((refl, refl), eq-eqb n n refl)) es)
+
+  sets_told : (es : List ℕ) (keys : List Key) → Each (IsTold n) (puts.set_puts n es keys)
+  sets_told es keys = Each-map (IsTold n) (λ e. (queue.Blocked n e, item.Blocked keys)) es (Each-always (λ e. IsTold n (queue.Blocked n e, item.Blocked keys)) (λ e. ((refl, refl), eq-eqb n n refl)) es)
+
+  module _ (rules : Rules Key) (at : ℕ) where
+    heard_told : (calls : List (Call Key)) → IsTold n (puts.heard_put rules n at calls)
+    heard_told calls = ((refl, refl), eq-eqb n n refl)
+
+    kills_told : (calls : List (Call Key)) (ks : List Key) → Each (IsTold n) (flat_map (λ k. puts.kill_put n (kept_of key_cmp rules calls k)) ks)
+    kills_told calls [] = tt
+    kills_told calls (k ∷ ks) =
+        Each-append (IsTold n) (puts.kill_put n (kept_of key_cmp rules calls k)) (flat_map (λ j. puts.kill_put n (kept_of key_cmp rules calls j)) ks)
+        (kill_told (kept_of key_cmp rules calls k)) (kills_told calls ks)
+
+    if_told : (b : Bool) (xs : List Put) → Each (IsTold n) xs → Each (IsTold n) (cond b xs [])
+    if_told true xs h = h
+    if_told false xs h = tt
+
+    overwrites_told : (es : List (Key × Address)) (calls : List (Call Key)) → Each (IsTold n) (puts.overwrite_kills rules n at es calls)
+    overwrites_told [] calls = tt
+    overwrites_told (e ∷ es) calls =
+        Each-append (IsTold n) (cond (is_overwritten key_cmp rules calls e.0 e.1) (puts.kill_put n (kept_of key_cmp rules calls e.0)) []) (puts.overwrite_kills rules n at es (call.Overwrite e.0 e.1 ∷ calls))
+        (if_told (is_overwritten key_cmp rules calls e.0 e.1) (puts.kill_put n (kept_of key_cmp rules calls e.0)) (kill_told (kept_of key_cmp rules calls e.0)))
+        (overwrites_told es (call.Overwrite e.0 e.1 ∷ calls))
+
+    module _ (updates sets : List ℕ) (calls : List (Call Key)) where
+      tracked_told : (c : Call Key) (killed : List Key) → Each (IsTold n) (puts.tracked_puts rules n at updates sets calls c killed)
+      tracked_told c killed =
+          let kills = flat_map (λ k. puts.kill_put n (kept_of key_cmp rules calls k)) killed in
+          let heard = puts.heard_put rules n at (c ∷ calls) in
+          Each-append (IsTold n) (kills ++ heard ∷ []) (puts.update_puts n updates (latest_update key_cmp rules (c ∷ calls)))
+          (Each-append (IsTold n) kills (heard ∷ []) (kills_told calls killed) (heard_told (c ∷ calls), tt))
+          (updates_told updates (latest_update key_cmp rules (c ∷ calls)))
+
+      blocked_told : (c : Call Key) (k : Key) → Each (IsTold n) (puts.blocked_puts rules n at updates sets calls c k)
+      blocked_told c k =
+          let keys = blocked_keys key_cmp rules (c ∷ calls) at in
+          let heard = puts.heard_put rules n at (c ∷ calls) in
+          Each-append (IsTold n) (cond (is_blockable key_cmp rules calls k at) (puts.set_puts n sets keys ++ heard ∷ []) []) (puts.kill_put n (kept_of key_cmp rules calls k))
+          (if_told (is_blockable key_cmp rules calls k at) (puts.set_puts n sets keys ++ heard ∷ [])
+          (Each-append (IsTold n) (puts.set_puts n sets keys) (heard ∷ []) (sets_told sets keys) (heard_told (c ∷ calls), tt)))
+          (kill_told (kept_of key_cmp rules calls k))
+
+      unblocked_told : (c : Call Key) → Each (IsTold n) (puts.unblocked_puts rules n at updates sets calls c)
+      unblocked_told c = (heard_told (c ∷ calls), sets_told sets (blocked_keys key_cmp rules (c ∷ calls) at))
+
+      asked_told : (e : ℕ) (o : Option Act) → Each (IsTold n) (puts.asked_puts rules n at updates sets calls e o)
+      asked_told e (Some (act.Track index m peers)) =
+          let c = call.Track index peers.primary peers.secondary in
+          let killed = killed_keys key_cmp rules index peers.primary peers.secondary calls in
+          if_told (is_above index (accepted_sets key_cmp calls)) (puts.tracked_puts rules n at updates sets calls c killed) (tracked_told c killed)
+      asked_told e (Some (act.Overwrite m peers)) =
+          let all = cond (puts.is_some_of (overwritten_keys key_cmp rules peers calls)) (puts.heard_put rules n at (overwritten peers calls) ∷ []) [] in
+          Each-append (IsTold n) (puts.overwrite_kills rules n at peers calls) all (overwrites_told peers calls)
+          (if_told (puts.is_some_of (overwritten_keys key_cmp rules peers calls)) (puts.heard_put rules n at (overwritten peers calls) ∷ []) (heard_told (overwritten peers calls), tt))
+      asked_told e (Some (act.Block key m)) = blocked_told (call.Block key at) key
+      asked_told e (Some (act.PeerSet index m)) = (((refl, refl), eq-eqb n n refl), tt)
+      asked_told e (Some (act.Subscribe m)) = updates_told (e ∷ []) (latest_update key_cmp rules calls)
+      asked_told e (Some (act.Blocked m)) = sets_told (e ∷ []) (blocked_keys key_cmp rules calls at)
+      asked_told e _ = tt
+
+      item_told : (log : List Entry) (i : Item) → Each (IsTold n) (puts.item_puts rules n at updates sets calls log i)
+      item_told log (item.Call e) = asked_told e (asked_by log e)
+      item_told log (item.Connect conn key) = unless_told (accepts key_cmp rules calls key (Some at))
+        where
+          unless_told : (b : Bool) → Each (IsTold n) (cond b [] (puts.kill_put n (Some conn)))
+          unless_told true = tt
+          unless_told false = kill_told (Some conn)
+      item_told log item.AskDialable = (((refl, refl), eq-eqb n n refl), tt)
+      item_told log (item.AskDial key) = (((refl, refl), eq-eqb n n refl), tt)
+      item_told log _ = tt
+
+-- a ring of the tracker takes items that carry no copy
+abbrev IsRing : ℕ → Queue → Type 0
+IsRing n q = (holds_bare q ≡ true) × (in_tracker n q ≡ true)
+
+ring_near : (n : ℕ) (q : Queue) → in_tracker n q ≡ true → Each (IsRing n) (rows.ring_of q)
+ring_near n (queue.Update m) h = ((refl, h), tt)
+ring_near n (queue.Blocked m e) h = ((refl, h), tt)
+ring_near n _ h = tt
+
+rings_told : (n : ℕ) (xs : List Put) → Each (IsTold n) xs → Each (IsRing n) (rows.rings_of xs)
+rings_told n [] h = tt
+rings_told n (x ∷ xs) h = Each-append (IsRing n) (rows.ring_of x.0) (rows.rings_of xs) (ring_near n x.0 h.0.1) (rings_told n xs h.1)
+
+module _ (configs : List Config) (log : List Entry) (n : ℕ) (xs : List Put) (told : Each (IsTold n) xs) where
+  abbrev left : List (ℕ × ℕ) → List Envelope
+  left takes = filter (stays takes) (live log)
+
+  apart : (takes : List (ℕ × ℕ)) → AreApart (left takes)
+  apart takes = AreApart-filter (stays takes) (live log) (AreApart-live_from 0 log)
+
+  abbrev qs : List Queue
+  qs = rows.rings_of xs
+
+  ringed : Each (IsRing n) qs
+  ringed = rings_told n xs told
+
+  quiet : Each IsQuiet xs
+  quiet = Each-weaker (IsTold n) IsQuiet (λ x h. h.0) xs told
+
+  near : Each (λ x. in_tracker n x.0 ≡ true) xs
+  near = Each-weaker (IsTold n) (λ x. in_tracker n x.0 ≡ true) (λ x h. h.1) xs told
+
+  ends_near : (takes : List (ℕ × ℕ)) → Each (λ x. in_tracker n x.queue ≡ true) (rings (left takes) qs)
+  ends_near takes = rings_in (λ q. in_tracker n q ≡ true) (left takes) qs (Each-weaker (IsRing n) (λ q. in_tracker n q ≡ true) (λ q h. h.1) qs ringed)
+
+  ends_bare : (takes : List (ℕ × ℕ)) → Standing configs log → Each (λ x. is_bare x.item ≡ true) (rings (left takes) qs)
+  ends_bare takes stand =
+      rings_bare (left takes) qs (apart takes) (Each-filter StandsFit (stays takes) (live log) stand.fitting)
+      (Each-weaker (IsRing n) (λ q. holds_bare q ≡ true) (λ q h. h.0) qs ringed)
+
+  -- the oldest message is taken
+  served_shape : (x : Envelope) (rest : List Envelope) → line log (queue.Tracker n) ≡ x ∷ rest → Shape configs log (act.Tracker n) (rows.told_row log (name_of x ∷ []) xs)
+  served_shape x rest first =
+      let r : Row = rows.told_row log (name_of x ∷ []) xs in
+      let m : Moves log r = record {
+        taken = x ∷ [];
+        ended = rings (left (name_of x ∷ [])) qs;
+        names = refl;
+        gone = rings_gone (left (name_of x ∷ [])) qs;
+        stood = AreTaken-append (live log) (x ∷ []) (rings (left (name_of x ∷ [])) qs) (stands_first log (queue.Tracker n) x rest first) (rings_taken (left (name_of x ∷ [])) qs (apart (name_of x ∷ [])));
+      } in
+      record {
+        moves = m;
+        reach = record { taken = (first_in (reads configs log (act.Tracker n)) log (queue.Tracker n) x rest first (same_queue-refl (queue.Tracker n)), tt); ended = ends_near (name_of x ∷ []); puts = near };
+        laws = λ stand.
+            let whole : fits x.queue x.item ≡ true = first_has StandsFit log (queue.Tracker n) x rest stand.fitting first in
+            let fit : fits (queue.Tracker n) x.item ≡ true = subst (λ p. fits p x.item ≡ true) (one_taken log (queue.Tracker n) x rest first) whole in
+            quiet_laws configs log (act.Tracker n) r m refl refl (bare_there (queue.Tracker n) x.item refl fit, tt) (ends_bare (name_of x ∷ []) stand) (ring_ends_items (left (name_of x ∷ [])) qs) quiet;
+      }
+
+  -- blocks have ended, and nothing is taken
+  unblocked_shape : Shape configs log (act.Tracker n) (rows.told_row log [] xs)
+  unblocked_shape =
+      let r : Row = rows.told_row log [] xs in
+      let m : Moves log r = record { taken = []; ended = rings (left []) qs; names = refl; gone = rings_gone (left []) qs; stood = from_all (rings_taken (left []) qs (apart [])) } in
+      record {
+        moves = m;
+        reach = record { taken = tt; ended = ends_near []; puts = near };
+        laws = λ stand. quiet_laws configs log (act.Tracker n) r m refl refl tt (ends_bare [] stand) (ring_ends_items (left []) qs) quiet;
+      }
+    where
+      from_all : AreTaken (left []) (rings (left []) qs) → AreTaken (live log) (rings (left []) qs)
+      from_all h = subst (λ l. AreTaken l (rings (left []) qs)) (filter_stays-nil (live log)) h
+
+module _ (configs : List Config) (log : List Entry) (n at : ℕ) where
+  abbrev us : List ℕ
+  us = update_subscriptions log n
+
+  abbrev bs : List ℕ
+  bs = blocked_subscriptions log n
+
+  oldest_served : (xs : List Envelope) → line log (queue.Tracker n) ≡ xs → Shape configs log (act.Tracker n) (rows.served_row configs log n at xs)
+  oldest_served [] first = still configs log (act.Tracker n) reply.Idle refl refl
+  oldest_served (x ∷ rest) first =
+      served_shape configs log n (puts.item_puts (rules_at configs n) n at us bs (calls_of configs log n) log x.item)
+      (item_told n (rules_at configs n) at us bs (calls_of configs log n) log x.item) x rest first
+
+  step_shape : Shape configs log (act.Tracker n) (rows.tracker_step configs log n at)
+  step_shape = by_due (puts.is_some_of (due_keys key_cmp (rules_at configs n) (calls_of configs log n) at))
+    where
+      by_due : (b : Bool) → Shape configs log (act.Tracker n) (cond b (rows.told_row log [] (puts.unblocked_puts (rules_at configs n) n at us bs (calls_of configs log n) (call.UnblockExpired at))) (rows.served_row configs log n at (line log (queue.Tracker n))))
+      by_due true = unblocked_shape configs log n (puts.unblocked_puts (rules_at configs n) n at us bs (calls_of configs log n) (call.UnblockExpired at)) (unblocked_told n (rules_at configs n) at us bs (calls_of configs log n) (call.UnblockExpired at))
+      by_due false = oldest_served (line log (queue.Tracker n)) refl
+
+  pub tracker_shape : Shape configs log (act.Tracker n) (rows.tracker_row configs log n at)
+  tracker_shape = by_up (is_up log n)
+    where
+      by_up : (b : Bool) → Shape configs log (act.Tracker n) (cond b (rows.tracker_step configs log n at) (only reply.Gone))
+      by_up true = step_shape
+      by_up false = still configs log (act.Tracker n) reply.Gone refl refl

@@ -1,0 +1,29 @@
+-- Words for rows: a reply alone, the size of a node's mailboxes, and rings.
+use Rattle.std.specs.Prelude.{ℕ, List, [], ◌∷◌, ◌++◌, filter, flat_map, Some, None, slice_get}
+use Rattle.p2p_log.specs.declared.config.Config.{Config}
+use Rattle.p2p_log.specs.declared.queue.Queue.{Queue}
+use Rattle.p2p_log.specs.declared.item.Envelope.{Envelope}
+use Rattle.p2p_log.specs.declared.end.End.{End}
+use Rattle.p2p_log.specs.declared.end.End.TheVariants as end
+use Rattle.p2p_log.specs.declared.entry.Reply.{Reply}
+use Rattle.p2p_log_rules.specs.declared.row.Row.{Row}
+use Rattle.p2p_log.specs.Lines.{stands_in, stays, ended_item}
+
+-- a reply that moves nothing
+abbrev pub only : Reply → Row
+only r = record { reply = r; takes = []; puts = []; ends = [] }
+
+abbrev pub mailbox_size_at : List Config → ℕ → ℕ
+mailbox_size_at configs n = elim (slice_get configs n) [ None ↦ 0 | Some c ↦ c.mailbox_size ]
+
+-- an item that the next one overwrites, of a queue that holds one
+abbrev pub overwritten : List Envelope → List End
+overwritten [] = []
+overwritten (x ∷ _) = end.Item x.entry x.place ∷ []
+
+-- what comes of what these queues hold, each of which holds one, among what stands in queues: it is overwritten
+abbrev pub ring_ends : List Envelope → List Queue → List End
+ring_ends items [] = []
+ring_ends items (q ∷ qs) =
+    let ends = overwritten (filter (stands_in q) items) in
+    ends ++ ring_ends (filter (stays (flat_map ended_item ends)) items) qs

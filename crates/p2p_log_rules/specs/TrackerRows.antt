@@ -1,0 +1,141 @@
+-- The rows of a node's tracker: what it is asked, its step, and what those who asked take.
+use Rattle.std.specs.Prelude.{ℕ, Bool, true, false, ◌==◌, ◌&&◌, cond, nat_lt, List, [], ◌∷◌, flat_map, filter, length, Some, None, slice_get}
+use Rattle.std.specs.List.{list_any}
+use Rattle.std.specs.Map.{keys_of}
+use Rattle.p2p_base.specs.declared.key.Key.{Key}
+use Rattle.p2p_base.specs.declared.outcome.Feedback.{Feedback}
+use Rattle.p2p_base.specs.declared.outcome.Feedback.TheVariants as feedback
+use Rattle.p2p_flow.specs.SetSize.{set_size}
+use Rattle.p2p_flow.specs.declared.addressable.AddressableTrackedPeers.{AddressableTrackedPeers}
+use Rattle.p2p_tracker_calls.specs.declared.call.Call.TheVariants as call
+use Rattle.p2p_tracker_calls.specs.BlockedKeys.{due_keys}
+use Rattle.p2p_log.specs.declared.config.Config.{Config}
+use Rattle.p2p_log.specs.declared.queue.Queue.{Queue}
+use Rattle.p2p_log.specs.declared.queue.Queue.TheVariants as queue
+use Rattle.p2p_log.specs.declared.item.Item.{Item}
+use Rattle.p2p_log.specs.declared.item.Item.TheVariants as item
+use Rattle.p2p_log.specs.declared.item.Envelope.{Envelope}
+use Rattle.p2p_log.specs.declared.entry.Entry.{Entry}
+use Rattle.p2p_log.specs.declared.entry.Reply.{Reply}
+use Rattle.p2p_log.specs.declared.entry.Reply.TheVariants as reply
+use Rattle.p2p_log.specs.declared.event.Act.{Act}
+use Rattle.p2p_log.specs.declared.event.Act.TheVariants as act
+use Rattle.p2p_log_rules.specs.declared.row.Row.{Row}
+use Rattle.p2p_log.specs.Lines.{name_of, stays, live, line}
+use Rattle.p2p_log_rules.specs.Facts.{is_up, key_at}
+use Rattle.p2p_log_rules.specs.Rows.{only, mailbox_size_at, ring_ends}
+use Rattle.p2p_log_rules.specs.Tracking.{key_cmp, rules_at, asked_by, calls_of, update_subscriptions, blocked_subscriptions}
+use Rattle.p2p_log_rules.specs.TrackerPuts.{Put, is_some_of, unblocked_puts, item_puts}
+
+-- ---- what it is asked
+
+-- what a mailbox of this size tells of one message more than these: it keeps it also where it is full
+abbrev pub told_by : ℕ → List Envelope → Feedback
+told_by size waiting = cond (nat_lt (length waiting) size) feedback.Ok feedback.Backoff
+
+-- a question, which waits in the tracker's mailbox under the number of its event
+abbrev pub asked_row : List Config → List Entry → ℕ → Row
+asked_row configs log n = record {
+  reply = reply.Feedback (told_by (mailbox_size_at configs n) (line log (queue.Tracker n)));
+  takes = [];
+  puts = (queue.Tracker n, item.Call (length log)) ∷ [];
+  ends = [];
+}
+
+abbrev pub most_peers_at : List Config → ℕ → ℕ
+most_peers_at configs n = elim (slice_get configs n) [ None ↦ 0 | Some c ↦ c.max_peers_per_set ]
+
+-- how many keys a set has at a node, its own counted
+abbrev pub size_at : List Config → ℕ → AddressableTrackedPeers Key → ℕ
+size_at configs n peers = set_size key_cmp (key_at configs n) (keys_of peers.primary) (keys_of peers.secondary)
+
+-- a set that is not too large is asked for
+abbrev pub track_row : List Config → List Entry → ℕ → AddressableTrackedPeers Key → Row
+track_row configs log n peers =
+    cond (nat_lt (most_peers_at configs n) (size_at configs n peers))
+    (only (reply.PeerSetTooLarge (size_at configs n peers) (most_peers_at configs n)))
+    (asked_row configs log n)
+
+-- ---- its step
+
+-- the queue, where it holds one item: the next one overwrites it
+abbrev pub ring_of : Queue → List Queue
+ring_of (queue.Update n) = queue.Update n ∷ []
+ring_of (queue.Blocked n e) = queue.Blocked n e ∷ []
+ring_of _ = []
+
+-- the rings into which these items go, in order
+abbrev pub rings_of : List Put → List Queue
+rings_of puts = flat_map (λ x. ring_of x.0) puts
+
+-- what it puts once it took the items of these names, and what that overwrites
+abbrev pub told_row : List Entry → List (ℕ × ℕ) → List Put → Row
+told_row log takes puts = record { reply = reply.Ok; takes = takes; puts = puts; ends = ring_ends (filter (stays takes) (live log)) (rings_of puts) }
+
+-- the oldest message
+abbrev pub served_row : List Config → List Entry → ℕ → ℕ → List Envelope → Row
+served_row configs log n at [] = only reply.Idle
+served_row configs log n at (x ∷ _) =
+    told_row log (name_of x ∷ [])
+    (item_puts (rules_at configs n) n at (update_subscriptions log n) (blocked_subscriptions log n) (calls_of configs log n) log x.item)
+
+-- blocks that have ended come before the mailbox
+abbrev pub tracker_step : List Config → List Entry → ℕ → ℕ → Row
+tracker_step configs log n at =
+    cond (is_some_of (due_keys key_cmp (rules_at configs n) (calls_of configs log n) at))
+    (told_row log []
+    (unblocked_puts (rules_at configs n) n at (update_subscriptions log n) (blocked_subscriptions log n) (calls_of configs log n) (call.UnblockExpired at)))
+    (served_row configs log n at (line log (queue.Tracker n)))
+
+abbrev pub tracker_row : List Config → List Entry → ℕ → ℕ → Row
+tracker_row configs log n at = cond (is_up log n) (tracker_step configs log n at) (only reply.Gone)
+
+-- ---- what those who asked take
+
+-- whether an entry took the answer to this question
+abbrev pub is_answer : Reply → Bool
+is_answer (reply.PeerSet peers) = true
+is_answer _ = false
+
+abbrev pub answers : ℕ → Act → Reply → Bool
+answers e (act.Answer question) r = (question == e) && is_answer r
+answers e _ r = false
+
+-- whether the answer to a question was taken
+unfoldable pub was_answered : List Entry → ℕ → Bool
+was_answered log e = list_any (λ d. answers e d.event.act d.reply) log
+
+abbrev pub taken_row : Reply → Envelope → Row
+taken_row r x = record { reply = r; takes = name_of x ∷ []; puts = []; ends = [] }
+
+-- what a reader is told of an item
+abbrev pub told_of : Item → Reply
+told_of (item.PeerSet peers) = reply.PeerSet peers
+told_of (item.Update update) = reply.Update update
+told_of (item.Blocked keys) = reply.Blocked keys
+told_of _ = reply.Pending
+
+-- the oldest item of a queue, or this reply
+abbrev pub oldest_row : Reply → List Envelope → Row
+oldest_row empty [] = only empty
+oldest_row empty (x ∷ _) = taken_row (told_of x.item) x
+
+-- the answer was taken, or is there, or is awaited
+abbrev pub answer_at : List Entry → ℕ → ℕ → Row
+answer_at log n e = cond (was_answered log e) (only reply.Gone) (oldest_row reply.Pending (line log (queue.Answer n e)))
+
+abbrev pub answer_row : List Entry → ℕ → Row
+answer_row log e = elim (asked_by log e) [
+  | None ↦ only reply.Gone
+  | Some a ↦ elim a [ act.PeerSet index n ↦ answer_at log n e | _ ↦ only reply.Gone ]
+]
+
+abbrev pub next_row : List Entry → ℕ → Row
+next_row log e = elim (asked_by log e) [
+  | None ↦ only reply.Gone
+  | Some a ↦ elim a [
+    | act.Subscribe n ↦ oldest_row reply.Pending (line log (queue.Updates n e))
+    | act.Blocked n ↦ oldest_row reply.Pending (line log (queue.Blocked n e))
+    | _ ↦ only reply.Gone
+  ]
+]

@@ -1,0 +1,99 @@
+-- A new tracker stands for no entry, and what waits for one that stands may be taken.
+use Rattle.std.proofs.Common.{◌≡◌, ℕ, Bool, true, false, List, [], ◌∷◌, map, length, refl, ap, sym, subst, ◌∙◌, Option, Some, None}
+use Rattle.std.specs.Prelude.{slice_get, IfSome}
+use Rattle.p2p_base.specs.declared.key.Key.{Key}
+use Rattle.p2p_tracker_calls.specs.declared.call.Call.{Call}
+use Rattle.p2p_tracker_calls.specs.Keeping.{kept_of}
+use Rattle.p2p_tracker_directory.specs.Stands.{Kept, StandsFor}
+use Rattle.p2p_tracker_mailbox.specs.Desk.{next_message}
+use Rattle.p2p_tracker_mailbox.specs.Mailboxes.{new_mailbox}
+use Rattle.p2p_tracker_mailbox.specs.declared.message.Message.{Message}
+use Rattle.p2p_tracker.specs.Following.{Follows}
+use Rattle.p2p_tracker.specs.Serving.{MayTake}
+use Rattle.p2p_tracker.specs.Tracking.{Tracking, new_tracking}
+use Rattle.p2p_tracker_mailbox.specs.declared.mailbox.Mailbox.{Mailbox}
+use Rattle.p2p_tracker_calls.specs.Rules.{Rules}
+use Rattle.p2p_net_tracker.specs.declared.naming.Tickets.{Tickets}
+use Rattle.p2p_log.specs.declared.config.Config.{Config}
+use Rattle.p2p_log.specs.declared.queue.Queue.{Queue}
+use Rattle.p2p_log.specs.declared.queue.Queue.TheVariants as queue
+use Rattle.p2p_log.specs.declared.item.Item.{Item}
+use Rattle.p2p_log.specs.declared.item.Item.TheVariants as item
+use Rattle.p2p_log.specs.declared.item.Envelope.{Envelope}
+use Rattle.p2p_log.specs.declared.entry.Entry.{Entry}
+use Rattle.p2p_log.specs.Lines.{name_of, live_from, line}
+use Rattle.p2p_log_rules.specs.Facts.{history_from, key_at}
+use Rattle.p2p_log_rules.specs.Rows.{mailbox_size_at}
+use Rattle.p2p_log_rules.specs.Tracking.{key_cmp, rules_of, no_rules, rules_at, calls_from, calls_of, update_subscriptions, blocked_subscriptions}
+use Rattle.p2p_log_rules.specs.TrackerRows.{most_peers_at, was_answered}
+use Rattle.p2p_net_queues.specs.Board.{held}
+use Rattle.p2p_net_queues.specs.Tables as table
+use Rattle.p2p_net_tracker.specs.declared.tracker.Tracker.{Tracker}
+use Rattle.p2p_net_tracker.specs.Begins.{IsNew}
+use Rattle.p2p_net_tracker.specs.Stands.{Match, IsTicket, IsMessage, TrackerStands}
+use Rattle.p2p_net_tracker.proofs.Serving.{says-may_take}
+
+no_calls : (configs : List Config) (n : ℕ) → calls_of configs [] n ≡ []
+unfolding calls_of calls_from
+no_calls configs n = refl
+
+no_line : (q : Queue) → line [] q ≡ []
+unfolding line live_from
+no_line q = refl
+
+no_updates : (n : ℕ) → update_subscriptions [] n ≡ []
+unfolding update_subscriptions history_from
+no_updates n = refl
+
+no_sets : (n : ℕ) → blocked_subscriptions [] n ≡ []
+unfolding blocked_subscriptions history_from
+no_sets n = refl
+
+none_answered : (d : ℕ) → was_answered [] d ≡ false
+unfolding was_answered
+none_answered d = refl
+
+follows_none : (d : Kept Key) → StandsFor key_cmp d [] → Follows key_cmp d [] []
+unfolding kept_of
+follows_none d s = record { stands = s; exactly = λ q. refl; held = λ q h. cc; others = λ q h. cc }
+
+pub tracker_new : (configs : List Config) (n : ℕ) (c : Config) (t : Tracker) → slice_get configs n ≡ Some c → IsNew c t → TrackerStands configs [] n t
+tracker_new configs n c t is h =
+    let there : rules_at configs n ≡ rules_of c = ap (λ (o : Option Config). elim o [ None ↦ no_rules | Some d ↦ rules_of d ]) is in
+    record {
+      follows = subst (Follows key_cmp t.actor.directory t.actor.controls) (sym (no_calls configs n))
+          (subst (λ l. Follows key_cmp t.actor.directory l []) (sym (ap (λ (a : Tracking Key). a.controls) h.actor)) (follows_none t.actor.directory h.stands));
+      rules = h.rules ∙ sym there;
+      cooldown = ap (λ (a : Tracking Key). a.cooldown) h.actor ∙ sym (ap (λ (r : Rules Key). r.cooldown) there);
+      works = ap (λ (a : Tracking Key). a.has_failed) h.actor;
+      local = h.local ∙ sym (ap (λ (o : Option Config). elim o [ None ↦ record { 0 = 0 } | Some d ↦ d.public_key ]) is);
+      most = h.most ∙ sym (ap (λ (o : Option Config). elim o [ None ↦ 0 | Some d ↦ d.max_peers_per_set ]) is);
+      is_open = ap (λ (m : Mailbox Key). m.desk.messages.closed) h.mailbox;
+      size = ap (λ (m : Mailbox Key). m.desk.messages.capacity) h.mailbox ∙ sym (ap (λ (o : Option Config). elim o [ None ↦ 0 | Some d ↦ d.mailbox_size ]) is);
+      names = h.names ∙ sym (ap (λ l. map name_of l) (no_line (queue.Tracker n)));
+      messages = subst (λ l. Match (λ x m. IsMessage t.tickets [] x.item m) l t.mailbox.desk.messages.items) (sym (no_line (queue.Tracker n)))
+          (subst (Match (λ (x : Envelope) m. IsMessage t.tickets [] x.item m) []) (sym (ap (λ (m : Mailbox Key). m.desk.messages.items) h.mailbox)) tt);
+      questions = ap (λ (m : Mailbox Key). length m.desk.questions) h.mailbox ∙ sym (ap (λ (k : Tickets). length k.questions) h.tickets);
+      updates = ap (λ (m : Mailbox Key). length m.desk.updates) h.mailbox ∙ sym (ap (λ (k : Tickets). length k.updates) h.tickets);
+      sets = ap (λ (m : Mailbox Key). length m.desk.sets) h.mailbox ∙ sym (ap (λ (k : Tickets). length k.blocked) h.tickets);
+      subscribed = subst (Match (IsTicket t.tickets.updates) t.actor.updates) (sym (no_updates n)) (subst (λ l. Match (IsTicket t.tickets.updates) l []) (sym (ap (λ (a : Tracking Key). a.updates) h.actor)) tt);
+      subscribed_blocked = subst (Match (IsTicket t.tickets.blocked) t.actor.sets) (sym (no_sets n)) (subst (λ l. Match (IsTicket t.tickets.blocked) l []) (sym (ap (λ (a : Tracking Key). a.sets) h.actor)) tt);
+      asked = λ d. ap (λ l. table.at l d) h.questions;
+      answered = λ d is. cc;
+      fresh = λ d past. (ap (λ l. table.at l d) h.answered, none_answered d);
+      told = λ q own. h.told q ∙ sym (no_line q);
+    }
+
+-- the oldest message may be taken
+pub may_take : (configs : List Config) (log : List Entry) (n now : ℕ) (t : Tracker) → TrackerStands configs log n t → IfSome (next_message t.mailbox.desk) (λ m. MayTake key_cmp t.actor.directory m now)
+may_take configs log n now t s = of_line (line log (queue.Tracker n)) t.mailbox.desk.messages.items s.messages
+  where
+    of_line : (l : List Envelope) (ms : List (Message Key)) → Match (λ x m. IsMessage t.tickets log x.item m) l ms → IfSome (slice_get ms 0) (λ m. MayTake key_cmp t.actor.directory m now)
+    of_line [] [] h = tt
+    of_line (x ∷ l) (m ∷ ms) h = of_item x.item m h.0
+      where
+        of_item : (i : Item) (m : Message Key) → IsMessage t.tickets log i m → MayTake key_cmp t.actor.directory m now
+        of_item (item.Call e) m h = says-may_take t.actor.directory t.tickets e h.0 m now h.2
+        of_item _ m h = absurd h
+    of_line [] (m ∷ ms) h = absurd h
+    of_line (x ∷ l) [] h = absurd h

@@ -1,0 +1,209 @@
+-- A node's tracker after one more entry: one that leaves it alone, one that asks it, and one that reads what it told.
+use Rattle.std.proofs.Common.{◌≡◌, ℕ, ◌+◌, Bool, true, false, cond, List, [], ◌∷◌, ◌++◌, map, drop, length, Some, None, refl, ap, sym, subst, ◌∙◌, arith, append-nil, eq-eqb}
+use Rattle.std.specs.Prelude.{◌==◌, filter, flat_map, slice_get, is_some, if◌then◌else◌}
+use Rattle.std.proofs.lemmas.List.{map-append}
+use Rattle.p2p_base.specs.declared.key.Key.{Key}
+use Rattle.p2p_base.specs.declared.policy.Keep.TheVariants.{Append}
+use Rattle.p2p_base.specs.Queue.{enqueued, has_room}
+use Rattle.p2p_tracker.specs.Following.{Follows}
+use Rattle.p2p_tracker_mailbox.specs.Desk.{Desk}
+use Rattle.p2p_tracker_mailbox.specs.Mailboxes.{with_desk}
+use Rattle.p2p_tracker_mailbox.specs.declared.message.Message.{Message}
+use Rattle.p2p_log.specs.declared.config.Config.{Config}
+use Rattle.p2p_log.specs.declared.queue.Queue.{Queue}
+use Rattle.p2p_log.specs.declared.queue.Queue.TheVariants as queue
+use Rattle.p2p_log.specs.declared.item.Item.{Item}
+use Rattle.p2p_log.specs.declared.item.Item.TheVariants as item
+use Rattle.p2p_log.specs.declared.item.Envelope.{Envelope}
+use Rattle.p2p_log.specs.declared.entry.Entry.{Entry}
+use Rattle.p2p_log.specs.declared.event.Act.{Act}
+use Rattle.p2p_log.specs.declared.event.Act.TheVariants as act
+use Rattle.p2p_log.specs.QueueCode.{same_queue}
+use Rattle.p2p_log.specs.Lines.{name_of, ended_item, goes, line, placed, stands_in}
+use Rattle.p2p_log.proofs.Queues.{same_queue-refl}
+use Rattle.p2p_log.proofs.QueueNames.{queue_from_same}
+use Rattle.p2p_log_rules.specs.Tracking.{key_cmp, asked_by, steps_tracker, calls_of, update_subscriptions, blocked_subscriptions}
+use Rattle.p2p_net_queues.specs.Board.{held}
+use Rattle.p2p_net_queues.proofs.Going.{put_in, line-kept, line-taken}
+use Rattle.p2p_net_queues.proofs.Holding.{TakesFirst}
+use Rattle.p2p_net_tracker.specs.declared.naming.Tickets.{Tickets}
+use Rattle.p2p_net_tracker.specs.declared.tracker.Tracker.{Tracker}
+use Rattle.p2p_log_rules.specs.TrackerRows.{answers, was_answered}
+use Rattle.p2p_net_queues.specs.Tables as table
+use Rattle.p2p_net_tracker.specs.declared.question.Question.{Question}
+use Rattle.p2p_net_tracker.specs.declared.question.Question.TheVariants as question
+use Rattle.p2p_net_tracker.specs.Stands.{asks_of, asks_at, AreFresh, is_told, Match, IsTicket, Says, IsMessage, TrackerStands, LeavesTracker}
+use Rattle.p2p_net_tracker.proofs.Facts.{asks_at-kept, fresh-longer, was_answered-kept, calls-kept, update_subscriptions-kept, blocked_subscriptions-kept, asked_by-longer}
+use Rattle.p2p_net_tracker.proofs.Matching.{Match-weaker, Match-last, slice_get-longer, slice_get-last}
+
+-- the tickets are these, and some more
+pub record AreMore (old new : Tickets) : Type 0 where
+  pub questions : (t e : ℕ) → slice_get old.questions t ≡ Some e → slice_get new.questions t ≡ Some e
+  pub updates : (t e : ℕ) → slice_get old.updates t ≡ Some e → slice_get new.updates t ≡ Some e
+  pub blocked : (t e : ℕ) → slice_get old.blocked t ≡ Some e → slice_get new.blocked t ≡ Some e
+
+pub same_tickets : (t : Tickets) → AreMore t t
+same_tickets t = record { questions = λ k e h. h; updates = λ k e h. h; blocked = λ k e h. h }
+
+Says-more : (old new : Tickets) → AreMore old new → (e : ℕ) (a : Act) (m : Message Key) → Says old e a m → Says new e a m
+Says-more old new more e (act.Track index n peers) m h = h
+Says-more old new more e (act.Overwrite n peers) m h = h
+Says-more old new more e (act.Block key n) m h = h
+Says-more old new more e (act.PeerSet index n) m h = (h.0, h.1, more.questions h.0 e h.2)
+Says-more old new more e (act.Subscribe n) m h = (h.0, h.1, more.updates h.0 e h.2)
+Says-more old new more e (act.Blocked n) m h = (h.0, h.1, more.blocked h.0 e h.2)
+Says-more old new more e _ m h = absurd h
+
+pub IsMessage-longer : (old new : Tickets) → AreMore old new → (log more : List Entry) (i : Item) (m : Message Key) → IsMessage old log i m → IsMessage new (log ++ more) i m
+IsMessage-longer old new given log more (item.Call e) m h = (h.0, asked_by-longer log more e h.0 h.1, Says-more old new given e h.0 m h.2)
+IsMessage-longer old new given log more _ m h = absurd h
+
+-- an entry that leaves it alone
+pub tracker_frame : (configs : List Config) (log : List Entry) (e : Entry) (n : ℕ) (t : Tracker) → TrackerStands configs log n t → LeavesTracker log e n → TrackerStands configs (log ++ e ∷ []) n t
+tracker_frame configs log e n t s q = record {
+  follows = subst (Follows key_cmp t.actor.directory t.actor.controls) (sym (calls-kept configs log e n q.no_step)) s.follows;
+  rules = s.rules;
+  cooldown = s.cooldown;
+  works = s.works;
+  local = s.local;
+  most = s.most;
+  is_open = s.is_open;
+  size = s.size;
+  names = s.names ∙ ap (map name_of) (sym q.mailbox);
+  messages = subst (λ l. Match (λ x m. IsMessage t.tickets (log ++ e ∷ []) x.item m) l t.mailbox.desk.messages.items) (sym q.mailbox)
+      (Match-weaker (λ (x : Envelope) m. IsMessage t.tickets log x.item m) (λ (x : Envelope) m. IsMessage t.tickets (log ++ e ∷ []) x.item m)
+      (λ (x : Envelope) m h. IsMessage-longer t.tickets t.tickets (same_tickets t.tickets) log (e ∷ []) x.item m h) (line log (queue.Tracker n)) t.mailbox.desk.messages.items s.messages);
+  questions = s.questions;
+  updates = s.updates;
+  sets = s.sets;
+  subscribed = subst (Match (IsTicket t.tickets.updates) t.actor.updates) (sym (update_subscriptions-kept log e n q.no_step)) s.subscribed;
+  subscribed_blocked = subst (Match (IsTicket t.tickets.blocked) t.actor.sets) (sym (blocked_subscriptions-kept log e n q.no_step)) s.subscribed_blocked;
+  asked = λ d. s.asked d ∙ sym (asks_at-kept log e n d q.no_question);
+  answered = λ d is.
+      let before : asks_at log n d ≡ Some question.PeerSet = sym (asks_at-kept log e n d q.no_question) ∙ is in
+      s.answered d before ∙ sym (was_answered-kept log e d (q.no_answer d before));
+  fresh = fresh-longer log e t.answered s.fresh q.no_late_answer;
+  told = λ p own. s.told p own ∙ sym (q.told p own);
+}
+
+-- ---- a question
+
+-- its mailbox is no queue in which it tells something
+pub told_apart : (n m : ℕ) (q : Queue) → is_told n q ≡ true → same_queue q (queue.Tracker m) ≡ false
+told_apart n m (queue.Update k) h = refl
+told_apart n m (queue.Dialer k) h = refl
+told_apart n m (queue.Control k e) h = refl
+told_apart n m (queue.Answer k e) h = refl
+told_apart n m (queue.Updates k e) h = refl
+told_apart n m (queue.Blocked k e) h = refl
+told_apart n m _ h = cc
+
+-- a mailbox that is open keeps each message
+kept_open : {T : Type 0} (closed room : Bool) (xs : List T) (m : T) → closed ≡ false → (if closed then xs else (if room then xs ++ m ∷ [] else xs ++ m ∷ [])) ≡ xs ++ m ∷ []
+kept_open true room xs m h = cc
+kept_open false true xs m h = refl
+kept_open false false xs m h = refl
+
+-- the entry asks the tracker, and does no more
+pub record Asks (log : List Entry) (e : Entry) (n : ℕ) : Type 0 where
+  pub no_step : steps_tracker n e.event.act ≡ false
+  pub no_answer : (d : ℕ) → answers d e.event.act e.reply ≡ false
+  pub takes : e.takes ≡ []
+  pub puts : e.puts ≡ (queue.Tracker n, item.Call (length log)) ∷ []
+  pub ends : e.ends ≡ []
+
+asked-now : (log : List Entry) (e : Entry) → asked_by (log ++ e ∷ []) (length log) ≡ Some e.event.act
+asked-now log e = ap (λ o. elim o [ None ↦ None | Some d ↦ Some d.event.act ]) (slice_get-last log e)
+
+-- with this desk and these tickets, of which the newest message says what the entry asks
+pub tracker_asked : (configs : List Config) (log : List Entry) (e : Entry) (n : ℕ) (t : Tracker) (desk : Desk Key) (tickets : Tickets) (questions_now : List (ℕ × Question)) (m : Message Key) → TrackerStands configs log n t → Asks log e n
+    → AreMore t.tickets tickets → desk.messages ≡ enqueued Append t.mailbox.desk.messages m → Says tickets (length log) e.event.act m
+    → length desk.questions ≡ length tickets.questions → length desk.updates ≡ length tickets.updates → length desk.sets ≡ length tickets.blocked
+    → ((d : ℕ) → table.at questions_now d ≡ asks_at (log ++ e ∷ []) n d) → ((d : ℕ) → asks_at (log ++ e ∷ []) n d ≡ Some question.PeerSet → is_some (table.at t.answered d) ≡ was_answered log d)
+    → TrackerStands configs (log ++ e ∷ []) n (record t { mailbox = with_desk t.mailbox desk; names = t.names ++ (length log, 0) ∷ []; tickets = tickets; questions = questions_now })
+tracker_asked configs log e n t desk tickets questions_now m s q more put says questions updates sets asked answered =
+    let x : Envelope = record { entry = length log; place = 0; queue = queue.Tracker n; item = item.Call (length log) } in
+    let none : goes e ≡ [] = ap (λ l. l ++ flat_map ended_item e.ends) q.takes ∙ ap (flat_map ended_item) q.ends in
+    let added : (p : Queue) → put_in log e p ≡ cond (same_queue p (queue.Tracker n)) (x ∷ []) [] = λ p. ap (λ l. filter (stands_in p) (placed (length log) 0 l)) q.puts in
+    let longer : line (log ++ e ∷ []) (queue.Tracker n) ≡ line log (queue.Tracker n) ++ x ∷ [] =
+    line-kept log e (queue.Tracker n) none
+    ∙ ap (λ l. line log (queue.Tracker n) ++ l) (added (queue.Tracker n) ∙ ap (λ b. cond b (x ∷ []) []) (same_queue-refl (queue.Tracker n)))
+    in
+    let items : desk.messages.items ≡ t.mailbox.desk.messages.items ++ m ∷ [] =
+    ap (λ r. r.items) put ∙ kept_open t.mailbox.desk.messages.closed (has_room t.mailbox.desk.messages) t.mailbox.desk.messages.items m s.is_open
+    in
+    record {
+      follows = subst (Follows key_cmp t.actor.directory t.actor.controls) (sym (calls-kept configs log e n q.no_step)) s.follows;
+      rules = s.rules;
+      cooldown = s.cooldown;
+      works = s.works;
+      local = s.local;
+      most = s.most;
+      is_open = ap (λ r. r.closed) put ∙ s.is_open;
+      size = ap (λ r. r.capacity) put ∙ s.size;
+      names = ap (λ l. l ++ (length log, 0) ∷ []) s.names ∙ (sym (map-append name_of (line log (queue.Tracker n)) (x ∷ [])) ∙ ap (map name_of) (sym longer));
+      messages = subst (λ l. Match (λ y k. IsMessage tickets (log ++ e ∷ []) y.item k) l desk.messages.items) (sym longer)
+          (subst (λ l. Match (λ y k. IsMessage tickets (log ++ e ∷ []) y.item k) (line log (queue.Tracker n) ++ x ∷ []) l) (sym items)
+          (Match-last (λ (y : Envelope) k. IsMessage tickets (log ++ e ∷ []) y.item k) (line log (queue.Tracker n)) t.mailbox.desk.messages.items x m
+          (Match-weaker (λ (y : Envelope) k. IsMessage t.tickets log y.item k) (λ (y : Envelope) k. IsMessage tickets (log ++ e ∷ []) y.item k)
+          (λ (y : Envelope) k h. IsMessage-longer t.tickets tickets more log (e ∷ []) y.item k h) (line log (queue.Tracker n)) t.mailbox.desk.messages.items s.messages)
+          (e.event.act, asked-now log e, says)));
+      questions = questions;
+      updates = updates;
+      sets = sets;
+      subscribed = subst (Match (IsTicket tickets.updates) t.actor.updates) (sym (update_subscriptions-kept log e n q.no_step))
+          (Match-weaker (IsTicket t.tickets.updates) (IsTicket tickets.updates) more.updates t.actor.updates (update_subscriptions log n) s.subscribed);
+      subscribed_blocked = subst (Match (IsTicket tickets.blocked) t.actor.sets) (sym (blocked_subscriptions-kept log e n q.no_step))
+          (Match-weaker (IsTicket t.tickets.blocked) (IsTicket tickets.blocked) more.blocked t.actor.sets (blocked_subscriptions log n) s.subscribed_blocked);
+      asked = asked;
+      answered = λ d is. answered d is ∙ sym (was_answered-kept log e d (q.no_answer d));
+      fresh = fresh-longer log e t.answered s.fresh (λ d past. q.no_answer d);
+      told = λ p own.
+          s.told p own
+          ∙ sym (line-kept log e p none ∙ (ap (λ l. line log p ++ l) (added p ∙ ap (λ b. cond b (x ∷ []) []) (told_apart n n p own)) ∙ append-nil (line log p)));
+    }
+
+-- ---- what was told is read
+
+-- the entry takes the first item of a queue in which it told something, and does no more; these were answered then
+pub tracker_read : (configs : List Config) (log : List Entry) (e : Entry) (n : ℕ) (t u : Tracker) (q : Queue) (x : Envelope) (rest : List Envelope) (answered : List (ℕ × Bool)) → TrackerStands configs log n t
+    → steps_tracker n e.event.act ≡ false → asks_of n e.event.act ≡ None → TakesFirst log e q x rest → e.puts ≡ [] → is_told n q ≡ true → u ≡ record t { told = u.told; answered = answered }
+    → ((d : ℕ) → asks_at log n d ≡ Some question.PeerSet → is_some (table.at answered d) ≡ was_answered (log ++ e ∷ []) d)
+    → AreFresh (log ++ e ∷ []) answered
+    → ((p : Queue) → held u.told p ≡ (if same_queue q p then drop 1 (held t.told p) else held t.told p)) → TrackerStands configs (log ++ e ∷ []) n u
+tracker_read configs log e n t u q x rest answered s no_step no_question takes none own same noted fresh pops =
+    subst (TrackerStands configs (log ++ e ∷ []) n) (sym same) (record {
+      follows = subst (Follows key_cmp t.actor.directory t.actor.controls) (sym (calls-kept configs log e n no_step)) s.follows;
+      rules = s.rules;
+      cooldown = s.cooldown;
+      works = s.works;
+      local = s.local;
+      most = s.most;
+      is_open = s.is_open;
+      size = s.size;
+      names = s.names ∙ ap (map name_of) (sym mailbox);
+      messages = subst (λ l. Match (λ y m. IsMessage t.tickets (log ++ e ∷ []) y.item m) l t.mailbox.desk.messages.items) (sym mailbox)
+          (Match-weaker (λ (y : Envelope) m. IsMessage t.tickets log y.item m) (λ (y : Envelope) m. IsMessage t.tickets (log ++ e ∷ []) y.item m)
+          (λ (y : Envelope) m h. IsMessage-longer t.tickets t.tickets (same_tickets t.tickets) log (e ∷ []) y.item m h) (line log (queue.Tracker n)) t.mailbox.desk.messages.items s.messages);
+      questions = s.questions;
+      updates = s.updates;
+      sets = s.sets;
+      subscribed = subst (Match (IsTicket t.tickets.updates) t.actor.updates) (sym (update_subscriptions-kept log e n no_step)) s.subscribed;
+      subscribed_blocked = subst (Match (IsTicket t.tickets.blocked) t.actor.sets) (sym (blocked_subscriptions-kept log e n no_step)) s.subscribed_blocked;
+      asked = λ d. s.asked d ∙ sym (asks_at-kept log e n d no_question);
+      answered = λ d is. noted d (sym (asks_at-kept log e n d no_question) ∙ is);
+      fresh = fresh;
+      told = λ p here. pops p ∙ (left p here (same_queue q p) refl ∙ sym (after p));
+    })
+  where
+    after : (p : Queue) → line (log ++ e ∷ []) p ≡ cond (same_queue q p) rest (line log p)
+    after p =
+        line-taken log e q x rest p takes.first takes.gone
+        ∙ (ap (λ l. cond (same_queue q p) rest (line log p) ++ filter (stands_in p) (placed (length log) 0 l)) none ∙ append-nil (cond (same_queue q p) rest (line log p)))
+
+    mailbox : line (log ++ e ∷ []) (queue.Tracker n) ≡ line log (queue.Tracker n)
+    mailbox = after (queue.Tracker n) ∙ ap (λ b. cond b rest (line log (queue.Tracker n))) (told_apart n n q own)
+
+    left : (p : Queue) → is_told n p ≡ true → (b : Bool) → same_queue q p ≡ b → (if b then drop 1 (held t.told p) else held t.told p) ≡ cond b rest (line log p)
+    left p here true is = ap (drop 1) (s.told p here ∙ (ap (line log) (queue_from_same q p is) ∙ takes.first))
+    left p here false is = s.told p here

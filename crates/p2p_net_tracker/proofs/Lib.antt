@@ -1,0 +1,12 @@
+pub mod Answering
+pub mod Begins
+pub mod Changes
+pub mod Desk
+pub mod Facts
+pub mod Matching
+pub mod Named
+pub mod Questions
+pub mod Rings
+pub mod Serving
+pub mod Steps
+pub mod ToldLines

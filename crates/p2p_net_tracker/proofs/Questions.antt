@@ -1,0 +1,190 @@
+-- A node's tracker is asked: the row is the log's, and it stands for the log with that entry.
+use Rattle.std.proofs.Common.{◌≡◌, ℕ, suc, ◌+◌, ◌≤◌, Bool, true, false, cond, List, [], ◌∷◌, ◌++◌, length, refl, ap, sym, subst, ◌∙◌, arith, eq-eqb, length-append, Option, Some, None}
+use Rattle.std.specs.Prelude.{slice_get, nat_lt, is_some, ◌==◌, if◌then◌else◌}
+use Rattle.std.specs.Map.{keys_of}
+use Rattle.std.specs.BTreeMap.{is_at, insert_entry}
+use Rattle.std.specs.Ordering.{nat_cmp}
+use Rattle.std.proofs.lemmas.Bool.Decides.{nat_tests}
+use Rattle.p2p_base.specs.declared.key.Key.{Key}
+use Rattle.p2p_base.specs.declared.outcome.Feedback.{Feedback}
+use Rattle.p2p_base.specs.declared.outcome.Feedback.TheVariants as feedback
+use Rattle.p2p_address.specs.declared.peer.Address.{Address}
+use Rattle.p2p_flow.specs.SetSize.{set_size}
+use Rattle.p2p_flow.specs.declared.addressable.AddressableTrackedPeers.{AddressableTrackedPeers}
+use Rattle.p2p_tracker_mailbox.specs.Desk.{Desk, told_of, with_message, asked, subscribed, blocked_subscribed}
+use Rattle.p2p_tracker_mailbox.specs.Mailboxes.{with_desk}
+use Rattle.p2p_tracker_mailbox.specs.declared.message.Message.{Message}
+use Rattle.p2p_tracker_mailbox.specs.declared.message.Message.TheVariants as message
+use Rattle.p2p_log.specs.declared.config.Config.{Config}
+use Rattle.p2p_log.specs.declared.queue.Queue.TheVariants as queue
+use Rattle.p2p_log.specs.declared.item.Envelope.{Envelope}
+use Rattle.p2p_log.specs.declared.entry.Entry.{Entry}
+use Rattle.p2p_log.specs.declared.entry.Reply.TheVariants as reply
+use Rattle.p2p_log.specs.declared.event.Act.{Act}
+use Rattle.p2p_log.specs.declared.event.Act.TheVariants as act
+use Rattle.p2p_log.specs.Lines.{line}
+use Rattle.p2p_log_rules.specs.declared.row.Row.{Row}
+use Rattle.p2p_log_rules.specs.Effect.{entry_of}
+use Rattle.p2p_log_rules.specs.Facts.{key_at}
+use Rattle.p2p_log_rules.specs.Rows.{only, mailbox_size_at}
+use Rattle.p2p_log_rules.specs.Tracking.{key_cmp, steps_tracker}
+use Rattle.p2p_log_rules.specs.TrackerRows.{answers, was_answered, told_by, asked_row, most_peers_at, size_at, track_row}
+use Rattle.p2p_net_queues.specs.Board.{held}
+use Rattle.p2p_net_queues.specs.Tables as table
+use Rattle.p2p_net_queues.proofs.Tables.{lookup-insert_entry}
+use Rattle.p2p_net_tracker.specs.declared.naming.Tickets.{Tickets}
+use Rattle.p2p_net_tracker.specs.declared.question.Question.{Question}
+use Rattle.p2p_net_tracker.specs.declared.question.Question.TheVariants as question
+use Rattle.p2p_net_tracker.specs.declared.tracker.Tracker.{Tracker}
+use Rattle.p2p_net_tracker.specs.Asking.{asking_row, asks_for, with_question, with_updates, with_blocked, size_by, track_answer, tracked_by}
+use Rattle.p2p_net_tracker.specs.Stands.{asks_of, asks_at, Says, TrackerStands}
+use Rattle.p2p_net_tracker.proofs.Answering.{still_stands}
+use Rattle.p2p_net_tracker.proofs.Changes.{AreMore, same_tickets, Asks, tracker_asked}
+use Rattle.p2p_net_tracker.proofs.Facts.{asks_at-longer, asks_at-kept}
+use Rattle.p2p_net_tracker.proofs.Matching.{Match-long, slice_get-longer, slice_get-last}
+
+-- what the mailbox tells is what the log says
+told_is : (closed : Bool) (items capacity waiting size : ℕ) → closed ≡ false → waiting ≡ items → capacity ≡ size
+    → (if closed then feedback.Closed else (if nat_lt items capacity then feedback.Ok else feedback.Backoff)) ≡ cond (nat_lt waiting size) feedback.Ok feedback.Backoff
+told_is true items capacity waiting size h long wide = cc
+told_is false items capacity waiting size h long wide =
+    ap (λ n. if nat_lt n capacity then feedback.Ok else feedback.Backoff) (sym long)
+    ∙ (ap (λ n. if nat_lt waiting n then feedback.Ok else feedback.Backoff) wide ∙ same (nat_lt waiting size))
+  where
+    same : (b : Bool) → (if b then feedback.Ok else feedback.Backoff) ≡ cond b feedback.Ok feedback.Backoff
+    same true = refl
+    same false = refl
+
+asking_is : (configs : List Config) (log : List Entry) (n : ℕ) (t : Tracker) → TrackerStands configs log n t → asking_row (told_of t.mailbox.desk) n (length log) ≡ asked_row configs log n
+asking_is configs log n t s =
+    let q = t.mailbox.desk.messages in
+    ap (λ f. asking_row f n (length log))
+    (told_is q.closed (length q.items) q.capacity (length (line log (queue.Tracker n))) (mailbox_size_at configs n) s.is_open (Match-long _ (line log (queue.Tracker n)) q.items s.messages) s.size)
+
+module _ (configs : List Config) (log : List Entry) (at seed n : ℕ) (a : Act) (t u : Tracker) (r : Row) (s : TrackerStands configs log n t) (is : r ≡ asking_row (told_of t.mailbox.desk) n (length log))
+    (no_step : steps_tracker n a ≡ false) (no_answer : (d : ℕ) → answers d a r.reply ≡ false) where
+  abbrev e : Entry
+  e = entry_of (record { at = at; seed = seed; act = a }) r
+
+  asks : Asks log e n
+  asks = record {
+    no_step = no_step;
+    no_answer = no_answer;
+    takes = ap (λ (k : Row). k.takes) is;
+    puts = ap (λ (k : Row). k.puts) is;
+    ends = ap (λ (k : Row). k.ends) is;
+  }
+
+  abbrev Done : Type 0
+  Done = (r ≡ asked_row configs log n) × TrackerStands configs (log ++ e ∷ []) n u
+
+  -- a message that nobody is told of
+  pub message_asked : (m : Message Key) → asks_of n a ≡ None → Says t.tickets (length log) a m → u ≡ asks_for t (length log) (with_message t.mailbox.desk m) → Done
+  message_asked m no_question says same = (
+    is ∙ asking_is configs log n t s,
+    subst (TrackerStands configs (log ++ e ∷ []) n) (sym same)
+        (tracker_asked configs log e n t (with_message t.mailbox.desk m) t.tickets t.questions m s asks (same_tickets t.tickets) refl says s.questions s.updates s.sets
+        (λ d. s.asked d ∙ sym (asks_at-kept log e n d no_question)) (λ d wants. s.answered d (sym (asks_at-kept log e n d no_question) ∙ wants))),
+  )
+
+  -- a question, of which this kind is kept
+  kind_kept : (k : Question) → asks_of n a ≡ Some k → (d : ℕ) → table.at (insert_entry nat_cmp t.questions (length log) k) d ≡ asks_at (log ++ e ∷ []) n d
+  kind_kept k asks_it d =
+      lookup-insert_entry (length log) d k t.questions
+      ∙ (ap (λ o. cond (is_at (nat_cmp d) (length log)) (Some k) o) (s.asked d)
+      ∙ (ap (λ b. cond b (Some k) (asks_at log n d)) (same d (length log))
+      ∙ (ap (λ o. cond (d == length log) o (asks_at log n d)) (sym asks_it) ∙ sym (asks_at-longer log e n d))))
+    where
+      same : (d l : ℕ) → is_at (nat_cmp d) l ≡ (d == l)
+      same d l = grind (arith, nat_tests)
+
+  -- no question was answered before it was asked
+  unanswered : (k : Question) → asks_of n a ≡ Some k → (d : ℕ) → asks_at (log ++ e ∷ []) n d ≡ Some question.PeerSet → is_some (table.at t.answered d) ≡ was_answered log d
+  unanswered k asks_it d wants = by (d == length log) refl
+    where
+      by : (b : Bool) → (d == length log) ≡ b → is_some (table.at t.answered d) ≡ was_answered log d
+      by true same =
+          let fresh = s.fresh d (past d (length log) same) in
+          ap is_some fresh.0 ∙ sym fresh.1
+        where
+          past : (d l : ℕ) → (d == l) ≡ true → l ≤ d
+          past d l h = grind (arith, nat_tests)
+      by false other = s.answered d (sym (asks_at-longer log e n d ∙ ap (λ b. cond b (asks_of n a) (asks_at log n d)) other) ∙ wants)
+
+  longer : {X Y : Type 0} (xs : List X) (ys : List Y) (x : X) (y : Y) → length xs ≡ length ys → length (xs ++ x ∷ []) ≡ length (ys ++ y ∷ [])
+  longer xs ys x y same = length-append xs (x ∷ []) ∙ (ap (λ k. k + 1) same ∙ sym (length-append ys (y ∷ [])))
+
+  -- its ticket is the next one
+  ticket : {X : Type 0} (given : List X) (events : List ℕ) → length given ≡ length events → slice_get (events ++ length log ∷ []) (length given) ≡ Some (length log)
+  ticket given events same = ap (slice_get (events ++ length log ∷ [])) same ∙ slice_get-last events (length log)
+
+  pub peer_set_asked : (index : ℕ) → a ≡ act.PeerSet index n → u ≡ with_question (asks_for t (length log) (asked t.mailbox.desk index)) (length log) → Done
+  peer_set_asked index acts same =
+      let d = t.mailbox.desk in
+      let k = length log in
+      let tickets : Tickets = record t.tickets { questions = t.tickets.questions ++ k ∷ [] } in
+      let asks_it : asks_of n a ≡ Some question.PeerSet = ap (asks_of n) acts ∙ ap (λ b. cond b (Some question.PeerSet) None) (eq-eqb n n refl) in (
+        is ∙ asking_is configs log n t s,
+        subst (TrackerStands configs (log ++ e ∷ []) n) (sym same)
+            (tracker_asked configs log e n t (asked d index) tickets (insert_entry nat_cmp t.questions k question.PeerSet) (message.PeerSet index (length d.questions)) s asks
+            (record { questions = λ c f h. slice_get-longer t.tickets.questions (k ∷ []) c f h; updates = λ c f h. h; blocked = λ c f h. h }) refl
+            (subst (λ b. Says tickets k b (message.PeerSet index (length d.questions))) (sym acts) (length d.questions, refl, ticket d.questions t.tickets.questions s.questions))
+            (longer d.questions t.tickets.questions _ k s.questions) s.updates s.sets (kind_kept question.PeerSet asks_it) (unanswered question.PeerSet asks_it)),
+      )
+
+  pub subscribe_asked : a ≡ act.Subscribe n → u ≡ with_updates (asks_for t (length log) (subscribed t.mailbox.desk)) (length log) → Done
+  subscribe_asked acts same =
+      let d = t.mailbox.desk in
+      let k = length log in
+      let tickets : Tickets = record t.tickets { updates = t.tickets.updates ++ k ∷ [] } in
+      let asks_it : asks_of n a ≡ Some question.Updates = ap (asks_of n) acts ∙ ap (λ b. cond b (Some question.Updates) None) (eq-eqb n n refl) in (
+        is ∙ asking_is configs log n t s,
+        subst (TrackerStands configs (log ++ e ∷ []) n) (sym same)
+            (tracker_asked configs log e n t (subscribed d) tickets (insert_entry nat_cmp t.questions k question.Updates) (message.Subscribe (length d.updates)) s asks
+            (record { questions = λ c f h. h; updates = λ c f h. slice_get-longer t.tickets.updates (k ∷ []) c f h; blocked = λ c f h. h }) refl
+            (subst (λ b. Says tickets k b (message.Subscribe (length d.updates))) (sym acts) (length d.updates, refl, ticket d.updates t.tickets.updates s.updates))
+            s.questions (longer d.updates t.tickets.updates _ k s.updates) s.sets (kind_kept question.Updates asks_it) (unanswered question.Updates asks_it)),
+      )
+
+  pub blocked_asked : a ≡ act.Blocked n → u ≡ with_blocked (asks_for t (length log) (blocked_subscribed t.mailbox.desk)) (length log) → Done
+  blocked_asked acts same =
+      let d = t.mailbox.desk in
+      let k = length log in
+      let tickets : Tickets = record t.tickets { blocked = t.tickets.blocked ++ k ∷ [] } in
+      let asks_it : asks_of n a ≡ Some question.Blocked = ap (asks_of n) acts ∙ ap (λ b. cond b (Some question.Blocked) None) (eq-eqb n n refl) in (
+        is ∙ asking_is configs log n t s,
+        subst (TrackerStands configs (log ++ e ∷ []) n) (sym same)
+            (tracker_asked configs log e n t (blocked_subscribed d) tickets (insert_entry nat_cmp t.questions k question.Blocked) (message.SubscribeBlocked (length d.sets)) s asks
+            (record { questions = λ c f h. h; updates = λ c f h. h; blocked = λ c f h. slice_get-longer t.tickets.blocked (k ∷ []) c f h }) refl
+            (subst (λ b. Says tickets k b (message.SubscribeBlocked (length d.sets))) (sym acts) (length d.sets, refl, ticket d.sets t.tickets.blocked s.sets))
+            s.questions s.updates (longer d.sets t.tickets.blocked _ k s.sets) (kind_kept question.Blocked asks_it) (unanswered question.Blocked asks_it)),
+      )
+
+-- a set is asked for, unless it is too large
+pub track_asked : (configs : List Config) (log : List Entry) (at seed n index : ℕ) (peers : AddressableTrackedPeers Key) (t u : Tracker) (r : Row) → TrackerStands configs log n t
+    → r ≡ track_answer t n (length log) peers → u ≡ tracked_by t (length log) index peers
+    → (r ≡ track_row configs log n peers) × TrackerStands configs (log ++ entry_of (record { at = at; seed = seed; act = act.Track index n peers }) r ∷ []) n u
+track_asked configs log at seed n index peers t u r s is same = by (nat_lt t.oracle.max_peers_per_set (size_by t peers)) refl is same
+  where
+    size : size_by t peers ≡ size_at configs n peers
+    size = ap (λ k. set_size key_cmp k (keys_of peers.primary) (keys_of peers.secondary)) s.local
+
+    test : (b : Bool) → nat_lt t.oracle.max_peers_per_set (size_by t peers) ≡ b → nat_lt (most_peers_at configs n) (size_at configs n peers) ≡ b
+    test b h = sym (ap (λ m. nat_lt m (size_by t peers)) s.most ∙ ap (nat_lt (most_peers_at configs n)) size) ∙ h
+
+    row_is : (b : Bool) → nat_lt t.oracle.max_peers_per_set (size_by t peers) ≡ b
+        → track_row configs log n peers ≡ cond b (only (reply.PeerSetTooLarge (size_at configs n peers) (most_peers_at configs n))) (asked_row configs log n)
+    row_is b h = ap (λ c. cond c (only (reply.PeerSetTooLarge (size_at configs n peers) (most_peers_at configs n))) (asked_row configs log n)) (test b h)
+
+    by : (b : Bool) → nat_lt t.oracle.max_peers_per_set (size_by t peers) ≡ b
+        → r ≡ cond b (only (reply.PeerSetTooLarge (size_by t peers) t.oracle.max_peers_per_set)) (asking_row (told_of t.mailbox.desk) n (length log))
+        → u ≡ cond b t (asks_for t (length log) (with_message t.mailbox.desk (message.Register index peers)))
+        → (r ≡ track_row configs log n peers) × TrackerStands configs (log ++ entry_of (record { at = at; seed = seed; act = act.Track index n peers }) r ∷ []) n u
+    by true large is same = (
+      is ∙ (ap (λ k. only (reply.PeerSetTooLarge k t.oracle.max_peers_per_set)) size ∙ (ap (λ k. only (reply.PeerSetTooLarge (size_at configs n peers) k)) s.most ∙ sym (row_is true large))),
+      still_stands configs log at seed n (act.Track index n peers) t u r s refl refl (reply.PeerSetTooLarge (size_by t peers) t.oracle.max_peers_per_set) is (λ d. refl)
+          (same ∙ ap (λ (k : Tracker). record t { told = k.told }) (sym same)) (λ p own. ap (λ (k : Tracker). held k.told p) same ∙ s.told p own),
+    )
+    by false fits is same =
+        let done = message_asked configs log at seed n (act.Track index n peers) t u r s is refl (λ d. refl) (message.Register index peers) refl refl same in
+        (done.0 ∙ sym (row_is false fits), done.1)

@@ -1,0 +1,421 @@
+-- A step of a node's tracker: its row is the log's, and it stands for the log with that entry.
+use Rattle.std.proofs.Common.{◌≡◌, ℕ, ◌+◌, Bool, true, false, cond, List, [], ◌∷◌, ◌++◌, map, drop, length, refl, ap, sym, subst, ◌∙◌, arith, eq-eqb, append-nil, Option, Some, None}
+use Rattle.std.specs.Prelude.{filter, flat_map, slice_get}
+use Rattle.std.specs.List.{list_any, AllByRecursion as Each}
+use Rattle.std.specs.BTreeMap.{is_at}
+use Rattle.std.specs.Ordering.{nat_cmp}
+use Rattle.std.proofs.lemmas.Bool.Decides.{nat_tests}
+use Rattle.p2p_base.specs.declared.key.Key.{Key}
+use Rattle.p2p_base.specs.Queue as base
+use Rattle.p2p_tracker_calls.specs.declared.call.Call.{Call}
+use Rattle.p2p_tracker_calls.specs.declared.call.Call.TheVariants as call
+use Rattle.p2p_tracker_calls.specs.BlockedKeys.{due_keys}
+use Rattle.p2p_tracker_calls.specs.Jitter.{jitter_of}
+use Rattle.p2p_tracker_calls.specs.Named.{EqualKeysAreOne}
+use Rattle.p2p_tracker_calls.specs.Rules.{Rules}
+use Rattle.p2p_tracker_mailbox.specs.Desk.{next_message}
+use Rattle.p2p_tracker_mailbox.specs.Mailboxes.{runs_in}
+use Rattle.p2p_tracker_mailbox.specs.declared.mailbox.Mailbox.{Mailbox}
+use Rattle.p2p_tracker_mailbox.specs.declared.message.Message.{Message}
+use Rattle.p2p_tracker.specs.Following.{Follows}
+use Rattle.p2p_tracker.specs.Putting as putting
+use Rattle.p2p_tracker.specs.Serving.{calls_by, left_in, puts_of}
+use Rattle.p2p_tracker.specs.Steps.{unblocked, puts_for, stepped_of, taken_or_idle, by_step, updates_for, sets_for}
+use Rattle.p2p_tracker.specs.Telling.{has_any, after_puts}
+use Rattle.p2p_tracker.specs.declared.stepped.Put.{Put}
+use Rattle.p2p_tracker.specs.declared.stepped.Stepped.{Stepped}
+use Rattle.p2p_tracker.specs.declared.stepped.Stepped.TheVariants as stepped
+use Rattle.p2p_log.specs.declared.config.Config.{Config}
+use Rattle.p2p_log.specs.declared.queue.Queue.{Queue}
+use Rattle.p2p_log.specs.declared.queue.Queue.TheVariants as queue
+use Rattle.p2p_log.specs.declared.item.Item.{Item}
+use Rattle.p2p_log.specs.declared.item.Item.TheVariants as item
+use Rattle.p2p_log.specs.declared.item.Envelope.{Envelope}
+use Rattle.p2p_log.specs.declared.entry.Entry.{Entry}
+use Rattle.p2p_log.specs.declared.entry.Reply.{Reply}
+use Rattle.p2p_log.specs.declared.entry.Reply.TheVariants as reply
+use Rattle.p2p_log.specs.declared.event.Event.{Event}
+use Rattle.p2p_log.specs.declared.event.Act.{Act}
+use Rattle.p2p_log.specs.declared.event.Act.TheVariants as act
+use Rattle.p2p_log.specs.Lines.{name_of, ended_item, goes, stays, live, line, placed, stands_in}
+use Rattle.p2p_log_rules.specs.declared.row.Row.{Row}
+use Rattle.p2p_log_rules.specs.Facts.{taken, item_named}
+use Rattle.p2p_log_rules.specs.Effect.{entry_of}
+use Rattle.p2p_log_rules.specs.Rows.{only, ring_ends}
+use Rattle.p2p_log_rules.specs.Tracking.{key_cmp, rules_at, asked_by, steps_tracker, item_calls, step_calls, grants_dial, call_where, asked_calls, calls_of, subscribes, subscribes_blocked, update_subscriptions, blocked_subscriptions}
+use Rattle.p2p_log_rules.specs.TrackerPuts as puts
+use Rattle.p2p_log_rules.specs.TrackerRows.{rings_of, told_row, served_row, tracker_step}
+use Rattle.p2p_log_rules.proofs.Recorded.{item_named-first}
+use Rattle.p2p_net_queues.specs.Board.{held}
+use Rattle.p2p_net_queues.specs.Rows.{taken_row}
+use Rattle.p2p_net_queues.proofs.Going.{put_in, line-kept}
+use Rattle.p2p_net_tracker.specs.declared.tracker.Tracker.{Tracker}
+use Rattle.p2p_net_tracker.specs.Naming.{named_puts}
+use Rattle.p2p_net_tracker.specs.Telling.{lost, told_in, told_to}
+use Rattle.p2p_net_tracker.specs.Stepping.{ActorSteps, Tells, TellsNothing, TellsFor, TellsBy, Steps}
+use Rattle.p2p_net_tracker.specs.Stands.{is_told, Match, IsTicket, Says, IsMessage, TrackerStands}
+use Rattle.p2p_net_tracker.proofs.Changes.{same_tickets, IsMessage-longer}
+use Rattle.p2p_net_tracker.proofs.Desk.{LeavesDesk, all_left}
+use Rattle.p2p_net_tracker.proofs.Facts.{asks_at-kept, fresh-longer, was_answered-kept, calls_of-append, update_subscriptions-append, blocked_subscriptions-append}
+use Rattle.p2p_net_tracker.proofs.Matching.{Match-weaker, Match-rest}
+use Rattle.p2p_net_tracker.proofs.Named.{has_any-is, named-unblocked, named-message}
+use Rattle.p2p_net_tracker.proofs.Serving.{says-calls, with_event, says-updates, says-sets}
+use Rattle.p2p_net_tracker.proofs.ToldLines.{IsTold, named-each, Told, holds_told, mailbox-told, lost_is, away_none, away_first, mailbox_first}
+
+pub equal_keys : EqualKeysAreOne key_cmp
+equal_keys p q h = ap (λ n. record { 0 = n }) (same p.0 q.0 h)
+  where
+    same : (a b : ℕ) → is_at (nat_cmp a) b ≡ true → a ≡ b
+    same a b h = grind (arith, nat_tests)
+
+-- the entry of a step with this row
+abbrev step_entry : ℕ → ℕ → ℕ → Row → Entry
+step_entry at seed n r = entry_of (record { at = at; seed = seed; act = act.Tracker n }) r
+
+-- what a step leaves as it was, and what it makes of the rest: these messages wait in these envelopes
+record Left (configs : List Config) (log : List Entry) (at seed n : ℕ) (t u : Tracker) (r : Row) (waits : List Envelope) (messages : List (Message Key)) : Type 0 where
+  rest : u ≡ record t { actor = u.actor; mailbox = u.mailbox; names = u.names; told = u.told }
+  rules : u.actor.directory.rules ≡ t.actor.directory.rules
+  cooldown : u.actor.cooldown ≡ t.actor.cooldown
+  works : u.actor.has_failed ≡ false
+  follows : Follows key_cmp u.actor.directory u.actor.controls (calls_of configs (log ++ step_entry at seed n r ∷ []) n)
+  subscribed : Match (IsTicket t.tickets.updates) u.actor.updates (update_subscriptions (log ++ step_entry at seed n r ∷ []) n)
+  subscribed_blocked : Match (IsTicket t.tickets.blocked) u.actor.sets (blocked_subscriptions (log ++ step_entry at seed n r ∷ []) n)
+  mailbox : line (log ++ step_entry at seed n r ∷ []) (queue.Tracker n) ≡ waits
+  names_left : u.names ≡ map name_of waits
+  each : Match (λ x m. IsMessage t.tickets log x.item m) waits messages
+  desk : LeavesDesk t.mailbox.desk (record u.mailbox.desk { messages = record u.mailbox.desk.messages { items = t.mailbox.desk.messages.items } })
+  items : u.mailbox.desk.messages.items ≡ messages
+  told_left : (q : Queue) → is_told n q ≡ true → held u.told q ≡ line (log ++ step_entry at seed n r ∷ []) q
+
+stands_after : (configs : List Config) (log : List Entry) (at seed n : ℕ) (t u : Tracker) (r : Row) (waits : List Envelope) (messages : List (Message Key)) → TrackerStands configs log n t
+    → Left configs log at seed n t u r waits messages → TrackerStands configs (log ++ step_entry at seed n r ∷ []) n u
+stands_after configs log at seed n t u r waits messages s h =
+    let e = step_entry at seed n r in
+    subst (TrackerStands configs (log ++ e ∷ []) n) (sym h.rest) (record {
+      follows = h.follows;
+      rules = h.rules ∙ s.rules;
+      cooldown = h.cooldown ∙ s.cooldown;
+      works = h.works;
+      local = s.local;
+      most = s.most;
+      is_open = ap (λ m. m.closed) h.desk.messages ∙ s.is_open;
+      size = ap (λ m. m.capacity) h.desk.messages ∙ s.size;
+      names = h.names_left ∙ ap (map name_of) (sym h.mailbox);
+      messages = subst (λ l. Match (λ x m. IsMessage t.tickets (log ++ e ∷ []) x.item m) l u.mailbox.desk.messages.items) (sym h.mailbox)
+          (subst (Match (λ (x : Envelope) m. IsMessage t.tickets (log ++ e ∷ []) x.item m) waits) (sym h.items)
+          (Match-weaker (λ (x : Envelope) m. IsMessage t.tickets log x.item m) (λ (x : Envelope) m. IsMessage t.tickets (log ++ e ∷ []) x.item m)
+          (λ (x : Envelope) m k. IsMessage-longer t.tickets t.tickets (same_tickets t.tickets) log (e ∷ []) x.item m k) waits messages h.each));
+      questions = h.desk.questions ∙ s.questions;
+      updates = h.desk.updates ∙ s.updates;
+      sets = h.desk.sets ∙ s.sets;
+      subscribed = h.subscribed;
+      subscribed_blocked = h.subscribed_blocked;
+      asked = λ d. s.asked d ∙ sym (asks_at-kept log e n d refl);
+      answered = λ d is. s.answered d (sym (asks_at-kept log e n d refl) ∙ is) ∙ sym (was_answered-kept log e d refl);
+      fresh = fresh-longer log e t.answered s.fresh (λ d past. refl);
+      told = h.told_left;
+    })
+
+-- ---- the facts after a step, by what it took
+
+-- once the step's reply and what it took are known
+calls-step : (configs : List Config) (log : List Entry) (at seed n : ℕ) (r : Row) (items : List Item) → taken log (step_entry at seed n r) ≡ items
+    → calls_of configs (log ++ step_entry at seed n r ∷ []) n ≡ step_calls log r.reply items at (jitter_of (rules_at configs n).cooldown seed) (list_any grants_dial r.puts) (calls_of configs log n)
+calls-step configs log at seed n r items is =
+    let calls = calls_of configs log n in
+    let after : List Item → List (Call Key) = λ l. step_calls log r.reply l at (jitter_of (rules_at configs n).cooldown seed) (list_any grants_dial r.puts) calls in
+    calls_of-append configs log (step_entry at seed n r) n
+    ∙ (ap (λ b. cond b (after (taken log (step_entry at seed n r))) calls) (eq-eqb n n refl) ∙ ap after is)
+
+updates-step : (log : List Entry) (at seed n : ℕ) (r : Row) (items : List Item) → taken log (step_entry at seed n r) ≡ items
+    → update_subscriptions (log ++ step_entry at seed n r ∷ []) n ≡ update_subscriptions log n ++ flat_map (call_where subscribes log) items
+updates-step log at seed n r items is =
+    update_subscriptions-append log (step_entry at seed n r) n
+    ∙ ap (λ l. update_subscriptions log n ++ l) (ap (λ b. cond b (flat_map (call_where subscribes log) (taken log (step_entry at seed n r))) []) (eq-eqb n n refl) ∙ ap (flat_map (call_where subscribes log)) is)
+
+sets-step : (log : List Entry) (at seed n : ℕ) (r : Row) (items : List Item) → taken log (step_entry at seed n r) ≡ items
+    → blocked_subscriptions (log ++ step_entry at seed n r ∷ []) n ≡ blocked_subscriptions log n ++ flat_map (call_where subscribes_blocked log) items
+sets-step log at seed n r items is =
+    blocked_subscriptions-append log (step_entry at seed n r) n
+    ∙ ap (λ l. blocked_subscriptions log n ++ l) (ap (λ b. cond b (flat_map (call_where subscribes_blocked log) (taken log (step_entry at seed n r))) []) (eq-eqb n n refl) ∙ ap (flat_map (call_where subscribes_blocked log)) is)
+
+none_taken : (log : List Entry) (e : Entry) → e.takes ≡ [] → taken log e ≡ []
+unfolding taken
+none_taken log e h = ap (flat_map (item_named log)) h
+
+first_taken : (log : List Entry) (e : Entry) (q : Queue) (x : Envelope) (rest : List Envelope) → line log q ≡ x ∷ rest → e.takes ≡ name_of x ∷ [] → taken log e ≡ x.item ∷ []
+unfolding taken
+first_taken log e q x rest first h = ap (flat_map (item_named log)) h ∙ (append-nil (item_named log (name_of x)) ∙ item_named-first log q x rest first)
+
+-- ---- by what the actor did
+
+module _ (configs : List Config) (log : List Entry) (at seed n : ℕ) (t u : Tracker) (r : Row) (s : TrackerStands configs log n t) where
+  abbrev calls : List (Call Key)
+  calls = calls_of configs log n
+
+  abbrev us : List ℕ
+  us = update_subscriptions log n
+
+  abbrev bs : List ℕ
+  bs = blocked_subscriptions log n
+
+  abbrev rules : Rules Key
+  rules = rules_at configs n
+
+  abbrev e : Entry
+  e = step_entry at seed n r
+
+  -- the actor's next calls, by the rules of the log
+  follows_next : (st : Stepped Key) (m : Option (Message Key)) (next : List (Call Key))
+      → Follows key_cmp u.actor.directory u.actor.controls (calls_by key_cmp t.actor.directory.rules st m at (jitter_of t.actor.cooldown seed) calls)
+      → calls_by key_cmp rules st m at (jitter_of rules.cooldown seed) calls ≡ next → Follows key_cmp u.actor.directory u.actor.controls next
+  follows_next st m next h is =
+      subst (Follows key_cmp u.actor.directory u.actor.controls)
+      (ap (λ k. calls_by key_cmp k st m at (jitter_of t.actor.cooldown seed) calls) s.rules ∙ (ap (λ c. calls_by key_cmp rules st m at (jitter_of c seed) calls) s.cooldown ∙ is)) h
+
+  -- what is told, once it is known what the step took
+  told_now : (names : List (ℕ × ℕ)) (before : Row) (put : List (Put Key)) → Tells (length log) before (named_puts n t.tickets put) t u r → before.takes ≡ names → before.puts ≡ [] → before.ends ≡ []
+      → ((p : Queue) → is_told n p ≡ true → filter (stands_in p) (filter (stays names) (live log)) ≡ line log p) → Told log e n names (named_puts n t.tickets put)
+  told_now names before put tells takes none_put none_end away =
+      let xs = named_puts n t.tickets put in
+      let each = named-each n t.tickets put in
+      record {
+        takes = ap (λ (k : Row). k.takes) tells.row ∙ takes;
+        puts = ap (λ (k : Row). k.puts) tells.row ∙ ap (λ l. l ++ xs) none_put;
+        ends = ap (λ (k : Row). k.ends) tells.row ∙ (ap (λ l. l ++ lost (held t.told) [] (rings_of xs)) none_end ∙ lost_is log n names xs (held t.told) each away s.told);
+        each = each;
+        away = away;
+      }
+
+  row_now : (names : List (ℕ × ℕ)) (before : Row) (put : List (Put Key)) (xs : List puts.Put) → Tells (length log) before (named_puts n t.tickets put) t u r → before ≡ record { reply = reply.Ok; takes = names; puts = []; ends = [] }
+      → ((p : Queue) → is_told n p ≡ true → filter (stands_in p) (filter (stays names) (live log)) ≡ line log p) → named_puts n t.tickets put ≡ xs → r ≡ told_row log names xs
+  row_now names before put xs tells is away named =
+      let ys = named_puts n t.tickets put in
+      tells.row
+      ∙ (ap (told_in (held t.told) ys) is
+      ∙ (ap (λ l. record { reply = reply.Ok; takes = names; puts = ys; ends = l }) (lost_is log n names ys (held t.told) (named-each n t.tickets put) away s.told)
+      ∙ ap (told_row log names) named))
+
+  told_after : (names : List (ℕ × ℕ)) (before : Row) (put : List (Put Key)) → Tells (length log) before (named_puts n t.tickets put) t u r → before.puts ≡ [] → Told log e n names (named_puts n t.tickets put)
+      → (q : Queue) → is_told n q ≡ true → held u.told q ≡ line (log ++ e ∷ []) q
+  told_after names before put tells none_put told =
+      holds_told log e n names (named_puts n t.tickets put) told (held t.told) (held u.told) s.told
+      (λ p. tells.told p ∙ ap (λ l. told_to (held t.told) (named_puts n t.tickets put) (length log) (length l) p) none_put)
+
+  -- blocks had ended
+  after_unblocked : (put : List (Put Key)) → ActorSteps t.actor u.actor t.mailbox u.mailbox at seed (stepped.EndedBlocks put) → TellsBy (stepped.EndedBlocks put) (length log) n t u r
+      → u ≡ record t { actor = u.actor; mailbox = u.mailbox; names = u.names; told = u.told }
+      → put ≡ unblocked key_cmp rules t.actor.updates t.actor.sets t.mailbox.desk.sets t.mailbox.heard calls at (call.UnblockExpired at)
+      → (r ≡ told_row log [] (puts.unblocked_puts rules n at us bs calls (call.UnblockExpired at))) × TrackerStands configs (log ++ e ∷ []) n u
+  after_unblocked put steps tells rest is =
+      let told = told_now [] (only reply.Ok) put tells.0 refl refl refl (λ p own. away_none log p) in
+      let none = none_taken log e told.takes in
+      let reply_is : r.reply ≡ reply.Ok = ap (λ (k : Row). k.reply) tells.0.row in
+      let desk = all_left put t.mailbox in
+      let mailbox : u.mailbox ≡ after_puts put t.mailbox = steps.put in
+      let waits = mailbox-told log e n [] (named_puts n t.tickets put) told ∙ away_none log (queue.Tracker n) in
+      let named : named_puts n t.tickets put ≡ puts.unblocked_puts rules n at us bs calls (call.UnblockExpired at) =
+      ap (named_puts n t.tickets) is ∙ named-unblocked n t.tickets rules t.mailbox.heard at t.actor.updates t.actor.sets us bs t.mailbox.desk.sets s.subscribed s.subscribed_blocked (runs_in t.mailbox) calls (call.UnblockExpired at)
+      in (
+        row_now [] (only reply.Ok) put (puts.unblocked_puts rules n at us bs calls (call.UnblockExpired at)) tells.0 refl (λ p own. away_none log p) named,
+        stands_after configs log at seed n t u r (line log (queue.Tracker n)) t.mailbox.desk.messages.items s (record {
+          rest = rest;
+          rules = steps.rules;
+          cooldown = steps.cooldown;
+          works = steps.works;
+          follows = follows_next (stepped.EndedBlocks put) (next_message t.mailbox.desk) (calls_of configs (log ++ e ∷ []) n) (steps.follows calls s.follows)
+              (sym (calls-step configs log at seed n r [] none ∙ ap (λ k. step_calls log k [] at (jitter_of rules.cooldown seed) (list_any grants_dial r.puts) calls) reply_is));
+          subscribed = subst (λ ts. Match (IsTicket t.tickets.updates) ts (update_subscriptions (log ++ e ∷ []) n)) (sym steps.updates)
+              (subst (Match (IsTicket t.tickets.updates) t.actor.updates) (sym (updates-step log at seed n r [] none ∙ append-nil us)) s.subscribed);
+          subscribed_blocked = subst (λ ts. Match (IsTicket t.tickets.blocked) ts (blocked_subscriptions (log ++ e ∷ []) n)) (sym steps.sets)
+              (subst (Match (IsTicket t.tickets.blocked) t.actor.sets) (sym (sets-step log at seed n r [] none ∙ append-nil bs)) s.subscribed_blocked);
+          mailbox = waits;
+          names_left = tells.1 ∙ s.names;
+          each = s.messages;
+          desk = record {
+            messages = ap (λ (m : Mailbox Key). record m.desk.messages { items = t.mailbox.desk.messages.items }) mailbox ∙ ap (λ (q : base.Queue (Message Key)). record q { items = t.mailbox.desk.messages.items }) desk.messages;
+            questions = ap (λ (m : Mailbox Key). length m.desk.questions) mailbox ∙ desk.questions;
+            updates = ap (λ (m : Mailbox Key). length m.desk.updates) mailbox ∙ desk.updates;
+            sets = ap (λ (m : Mailbox Key). length m.desk.sets) mailbox ∙ desk.sets;
+          };
+          items = ap (λ (m : Mailbox Key). m.desk.messages.items) mailbox ∙ ap (λ (q : base.Queue (Message Key)). q.items) desk.messages;
+          told_left = told_after [] (only reply.Ok) put tells.0 refl told;
+        }),
+      )
+
+  -- a message was taken
+  after_message : (x : Envelope) (waits : List Envelope) (m : Message Key) (ms : List (Message Key)) (event : ℕ) (a : Act) (put : List (Put Key))
+      → line log (queue.Tracker n) ≡ x ∷ waits → t.mailbox.desk.messages.items ≡ m ∷ ms → x.item ≡ item.Call event → asked_by log event ≡ Some a → Says t.tickets event a m
+      → Match (λ y k. IsMessage t.tickets log y.item k) waits ms
+      → ActorSteps t.actor u.actor t.mailbox u.mailbox at seed (stepped.Message put) → TellsBy (stepped.Message put) (length log) n t u r
+      → u ≡ record t { actor = u.actor; mailbox = u.mailbox; names = u.names; told = u.told }
+      → put ≡ puts_for key_cmp rules t.actor.updates t.actor.sets t.mailbox.desk.sets t.mailbox.heard (runs_in t.mailbox) calls at m
+      → (r ≡ told_row log (name_of x ∷ []) (puts.item_puts rules n at us bs calls log x.item)) × TrackerStands configs (log ++ e ∷ []) n u
+  after_message x waits m ms event a put first items is asks says each steps tells rest puts_is =
+      let name : slice_get t.names 0 ≡ Some (name_of x) = ap (λ l. slice_get l 0) (s.names ∙ ap (map name_of) first) in
+      let telling : Tells (length log) (taken_row (name_of x)) (named_puts n t.tickets put) t u r = subst (λ o. TellsFor o (length log) (named_puts n t.tickets put) t u r) name tells.0 in
+      let next : next_message t.mailbox.desk ≡ Some m = ap (λ l. slice_get l 0) items in
+      let away = away_first log n x waits first in
+      let told = told_now (name_of x ∷ []) (taken_row (name_of x)) put telling refl refl refl away in
+      let taken_is : taken log e ≡ item.Call event ∷ [] = first_taken log e (queue.Tracker n) x waits first told.takes ∙ ap (λ i. i ∷ []) is in
+      let reply_is : r.reply ≡ reply.Ok = ap (λ (k : Row). k.reply) telling.row in
+      let start = left_in (stepped.Message put) t.mailbox in
+      let desk = all_left put start in
+      let mailbox : u.mailbox ≡ after_puts put start = steps.put in
+      let asked = ap (λ o. puts.asked_puts rules n at us bs calls event o) (sym asks) in
+      let named : named_puts n t.tickets put ≡ puts.item_puts rules n at us bs calls log x.item =
+      ap (named_puts n t.tickets) puts_is
+      ∙ (named-message n t.tickets rules t.mailbox.heard at t.actor.updates t.actor.sets us bs t.mailbox.desk.sets s.subscribed s.subscribed_blocked (runs_in t.mailbox) calls event a m says
+      ∙ (asked ∙ ap (puts.item_puts rules n at us bs calls log) (sym is)))
+      in
+      let event_of : (test : Act → Bool) → flat_map (call_where test log) (item.Call event ∷ []) ≡ cond (test a) (event ∷ []) [] ++ [] =
+      λ test. ap (λ o. (elim o [ None ↦ [] | Some b ↦ cond (test b) (event ∷ []) [] ]) ++ []) asks
+      in (
+        row_now (name_of x ∷ []) (taken_row (name_of x)) put (puts.item_puts rules n at us bs calls log x.item) telling refl away named,
+        stands_after configs log at seed n t u r waits ms s (record {
+          rest = rest;
+          rules = steps.rules;
+          cooldown = steps.cooldown;
+          works = steps.works;
+          follows = follows_next (stepped.Message put) (next_message t.mailbox.desk) (calls_of configs (log ++ e ∷ []) n) (steps.follows calls s.follows)
+              (ap (λ o. calls_by key_cmp rules (stepped.Message put) o at (jitter_of rules.cooldown seed) calls) next
+              ∙ (says-calls rules t.tickets event a m at (jitter_of rules.cooldown seed) calls says
+              ∙ sym (calls-step configs log at seed n r (item.Call event ∷ []) taken_is
+              ∙ (ap (λ k. step_calls log k (item.Call event ∷ []) at (jitter_of rules.cooldown seed) (list_any grants_dial r.puts) calls) reply_is ∙ ap (λ o. asked_calls o at calls) asks))));
+          subscribed = subst (λ ts. Match (IsTicket t.tickets.updates) ts (update_subscriptions (log ++ e ∷ []) n)) (sym (steps.updates ∙ ap (λ o. by_step (stepped.Message put) o updates_for t.actor.updates) next))
+              (subst (Match (IsTicket t.tickets.updates) (updates_for m t.actor.updates)) (sym (updates-step log at seed n r (item.Call event ∷ []) taken_is ∙ ap (λ l. us ++ l) (event_of subscribes)))
+              (says-updates t.tickets event a m t.actor.updates us says s.subscribed));
+          subscribed_blocked = subst (λ ts. Match (IsTicket t.tickets.blocked) ts (blocked_subscriptions (log ++ e ∷ []) n)) (sym (steps.sets ∙ ap (λ o. by_step (stepped.Message put) o sets_for t.actor.sets) next))
+              (subst (Match (IsTicket t.tickets.blocked) (sets_for m t.actor.sets)) (sym (sets-step log at seed n r (item.Call event ∷ []) taken_is ∙ ap (λ l. bs ++ l) (event_of subscribes_blocked)))
+              (says-sets t.tickets event a m t.actor.sets bs says s.subscribed_blocked));
+          mailbox = mailbox-told log e n (name_of x ∷ []) (named_puts n t.tickets put) told ∙ mailbox_first log n x waits first;
+          names_left = tells.1 ∙ ap (drop 1) (s.names ∙ ap (map name_of) first);
+          each = each;
+          desk = record {
+            messages = ap (λ (k : Mailbox Key). record k.desk.messages { items = t.mailbox.desk.messages.items }) mailbox ∙ ap (λ (q : base.Queue (Message Key)). record q { items = t.mailbox.desk.messages.items }) desk.messages;
+            questions = ap (λ (k : Mailbox Key). length k.desk.questions) mailbox ∙ desk.questions;
+            updates = ap (λ (k : Mailbox Key). length k.desk.updates) mailbox ∙ desk.updates;
+            sets = ap (λ (k : Mailbox Key). length k.desk.sets) mailbox ∙ desk.sets;
+          };
+          items = ap (λ (k : Mailbox Key). k.desk.messages.items) mailbox ∙ (ap (λ (q : base.Queue (Message Key)). q.items) desk.messages ∙ ap (drop 1) items);
+          told_left = told_after (name_of x ∷ []) (taken_row (name_of x)) put telling refl told;
+        }),
+      )
+
+  -- nothing was ready
+  after_idle : line log (queue.Tracker n) ≡ [] → t.mailbox.desk.messages.items ≡ []
+      → ActorSteps t.actor u.actor t.mailbox u.mailbox at seed stepped.Idle → TellsBy stepped.Idle (length log) n t u r
+      → u ≡ record t { actor = u.actor; mailbox = u.mailbox; names = u.names; told = u.told } → (r ≡ only reply.Idle) × TrackerStands configs (log ++ e ∷ []) n u
+  after_idle empty no_messages steps tells rest =
+      let is : r ≡ only reply.Idle = tells.0.row in
+      let none = none_taken log e (ap (λ (k : Row). k.takes) is) in
+      let goes_none : goes e ≡ [] = ap (λ (k : Row). k.takes ++ flat_map ended_item k.ends) is in
+      let puts_none : e.puts ≡ [] = ap (λ (k : Row). k.puts) is in
+      let same : (q : Queue) → line (log ++ e ∷ []) q ≡ line log q = λ q.
+      line-kept log e q goes_none ∙ (ap (λ l. line log q ++ filter (stands_in q) (placed (length log) 0 l)) puts_none ∙ append-nil (line log q)) in
+      let mailbox : u.mailbox ≡ t.mailbox = steps.put in (
+        is,
+        stands_after configs log at seed n t u r (line log (queue.Tracker n)) t.mailbox.desk.messages.items s (record {
+          rest = rest;
+          rules = steps.rules;
+          cooldown = steps.cooldown;
+          works = steps.works;
+          follows = follows_next stepped.Idle (next_message t.mailbox.desk) (calls_of configs (log ++ e ∷ []) n) (steps.follows calls s.follows)
+              (sym (calls-step configs log at seed n r [] none ∙ ap (λ (k : Row). step_calls log k.reply [] at (jitter_of rules.cooldown seed) (list_any grants_dial r.puts) calls) is));
+          subscribed = subst (λ ts. Match (IsTicket t.tickets.updates) ts (update_subscriptions (log ++ e ∷ []) n)) (sym steps.updates)
+              (subst (Match (IsTicket t.tickets.updates) t.actor.updates) (sym (updates-step log at seed n r [] none ∙ append-nil us)) s.subscribed);
+          subscribed_blocked = subst (λ ts. Match (IsTicket t.tickets.blocked) ts (blocked_subscriptions (log ++ e ∷ []) n)) (sym steps.sets)
+              (subst (Match (IsTicket t.tickets.blocked) t.actor.sets) (sym (sets-step log at seed n r [] none ∙ append-nil bs)) s.subscribed_blocked);
+          mailbox = same (queue.Tracker n);
+          names_left = tells.1 ∙ s.names;
+          each = s.messages;
+          desk = record {
+            messages = ap (λ (m : Mailbox Key). record m.desk.messages { items = t.mailbox.desk.messages.items }) mailbox;
+            questions = ap (λ (m : Mailbox Key). length m.desk.questions) mailbox;
+            updates = ap (λ (m : Mailbox Key). length m.desk.updates) mailbox;
+            sets = ap (λ (m : Mailbox Key). length m.desk.sets) mailbox;
+          };
+          items = ap (λ (m : Mailbox Key). m.desk.messages.items) mailbox;
+          told_left = λ q own. tells.0.told q ∙ (s.told q own ∙ sym (same q));
+        }),
+      )
+
+  -- ---- whatever the actor did
+
+  abbrev Done : Row → Type 0
+  Done due = (r ≡ due) × TrackerStands configs (log ++ e ∷ []) n u
+
+  abbrev unblocked_is : List (Put Key)
+  unblocked_is = unblocked key_cmp rules t.actor.updates t.actor.sets t.mailbox.desk.sets t.mailbox.heard calls at (call.UnblockExpired at)
+
+  abbrev message_is : Message Key → List (Put Key)
+  message_is m = puts_for key_cmp rules t.actor.updates t.actor.sets t.mailbox.desk.sets t.mailbox.heard (runs_in t.mailbox) calls at m
+
+  module _ (st : Stepped Key) (steps : ActorSteps t.actor u.actor t.mailbox u.mailbox at seed st) (tells : TellsBy st (length log) n t u r) (rest : u ≡ record t { actor = u.actor; mailbox = u.mailbox; names = u.names; told = u.told }) where
+    as_step : (k : Stepped Key) → st ≡ k → ActorSteps t.actor u.actor t.mailbox u.mailbox at seed k × TellsBy k (length log) n t u r
+    as_step k is = (subst (ActorSteps t.actor u.actor t.mailbox u.mailbox at seed) is steps, subst (λ j. TellsBy j (length log) n t u r) is tells)
+
+    -- the oldest message, where no block is due
+    by_line : (l : List Envelope) (ms : List (Message Key)) → line log (queue.Tracker n) ≡ l → t.mailbox.desk.messages.items ≡ ms → Match (λ x m. IsMessage t.tickets log x.item m) l ms
+        → st ≡ taken_or_idle key_cmp rules t.actor.updates t.actor.sets t.mailbox.desk.sets t.mailbox.heard (runs_in t.mailbox) calls at (slice_get ms 0) → Done (served_row configs log n at l)
+    by_line [] [] empty none match is = let k = as_step stepped.Idle is in after_idle empty none k.0 k.1 rest
+    by_line (x ∷ l) (m ∷ ms) first items match is =
+        let k = as_step (stepped.Message (message_is m)) is in
+        of_item x.item refl match.0
+      where
+        of_item : (i : Item) → x.item ≡ i → IsMessage t.tickets log i m → Done (served_row configs log n at (x ∷ l))
+        of_item (item.Call event) named h =
+            let k = as_step (stepped.Message (message_is m)) is in
+            after_message x l m ms event h.0 (message_is m) first items named h.1 h.2 match.1 k.0 k.1 rest refl
+        of_item _ named h = absurd h
+    by_line [] (m ∷ ms) first items match is = absurd match
+    by_line (x ∷ l) [] first items match is = absurd match
+
+    by_due : (b : Bool) → has_any (due_keys key_cmp rules calls at) ≡ b
+        → st ≡ cond b (stepped.EndedBlocks unblocked_is) (taken_or_idle key_cmp rules t.actor.updates t.actor.sets t.mailbox.desk.sets t.mailbox.heard (runs_in t.mailbox) calls at (next_message t.mailbox.desk))
+        → Done (tracker_step configs log n at)
+    by_due true due is =
+        let k = as_step (stepped.EndedBlocks unblocked_is) is in
+        let done = after_unblocked unblocked_is k.0 k.1 rest refl in (
+          done.0 ∙ ap (λ b. cond b (told_row log [] (puts.unblocked_puts rules n at us bs calls (call.UnblockExpired at))) (served_row configs log n at (line log (queue.Tracker n)))) (sym (sym (has_any-is (due_keys key_cmp rules calls at)) ∙ due)),
+          done.1,
+        )
+    by_due false due is =
+        let done = by_line (line log (queue.Tracker n)) t.mailbox.desk.messages.items refl refl s.messages is in (
+          done.0 ∙ ap (λ b. cond b (told_row log [] (puts.unblocked_puts rules n at us bs calls (call.UnblockExpired at))) (served_row configs log n at (line log (queue.Tracker n)))) (sym (sym (has_any-is (due_keys key_cmp rules calls at)) ∙ due)),
+          done.1,
+        )
+
+    all_due : Done (tracker_step configs log n at)
+    all_due =
+        by_due (has_any (due_keys key_cmp rules calls at)) refl
+        (subst (λ k. st ≡ stepped_of key_cmp k t.actor.updates t.actor.sets t.mailbox.desk.sets t.mailbox.heard (runs_in t.mailbox) calls at (next_message t.mailbox.desk)) s.rules (steps.answer calls equal_keys s.follows))
+
+-- a step of the tracker of a node that has started
+pub tracker_steps : (configs : List Config) (log : List Entry) (at seed n : ℕ) (t u : Tracker) (r : Row) → TrackerStands configs log n t → Steps (length log) n at seed t u r
+    → (r ≡ tracker_step configs log n at) × TrackerStands configs (log ++ step_entry at seed n r ∷ []) n u
+tracker_steps configs log at seed n t u r s h = all_due configs log at seed n t u r s h.stepped h.steps h.tells h.rest
+
+-- a step of the tracker of a node that has not started
+pub gone_stands : (configs : List Config) (log : List Entry) (at seed n : ℕ) (t : Tracker) → TrackerStands configs log n t → TrackerStands configs (log ++ step_entry at seed n (only reply.Gone) ∷ []) n t
+gone_stands configs log at seed n t s =
+    let r : Row = only reply.Gone in
+    let e = step_entry at seed n r in
+    let none = none_taken log e refl in
+    let same : (q : Queue) → line (log ++ e ∷ []) q ≡ line log q = λ q. line-kept log e q refl ∙ append-nil (line log q) in
+    stands_after configs log at seed n t t r (line log (queue.Tracker n)) t.mailbox.desk.messages.items s (record {
+      rest = refl;
+      rules = refl;
+      cooldown = refl;
+      works = s.works;
+      follows = subst (Follows key_cmp t.actor.directory t.actor.controls) (sym (calls-step configs log at seed n r [] none)) s.follows;
+      subscribed = subst (Match (IsTicket t.tickets.updates) t.actor.updates) (sym (updates-step log at seed n r [] none ∙ append-nil (update_subscriptions log n))) s.subscribed;
+      subscribed_blocked = subst (Match (IsTicket t.tickets.blocked) t.actor.sets) (sym (sets-step log at seed n r [] none ∙ append-nil (blocked_subscriptions log n))) s.subscribed_blocked;
+      mailbox = same (queue.Tracker n);
+      names_left = s.names;
+      each = s.messages;
+      desk = record { messages = refl; questions = refl; updates = refl; sets = refl };
+      items = refl;
+      told_left = λ q own. s.told q own ∙ sym (same q);
+    })

@@ -1,0 +1,50 @@
+-- What a tracker is once it was asked, as values.
+use Rattle.std.specs.Prelude.{ℕ, cond, nat_lt, List, [], ◌∷◌, ◌++◌}
+use Rattle.std.specs.Map.{keys_of}
+use Rattle.std.specs.BTreeMap.{insert_entry}
+use Rattle.std.specs.Ordering.{nat_cmp}
+use Rattle.p2p_base.specs.declared.key.Key.{Key}
+use Rattle.p2p_base.specs.declared.outcome.Feedback.{Feedback}
+use Rattle.p2p_flow.specs.SetSize.{set_size}
+use Rattle.p2p_flow.specs.declared.addressable.AddressableTrackedPeers.{AddressableTrackedPeers}
+use Rattle.p2p_tracker_mailbox.specs.Desk.{Desk, told_of, with_message}
+use Rattle.p2p_tracker_mailbox.specs.Mailboxes.{with_desk}
+use Rattle.p2p_tracker_mailbox.specs.declared.message.Message.TheVariants as message
+use Rattle.p2p_log.specs.declared.queue.Queue.TheVariants as queue
+use Rattle.p2p_log.specs.declared.item.Item.TheVariants as item
+use Rattle.p2p_log.specs.declared.entry.Reply.TheVariants as reply
+use Rattle.p2p_log_rules.specs.declared.row.Row.{Row}
+use Rattle.p2p_log_rules.specs.Rows.{only}
+use Rattle.p2p_log_rules.specs.Tracking.{key_cmp}
+use Rattle.p2p_net_tracker.specs.declared.question.Question.TheVariants as question
+use Rattle.p2p_net_tracker.specs.declared.tracker.Tracker.{Tracker}
+
+-- the row of a question of the entry k at the node n, of which its mailbox tells this
+abbrev pub asking_row : Feedback → ℕ → ℕ → Row
+asking_row told n k = record { reply = reply.Feedback told; takes = []; puts = (queue.Tracker n, item.Call k) ∷ []; ends = [] }
+
+-- a tracker that was asked by the entry k, and has this desk then
+abbrev pub asks_for : Tracker → ℕ → Desk Key → Tracker
+asks_for t k desk = record t { mailbox = with_desk t.mailbox desk; names = t.names ++ (k, 0) ∷ [] }
+
+-- its next tickets are those of the entry k
+abbrev pub with_question : Tracker → ℕ → Tracker
+with_question t k = record t { tickets = record t.tickets { questions = t.tickets.questions ++ k ∷ [] }; questions = insert_entry nat_cmp t.questions k question.PeerSet }
+
+abbrev pub with_updates : Tracker → ℕ → Tracker
+with_updates t k = record t { tickets = record t.tickets { updates = t.tickets.updates ++ k ∷ [] }; questions = insert_entry nat_cmp t.questions k question.Updates }
+
+abbrev pub with_blocked : Tracker → ℕ → Tracker
+with_blocked t k = record t { tickets = record t.tickets { blocked = t.tickets.blocked ++ k ∷ [] }; questions = insert_entry nat_cmp t.questions k question.Blocked }
+
+abbrev pub size_by : Tracker → AddressableTrackedPeers Key → ℕ
+size_by t peers = set_size key_cmp t.oracle.local (keys_of peers.primary) (keys_of peers.secondary)
+
+-- a set that is not too large is asked for
+abbrev pub track_answer : Tracker → ℕ → ℕ → AddressableTrackedPeers Key → Row
+track_answer t n k peers =
+    cond (nat_lt t.oracle.max_peers_per_set (size_by t peers)) (only (reply.PeerSetTooLarge (size_by t peers) t.oracle.max_peers_per_set)) (asking_row (told_of t.mailbox.desk) n k)
+
+abbrev pub tracked_by : Tracker → ℕ → ℕ → AddressableTrackedPeers Key → Tracker
+tracked_by t k index peers =
+    cond (nat_lt t.oracle.max_peers_per_set (size_by t peers)) t (asks_for t k (with_message t.mailbox.desk (message.Register index peers)))

@@ -1,0 +1,7 @@
+pub mod Asking
+pub mod Begins
+pub mod Naming
+pub mod Reading
+pub mod Stands
+pub mod Stepping
+pub mod Telling

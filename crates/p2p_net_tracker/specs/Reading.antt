@@ -1,0 +1,68 @@
+-- What those who asked a tracker take.
+use Rattle.std.specs.Prelude.{◌≡◌, ℕ, Bool, true, false, [], ◌∷◌, List, Option, Some, None, drop, slice_get, is_some, if◌then◌else◌}
+use Rattle.std.specs.BTreeMap.{insert_entry}
+use Rattle.std.specs.Ordering.{nat_cmp}
+use Rattle.p2p_log.specs.declared.queue.Queue.{Queue}
+use Rattle.p2p_log.specs.declared.queue.Queue.TheVariants as queue
+use Rattle.p2p_log.specs.declared.item.Item.{Item}
+use Rattle.p2p_log.specs.declared.item.Envelope.{Envelope}
+use Rattle.p2p_log.specs.declared.entry.Reply.{Reply}
+use Rattle.p2p_log.specs.declared.entry.Reply.TheVariants as reply
+use Rattle.p2p_log.specs.QueueCode.{same_queue}
+use Rattle.p2p_log_rules.specs.declared.row.Row.{Row}
+use Rattle.p2p_log_rules.specs.Rows.{only}
+use Rattle.p2p_log_rules.specs.TrackerRows.{told_of, taken_row, is_answer}
+use Rattle.p2p_net_queues.specs.Board.{held}
+use Rattle.p2p_net_queues.specs.Tables as table
+use Rattle.p2p_net_tracker.specs.declared.question.Question.{Question}
+use Rattle.p2p_net_tracker.specs.declared.question.Question.TheVariants as question
+use Rattle.p2p_net_tracker.specs.declared.tracker.Tracker.{Tracker}
+
+abbrev pub reply_for : Item → Reply
+reply_for i = told_of i
+
+-- the first item is taken, or it is pending
+abbrev pub read_first : Option Envelope → Row
+read_first None = only reply.Pending
+read_first (Some x) = taken_row (told_of x.item) x
+
+-- the oldest item of a queue is taken
+abbrev pub Pops : Queue → Tracker → Tracker → Type 0
+Pops q old new = (p : Queue) → held new.told p ≡ (if same_queue q p then drop 1 (held old.told p) else held old.told p)
+
+abbrev pub ReadsFrom : Queue → Tracker → Tracker → Row → Type 0
+ReadsFrom q old new r = (r ≡ read_first (slice_get (held old.told q) 0)) × (Pops q old new × (new ≡ record old { told = new.told }))
+
+-- the tracker is as it was, and this is answered
+abbrev pub OnlyAnswers : Reply → Tracker → Tracker → Row → Type 0
+OnlyAnswers a old new r = (r ≡ only a) × (new ≡ old)
+
+-- the questions that were answered, with one more where this holds
+abbrev pub noted : Bool → ℕ → List (ℕ × Bool) → List (ℕ × Bool)
+noted true e l = insert_entry nat_cmp l e true
+noted false e l = l
+
+abbrev pub ReadsAnswerBy : Bool → ℕ → ℕ → Tracker → Tracker → Row → Type 0
+ReadsAnswerBy true n e old new r = OnlyAnswers reply.Gone old new r
+ReadsAnswerBy false n e old new r =
+    (r ≡ read_first (slice_get (held old.told (queue.Answer n e)) 0))
+    × (Pops (queue.Answer n e) old new × (new ≡ record old { told = new.told; answered = noted (is_answer r.reply) e old.answered }))
+
+abbrev pub ReadsAnswer : ℕ → ℕ → Tracker → Tracker → Row → Type 0
+ReadsAnswer n e old new r = ReadsAnswerBy (is_some (table.at old.answered e)) n e old new r
+
+-- by what the event asked
+abbrev pub AnswersBy : Option Question → ℕ → ℕ → Tracker → Tracker → Row → Type 0
+AnswersBy (Some question.PeerSet) n e old new r = ReadsAnswer n e old new r
+AnswersBy _ n e old new r = OnlyAnswers reply.Gone old new r
+
+abbrev pub Answers : ℕ → ℕ → Tracker → Tracker → Row → Type 0
+Answers n e old new r = AnswersBy (table.at old.questions e) n e old new r
+
+abbrev pub ContinuesBy : Option Question → ℕ → ℕ → Tracker → Tracker → Row → Type 0
+ContinuesBy (Some question.Updates) n e old new r = ReadsFrom (queue.Updates n e) old new r
+ContinuesBy (Some question.Blocked) n e old new r = ReadsFrom (queue.Blocked n e) old new r
+ContinuesBy _ n e old new r = OnlyAnswers reply.Gone old new r
+
+abbrev pub Continues : ℕ → ℕ → Tracker → Tracker → Row → Type 0
+Continues n e old new r = ContinuesBy (table.at old.questions e) n e old new r

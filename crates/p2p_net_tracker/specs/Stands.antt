@@ -1,0 +1,110 @@
+-- When a node's tracker stands for a log.
+use Rattle.std.specs.Prelude.{◌≡◌, ℕ, ◌≤◌, Bool, true, false, ◌==◌, cond, is_some, Option, None, List, [], ◌∷◌, ◌++◌, map, length, Some, slice_get}
+use Rattle.p2p_base.specs.declared.key.Key.{Key}
+use Rattle.p2p_tracker_mailbox.specs.declared.message.Message.{Message}
+use Rattle.p2p_tracker_mailbox.specs.declared.message.Message.TheVariants as message
+use Rattle.p2p_tracker.specs.Following.{Follows}
+use Rattle.p2p_log.specs.declared.config.Config.{Config}
+use Rattle.p2p_log.specs.declared.queue.Queue.{Queue}
+use Rattle.p2p_log.specs.declared.queue.Queue.TheVariants as queue
+use Rattle.p2p_log.specs.declared.item.Item.{Item}
+use Rattle.p2p_log.specs.declared.item.Item.TheVariants as item
+use Rattle.p2p_log.specs.declared.entry.Entry.{Entry}
+use Rattle.p2p_log.specs.declared.event.Act.{Act}
+use Rattle.p2p_log.specs.declared.event.Act.TheVariants as act
+use Rattle.p2p_log.specs.Lines.{name_of, line}
+use Rattle.p2p_log_rules.specs.Facts.{key_at}
+use Rattle.p2p_log_rules.specs.Rows.{mailbox_size_at}
+use Rattle.p2p_log_rules.specs.Tracking.{key_cmp, rules_at, asked_by, steps_tracker, calls_of, update_subscriptions, blocked_subscriptions}
+use Rattle.p2p_log_rules.specs.TrackerRows.{most_peers_at, answers, was_answered}
+use Rattle.p2p_net_queues.specs.Board.{held}
+use Rattle.p2p_net_queues.specs.Tables as table
+use Rattle.p2p_net_tracker.specs.declared.question.Question.{Question}
+use Rattle.p2p_net_tracker.specs.declared.question.Question.TheVariants as question
+use Rattle.p2p_net_tracker.specs.declared.naming.Tickets.{Tickets}
+use Rattle.p2p_net_tracker.specs.declared.tracker.Tracker.{Tracker}
+
+-- whether a queue is one in which the tracker of the node tells something
+abbrev pub is_told : ℕ → Queue → Bool
+is_told n (queue.Update m) = m == n
+is_told n (queue.Dialer m) = m == n
+is_told n (queue.Control m e) = m == n
+is_told n (queue.Answer m e) = m == n
+is_told n (queue.Updates m e) = m == n
+is_told n (queue.Blocked m e) = m == n
+is_told n _ = false
+
+-- two lists are as long, and what stands at one place goes together
+abbrev pub Match : {A B : Type 0} → (A → B → Type 0) → List A → List B → Type 0
+Match R [] [] = Unit {0}
+Match R (x ∷ xs) (y ∷ ys) = R x y × Match R xs ys
+Match R _ _ = ⊥
+
+-- the ticket is that of the event
+abbrev pub IsTicket : List ℕ → ℕ → ℕ → Type 0
+IsTicket events t e = slice_get events t ≡ Some e
+
+-- what the message says is what the act of the event e asks
+abbrev pub Says : Tickets → ℕ → Act → Message Key → Type 0
+Says t e (act.Track index n peers) m = m ≡ message.Register index peers
+Says t e (act.Overwrite n peers) m = m ≡ message.Overwrite peers
+Says t e (act.Block key n) m = m ≡ message.Block key
+Says t e (act.PeerSet index n) m = (ticket : ℕ) × (m ≡ message.PeerSet index ticket) × IsTicket t.questions ticket e
+Says t e (act.Subscribe n) m = (ticket : ℕ) × (m ≡ message.Subscribe ticket) × IsTicket t.updates ticket e
+Says t e (act.Blocked n) m = (ticket : ℕ) × (m ≡ message.SubscribeBlocked ticket) × IsTicket t.blocked ticket e
+Says t e _ m = ⊥
+
+-- the item names the event that the message is of; nothing else asks the tracker yet
+abbrev pub IsMessage : Tickets → List Entry → Item → Message Key → Type 0
+IsMessage t log (item.Call e) m = (a : Act) × (asked_by log e ≡ Some a) × Says t e a m
+IsMessage t log _ m = ⊥
+
+-- what an act asks of the tracker of a node that may be answered
+abbrev pub asks_of : ℕ → Act → Option Question
+asks_of n (act.PeerSet index m) = cond (m == n) (Some question.PeerSet) None
+asks_of n (act.Subscribe m) = cond (m == n) (Some question.Updates) None
+asks_of n (act.Blocked m) = cond (m == n) (Some question.Blocked) None
+asks_of n _ = None
+
+-- what the event of this number asked of it
+abbrev pub asks_at : List Entry → ℕ → ℕ → Option Question
+asks_at log n d = elim (slice_get log d) [ None ↦ None | Some e ↦ asks_of n e.event.act ]
+
+-- no question of a later event was answered
+abbrev pub AreFresh : List Entry → List (ℕ × Bool) → Type 0
+AreFresh log answered = (d : ℕ) → length log ≤ d → (table.at answered d ≡ None) × (was_answered log d ≡ false)
+
+pub record TrackerStands (configs : List Config) (log : List Entry) (n : ℕ) (t : Tracker) : Type 0 where
+  -- the directory stands for the calls, and the connections that are kept are those that the calls keep
+  pub follows : Follows key_cmp t.actor.directory t.actor.controls (calls_of configs log n)
+  pub rules : t.actor.directory.rules ≡ rules_at configs n
+  pub cooldown : t.actor.cooldown ≡ (rules_at configs n).cooldown
+  pub works : t.actor.has_failed ≡ false
+  pub local : t.oracle.local ≡ key_at configs n
+  pub most : t.oracle.max_peers_per_set ≡ most_peers_at configs n
+  -- the mailbox is the line
+  pub is_open : t.mailbox.desk.messages.closed ≡ false
+  pub size : t.mailbox.desk.messages.capacity ≡ mailbox_size_at configs n
+  pub names : t.names ≡ map name_of (line log (queue.Tracker n))
+  pub messages : Match (λ x m. IsMessage t.tickets log x.item m) (line log (queue.Tracker n)) t.mailbox.desk.messages.items
+  -- the next ticket is the next place
+  pub questions : length t.mailbox.desk.questions ≡ length t.tickets.questions
+  pub updates : length t.mailbox.desk.updates ≡ length t.tickets.updates
+  pub sets : length t.mailbox.desk.sets ≡ length t.tickets.blocked
+  pub subscribed : Match (IsTicket t.tickets.updates) t.actor.updates (update_subscriptions log n)
+  pub subscribed_blocked : Match (IsTicket t.tickets.blocked) t.actor.sets (blocked_subscriptions log n)
+  -- who may be answered, and who was
+  pub asked : (d : ℕ) → table.at t.questions d ≡ asks_at log n d
+  pub answered : (d : ℕ) → asks_at log n d ≡ Some question.PeerSet → is_some (table.at t.answered d) ≡ was_answered log d
+  pub fresh : AreFresh log t.answered
+  -- what waits for those who asked is their line
+  pub told : (q : Queue) → is_told n q ≡ true → held t.told q ≡ line log q
+
+-- an entry that leaves it alone
+pub record LeavesTracker (log : List Entry) (e : Entry) (n : ℕ) : Type 0 where
+  pub no_step : steps_tracker n e.event.act ≡ false
+  pub no_question : asks_of n e.event.act ≡ None
+  pub no_answer : (d : ℕ) → asks_at log n d ≡ Some question.PeerSet → answers d e.event.act e.reply ≡ false
+  pub no_late_answer : (d : ℕ) → length log ≤ d → answers d e.event.act e.reply ≡ false
+  pub mailbox : line (log ++ e ∷ []) (queue.Tracker n) ≡ line log (queue.Tracker n)
+  pub told : (q : Queue) → is_told n q ≡ true → line (log ++ e ∷ []) q ≡ line log q

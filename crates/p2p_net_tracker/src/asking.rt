@@ -1,0 +1,120 @@
+//! What a tracker is asked.
+ghost use Rattle.std.specs.Prelude.{◌≡◌, [], ◌∷◌, ◌++◌, length, IfOk, OnOk};
+ghost use Rattle.p2p_tracker_mailbox.specs.Desk.{told_of, with_message, asked, subscribed, blocked_subscribed};
+ghost use Rattle.p2p_tracker_mailbox.specs.declared.message.Message.TheVariants as message;
+ghost use Rattle.p2p_net_tracker.specs.Asking.{asking_row, track_answer, tracked_by, asks_for, with_question, with_updates, with_blocked};
+
+use crate::question::Question;
+use crate::tracker::Tracker;
+use p2p_address::Address;
+use p2p_base::{Feedback, Key, Map};
+use p2p_flow::{AddressableManager, AddressableTrackedPeers, Blocker, Provider, TrackError};
+use p2p_log::{Item, Queue, Reply};
+use p2p_log_rules::Row;
+use p2p_net_queues::{Turn, only};
+use std::alloc::AllocError;
+
+impl Tracker {
+    /// Asks that the peers of one more set be tracked. A set that is too large is not asked for.
+    ///
+    /// `Err` only where there is no memory.
+    pub fn track(
+        &mut self,
+        turn: Turn,
+        index: u64,
+        peers: &AddressableTrackedPeers<Key>,
+    ) -> Result<Row, AllocError>
+        ensures row { IfOk result (λ r. r ≡ track_answer self.old turn.node turn.entry peers.now) }
+        ensures after { OnOk result (self.new ≡ tracked_by self.old turn.entry index peers.now) }
+    {
+        let peers = peers.try_clone()?;
+        match self
+            .oracle
+            .track(turn.alloc, &mut self.mailbox.desk, index, peers)
+        {
+            Ok(told) => Ok(self.asked(turn, told)?),
+            Err(TrackError::PeerSetTooLarge { count, limit }) => {
+                Ok(only(turn.alloc, Reply::PeerSetTooLarge { count, limit }))
+            }
+            Err(TrackError::Memory) => Err(AllocError),
+        }
+    }
+
+    /// Asks that peers get these addresses.
+    ///
+    /// `Err` only where there is no memory.
+    pub fn overwrite(&mut self, turn: Turn, peers: &Map<Key, Address>) -> Result<Row, AllocError>
+        ensures row { IfOk result (λ r. r ≡ asking_row (told_of self.old.mailbox.desk) turn.node turn.entry) }
+        ensures after { OnOk result (self.new ≡ asks_for self.old turn.entry (with_message self.old.mailbox.desk (message.Overwrite peers.now))) }
+    {
+        let peers = peers.clone()?;
+        let told = self
+            .oracle
+            .overwrite(turn.alloc, &mut self.mailbox.desk, peers)?;
+        Ok(self.asked(turn, told)?)
+    }
+
+    /// Asks that a peer be disconnected and kept away.
+    ///
+    /// `Err` only where there is no memory.
+    pub fn block(&mut self, turn: Turn, key: Key) -> Result<Row, AllocError>
+        ensures row { IfOk result (λ r. r ≡ asking_row (told_of self.old.mailbox.desk) turn.node turn.entry) }
+        ensures after { OnOk result (self.new ≡ asks_for self.old turn.entry (with_message self.old.mailbox.desk (message.Block key))) }
+    {
+        let told = self.oracle.block(turn.alloc, &mut self.mailbox.desk, key)?;
+        Ok(self.asked(turn, told)?)
+    }
+
+    /// Asks who is in a set.
+    ///
+    /// `Err` only where there is no memory.
+    pub fn peer_set(&mut self, turn: Turn, index: u64) -> Result<Row, AllocError>
+        ensures row { IfOk result (λ r. r ≡ asking_row (told_of self.old.mailbox.desk) turn.node turn.entry) }
+        ensures after { OnOk result (self.new ≡ with_question (asks_for self.old turn.entry (asked self.old.mailbox.desk index)) turn.entry) }
+    {
+        let (_, told) = self
+            .oracle
+            .peer_set(turn.alloc, &mut self.mailbox.desk, index)?;
+        self.tickets.questions.push(turn.entry)?;
+        self.questions.insert(turn.entry, Question::PeerSet)?;
+        Ok(self.asked(turn, told)?)
+    }
+
+    /// Asks for the peer sets that are tracked from now on, and the latest one.
+    ///
+    /// `Err` only where there is no memory.
+    pub fn subscribe(&mut self, turn: Turn) -> Result<Row, AllocError>
+        ensures row { IfOk result (λ r. r ≡ asking_row (told_of self.old.mailbox.desk) turn.node turn.entry) }
+        ensures after { OnOk result (self.new ≡ with_updates (asks_for self.old turn.entry (subscribed self.old.mailbox.desk)) turn.entry) }
+    {
+        let (_, told) = self.oracle.subscribe(turn.alloc, &mut self.mailbox.desk)?;
+        self.tickets.updates.push(turn.entry)?;
+        self.questions.insert(turn.entry, Question::Updates)?;
+        Ok(self.asked(turn, told)?)
+    }
+
+    /// Asks for the keys that are blocked, now and whenever that changes.
+    ///
+    /// `Err` only where there is no memory.
+    pub fn blocked(&mut self, turn: Turn) -> Result<Row, AllocError>
+        ensures row { IfOk result (λ r. r ≡ asking_row (told_of self.old.mailbox.desk) turn.node turn.entry) }
+        ensures after { OnOk result (self.new ≡ with_blocked (asks_for self.old turn.entry (blocked_subscribed self.old.mailbox.desk)) turn.entry) }
+    {
+        let (_, told) = self.oracle.blocked(turn.alloc, &mut self.mailbox.desk)?;
+        self.tickets.blocked.push(turn.entry)?;
+        self.questions.insert(turn.entry, Question::Blocked)?;
+        Ok(self.asked(turn, told)?)
+    }
+
+    /// The message that was put last has this entry's name, and its mailbox told this of it.
+    fn asked(&mut self, turn: Turn, told: Feedback) -> Result<Row, AllocError>
+        ensures row { IfOk result (λ r. r ≡ asking_row told turn.node turn.entry) }
+        ensures after { OnOk result (self.new ≡ record self.old { names = self.old.names ++ (turn.entry, 0) ∷ [] }) }
+    {
+        self.names.push((turn.entry, 0))?;
+        let mut row = only(turn.alloc, Reply::Feedback(told));
+        row.puts
+            .push((Queue::Tracker(turn.node), Item::Call(turn.entry)))?;
+        Ok(row)
+    }
+}

@@ -1,0 +1,12 @@
+//! The tracker of a node: its actor, the names of what waits for it, and what waits for those who asked it.
+#![tactic(auto)]
+
+pub mod asking;
+pub mod naming;
+pub mod question;
+pub mod reading;
+pub mod telling;
+pub mod tracker;
+
+pub use question::Question;
+pub use tracker::Tracker;

@@ -1,0 +1,41 @@
+-- The text of what a node's tracker is asked, and of what it answers.
+use Rattle.std.specs.Prelude.{ℕ, List, ◌++◌, codes, Option, Some, None}
+use Rattle.p2p_base.specs.declared.key.Key.{Key}
+use Rattle.p2p_address.specs.declared.peer.Ingress.{Ingress}
+use Rattle.p2p_sim_report.specs.Text.{number_onto, key_onto, list_onto}
+use Rattle.p2p_sim_report.specs.AddressText.{ingress_onto}
+
+-- ---- what it is asked
+
+abbrev pub call_onto : List ℕ → ℕ → List ℕ
+call_onto out e = number_onto (out ++ codes "{\"call\":") e ++ codes "}"
+
+abbrev pub connect_onto : List ℕ → ℕ → Key → List ℕ
+connect_onto out conn k = key_onto (number_onto (out ++ codes "{\"connect\":{\"conn\":") conn ++ codes ",\"key\":") k ++ codes "}}"
+
+abbrev pub ask_dial_onto : List ℕ → Key → List ℕ
+ask_dial_onto out k = key_onto (out ++ codes "{\"dial\":") k ++ codes "}"
+
+abbrev pub release_onto : List ℕ → Key → List ℕ
+release_onto out k = key_onto (out ++ codes "{\"release\":") k ++ codes "}"
+
+-- ---- what it answers
+
+abbrev pub digits_onto : List ℕ → ℕ → List ℕ
+digits_onto out n = number_onto (out ++ codes "\"") n ++ codes "\""
+
+-- a moment may pass 64 bits, so its digits are a text
+abbrev pub next_onto : List ℕ → Option ℕ → List ℕ
+next_onto out None = out ++ codes "null"
+next_onto out (Some n) = digits_onto out n
+
+abbrev pub dialable_onto : List ℕ → Option ℕ → List Key → List ℕ
+dialable_onto out next peers =
+    list_onto key_onto (next_onto (out ++ codes "{\"dialable\":{\"next\":") next ++ codes ",\"peers\":") peers ++ codes "}}"
+
+abbrev pub granted_onto : List ℕ → Key → Ingress → List ℕ
+granted_onto out k i = key_onto (ingress_onto (out ++ codes "{\"dial\":{\"ingress\":") i ++ codes ",\"key\":") k ++ codes "}}"
+
+abbrev pub dial_onto : List ℕ → Option (Key × Ingress) → List ℕ
+dial_onto out None = out ++ codes "{\"dial\":null}"
+dial_onto out (Some grant) = granted_onto out grant.0 grant.1

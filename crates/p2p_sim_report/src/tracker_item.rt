@@ -1,0 +1,90 @@
+//! The text of what a node's tracker is asked, and of what it answers.
+ghost use Rattle.std.specs.Prelude.{◌≡◌, OnOk};
+ghost use Rattle.std.specs.String.{string_bytes};
+ghost use Rattle.p2p_sim_report.specs.TrackerItemText.{call_onto, connect_onto, ask_dial_onto, release_onto, digits_onto, next_onto, dialable_onto, granted_onto, dial_onto};
+
+use crate::address::put_ingress;
+use crate::text::{ToText, put, put_count, put_list, put_number};
+use p2p_address::Ingress;
+use p2p_base::Key;
+use std::alloc::AllocError;
+
+pub fn put_call(out: &mut String, event: u64) -> Result<(), AllocError>
+    ensures { OnOk result (string_bytes out.new ≡ call_onto (string_bytes out.old) event) }
+{
+    put(out, "{\"call\":")?;
+    put_number(out, event)?;
+    put(out, "}")
+}
+
+pub fn put_connect(out: &mut String, conn: u64, key: Key) -> Result<(), AllocError>
+    ensures { OnOk result (string_bytes out.new ≡ connect_onto (string_bytes out.old) conn key) }
+{
+    put(out, "{\"connect\":{\"conn\":")?;
+    put_number(out, conn)?;
+    put(out, ",\"key\":")?;
+    key.write_onto(out)?;
+    put(out, "}}")
+}
+
+pub fn put_ask_dial(out: &mut String, key: Key) -> Result<(), AllocError>
+    ensures { OnOk result (string_bytes out.new ≡ ask_dial_onto (string_bytes out.old) key) }
+{
+    put(out, "{\"dial\":")?;
+    key.write_onto(out)?;
+    put(out, "}")
+}
+
+pub fn put_release(out: &mut String, key: Key) -> Result<(), AllocError>
+    ensures { OnOk result (string_bytes out.new ≡ release_onto (string_bytes out.old) key) }
+{
+    put(out, "{\"release\":")?;
+    key.write_onto(out)?;
+    put(out, "}")
+}
+
+fn put_digits(out: &mut String, number: u128) -> Result<(), AllocError>
+    ensures { OnOk result (string_bytes out.new ≡ digits_onto (string_bytes out.old) number) }
+{
+    put(out, "\"")?;
+    put_count(out, number)?;
+    put(out, "\"")
+}
+
+fn put_next(out: &mut String, next: Option<u128>) -> Result<(), AllocError>
+    ensures { OnOk result (string_bytes out.new ≡ next_onto (string_bytes out.old) next) }
+{
+    match next {
+        Some(moment) => put_digits(out, moment),
+        None => put(out, "null"),
+    }
+}
+
+pub fn put_dialable(out: &mut String, next: Option<u128>, peers: &[Key]) -> Result<(), AllocError>
+    ensures { OnOk result (string_bytes out.new ≡ dialable_onto (string_bytes out.old) next peers.now) }
+{
+    put(out, "{\"dialable\":{\"next\":")?;
+    put_next(out, next)?;
+    put(out, ",\"peers\":")?;
+    put_list(out, peers)?;
+    put(out, "}}")
+}
+
+fn put_granted(out: &mut String, key: Key, ingress: &Ingress) -> Result<(), AllocError>
+    ensures { OnOk result (string_bytes out.new ≡ granted_onto (string_bytes out.old) key ingress.now) }
+{
+    put(out, "{\"dial\":{\"ingress\":")?;
+    put_ingress(out, ingress)?;
+    put(out, ",\"key\":")?;
+    key.write_onto(out)?;
+    put(out, "}}")
+}
+
+pub fn put_dial(out: &mut String, grant: &Option<(Key, Ingress)>) -> Result<(), AllocError>
+    ensures { OnOk result (string_bytes out.new ≡ dial_onto (string_bytes out.old) grant.now) }
+{
+    match grant {
+        Some((key, ingress)) => put_granted(out, *key, ingress),
+        None => put(out, "{\"dial\":null}"),
+    }
+}

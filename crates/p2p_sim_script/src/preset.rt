@@ -1,0 +1,49 @@
+//! The presets of a configuration.
+ghost use Rattle.std.specs.Prelude.{◌≡◌};
+ghost use Rattle.serde_json.specs.View.{view};
+ghost use Rattle.p2p_sim_script.specs.Presets.{preset_of};
+
+use serde_json::Value;
+
+/// What a preset gives. Times are in nanoseconds.
+#[derive(Clone, Copy)]
+pub struct Preset {
+    pub tracked_peer_sets: u64,
+    pub send_batch_size: u64,
+    pub allow_private_ips: bool,
+    pub allow_dns: bool,
+    pub bypass_ip_check: bool,
+    pub peer_connection_cooldown: u64,
+    pub block_duration: u64,
+}
+
+const RECOMMENDED: Preset = Preset {
+    tracked_peer_sets: 4,
+    send_batch_size: 8,
+    allow_private_ips: false,
+    allow_dns: true,
+    bypass_ip_check: false,
+    peer_connection_cooldown: 60_000_000_000,
+    block_duration: 14_400_000_000_000,
+};
+
+const LOCAL: Preset = Preset {
+    tracked_peer_sets: 4,
+    send_batch_size: 8,
+    allow_private_ips: true,
+    allow_dns: true,
+    bypass_ip_check: false,
+    peer_connection_cooldown: 1_000_000_000,
+    block_duration: 3_600_000_000_000,
+};
+
+/// The preset that `tree` names.
+pub(crate) fn read_preset(tree: &Value) -> Option<Preset>
+    ensures { result ≡ preset_of (view tree.now) }
+{
+    match tree.as_str()? {
+        "local" => Some(LOCAL),
+        "recommended" => Some(RECOMMENDED),
+        _ => None,
+    }
+}

@@ -1,0 +1,314 @@
+//! Which texts about a node's tracker are scripts, and what they say.
+use p2p_address::{Address, Ingress, IpAddr, SocketAddr};
+use p2p_base::{Key, Map, Text};
+use p2p_flow::AddressableTrackedPeers;
+use p2p_log::{Act, Config, Event};
+use p2p_sim_script::{ScriptError, read_script};
+use serde_json::Value;
+use std::alloc::Global;
+use std::test::Fail;
+
+// Each act about a tracker, and each form of an address.
+const TRACKING: &str = r#"{"configs":[
+    {"key":1,"preset":"local","max_peers_per_set":2,"max_message_size":9,"mailbox_size":4},
+    {"key":2,"preset":"recommended","max_peers_per_set":2,"max_message_size":9,"mailbox_size":4},
+    {"key":3,"preset":"local","max_peers_per_set":2,"max_message_size":9,"mailbox_size":4,
+     "tracked_peer_sets":1,"send_batch_size":3,"allow_private_ips":false,"allow_dns":false,
+     "bypass_ip_check":true,"peer_connection_cooldown":0,"block_duration":18446744073709551615}],
+"script":[
+    {"at":0,"do":"track","index":5,"node":0,
+     "primary":[[3,{"symmetric":{"ip":[10,0,0,3],"port":3000}}],
+                [1,{"egress":{"ip":[0,1,2,3,4,5,6,7,8,9,10,11,12,13,14,255],"port":65535},
+                    "ingress":{"host":"a.example","port":0}}]],
+     "secondary":[[2,{"egress":{"ip":[10,0,0,2],"port":1},"ingress":{"ip":[10,0,0,9],"port":2}}]]},
+    {"at":0,"do":"track","index":6,"node":0,"primary":[]},
+    {"at":0,"do":"overwrite","node":0,"peers":[[3,{"symmetric":{"ip":[10,0,0,4],"port":3000}}]]},
+    {"at":0,"do":"block","key":9,"node":0},
+    {"at":0,"do":"peer_set","index":7,"node":0},
+    {"at":0,"do":"subscribe","node":1},
+    {"at":0,"do":"blocked","node":2},
+    {"at":0,"do":"answer","question":4},
+    {"at":0,"do":"next","question":6},
+    {"at":0,"do":"tracker","node":3}]}"#;
+
+// ---- what is a script
+
+// Whether the text above is a script with one place changed.
+fn kind_with(alloc: Global, from: &str, to: &str) -> Result<&'static str, Fail> {
+    let text = TRACKING.replacen(alloc, from, to, 1)?;
+    let tree = Value::from_str(alloc, text.as_str())?;
+    match read_script(alloc, &tree) {
+        Ok(_) => Ok("a script"),
+        Err(ScriptError::NotScript) => Ok("none"),
+        Err(ScriptError::Memory) => Ok("no memory"),
+    }
+}
+
+const TWO: &str =
+    r#"[[2,{"egress":{"ip":[10,0,0,2],"port":1},"ingress":{"ip":[10,0,0,9],"port":2}}]]"#;
+
+// Changes of addresses, and of lists of peers.
+const CHANGES_OF_PEERS: &[(&str, &str, &str)] = &[
+    ("", "", "a script"),
+    ("[3,{", "[1,{", "none"),
+    ("[3,{", "[2,{", "a script"),
+    ("[3,{", "[null,{", "none"),
+    ("[3,{", "[3,3,{", "none"),
+    ("[10,0,0,3]", "[10,0,0,3,0]", "none"),
+    ("[10,0,0,3]", "[10,0,0]", "none"),
+    ("[10,0,0,3]", "[10,0,0,256]", "none"),
+    ("[10,0,0,3]", "[10,0,0,-1]", "none"),
+    ("[10,0,0,3]", "[10,0,0,3.0]", "none"),
+    ("[10,0,0,3]", "\"10.0.0.3\"", "none"),
+    (",255]", "]", "none"),
+    ("65535", "65536", "none"),
+    (r#","port":65535"#, "", "none"),
+    (r#""host":"a.example""#, r#""host":"""#, "a script"),
+    (r#""host":"a.example""#, r#""host":7"#, "none"),
+    (
+        r#""host":"a.example""#,
+        r#""host":"a","ip":[1,2,3,4]"#,
+        "none",
+    ),
+    (r#""host":"a.example","port":0"#, r#""host":"a""#, "none"),
+    (r#""port":2}}]]"#, r#""port":2,"more":1}}]]"#, "none"),
+    (r#""egress":{"ip":[10,0,0,2],"port":1},"#, "", "none"),
+    (
+        r#"{"ip":[10,0,0,2],"port":1}"#,
+        r#"{"host":"a","port":1}"#,
+        "none",
+    ),
+    (
+        r#""symmetric":{"ip":[10,0,0,3]"#,
+        r#""symmetric":{"host":"a""#,
+        "none",
+    ),
+    (
+        r#""symmetric":{"ip":[10,0,0,3],"port":3000}"#,
+        r#""symmetric":{"ip":[10,0,0,3],"port":3000},"ingress":{"host":"a","port":1}"#,
+        "none",
+    ),
+    (TWO, "null", "none"),
+    (TWO, "[]", "a script"),
+    (TWO, "{}", "none"),
+    (TWO, "[[]]", "none"),
+    (TWO, "[[2]]", "none"),
+    (TWO, "[2]", "none"),
+];
+
+// Changes of acts and of configurations.
+const CHANGES_OF_NAMES: &[(&str, &str, &str)] = &[
+    (r#","primary":[]"#, "", "none"),
+    (r#","primary":[]"#, r#","primary":[],"peers":[]"#, "none"),
+    (r#""peers":[[3"#, r#""primary":[[3"#, "none"),
+    (r#""key":9"#, r#""key":"9""#, "none"),
+    (r#""index":7,"#, "", "none"),
+    (r#""index":7"#, r#""index":18446744073709551616"#, "none"),
+    (r#""question":4"#, r#""question":4,"node":0"#, "none"),
+    (r#""question":6"#, r#""event":6"#, "none"),
+    (r#""node":3"#, r#""node":3,"index":0"#, "none"),
+    (r#""do":"peer_set""#, r#""do":"peer_sets""#, "none"),
+    (r#""preset":"recommended""#, r#""preset":"remote""#, "none"),
+    (
+        r#""tracked_peer_sets":1"#,
+        r#""tracked_peer_sets":0"#,
+        "none",
+    ),
+    (r#""send_batch_size":3"#, r#""send_batch_size":0"#, "none"),
+    (r#""allow_dns":false"#, r#""allow_dns":null"#, "none"),
+    (r#""allow_dns":false"#, r#""allow_dns":0"#, "none"),
+    (r#""bypass_ip_check":true"#, r#""bypass_ip":true"#, "none"),
+    (r#""bypass_ip_check":true"#, r#""dial_timeout":1"#, "none"),
+    ("18446744073709551615", "0", "a script"),
+    ("18446744073709551615", "18446744073709551616", "none"),
+    ("_cooldown\":0", "_cooldown\":-1", "none"),
+];
+
+#[test]
+fn peers_have_distinct_keys_and_whole_addresses(rt: HostRuntime) -> Result<(), Fail> {
+    for &(from, to, expected) in CHANGES_OF_PEERS {
+        assert_eq!(rt; kind_with(rt.alloc(), from, to)?, expected, "{to}");
+    }
+    Ok(())
+}
+
+#[test]
+fn acts_and_configurations_have_their_names_alone(rt: HostRuntime) -> Result<(), Fail> {
+    for &(from, to, expected) in CHANGES_OF_NAMES {
+        assert_eq!(rt; kind_with(rt.alloc(), from, to)?, expected, "{to}");
+    }
+    Ok(())
+}
+
+// ---- what it says
+
+// The word of an act about a tracker, and its numbers: its node, and its index, its key or its question.
+fn numbers_of(act: &Act) -> (&'static str, u64, u64) {
+    match act {
+        Act::Track { index, node, .. } => ("track", *node, *index),
+        Act::Overwrite { node, .. } => ("overwrite", *node, 0),
+        Act::Block { key, node } => ("block", *node, key.0),
+        Act::PeerSet { index, node } => ("peer_set", *node, *index),
+        Act::Subscribe { node } => ("subscribe", *node, 0),
+        Act::Blocked { node } => ("blocked", *node, 0),
+        Act::Answer { question } => ("answer", 0, *question),
+        Act::Next { question } => ("next", 0, *question),
+        Act::Tracker { node } => ("tracker", *node, 0),
+        _ => ("another", 0, 0),
+    }
+}
+
+const NUMBERS: &[(&str, u64, u64)] = &[
+    ("track", 0, 5),
+    ("track", 0, 6),
+    ("overwrite", 0, 0),
+    ("block", 0, 9),
+    ("peer_set", 0, 7),
+    ("subscribe", 1, 0),
+    ("blocked", 2, 0),
+    ("answer", 0, 4),
+    ("next", 0, 6),
+    ("tracker", 3, 0),
+];
+
+fn have_numbers(script: &[Event]) -> bool {
+    script.len() == NUMBERS.len()
+        && script
+            .iter()
+            .zip(NUMBERS.iter())
+            .all(|(event, due)| numbers_of(&event.act) == *due)
+}
+
+fn socket(bytes: [u8; 4], port: u16) -> SocketAddr {
+    SocketAddr {
+        ip: IpAddr::V4(bytes),
+        port,
+    }
+}
+
+// The two primary peers of the first event, in the order of their keys.
+fn primary(alloc: Global) -> Result<Map<Key, Address>, Fail> {
+    let bytes = [0, 1, 2, 3, 4, 5, 6, 7, 8, 9, 10, 11, 12, 13, 14, 255];
+    let host = Text::from_str(alloc, "a.example")?;
+    let named = Address::Asymmetric {
+        ingress: Ingress::Dns { host, port: 0 },
+        egress: SocketAddr {
+            ip: IpAddr::V6(bytes),
+            port: 65535,
+        },
+    };
+    let one = Address::Symmetric(socket([10, 0, 0, 3], 3000));
+    let mut pairs = Vec::new(alloc);
+    pairs.push((Key(1), named))?;
+    pairs.push((Key(3), one))?;
+    Ok(Map::try_from(pairs)?)
+}
+
+// One peer.
+fn only(alloc: Global, key: u64, address: Address) -> Result<Map<Key, Address>, Fail> {
+    let mut pairs = Vec::new(alloc);
+    pairs.push((Key(key), address))?;
+    Ok(Map::try_from(pairs)?)
+}
+
+// The peers of the first event.
+fn first_peers(alloc: Global) -> Result<AddressableTrackedPeers<Key>, Fail> {
+    let two = Address::Asymmetric {
+        ingress: Ingress::Socket(socket([10, 0, 0, 9], 2)),
+        egress: socket([10, 0, 0, 2], 1),
+    };
+    let primary = primary(alloc)?;
+    let secondary = only(alloc, 2, two)?;
+    Ok(AddressableTrackedPeers { primary, secondary })
+}
+
+fn tracks(script: &[Event], place: usize, due: &AddressableTrackedPeers<Key>) -> bool {
+    match script.get(place) {
+        Some(
+            Event {
+                act: Act::Track { peers, .. },
+                ..
+            },
+        ) => peers == due,
+        _ => false,
+    }
+}
+
+fn overwrites(script: &[Event], place: usize, due: &Map<Key, Address>) -> bool {
+    match script.get(place) {
+        Some(
+            Event {
+                act: Act::Overwrite { peers, .. },
+                ..
+            },
+        ) => peers == due,
+        _ => false,
+    }
+}
+
+// Whether the peers of the first three events are those of the text.
+fn have_peers(alloc: Global, script: &[Event]) -> Result<[bool; 3], Fail> {
+    let nobody = AddressableTrackedPeers::primary(alloc, Map::empty(alloc));
+    let moved = only(alloc, 3, Address::Symmetric(socket([10, 0, 0, 4], 3000)))?;
+    Ok([
+        tracks(script, 0, &first_peers(alloc)?),
+        tracks(script, 1, &nobody),
+        overwrites(script, 2, &moved),
+    ])
+}
+
+// What a preset gives of a configuration.
+type Given = ([usize; 2], [bool; 3], [u64; 2]);
+
+fn given(config: &Config) -> Given {
+    (
+        [config.tracked_peer_sets, config.send_batch_size],
+        [
+            config.allow_private_ips,
+            config.allow_dns,
+            config.bypass_ip_check,
+        ],
+        [config.peer_connection_cooldown, config.block_duration],
+    )
+}
+
+const GIVEN: &[Given] = &[
+    (
+        [4, 8],
+        [true, true, false],
+        [1_000_000_000, 3_600_000_000_000],
+    ),
+    (
+        [4, 8],
+        [false, true, false],
+        [60_000_000_000, 14_400_000_000_000],
+    ),
+    (
+        [1, 3],
+        [false, false, true],
+        [0, 18_446_744_073_709_551_615],
+    ),
+];
+
+fn are_given(configs: &[Config]) -> bool {
+    configs.len() == GIVEN.len()
+        && configs
+            .iter()
+            .zip(GIVEN.iter())
+            .all(|(config, due)| given(config) == *due)
+}
+
+fn read(alloc: Global) -> Result<(bool, bool, [bool; 3]), Fail> {
+    let tree = Value::from_str(alloc, TRACKING)?;
+    let (configs, script) = read_script(alloc, &tree)?;
+    let peers = have_peers(alloc, script.as_slice())?;
+    let numbers = have_numbers(script.as_slice());
+    Ok((are_given(configs.as_slice()), numbers, peers))
+}
+
+// The fields go where they belong, and what a configuration leaves out its preset gives.
+#[test]
+fn what_trackers_are_asked_is_read(rt: HostRuntime) -> Result<(), Fail> {
+    assert_eq!(rt; read(rt.alloc())?, (true, true, [true; 3]));
+    Ok(())
+}
