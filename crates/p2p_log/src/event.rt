@@ -1,10 +1,9 @@
 //! What is asked of the network.
 ghost use Rattle.std.specs.Prelude.{◌≡◌, IfOk};
 
+use crate::asked::Asked;
 use bytes::Bytes;
-use p2p_address::Address;
-use p2p_base::{Key, List, Map};
-use p2p_flow::AddressableTrackedPeers;
+use p2p_base::{Key, List};
 use std::alloc::{AllocError, Global};
 
 /// What may be sent on a channel: `burst` messages at once to one key, and one more each `period` nanoseconds.
@@ -68,33 +67,9 @@ pub enum Act {
         channel: u64,
         node: u64,
     },
-    /// Asks a node's tracker to track the peers of one more set.
-    Track {
-        index: u64,
-        node: u64,
-        peers: AddressableTrackedPeers<Key>,
-    },
-    /// Asks a node's tracker to give peers these addresses.
-    Overwrite {
-        node: u64,
-        peers: Map<Key, Address>,
-    },
-    /// Asks a node's tracker to disconnect a peer and to keep it away.
-    Block {
-        key: Key,
-        node: u64,
-    },
-    /// Asks a node's tracker who is in a set.
-    PeerSet {
-        index: u64,
-        node: u64,
-    },
-    /// Asks a node's tracker for the peer sets that are tracked from now on, and the latest one.
-    Subscribe {
-        node: u64,
-    },
-    /// Asks a node's tracker for the keys that are blocked, now and whenever that changes.
-    Blocked {
+    /// Asks a node's tracker.
+    Ask {
+        asked: Asked,
         node: u64,
     },
     /// Takes the answer to the question for a peer set that an event asked.
@@ -186,25 +161,10 @@ impl Act {
                 channel: *channel,
                 node: *node,
             }),
-            Act::Track { index, node, peers } => Ok(Act::Track {
-                index: *index,
-                node: *node,
-                peers: peers.try_clone()?,
-            }),
-            Act::Overwrite { node, peers } => Ok(Act::Overwrite {
-                node: *node,
-                peers: peers.clone()?,
-            }),
-            Act::Block { key, node } => Ok(Act::Block {
-                key: *key,
+            Act::Ask { asked, node } => Ok(Act::Ask {
+                asked: asked.try_clone()?,
                 node: *node,
             }),
-            Act::PeerSet { index, node } => Ok(Act::PeerSet {
-                index: *index,
-                node: *node,
-            }),
-            Act::Subscribe { node } => Ok(Act::Subscribe { node: *node }),
-            Act::Blocked { node } => Ok(Act::Blocked { node: *node }),
             Act::Answer { question } => Ok(Act::Answer {
                 question: *question,
             }),

@@ -2,6 +2,7 @@
 //! stands in a queue, of the copies of a send and of their fates. It uses no actor, and knows no rule of which log is lawful.
 #![tactic(auto)]
 
+pub mod asked;
 pub mod config;
 pub mod end;
 pub mod entry;
@@ -11,6 +12,7 @@ pub mod item;
 pub mod queue;
 pub mod report;
 
+pub use asked::Asked;
 pub use config::Config;
 pub use end::{Cause, End, Outcome};
 pub use entry::{Entry, Reply};

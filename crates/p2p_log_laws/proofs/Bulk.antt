@@ -22,7 +22,7 @@ use Rattle.p2p_log_rules.specs.Moves.{Moves}
 use Rattle.p2p_log_rules.proofs.Moves.{all_end-gone}
 use Rattle.p2p_log.proofs.Queues.{same_queue-refl}
 use Rattle.p2p_log_laws.specs.Causes.{Shows}
-use Rattle.p2p_log_laws.proofs.Fitting.{Fits, is_bare, bare_carries_none, count_by-none}
+use Rattle.p2p_log_laws.proofs.Fitting.{Fits, is_bare, bare_carries_none}
 use Rattle.p2p_log_laws.proofs.Shape.{Moved, Laws, Delivery, accepts, Shape, IsOwn, IsQuiet, Moved-beside, accepts-none, idle_bare, no_delivery}
 use Rattle.p2p_log_laws.proofs.Showing.{EndShows, Standing}
 use Rattle.p2p_base.specs.declared.key.Key.{Key}
@@ -38,7 +38,7 @@ use Rattle.p2p_log.specs.Lines.{same_name, name_of, ended_item, stands_in, live,
 use Rattle.p2p_log.specs.Copies.{carries, carries_copy, copies_from, copies_of, ends_copy}
 use Rattle.p2p_log.specs.Drained.{ends_with, all_end}
 use Rattle.p2p_log_rules.specs.Effect.{copies_end}
-use Rattle.p2p_log.proofs.Each.{Has, Has-after, Has-kept, Each-has, Each-append, Each-map, Each-weaker, place_of}
+use Rattle.p2p_log.proofs.Each.{Has, Has-after, Has-kept, Each-has, Each-append, Each-map, Each-weaker, place_of, count_by-none}
 use Rattle.p2p_log.proofs.Names.{same_name-refl}
 use Rattle.p2p_log_laws.proofs.Spreading.{borne_by, one, count_by-copies_end, from_first}
 

@@ -100,11 +100,6 @@ bare_carries_none copy (item.Frame (Some other) frame) h = absurd (cc)
 bare_carries_none copy (item.Message bytes other from) h = absurd (cc)
 bare_carries_none copy _ h = refl
 
-pub count_by-none : {X : Type 0} (p : X → Bool) (xs : List X) → Each (λ x. p x ≡ false) xs → count_by p xs ≡ 0
-count_by-none p [] h = refl
-count_by-none p (x ∷ xs) h =
-    sum_by-cons (λ y. cond (p y) 1 0) x xs ∙ (ap (λ b. cond b 1 0 + count_by p xs) h.0 ∙ ap (λ n. 0 + n) (count_by-none p xs h.1))
-
 -- the puts of an entry, each in its envelope
 pub count_by-placed : (copy : ℕ × ℕ) (n p : ℕ) (puts : List (Queue × Item)) → count_by (carries copy) (placed n p puts) ≡ count_by (λ x. carries_copy copy x.1) puts
 count_by-placed copy n p [] = refl

@@ -29,12 +29,12 @@ use Rattle.p2p_log_rules.specs.Reading.{reading_of, told, is_read}
 use Rattle.p2p_log.specs.Sending.Sender.{Node, Raw}
 use Rattle.p2p_log_rules.specs.Facts.{key_at, half_of, half_at, routes, route_to}
 use Rattle.p2p_log_rules.specs.Frames.{frame_of, message_in}
-use Rattle.p2p_log.proofs.Each.{Has, Each-append, Each-weaker}
+use Rattle.p2p_log.proofs.Each.{Has, Each-append, Each-weaker, count_by-none}
 use Rattle.p2p_log_rules.specs.Moves.{Moves}
 use Rattle.p2p_log_rules.proofs.Moves.{one_taken, stands_first}
 use Rattle.p2p_log_rules.proofs.Touches.{Reach}
 use Rattle.p2p_log_laws.proofs.Carried.{IsSublist-bare, IsSublist-put}
-use Rattle.p2p_log_laws.proofs.Fitting.{Fits, is_idle, is_bare, is_item_end, bare_carries_none, ends_copy-none, count_by-none}
+use Rattle.p2p_log_laws.proofs.Fitting.{Fits, is_idle, is_bare, is_item_end, bare_carries_none, ends_copy-none}
 use Rattle.p2p_log_laws.proofs.Showing.{Standing, EndShows, item_shows}
 use Rattle.p2p_log_laws.proofs.Spreading.{borne_by, one}
 use Rattle.p2p_log_laws.proofs.Sublists.{IsSublist-nil}

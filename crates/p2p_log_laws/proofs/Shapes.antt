@@ -9,7 +9,7 @@ use Rattle.p2p_log_laws.proofs.CallShapes.{register_shape, start_shape, join_sha
 use Rattle.p2p_log_laws.proofs.ConnShapes.{send_step_shape, recv_step_shape}
 use Rattle.p2p_log_laws.proofs.RouterShape.{router_shape}
 use Rattle.p2p_log_laws.proofs.Shape.{Shape}
-use Rattle.p2p_log_laws.proofs.TrackerShape.{track_shape, overwrite_shape, block_shape, peer_set_shape, subscribe_shape, blocked_shape, answer_shape, next_shape, tracker_shape}
+use Rattle.p2p_log_laws.proofs.TrackerShape.{ask_shape, answer_shape, next_shape, tracker_shape}
 
 -- each act has a shape
 pub row_shape : (configs : List Config) (log : List Entry) (at seed : ℕ) (a : Act) → Shape configs log a (row configs log at seed a)
@@ -22,12 +22,7 @@ row_shape configs log at seed (act.Router n) = router_shape configs log n
 row_shape configs log at seed (act.SendStep conn n) = send_step_shape configs log conn n
 row_shape configs log at seed (act.RecvStep conn n) = recv_step_shape configs log conn n
 row_shape configs log at seed (act.Recv c n) = recv_shape configs log c n
-row_shape configs log at seed (act.Track index n peers) = track_shape configs log index n peers
-row_shape configs log at seed (act.Overwrite n peers) = overwrite_shape configs log n peers
-row_shape configs log at seed (act.Block key n) = block_shape configs log key n
-row_shape configs log at seed (act.PeerSet index n) = peer_set_shape configs log index n
-row_shape configs log at seed (act.Subscribe n) = subscribe_shape configs log n
-row_shape configs log at seed (act.Blocked n) = blocked_shape configs log n
+row_shape configs log at seed (act.Ask what n) = ask_shape configs log n what
 row_shape configs log at seed (act.Answer question) = answer_shape configs log question
 row_shape configs log at seed (act.Next question) = next_shape configs log question
 row_shape configs log at seed (act.Tracker n) = tracker_shape configs log n at

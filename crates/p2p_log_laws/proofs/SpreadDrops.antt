@@ -19,8 +19,7 @@ use Rattle.p2p_log_rules.specs.Facts.{route_to}
 use Rattle.p2p_log_rules.specs.Effect.{Spread, spread, spread_to, goes_to, relay_queue}
 use Rattle.p2p_log.proofs.Places.{slice_get-seam}
 use Rattle.p2p_log_laws.specs.Causes.{is_lower, enters_before}
-use Rattle.p2p_log.proofs.Each.{Each-append, Each-weaker}
-use Rattle.p2p_log_laws.proofs.Fitting.{count_by-none}
+use Rattle.p2p_log.proofs.Each.{Each-append, Each-weaker, count_by-none}
 use Rattle.p2p_log_laws.proofs.Spreads.{AreFrames, Adds, puts-spread}
 
 -- ---- lower places

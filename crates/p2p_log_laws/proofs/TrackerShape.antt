@@ -26,6 +26,8 @@ use Rattle.p2p_log.specs.declared.item.Envelope.{Envelope}
 use Rattle.p2p_log.specs.declared.entry.Entry.{Entry}
 use Rattle.p2p_log.specs.declared.entry.Reply.{Reply}
 use Rattle.p2p_log.specs.declared.entry.Reply.TheVariants as reply
+use Rattle.p2p_log.specs.declared.asked.Asked.{Asked}
+use Rattle.p2p_log.specs.declared.asked.Asked.TheVariants as ask
 use Rattle.p2p_log.specs.declared.event.Act.{Act}
 use Rattle.p2p_log.specs.declared.event.Act.TheVariants as act
 use Rattle.p2p_log_rules.specs.declared.row.Row.{Row}
@@ -65,27 +67,14 @@ asked_shape configs log a n none near =
       laws = λ stand. quiet_laws configs log a r (no_moves log r refl refl) (none r.reply) refl tt tt tt ((refl, refl), tt);
     }
 
-pub track_shape : (configs : List Config) (log : List Entry) (index n : ℕ) (peers : AddressableTrackedPeers Key) → Shape configs log (act.Track index n peers) (rows.track_row configs log n peers)
-track_shape configs log index n peers = by_size (nat_lt (rows.most_peers_at configs n) (rows.size_at configs n peers))
+pub ask_shape : (configs : List Config) (log : List Entry) (n : ℕ) (what : Asked) → Shape configs log (act.Ask what n) (rows.ask_row configs log n what)
+ask_shape configs log n (ask.Track index peers) = by_size (nat_lt (rows.most_peers_at configs n) (rows.size_at configs n peers))
   where
-    by_size : (b : Bool) → Shape configs log (act.Track index n peers) (cond b (only (reply.PeerSetTooLarge (rows.size_at configs n peers) (rows.most_peers_at configs n))) (rows.asked_row configs log n))
-    by_size true = still configs log (act.Track index n peers) (reply.PeerSetTooLarge (rows.size_at configs n peers) (rows.most_peers_at configs n)) refl refl
-    by_size false = asked_shape configs log (act.Track index n peers) n (λ r. refl) (same_queue-refl (queue.Tracker n))
-
-pub overwrite_shape : (configs : List Config) (log : List Entry) (n : ℕ) (peers : List (Key × Address)) → Shape configs log (act.Overwrite n peers) (rows.asked_row configs log n)
-overwrite_shape configs log n peers = asked_shape configs log (act.Overwrite n peers) n (λ r. refl) (same_queue-refl (queue.Tracker n))
-
-pub block_shape : (configs : List Config) (log : List Entry) (key : Key) (n : ℕ) → Shape configs log (act.Block key n) (rows.asked_row configs log n)
-block_shape configs log key n = asked_shape configs log (act.Block key n) n (λ r. refl) (same_queue-refl (queue.Tracker n))
-
-pub peer_set_shape : (configs : List Config) (log : List Entry) (index n : ℕ) → Shape configs log (act.PeerSet index n) (rows.asked_row configs log n)
-peer_set_shape configs log index n = asked_shape configs log (act.PeerSet index n) n (λ r. refl) (same_queue-refl (queue.Tracker n))
-
-pub subscribe_shape : (configs : List Config) (log : List Entry) (n : ℕ) → Shape configs log (act.Subscribe n) (rows.asked_row configs log n)
-subscribe_shape configs log n = asked_shape configs log (act.Subscribe n) n (λ r. refl) (same_queue-refl (queue.Tracker n))
-
-pub blocked_shape : (configs : List Config) (log : List Entry) (n : ℕ) → Shape configs log (act.Blocked n) (rows.asked_row configs log n)
-blocked_shape configs log n = asked_shape configs log (act.Blocked n) n (λ r. refl) (same_queue-refl (queue.Tracker n))
+    by_size : (b : Bool)
+        → Shape configs log (act.Ask (ask.Track index peers) n) (cond b (only (reply.PeerSetTooLarge (rows.size_at configs n peers) (rows.most_peers_at configs n))) (rows.asked_row configs log n))
+    by_size true = still configs log (act.Ask (ask.Track index peers) n) (reply.PeerSetTooLarge (rows.size_at configs n peers) (rows.most_peers_at configs n)) refl refl
+    by_size false = asked_shape configs log (act.Ask (ask.Track index peers) n) n (λ r. refl) (same_queue-refl (queue.Tracker n))
+ask_shape configs log n what = asked_shape configs log (act.Ask what n) n (λ r. refl) (same_queue-refl (queue.Tracker n))
 
 -- ---- what those who asked take
 
@@ -126,12 +115,10 @@ answer_shape configs log e = by_asked (asked_by log e) refl
     by_taken n true read = gone
     by_taken n false read = oldest_shape configs log (act.Answer e) (queue.Answer n e) (λ r. refl) read refl reply.Pending refl (line log (queue.Answer n e)) refl
 
-    by_asked : (o : Option Act) → asked_by log e ≡ o
-        → Shape configs log (act.Answer e) (elim o [ None ↦ only reply.Gone | Some b ↦ elim b [ act.PeerSet index n ↦ rows.answer_at log n e | _ ↦ only reply.Gone ] ])
-    by_asked None asked = gone
-    by_asked (Some (act.PeerSet index n)) asked =
-        by_taken n (rows.was_answered log e) (told_read configs log e (act.Answer e) (act.PeerSet index n) (queue.Answer n e) asked (same_queue-refl (queue.Answer n e)) refl)
-    by_asked (Some _) asked = gone
+    by_asked : (o : Option Act) → asked_by log e ≡ o → Shape configs log (act.Answer e) (rows.answer_by log e o)
+    by_asked (Some (act.Ask (ask.PeerSet index) n)) asked =
+        by_taken n (rows.was_answered log e) (told_read configs log e (act.Answer e) (act.Ask (ask.PeerSet index) n) (queue.Answer n e) asked (same_queue-refl (queue.Answer n e)) refl)
+    by_asked _ asked = gone
 
 pub next_shape : (configs : List Config) (log : List Entry) (e : ℕ) → Shape configs log (act.Next e) (rows.next_row log e)
 next_shape configs log e = by_asked (asked_by log e) refl
@@ -139,22 +126,14 @@ next_shape configs log e = by_asked (asked_by log e) refl
     gone : Shape configs log (act.Next e) (only reply.Gone)
     gone = still configs log (act.Next e) reply.Gone refl refl
 
-    by_asked : (o : Option Act) → asked_by log e ≡ o → Shape configs log (act.Next e) (elim o [
-      | None ↦ only reply.Gone
-      | Some b ↦ elim b [
-        | act.Subscribe n ↦ rows.oldest_row reply.Pending (line log (queue.Updates n e))
-        | act.Blocked n ↦ rows.oldest_row reply.Pending (line log (queue.Blocked n e))
-        | _ ↦ only reply.Gone
-      ]
-    ])
-    by_asked None asked = gone
-    by_asked (Some (act.Subscribe n)) asked =
+    by_asked : (o : Option Act) → asked_by log e ≡ o → Shape configs log (act.Next e) (rows.next_by log e o)
+    by_asked (Some (act.Ask ask.Subscribe n)) asked =
         oldest_shape configs log (act.Next e) (queue.Updates n e) (λ r. refl)
-        (told_read configs log e (act.Next e) (act.Subscribe n) (queue.Updates n e) asked (same_queue-refl (queue.Updates n e)) refl) refl reply.Pending refl (line log (queue.Updates n e)) refl
-    by_asked (Some (act.Blocked n)) asked =
+        (told_read configs log e (act.Next e) (act.Ask ask.Subscribe n) (queue.Updates n e) asked (same_queue-refl (queue.Updates n e)) refl) refl reply.Pending refl (line log (queue.Updates n e)) refl
+    by_asked (Some (act.Ask ask.Blocked n)) asked =
         oldest_shape configs log (act.Next e) (queue.Blocked n e) (λ r. refl)
-        (told_read configs log e (act.Next e) (act.Blocked n) (queue.Blocked n e) asked (same_queue-refl (queue.Blocked n e)) refl) refl reply.Pending refl (line log (queue.Blocked n e)) refl
-    by_asked (Some _) asked = gone
+        (told_read configs log e (act.Next e) (act.Ask ask.Blocked n) (queue.Blocked n e) asked (same_queue-refl (queue.Blocked n e)) refl) refl reply.Pending refl (line log (queue.Blocked n e)) refl
+    by_asked _ asked = gone
 
 -- ---- its step
 
@@ -220,18 +199,18 @@ module _ (n : ℕ) where
       unblocked_told c = (heard_told (c ∷ calls), sets_told sets (blocked_keys key_cmp rules (c ∷ calls) at))
 
       asked_told : (e : ℕ) (o : Option Act) → Each (IsTold n) (puts.asked_puts rules n at updates sets calls e o)
-      asked_told e (Some (act.Track index m peers)) =
+      asked_told e (Some (act.Ask (ask.Track index peers) m)) =
           let c = call.Track index peers.primary peers.secondary in
           let killed = killed_keys key_cmp rules index peers.primary peers.secondary calls in
           if_told (is_above index (accepted_sets key_cmp calls)) (puts.tracked_puts rules n at updates sets calls c killed) (tracked_told c killed)
-      asked_told e (Some (act.Overwrite m peers)) =
+      asked_told e (Some (act.Ask (ask.Overwrite peers) m)) =
           let all = cond (puts.is_some_of (overwritten_keys key_cmp rules peers calls)) (puts.heard_put rules n at (overwritten peers calls) ∷ []) [] in
           Each-append (IsTold n) (puts.overwrite_kills rules n at peers calls) all (overwrites_told peers calls)
           (if_told (puts.is_some_of (overwritten_keys key_cmp rules peers calls)) (puts.heard_put rules n at (overwritten peers calls) ∷ []) (heard_told (overwritten peers calls), tt))
-      asked_told e (Some (act.Block key m)) = blocked_told (call.Block key at) key
-      asked_told e (Some (act.PeerSet index m)) = (((refl, refl), eq-eqb n n refl), tt)
-      asked_told e (Some (act.Subscribe m)) = updates_told (e ∷ []) (latest_update key_cmp rules calls)
-      asked_told e (Some (act.Blocked m)) = sets_told (e ∷ []) (blocked_keys key_cmp rules calls at)
+      asked_told e (Some (act.Ask (ask.Block key) m)) = blocked_told (call.Block key at) key
+      asked_told e (Some (act.Ask (ask.PeerSet index) m)) = (((refl, refl), eq-eqb n n refl), tt)
+      asked_told e (Some (act.Ask ask.Subscribe m)) = updates_told (e ∷ []) (latest_update key_cmp rules calls)
+      asked_told e (Some (act.Ask ask.Blocked m)) = sets_told (e ∷ []) (blocked_keys key_cmp rules calls at)
       asked_told e _ = tt
 
       item_told : (log : List Entry) (i : Item) → Each (IsTold n) (puts.item_puts rules n at updates sets calls log i)

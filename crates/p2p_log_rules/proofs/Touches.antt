@@ -9,6 +9,7 @@ use Rattle.p2p_log.specs.declared.queue.Queue.{Queue}
 use Rattle.p2p_log.specs.declared.queue.Queue.TheVariants as queue
 use Rattle.p2p_log.specs.declared.entry.Entry.{Entry}
 use Rattle.p2p_log.specs.declared.event.Event.{Event}
+use Rattle.p2p_log.specs.declared.asked.Asked.TheVariants as ask
 use Rattle.p2p_log.specs.declared.event.Act.{Act}
 use Rattle.p2p_log.specs.declared.event.Act.TheVariants as act
 use Rattle.p2p_log_rules.specs.declared.row.Row.{Row}
@@ -60,9 +61,9 @@ in_tracker n _ = false
 
 -- whether what is told for what the event e asked stands in the queue
 abbrev pub is_told_to : Option Act → ℕ → Queue → Bool
-is_told_to (Some (act.PeerSet index n)) e q = same_queue (queue.Answer n e) q
-is_told_to (Some (act.Subscribe n)) e q = same_queue (queue.Updates n e) q
-is_told_to (Some (act.Blocked n)) e q = same_queue (queue.Blocked n e) q
+is_told_to (Some (act.Ask (ask.PeerSet index) n)) e q = same_queue (queue.Answer n e) q
+is_told_to (Some (act.Ask ask.Subscribe n)) e q = same_queue (queue.Updates n e) q
+is_told_to (Some (act.Ask ask.Blocked n)) e q = same_queue (queue.Blocked n e) q
 is_told_to _ e q = false
 
 -- whether a queue is one of these
@@ -87,12 +88,7 @@ writes configs log (act.Send bytes c n priority to) q = same_queue (queue.Router
 writes configs log (act.Router n) q = in_router n q
 writes configs log (act.SendStep conn n) q = in_half n conn q
 writes configs log (act.RecvStep conn n) q = in_channels n q
-writes configs log (act.Track index n peers) q = same_queue (queue.Tracker n) q
-writes configs log (act.Overwrite n peers) q = same_queue (queue.Tracker n) q
-writes configs log (act.Block key n) q = same_queue (queue.Tracker n) q
-writes configs log (act.PeerSet index n) q = same_queue (queue.Tracker n) q
-writes configs log (act.Subscribe n) q = same_queue (queue.Tracker n) q
-writes configs log (act.Blocked n) q = same_queue (queue.Tracker n) q
+writes configs log (act.Ask what n) q = same_queue (queue.Tracker n) q
 writes configs log (act.Tracker n) q = in_tracker n q
 writes configs log _ q = false
 

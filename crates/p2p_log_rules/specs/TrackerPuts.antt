@@ -25,6 +25,7 @@ use Rattle.p2p_log.specs.declared.queue.Queue.TheVariants as queue
 use Rattle.p2p_log.specs.declared.item.Item.{Item}
 use Rattle.p2p_log.specs.declared.item.Item.TheVariants as item
 use Rattle.p2p_log.specs.declared.entry.Entry.{Entry}
+use Rattle.p2p_log.specs.declared.asked.Asked.TheVariants as ask
 use Rattle.p2p_log.specs.declared.event.Act.{Act}
 use Rattle.p2p_log.specs.declared.event.Act.TheVariants as act
 use Rattle.p2p_log_rules.specs.Tracking.{key_cmp, asked_by}
@@ -83,17 +84,17 @@ module _ (rules : Rules Key) (n at : ℕ) (updates sets : List ℕ) (calls : Lis
 module _ (rules : Rules Key) (n at : ℕ) (updates sets : List ℕ) (calls : List (Call Key)) where
   -- what is put for what the event e asked
   abbrev pub asked_puts : ℕ → Option Act → List Put
-  asked_puts e (Some (act.Track index m peers)) =
+  asked_puts e (Some (act.Ask (ask.Track index peers) m)) =
       cond (is_above index (accepted_sets key_cmp calls))
       (tracked_puts rules n at updates sets calls (call.Track index peers.primary peers.secondary) (killed_keys key_cmp rules index peers.primary peers.secondary calls))
       []
-  asked_puts e (Some (act.Overwrite m peers)) =
+  asked_puts e (Some (act.Ask (ask.Overwrite peers) m)) =
       overwrite_kills rules n at peers calls
       ++ cond (is_some_of (overwritten_keys key_cmp rules peers calls)) (heard_put rules n at (overwritten peers calls) ∷ []) []
-  asked_puts e (Some (act.Block key m)) = blocked_puts rules n at updates sets calls (call.Block key at) key
-  asked_puts e (Some (act.PeerSet index m)) = (queue.Answer n e, item.PeerSet (peer_set_of key_cmp rules calls index)) ∷ []
-  asked_puts e (Some (act.Subscribe m)) = update_puts n (e ∷ []) (latest_update key_cmp rules calls)
-  asked_puts e (Some (act.Blocked m)) = set_puts n (e ∷ []) (blocked_keys key_cmp rules calls at)
+  asked_puts e (Some (act.Ask (ask.Block key) m)) = blocked_puts rules n at updates sets calls (call.Block key at) key
+  asked_puts e (Some (act.Ask (ask.PeerSet index) m)) = (queue.Answer n e, item.PeerSet (peer_set_of key_cmp rules calls index)) ∷ []
+  asked_puts e (Some (act.Ask ask.Subscribe m)) = update_puts n (e ∷ []) (latest_update key_cmp rules calls)
+  asked_puts e (Some (act.Ask ask.Blocked m)) = set_puts n (e ∷ []) (blocked_keys key_cmp rules calls at)
   asked_puts e _ = []
 
   -- whom a dial reserves, and where to dial

@@ -1,5 +1,5 @@
 -- The rows of a node's tracker: what it is asked, its step, and what those who asked take.
-use Rattle.std.specs.Prelude.{ℕ, Bool, true, false, ◌==◌, ◌&&◌, cond, nat_lt, List, [], ◌∷◌, flat_map, filter, length, Some, None, slice_get}
+use Rattle.std.specs.Prelude.{ℕ, Bool, true, false, ◌==◌, ◌&&◌, cond, nat_lt, List, [], ◌∷◌, flat_map, filter, length, Option, Some, None, slice_get}
 use Rattle.std.specs.List.{list_any}
 use Rattle.std.specs.Map.{keys_of}
 use Rattle.p2p_base.specs.declared.key.Key.{Key}
@@ -18,6 +18,8 @@ use Rattle.p2p_log.specs.declared.item.Envelope.{Envelope}
 use Rattle.p2p_log.specs.declared.entry.Entry.{Entry}
 use Rattle.p2p_log.specs.declared.entry.Reply.{Reply}
 use Rattle.p2p_log.specs.declared.entry.Reply.TheVariants as reply
+use Rattle.p2p_log.specs.declared.asked.Asked.{Asked}
+use Rattle.p2p_log.specs.declared.asked.Asked.TheVariants as ask
 use Rattle.p2p_log.specs.declared.event.Act.{Act}
 use Rattle.p2p_log.specs.declared.event.Act.TheVariants as act
 use Rattle.p2p_log_rules.specs.declared.row.Row.{Row}
@@ -55,6 +57,11 @@ track_row configs log n peers =
     cond (nat_lt (most_peers_at configs n) (size_at configs n peers))
     (only (reply.PeerSetTooLarge (size_at configs n peers) (most_peers_at configs n)))
     (asked_row configs log n)
+
+-- what is asked
+abbrev pub ask_row : List Config → List Entry → ℕ → Asked → Row
+ask_row configs log n (ask.Track index peers) = track_row configs log n peers
+ask_row configs log n _ = asked_row configs log n
 
 -- ---- its step
 
@@ -124,18 +131,18 @@ oldest_row empty (x ∷ _) = taken_row (told_of x.item) x
 abbrev pub answer_at : List Entry → ℕ → ℕ → Row
 answer_at log n e = cond (was_answered log e) (only reply.Gone) (oldest_row reply.Pending (line log (queue.Answer n e)))
 
+-- by what the event of the question asked
+abbrev pub answer_by : List Entry → ℕ → Option Act → Row
+answer_by log e (Some (act.Ask (ask.PeerSet index) n)) = answer_at log n e
+answer_by log e _ = only reply.Gone
+
 abbrev pub answer_row : List Entry → ℕ → Row
-answer_row log e = elim (asked_by log e) [
-  | None ↦ only reply.Gone
-  | Some a ↦ elim a [ act.PeerSet index n ↦ answer_at log n e | _ ↦ only reply.Gone ]
-]
+answer_row log e = answer_by log e (asked_by log e)
+
+abbrev pub next_by : List Entry → ℕ → Option Act → Row
+next_by log e (Some (act.Ask ask.Subscribe n)) = oldest_row reply.Pending (line log (queue.Updates n e))
+next_by log e (Some (act.Ask ask.Blocked n)) = oldest_row reply.Pending (line log (queue.Blocked n e))
+next_by log e _ = only reply.Gone
 
 abbrev pub next_row : List Entry → ℕ → Row
-next_row log e = elim (asked_by log e) [
-  | None ↦ only reply.Gone
-  | Some a ↦ elim a [
-    | act.Subscribe n ↦ oldest_row reply.Pending (line log (queue.Updates n e))
-    | act.Blocked n ↦ oldest_row reply.Pending (line log (queue.Blocked n e))
-    | _ ↦ only reply.Gone
-  ]
-]
+next_row log e = next_by log e (asked_by log e)

@@ -16,6 +16,7 @@ use Rattle.p2p_log.specs.declared.item.Item.TheVariants as item
 use Rattle.p2p_log.specs.declared.entry.Entry.{Entry}
 use Rattle.p2p_log.specs.declared.entry.Reply.{Reply}
 use Rattle.p2p_log.specs.declared.entry.Reply.TheVariants as reply
+use Rattle.p2p_log.specs.declared.asked.Asked.TheVariants as ask
 use Rattle.p2p_log.specs.declared.event.Act.{Act}
 use Rattle.p2p_log.specs.declared.event.Act.TheVariants as act
 use Rattle.p2p_log_rules.specs.Facts.{taken, history}
@@ -56,9 +57,9 @@ steps_tracker n _ = false
 
 -- once the tracker took what an act asked at this moment
 abbrev pub asked_calls : Option Act → ℕ → List (Call Key) → List (Call Key)
-asked_calls (Some (act.Track index n peers)) at calls = call.Track index peers.primary peers.secondary ∷ calls
-asked_calls (Some (act.Overwrite n peers)) at calls = overwritten peers calls
-asked_calls (Some (act.Block key n)) at calls = call.Block key at ∷ calls
+asked_calls (Some (act.Ask (ask.Track index peers) n)) at calls = call.Track index peers.primary peers.secondary ∷ calls
+asked_calls (Some (act.Ask (ask.Overwrite peers) n)) at calls = overwritten peers calls
+asked_calls (Some (act.Ask (ask.Block key) n)) at calls = call.Block key at ∷ calls
 asked_calls _ at calls = calls
 
 -- once it took this item, where a dial is granted or not and has this jitter
@@ -106,11 +107,11 @@ abbrev pub calls_taken : (Act → Bool) → ℕ → List Entry → Entry → Lis
 calls_taken test n before e = cond (steps_tracker n e.event.act) (flat_map (call_where test before) (taken before e)) []
 
 abbrev pub subscribes : Act → Bool
-subscribes (act.Subscribe n) = true
+subscribes (act.Ask ask.Subscribe n) = true
 subscribes _ = false
 
 abbrev pub subscribes_blocked : Act → Bool
-subscribes_blocked (act.Blocked n) = true
+subscribes_blocked (act.Ask ask.Blocked n) = true
 subscribes_blocked _ = false
 
 -- the subscriptions to peer sets

@@ -5,6 +5,7 @@ use Rattle.p2p_base.specs.declared.key.Key.{Key}
 use Rattle.p2p_log.specs.declared.config.Config.{Config}
 use Rattle.p2p_log.specs.declared.event.Event.{Event}
 use Rattle.p2p_log.specs.declared.event.Rate.{Rate}
+use Rattle.p2p_log.specs.declared.asked.Asked.TheVariants as ask
 use Rattle.p2p_log.specs.declared.event.Act.{Act}
 use Rattle.p2p_log.specs.declared.event.Act.TheVariants as act
 use Rattle.p2p_log_rules.specs.Facts.{has_started, registered, capacity_for, capacity_in, sum_capacities}
@@ -62,15 +63,24 @@ may_register configs events c n rate =
     (not (has_started events n) && not (is_some (capacity_in channels c)))
     && (fits_usize capacity && fits_usize (mailbox_size_at configs n + (sum_capacities channels + capacity)))
 
--- the node that an event asks for a peer set
+-- the node that an act asks for a peer set
+abbrev pub set_asked_by : Act → Option ℕ
+set_asked_by (act.Ask (ask.PeerSet index) n) = Some n
+set_asked_by _ = None
+
 abbrev pub set_asked_of : Option Event → Option ℕ
 set_asked_of None = None
-set_asked_of (Some v) = elim v.act [ act.PeerSet index n ↦ Some n | _ ↦ None ]
+set_asked_of (Some v) = set_asked_by v.act
 
--- the node at which an event subscribes
+-- the node at which an act subscribes
+abbrev pub subscribed_by : Act → Option ℕ
+subscribed_by (act.Ask ask.Subscribe n) = Some n
+subscribed_by (act.Ask ask.Blocked n) = Some n
+subscribed_by _ = None
+
 abbrev pub subscribed_at : Option Event → Option ℕ
 subscribed_at None = None
-subscribed_at (Some v) = elim v.act [ act.Subscribe n ↦ Some n | act.Blocked n ↦ Some n | _ ↦ None ]
+subscribed_at (Some v) = subscribed_by v.act
 
 abbrev pub is_node : List Config → Option ℕ → Bool
 is_node configs None = false
@@ -86,12 +96,7 @@ may_act configs events (act.Router n) = nat_lt n (length configs)
 may_act configs events (act.SendStep conn n) = nat_lt n (length configs) && names_join events n conn
 may_act configs events (act.RecvStep conn n) = nat_lt n (length configs) && names_join events n conn
 may_act configs events (act.Recv c n) = nat_lt n (length configs)
-may_act configs events (act.Track index n peers) = nat_lt n (length configs)
-may_act configs events (act.Overwrite n peers) = nat_lt n (length configs)
-may_act configs events (act.Block key n) = nat_lt n (length configs)
-may_act configs events (act.PeerSet index n) = nat_lt n (length configs)
-may_act configs events (act.Subscribe n) = nat_lt n (length configs)
-may_act configs events (act.Blocked n) = nat_lt n (length configs)
+may_act configs events (act.Ask what n) = nat_lt n (length configs)
 may_act configs events (act.Answer e) = is_node configs (set_asked_of (slice_get events e))
 may_act configs events (act.Next e) = is_node configs (subscribed_at (slice_get events e))
 may_act configs events (act.Tracker n) = nat_lt n (length configs)

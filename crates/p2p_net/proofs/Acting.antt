@@ -3,6 +3,7 @@ use Rattle.std.proofs.Common.{◌≡◌, ℕ, ◌<◌, Bool, true, false, cond, 
 use Rattle.std.specs.Prelude.{slice_get, slice_set, ◌==◌, ◌&&◌, ◌||◌}
 use Rattle.std.specs.List.{list_any}
 use Rattle.std.proofs.lemmas.Bool.Decides.{nat_tests}
+use Rattle.std.proofs.lemmas.List.{length-set}
 use Rattle.p2p_base.specs.declared.key.Key.{Key}
 use Rattle.p2p_log.specs.declared.config.Config.{Config}
 use Rattle.p2p_log.specs.declared.queue.Side.TheVariants as side
@@ -23,12 +24,12 @@ use Rattle.p2p_net.specs.Joining.{Welcomes, Connects, JoinsBy, Joins, OneDoes, p
 use Rattle.p2p_net.specs.Joining as joining
 use Rattle.p2p_net.specs.Stands.{OwnStands, NodeStands, WorldStands}
 use Rattle.p2p_net.specs.declared.node.Node.{Node}
-use Rattle.p2p_net.proofs.Nodes.{slice_get-set, length-slice_set, below}
+use Rattle.p2p_net.proofs.Nodes.{slice_get-set, below}
 use Rattle.p2p_net.proofs.Frames.{part_frame, links_kept}
 use Rattle.p2p_net.proofs.Performing.{asked, Performs, part_still, links_still, effect-still}
 use Rattle.p2p_net.proofs.Calling.{register_performs, start_performs, send_performs, read_performs}
 use Rattle.p2p_net.proofs.Stepping.{route_performs}
-use Rattle.p2p_net.proofs.Tracking.{track_performs, overwrite_performs, block_performs, peer_set_performs, subscribe_performs, blocked_performs, answer_performs, next_performs, tracker_performs}
+use Rattle.p2p_net.proofs.Tracking.{ask_performs, answer_performs, next_performs, tracker_performs}
 use Rattle.p2p_net.proofs.Writing.{send_step_performs}
 use Rattle.p2p_net.proofs.Receiving.{recv_step_performs}
 use Rattle.p2p_net.proofs.Welcoming.{MayJoin-test, may_join-nodes, Told, ready_row, told_first, told_second, welcome_stands}
@@ -50,12 +51,7 @@ node_performs configs log moment seed (act.Router n) x y l links r s t valid one
 node_performs configs log moment seed (act.SendStep conn n) x y l links r s t valid one d = send_step_performs configs log moment seed conn n x y l links r s t d
 node_performs configs log moment seed (act.RecvStep conn n) x y l links r s t valid one d = recv_step_performs configs log moment seed conn n x y l links r s t d
 node_performs configs log moment seed (act.Recv c n) x y l links r s t valid one d = read_performs configs log moment seed n c x y l links r s t d.0 d.1
-node_performs configs log moment seed (act.Track index n peers) x y l links r s t valid one d = track_performs configs log moment seed n index peers x y l links r s t d.0.0 d.0.1 d.1
-node_performs configs log moment seed (act.Overwrite n peers) x y l links r s t valid one d = overwrite_performs configs log moment seed n peers x y l links r s t d.0.0 d.0.1 d.1
-node_performs configs log moment seed (act.Block key n) x y l links r s t valid one d = block_performs configs log moment seed n key x y l links r s t d.0.0 d.0.1 d.1
-node_performs configs log moment seed (act.PeerSet index n) x y l links r s t valid one d = peer_set_performs configs log moment seed n index x y l links r s t d.0.0 d.0.1 d.1
-node_performs configs log moment seed (act.Subscribe n) x y l links r s t valid one d = subscribe_performs configs log moment seed n x y l links r s t d.0.0 d.0.1 d.1
-node_performs configs log moment seed (act.Blocked n) x y l links r s t valid one d = blocked_performs configs log moment seed n x y l links r s t d.0.0 d.0.1 d.1
+node_performs configs log moment seed (act.Ask what n) x y l links r s t valid one d = ask_performs configs log moment seed n what x y l links r s t d.0.0 d.0.1 d.1
 node_performs configs log moment seed (act.Answer e) x y l links r s t valid one d = answer_performs configs log moment seed e x y l links r s t valid d.0.0 d.0.1 d.1
 node_performs configs log moment seed (act.Next e) x y l links r s t valid one d = next_performs configs log moment seed e x y l links r s t valid d.0.0 d.0.1 d.1
 node_performs configs log moment seed (act.Tracker n) x y l links r s t valid one d = tracker_performs configs log moment seed n x y l links r s t d.0 d.1
@@ -111,7 +107,7 @@ one_simulates configs log ev nodes new l links r s valid one d =
       stands = subst (λ (ns : List Node). WorldStands configs (log ++ effect configs log ev ∷ []) ns links) (sym d.1.1.1.0)
           (record {
             valid = s.valid;
-            long = length-slice_set nodes n y ∙ s.long;
+            long = length-set nodes n y ∙ s.long;
             each = λ m z g.
                 one_each configs log ev nodes n y l links r s h (λ p k ne. others_unnamed log ev.act p k one ne) m z (n == m) refl (sym (slice_get-set nodes n m y lt) ∙ g);
             linked = h.linked;
@@ -207,13 +203,13 @@ join_by configs log moment seed a b true x y nodes new l links r s first second 
     welcome_stands configs log ev b a b 1 a (record { peer = key_at configs a; writes = side.In }) z w s.valid (s.each b z at_second) told_b refl
     (subst (λ (k : Key). Welcomes (length log) 1 (record { peer = k; writes = side.In }) a z w) first_key listens)
     in
-    let mid : length (slice_set nodes a v) ≡ length nodes = length-slice_set nodes a v in
+    let mid : length (slice_set nodes a v) ≡ length nodes = length-set nodes a v in
     record {
       row_is = d.0 ∙ (ap (λ k. joined_row (length log) a b k y.config.public_key) first_key ∙ (ap (λ k. joined_row (length log) a b (key_at configs a) k) second_key ∙ joined_is configs log moment seed a b may));
       stands = subst (λ (ns : List Node). WorldStands configs (log ++ e ∷ []) ns links) (sym set)
           (record {
             valid = s.valid;
-            long = length-slice_set (slice_set nodes a v) b w ∙ (mid ∙ s.long);
+            long = length-set (slice_set nodes a v) b w ∙ (mid ∙ s.long);
             each = λ m q g.
                 both_each configs log ev a b nodes l v w refl s hv hw m q (b == m) (a == m) refl refl
                 (ap (λ o. cond (b == m) (Some w) o) (sym (slice_get-set nodes a m v la)) ∙ (sym (slice_get-set (slice_set nodes a v) b m w (omega (arith, mid, lb))) ∙ g));

@@ -21,10 +21,10 @@ use Rattle.p2p_log_rules.specs.declared.row.Row.{Row}
 use Rattle.p2p_log_rules.specs.Facts.{starts, registers_at, capacity_for, taken, steps_router, steps_sender, is_answer, half_of, key_at, answers_by, joins}
 use Rattle.p2p_log_rules.specs.Effect.{only, row, effect}
 use Rattle.p2p_log_rules.specs.Tracking.{asked_by, steps_tracker}
-use Rattle.p2p_log_rules.specs.TrackerRows.{answers, is_answer as gives_answer, answer_at}
+use Rattle.p2p_log_rules.specs.TrackerRows.{answers, is_answer as gives_answer, answer_by}
 use Rattle.p2p_net_tracker.specs.declared.question.Question.{Question}
 use Rattle.p2p_net_tracker.specs.declared.question.Question.TheVariants as question
-use Rattle.p2p_net_tracker.specs.Stands.{asks_of, asks_at, is_told}
+use Rattle.p2p_net_tracker.specs.Stands.{kind_of, asks_of, asks_at, is_told}
 use Rattle.p2p_net_tracker.proofs.Changes.{tracker_frame}
 use Rattle.p2p_net_router.specs.Names.{is_routers}
 use Rattle.p2p_net_router.specs.Stands.{IsBeside}
@@ -157,9 +157,7 @@ tracks_none log n (act.Tracker m) h = grind (arith, nat_tests)
 tracks_none log n _ h = refl
 
 asks_none : (log : List Entry) (n : ℕ) (a : Act) → names log a (at tracker n) ≡ false → asks_of n a ≡ None
-asks_none log n (act.PeerSet index m) h = ap (λ b. cond b (Some question.PeerSet) None) (let f : (m == n) ≡ false = grind (arith, nat_tests) in f)
-asks_none log n (act.Subscribe m) h = ap (λ b. cond b (Some question.Updates) None) (let f : (m == n) ≡ false = grind (arith, nat_tests) in f)
-asks_none log n (act.Blocked m) h = ap (λ b. cond b (Some question.Blocked) None) (let f : (m == n) ≡ false = grind (arith, nat_tests) in f)
+asks_none log n (act.Ask what m) h = ap (λ b. cond b (kind_of what) None) (let f : (m == n) ≡ false = grind (arith, nat_tests) in f)
 asks_none log n _ h = refl
 
 -- a question for a peer set is of the node that it names
@@ -167,14 +165,12 @@ asked_here : (n : ℕ) (o : Option Entry) → (elim o [ None ↦ None | Some e �
 asked_here n None h = cc
 asked_here n (Some e) h = by e.event.act h
   where
-    there : (m : ℕ) (k : Question) (b : Bool) → (m == n) ≡ b → cond b (Some k) None ≡ Some question.PeerSet → (m == n) ≡ true
+    there : (m : ℕ) (k : Option Question) (b : Bool) → (m == n) ≡ b → cond b k None ≡ Some question.PeerSet → (m == n) ≡ true
     there m k true is h = is
     there m k false is h = cc
 
     by : (a : Act) → asks_of n a ≡ Some question.PeerSet → (or_first (asked_node a) == n) ≡ true
-    by (act.PeerSet index m) h = there m question.PeerSet (m == n) refl h
-    by (act.Subscribe m) h = there m question.Updates (m == n) refl h
-    by (act.Blocked m) h = there m question.Blocked (m == n) refl h
+    by (act.Ask what m) h = there m (kind_of what) (m == n) refl h
     by _ h = cc
 
 -- the answer that an act takes is of a node that it names
@@ -204,11 +200,8 @@ late_answer configs log ev d past = by ev.act
     and_false true = refl
     and_false false = refl
 
-    row_of : Option Act → ℕ → Row
-    row_of o e = elim o [ None ↦ only reply.Gone | Some b ↦ elim b [ act.PeerSet index n ↦ answer_at log n e | _ ↦ only reply.Gone ] ]
-
     reply_of : Option Act → ℕ → Reply
-    reply_of o e = (row_of o e).reply
+    reply_of o e = (answer_by log e o).reply
 
     at_end : (e : ℕ) (b : Bool) → (e == d) ≡ b → ((e == d) && gives_answer (reply_of (asked_by log e) e)) ≡ false
     at_end e false is = ap (λ b. b && gives_answer (reply_of (asked_by log e) e)) is

@@ -13,9 +13,6 @@ slice_get-set (x ∷ xs) (suc k) zero v h = grind (arith, nat_tests)
 slice_get-set (x ∷ xs) (suc k) (suc n) v h =
     slice_get-set xs k n v (omega arith) ∙ ap (λ b. cond b (Some v) (slice_get xs n)) (grind (arith, nat_tests))
 
-pub length-slice_set : {X : Type 0} (xs : List X) (k : ℕ) (v : X) → length (slice_set xs k v) ≡ length xs
-length-slice_set xs k v = length-set xs k v
-
 -- what an index found
 pub found : {X : Type 0} (xs : List X) (i : ℕ) (x : X) → i < length xs → x ≡ slice_index_or xs i x → slice_get xs i ≡ Some x
 found xs i x lt h = slice_get-get_or xs i x lt ∙ ap Some (sym h)
@@ -25,7 +22,7 @@ pub found_second :
     {X : Type 0} (xs : List X) (a b : ℕ) (v x : X) → a < length xs → b < length xs → (a == b) ≡ false
     → x ≡ slice_index_or (slice_set xs a v) b x → slice_get xs b ≡ Some x
 found_second xs a b v x la lb two h =
-    let long : length (slice_set xs a v) ≡ length xs = length-slice_set xs a v in
+    let long : length (slice_set xs a v) ≡ length xs = length-set xs a v in
     ap (λ t. cond t (Some v) (slice_get xs b)) (sym two)
     ∙ (sym (slice_get-set xs a b v la) ∙ found (slice_set xs a v) b x (omega (arith, long)) h)
 

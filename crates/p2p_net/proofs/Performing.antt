@@ -48,9 +48,7 @@ is_quiet (act.Register c n rate) r = false
 is_quiet (act.Start n) r = false
 is_quiet (act.Join a b) reply.Gone = true
 is_quiet (act.Join a b) r = false
-is_quiet (act.PeerSet index n) r = false
-is_quiet (act.Subscribe n) r = false
-is_quiet (act.Blocked n) r = false
+is_quiet (act.Ask what n) r = false
 is_quiet (act.Answer e) r = false
 is_quiet (act.Tracker n) r = false
 is_quiet a r = true
@@ -83,9 +81,7 @@ quiet_tracks n (act.Tracker m) r h = cc
 quiet_tracks n _ r h = refl
 
 quiet_asks : (n : ℕ) (a : Act) (r : Reply) → is_quiet a r ≡ true → asks_of n a ≡ None
-quiet_asks n (act.PeerSet index m) r h = cc
-quiet_asks n (act.Subscribe m) r h = cc
-quiet_asks n (act.Blocked m) r h = cc
+quiet_asks n (act.Ask what m) r h = cc
 quiet_asks n _ r h = refl
 
 quiet_answers : (d : ℕ) (a : Act) (r s : Reply) → is_quiet a r ≡ true → answers d a s ≡ false

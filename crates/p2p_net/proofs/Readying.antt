@@ -6,6 +6,7 @@ use Rattle.std.proofs.lemmas.Bool.Decides.{nat_tests}
 use Rattle.p2p_log.specs.declared.config.Config.{Config}
 use Rattle.p2p_log.specs.declared.entry.Entry.{Entry}
 use Rattle.p2p_log.specs.declared.event.Rate.{Rate}
+use Rattle.p2p_log.specs.declared.asked.Asked.TheVariants as ask
 use Rattle.p2p_log.specs.declared.event.Act.{Act}
 use Rattle.p2p_log.specs.declared.event.Act.TheVariants as act
 use Rattle.p2p_log_rules.specs.Facts.{events_of, has_started, is_up, registered, capacity_for, capacity_in}
@@ -68,10 +69,9 @@ set_is : (configs : List Config) (log : List Entry) (e : ℕ)
 set_is configs [] e = and-false (nat_lt 0 (length configs))
 set_is configs (d ∷ ds) zero = by d.event.act
   where
-    by : (a : Act) → (nat_lt (or_first (asked_node a)) (length configs) && (elim a [ act.PeerSet index n ↦ true | _ ↦ false ])) ≡ valid.is_node configs (elim a [ act.PeerSet index n ↦ Some n | _ ↦ None ])
-    by (act.PeerSet index n) = and-true (nat_lt n (length configs))
-    by (act.Subscribe n) = and-false (nat_lt n (length configs))
-    by (act.Blocked n) = and-false (nat_lt n (length configs))
+    by : (a : Act) → (nat_lt (or_first (asked_node a)) (length configs) && is_some (valid.set_asked_by a)) ≡ valid.is_node configs (valid.set_asked_by a)
+    by (act.Ask (ask.PeerSet index) n) = and-true (nat_lt n (length configs))
+    by (act.Ask _ n) = and-false (nat_lt n (length configs))
     by _ = and-false (nat_lt 0 (length configs))
 set_is configs (d ∷ ds) (suc i) = set_is configs ds i
 
@@ -81,11 +81,10 @@ subscription_is : (configs : List Config) (log : List Entry) (e : ℕ)
 subscription_is configs [] e = and-false (nat_lt 0 (length configs))
 subscription_is configs (d ∷ ds) zero = by d.event.act
   where
-    by : (a : Act) → (nat_lt (or_first (asked_node a)) (length configs) && (elim a [ act.Subscribe n ↦ true | act.Blocked n ↦ true | _ ↦ false ]))
-        ≡ valid.is_node configs (elim a [ act.Subscribe n ↦ Some n | act.Blocked n ↦ Some n | _ ↦ None ])
-    by (act.PeerSet index n) = and-false (nat_lt n (length configs))
-    by (act.Subscribe n) = and-true (nat_lt n (length configs))
-    by (act.Blocked n) = and-true (nat_lt n (length configs))
+    by : (a : Act) → (nat_lt (or_first (asked_node a)) (length configs) && is_some (valid.subscribed_by a)) ≡ valid.is_node configs (valid.subscribed_by a)
+    by (act.Ask ask.Subscribe n) = and-true (nat_lt n (length configs))
+    by (act.Ask ask.Blocked n) = and-true (nat_lt n (length configs))
+    by (act.Ask _ n) = and-false (nat_lt n (length configs))
     by _ = and-false (nat_lt 0 (length configs))
 subscription_is configs (d ∷ ds) (suc i) = subscription_is configs ds i
 

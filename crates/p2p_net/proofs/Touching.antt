@@ -7,6 +7,7 @@ use Rattle.p2p_log.specs.declared.queue.Queue.{Queue}
 use Rattle.p2p_log.specs.declared.queue.Queue.TheVariants as queue
 use Rattle.p2p_log.specs.declared.entry.Entry.{Entry}
 use Rattle.p2p_log.specs.declared.event.Event.{Event}
+use Rattle.p2p_log.specs.declared.asked.Asked.TheVariants as ask
 use Rattle.p2p_log.specs.declared.event.Act.{Act}
 use Rattle.p2p_log.specs.declared.event.Act.TheVariants as act
 use Rattle.p2p_log.specs.QueueCode.{same_queue}
@@ -73,9 +74,9 @@ told_queue log e q h = go (slice_get log e) h
     apart n p none here = same_queue-sym p q ∙ away (λ r. same_place (at tracker n) (home r)) q p none here
 
     by : (a : Act) → same_place (at tracker (or_first (asked_node a))) (home q) ≡ false → is_told_to (Some a) e q ≡ false
-    by (act.PeerSet index n) h = apart n (queue.Answer n e) h (eqb-refl n)
-    by (act.Subscribe n) h = apart n (queue.Updates n e) h (eqb-refl n)
-    by (act.Blocked n) h = apart n (queue.Blocked n e) h (eqb-refl n)
+    by (act.Ask (ask.PeerSet index) n) h = apart n (queue.Answer n e) h (eqb-refl n)
+    by (act.Ask ask.Subscribe n) h = apart n (queue.Updates n e) h (eqb-refl n)
+    by (act.Ask ask.Blocked n) h = apart n (queue.Blocked n e) h (eqb-refl n)
     by _ h = refl
 
     go : (o : Option Entry) → same_place (at tracker (node_asked o)) (home q) ≡ false → is_told_to (elim o [ None ↦ None | Some d ↦ Some d.event.act ]) e q ≡ false
@@ -127,12 +128,7 @@ writes-named configs log (act.Router n) q h =
     (first_false (same_place (at connections n) (home q)) false (second_false (same_place (at router n) (home q)) (same_place (at connections n) (home q) || false) h))
 writes-named configs log (act.SendStep conn n) q h = reads-named configs log (act.SendStep conn n) q h
 writes-named configs log (act.RecvStep conn n) q h = channel_kinds n q (first_false (same_place (at channels n) (home q)) false (second_false (same_place links (home q)) (same_place (at channels n) (home q) || false) h))
-writes-named configs log (act.Track index n peers) q h = tracker_queue n q (first_false (same_place (at tracker n) (home q)) false h)
-writes-named configs log (act.Overwrite n peers) q h = tracker_queue n q (first_false (same_place (at tracker n) (home q)) false h)
-writes-named configs log (act.Block key n) q h = tracker_queue n q (first_false (same_place (at tracker n) (home q)) false h)
-writes-named configs log (act.PeerSet index n) q h = tracker_queue n q (first_false (same_place (at tracker n) (home q)) false h)
-writes-named configs log (act.Subscribe n) q h = tracker_queue n q (first_false (same_place (at tracker n) (home q)) false h)
-writes-named configs log (act.Blocked n) q h = tracker_queue n q (first_false (same_place (at tracker n) (home q)) false h)
+writes-named configs log (act.Ask what n) q h = tracker_queue n q (first_false (same_place (at tracker n) (home q)) false h)
 writes-named configs log (act.Tracker n) q h = tracker_kinds n q (first_false (same_place (at tracker n) (home q)) false h)
 writes-named configs log _ q h = refl
 

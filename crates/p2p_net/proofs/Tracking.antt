@@ -1,15 +1,12 @@
 -- The acts of a node's tracker.
 use Rattle.std.proofs.Common.{◌≡◌, ℕ, zero, suc, Bool, true, false, cond, List, [], ◌∷◌, ◌++◌, length, refl, ap, sym, subst, ◌∙◌, Option, Some, None, ◌⊎◌, inl, inr}
 use Rattle.std.specs.Prelude.{slice_get}
-use Rattle.p2p_base.specs.declared.key.Key.{Key}
-use Rattle.p2p_address.specs.declared.peer.Address.{Address}
-use Rattle.p2p_flow.specs.declared.addressable.AddressableTrackedPeers.{AddressableTrackedPeers}
-use Rattle.p2p_tracker_mailbox.specs.Desk.{told_of, with_message, asked as asked_desk, subscribed, blocked_subscribed}
-use Rattle.p2p_tracker_mailbox.specs.declared.message.Message.TheVariants as message
 use Rattle.p2p_log.specs.declared.config.Config.{Config}
 use Rattle.p2p_log.specs.declared.entry.Entry.{Entry}
 use Rattle.p2p_log.specs.declared.entry.Reply.TheVariants as reply
 use Rattle.p2p_log.specs.declared.event.Event.{Event}
+use Rattle.p2p_log.specs.declared.asked.Asked.{Asked}
+use Rattle.p2p_log.specs.declared.asked.Asked.TheVariants as ask
 use Rattle.p2p_log.specs.declared.event.Act.{Act}
 use Rattle.p2p_log.specs.declared.event.Act.TheVariants as act
 use Rattle.p2p_log_rules.specs.declared.row.Row.{Row}
@@ -21,12 +18,12 @@ use Rattle.p2p_log_rules.specs.Valid.{may_act}
 use Rattle.p2p_log_rules.specs.Valid as valid
 use Rattle.p2p_net_links.specs.Stands.{LinksStand}
 use Rattle.p2p_net_links.specs.declared.links.Links.{Links}
-use Rattle.p2p_net_tracker.specs.Asking.{asking_row, asks_for, with_question, with_updates, with_blocked, track_answer, tracked_by}
+use Rattle.p2p_net_tracker.specs.Asking.{ask_answer, after_asking}
 use Rattle.p2p_net_tracker.specs.Reading.{Answers, Continues}
 use Rattle.p2p_net_tracker.specs.Stands.{TrackerStands}
 use Rattle.p2p_net_tracker.specs.declared.tracker.Tracker.{Tracker}
 use Rattle.p2p_net_tracker.proofs.Answering.{tracker_answers, tracker_updates, tracker_sets}
-use Rattle.p2p_net_tracker.proofs.Questions.{track_asked, message_asked, peer_set_asked, subscribe_asked, blocked_asked}
+use Rattle.p2p_net_tracker.proofs.Questions.{ask_stands}
 use Rattle.p2p_net_tracker.proofs.Steps.{tracker_steps, gone_stands}
 use Rattle.p2p_net.specs.Places.{Part, tracker, links, at, asked_node, or_first, node_asked, names}
 use Rattle.p2p_net.specs.Ready.{is_started}
@@ -72,81 +69,36 @@ alone_by t x y h = h ∙ ap (λ k. record x { tracker = k }) (sym (has_tracker t
 
 -- ---- questions
 
-pub track_performs : (configs : List Config) (log : List Entry) (moment seed n index : ℕ) (peers : AddressableTrackedPeers Key) (x y : Node) (l ls : Links) (r : Row) → NodeStands configs log n x → LinksStand log l
-    → r ≡ track_answer x.tracker n (length log) peers → Tracks (tracked_by x.tracker (length log) index peers) x y → ls ≡ l → Performs configs log (asked moment seed (act.Track index n peers)) n y ls r
+pub ask_performs : (configs : List Config) (log : List Entry) (moment seed n : ℕ) (what : Asked) (x y : Node) (l ls : Links) (r : Row) → NodeStands configs log n x → LinksStand log l
+    → r ≡ ask_answer x.tracker n (length log) what → Tracks (after_asking x.tracker (length log) what) x y → ls ≡ l → Performs configs log (asked moment seed (act.Ask what n)) n y ls r
 unfolding row
-track_performs configs log moment seed n index peers x y l ls r s t is alone kept =
-    let now = tracked_by x.tracker (length log) index peers in
-    track_alone configs log (asked moment seed (act.Track index n peers)) n x y l ls r s t (record { parts = λ p out. not_among (tracker ∷ []) p n n out; unlinked = refl }) (alone_by now x y alone) kept
-    (track_asked configs log moment seed n index peers x.tracker y.tracker r (s.each tracker) is (has_tracker now x y alone))
-
-pub overwrite_performs : (configs : List Config) (log : List Entry) (moment seed n : ℕ) (peers : List (Key × Address)) (x y : Node) (l ls : Links) (r : Row) → NodeStands configs log n x → LinksStand log l
-    → r ≡ asking_row (told_of x.tracker.mailbox.desk) n (length log) → Tracks (asks_for x.tracker (length log) (with_message x.tracker.mailbox.desk (message.Overwrite peers))) x y → ls ≡ l
-    → Performs configs log (asked moment seed (act.Overwrite n peers)) n y ls r
-unfolding row
-overwrite_performs configs log moment seed n peers x y l ls r s t is alone kept =
-    let now = asks_for x.tracker (length log) (with_message x.tracker.mailbox.desk (message.Overwrite peers)) in
-    track_alone configs log (asked moment seed (act.Overwrite n peers)) n x y l ls r s t (record { parts = λ p out. not_among (tracker ∷ []) p n n out; unlinked = refl }) (alone_by now x y alone) kept
-    (message_asked configs log moment seed n (act.Overwrite n peers) x.tracker y.tracker r (s.each tracker) is refl (λ d. refl) (message.Overwrite peers) refl refl (has_tracker now x y alone))
-
-pub block_performs : (configs : List Config) (log : List Entry) (moment seed n : ℕ) (key : Key) (x y : Node) (l ls : Links) (r : Row) → NodeStands configs log n x → LinksStand log l
-    → r ≡ asking_row (told_of x.tracker.mailbox.desk) n (length log) → Tracks (asks_for x.tracker (length log) (with_message x.tracker.mailbox.desk (message.Block key))) x y → ls ≡ l
-    → Performs configs log (asked moment seed (act.Block key n)) n y ls r
-unfolding row
-block_performs configs log moment seed n key x y l ls r s t is alone kept =
-    let now = asks_for x.tracker (length log) (with_message x.tracker.mailbox.desk (message.Block key)) in
-    track_alone configs log (asked moment seed (act.Block key n)) n x y l ls r s t (record { parts = λ p out. not_among (tracker ∷ []) p n n out; unlinked = refl }) (alone_by now x y alone) kept
-    (message_asked configs log moment seed n (act.Block key n) x.tracker y.tracker r (s.each tracker) is refl (λ d. refl) (message.Block key) refl refl (has_tracker now x y alone))
-
-pub peer_set_performs : (configs : List Config) (log : List Entry) (moment seed n index : ℕ) (x y : Node) (l ls : Links) (r : Row) → NodeStands configs log n x → LinksStand log l
-    → r ≡ asking_row (told_of x.tracker.mailbox.desk) n (length log) → Tracks (with_question (asks_for x.tracker (length log) (asked_desk x.tracker.mailbox.desk index)) (length log)) x y → ls ≡ l
-    → Performs configs log (asked moment seed (act.PeerSet index n)) n y ls r
-unfolding row
-peer_set_performs configs log moment seed n index x y l ls r s t is alone kept =
-    let now = with_question (asks_for x.tracker (length log) (asked_desk x.tracker.mailbox.desk index)) (length log) in
-    track_alone configs log (asked moment seed (act.PeerSet index n)) n x y l ls r s t (record { parts = λ p out. not_among (tracker ∷ []) p n n out; unlinked = refl }) (alone_by now x y alone) kept
-    (peer_set_asked configs log moment seed n (act.PeerSet index n) x.tracker y.tracker r (s.each tracker) is refl (λ d. refl) index refl (has_tracker now x y alone))
-
-pub subscribe_performs : (configs : List Config) (log : List Entry) (moment seed n : ℕ) (x y : Node) (l ls : Links) (r : Row) → NodeStands configs log n x → LinksStand log l
-    → r ≡ asking_row (told_of x.tracker.mailbox.desk) n (length log) → Tracks (with_updates (asks_for x.tracker (length log) (subscribed x.tracker.mailbox.desk)) (length log)) x y → ls ≡ l
-    → Performs configs log (asked moment seed (act.Subscribe n)) n y ls r
-unfolding row
-subscribe_performs configs log moment seed n x y l ls r s t is alone kept =
-    let now = with_updates (asks_for x.tracker (length log) (subscribed x.tracker.mailbox.desk)) (length log) in
-    track_alone configs log (asked moment seed (act.Subscribe n)) n x y l ls r s t (record { parts = λ p out. not_among (tracker ∷ []) p n n out; unlinked = refl }) (alone_by now x y alone) kept
-    (subscribe_asked configs log moment seed n (act.Subscribe n) x.tracker y.tracker r (s.each tracker) is refl (λ d. refl) refl (has_tracker now x y alone))
-
-pub blocked_performs : (configs : List Config) (log : List Entry) (moment seed n : ℕ) (x y : Node) (l ls : Links) (r : Row) → NodeStands configs log n x → LinksStand log l
-    → r ≡ asking_row (told_of x.tracker.mailbox.desk) n (length log) → Tracks (with_blocked (asks_for x.tracker (length log) (blocked_subscribed x.tracker.mailbox.desk)) (length log)) x y → ls ≡ l
-    → Performs configs log (asked moment seed (act.Blocked n)) n y ls r
-unfolding row
-blocked_performs configs log moment seed n x y l ls r s t is alone kept =
-    let now = with_blocked (asks_for x.tracker (length log) (blocked_subscribed x.tracker.mailbox.desk)) (length log) in
-    track_alone configs log (asked moment seed (act.Blocked n)) n x y l ls r s t (record { parts = λ p out. not_among (tracker ∷ []) p n n out; unlinked = refl }) (alone_by now x y alone) kept
-    (blocked_asked configs log moment seed n (act.Blocked n) x.tracker y.tracker r (s.each tracker) is refl (λ d. refl) refl (has_tracker now x y alone))
+ask_performs configs log moment seed n what x y l ls r s t is alone kept =
+    let now = after_asking x.tracker (length log) what in
+    track_alone configs log (asked moment seed (act.Ask what n)) n x y l ls r s t (record { parts = λ p out. not_among (tracker ∷ []) p n n out; unlinked = refl }) (alone_by now x y alone) kept
+    (ask_stands configs log moment seed n what x.tracker y.tracker r (s.each tracker) is (has_tracker now x y alone))
 
 -- ---- what those who asked take
 
 -- an answer is asked for to a question for a peer set
-set_asked : (configs : List Config) (log : List Entry) (e : ℕ) → valid.is_node configs (valid.set_asked_of (slice_get (events_of log) e)) ≡ true → (index : ℕ) × (asked_by log e ≡ Some (act.PeerSet index (node_asked (slice_get log e))))
+set_asked : (configs : List Config) (log : List Entry) (e : ℕ) → valid.is_node configs (valid.set_asked_of (slice_get (events_of log) e)) ≡ true → (index : ℕ) × (asked_by log e ≡ Some (act.Ask (ask.PeerSet index) (node_asked (slice_get log e))))
 set_asked configs [] e h = cc
 set_asked configs (d ∷ ds) zero h = by d.event.act h
   where
-    by : (a : Act) → valid.is_node configs (elim a [ act.PeerSet index n ↦ Some n | _ ↦ None ]) ≡ true → (index : ℕ) × (Some a ≡ Some (act.PeerSet index (or_first (asked_node a))))
-    by (act.PeerSet index n) h = (index, refl)
+    by : (a : Act) → valid.is_node configs (valid.set_asked_by a) ≡ true → (index : ℕ) × (Some a ≡ Some (act.Ask (ask.PeerSet index) (or_first (asked_node a))))
+    by (act.Ask (ask.PeerSet index) n) h = (index, refl)
     by _ h = cc
 set_asked configs (d ∷ ds) (suc i) h = set_asked configs ds i h
 
 -- what comes next is asked for of a subscription
 subscription_asked : (configs : List Config) (log : List Entry) (e : ℕ) → valid.is_node configs (valid.subscribed_at (slice_get (events_of log) e)) ≡ true
-    → (asked_by log e ≡ Some (act.Subscribe (node_asked (slice_get log e)))) ⊎ (asked_by log e ≡ Some (act.Blocked (node_asked (slice_get log e))))
+    → (asked_by log e ≡ Some (act.Ask ask.Subscribe (node_asked (slice_get log e)))) ⊎ (asked_by log e ≡ Some (act.Ask ask.Blocked (node_asked (slice_get log e))))
 subscription_asked configs [] e h = cc
 subscription_asked configs (d ∷ ds) zero h = by d.event.act h
   where
-    by : (a : Act) → valid.is_node configs (elim a [ act.Subscribe n ↦ Some n | act.Blocked n ↦ Some n | _ ↦ None ]) ≡ true
-        → (Some a ≡ Some (act.Subscribe (or_first (asked_node a)))) ⊎ (Some a ≡ Some (act.Blocked (or_first (asked_node a))))
-    by (act.Subscribe n) h = inl refl
-    by (act.Blocked n) h = inr refl
+    by : (a : Act) → valid.is_node configs (valid.subscribed_by a) ≡ true
+        → (Some a ≡ Some (act.Ask ask.Subscribe (or_first (asked_node a)))) ⊎ (Some a ≡ Some (act.Ask ask.Blocked (or_first (asked_node a))))
+    by (act.Ask ask.Subscribe n) h = inl refl
+    by (act.Ask ask.Blocked n) h = inr refl
     by _ h = cc
 subscription_asked configs (d ∷ ds) (suc i) h = subscription_asked configs ds i h
 

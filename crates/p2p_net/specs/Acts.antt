@@ -24,9 +24,7 @@ use Rattle.p2p_net_connections.specs.declared.connections.Connection.{Connection
 use Rattle.p2p_net_connections.specs.Connections.{answered, begun}
 use Rattle.p2p_net_links.specs.declared.links.Links.{Links}
 use Rattle.p2p_net_links.specs.Links.{way_of, with_way, written_way, write_frames_row}
-use Rattle.p2p_tracker_mailbox.specs.Desk.{told_of, with_message, asked, subscribed, blocked_subscribed}
-use Rattle.p2p_tracker_mailbox.specs.declared.message.Message.TheVariants as message
-use Rattle.p2p_net_tracker.specs.Asking.{asking_row, asks_for, with_question, with_updates, with_blocked, track_answer, tracked_by}
+use Rattle.p2p_net_tracker.specs.Asking.{ask_answer, after_asking}
 use Rattle.p2p_net_tracker.specs.Reading.{Answers, Continues}
 use Rattle.p2p_net_tracker.specs.Stepping as tracking
 use Rattle.p2p_net_tracker.specs.declared.tracker.Tracker.{Tracker}
@@ -174,10 +172,6 @@ RecvSteps k n conn old new l links r = ReceivesOn (table.at old.connections.halv
 abbrev pub Tracks : Tracker → Node → Node → Type 0
 Tracks t old new = (new ≡ record old { tracker = t })
 
--- it is asked: the row is that of a question, and the tracker is this one
-abbrev pub Asks : ℕ → ℕ → Tracker → Node → Node → Row → Type 0
-Asks k n t old new r = (r ≡ asking_row (told_of old.tracker.mailbox.desk) n k) × Tracks t old new
-
 abbrev pub TrackerStepsBy : Bool → ℕ → ℕ → ℕ → ℕ → Node → Node → Row → Type 0
 TrackerStepsBy false k n at seed old new r = Stays old new r (only reply.Gone)
 TrackerStepsBy true k n at seed old new r = tracking.Steps k n at seed old.tracker new.tracker r × Tracks new.tracker old new
@@ -194,18 +188,7 @@ NodeDoes k n at seed (act.SendStep conn m) old new l links r = SendSteps k conn 
 NodeDoes k n at seed (act.RecvStep conn m) old new l links r = RecvSteps k n conn old new l links r
 NodeDoes k n at seed (act.Recv c m) old new l links r = Reads c old new r × (links ≡ l)
 NodeDoes k n at seed (act.Join a b) old new l links r = Stays old new r (only reply.Idle) × (links ≡ l)
-NodeDoes k n at seed (act.Track index m peers) old new l links r =
-    ((r ≡ track_answer old.tracker n k peers) × Tracks (tracked_by old.tracker k index peers) old new) × (links ≡ l)
-NodeDoes k n at seed (act.Overwrite m peers) old new l links r =
-    Asks k n (asks_for old.tracker k (with_message old.tracker.mailbox.desk (message.Overwrite peers))) old new r × (links ≡ l)
-NodeDoes k n at seed (act.Block key m) old new l links r =
-    Asks k n (asks_for old.tracker k (with_message old.tracker.mailbox.desk (message.Block key))) old new r × (links ≡ l)
-NodeDoes k n at seed (act.PeerSet index m) old new l links r =
-    Asks k n (with_question (asks_for old.tracker k (asked old.tracker.mailbox.desk index)) k) old new r × (links ≡ l)
-NodeDoes k n at seed (act.Subscribe m) old new l links r =
-    Asks k n (with_updates (asks_for old.tracker k (subscribed old.tracker.mailbox.desk)) k) old new r × (links ≡ l)
-NodeDoes k n at seed (act.Blocked m) old new l links r =
-    Asks k n (with_blocked (asks_for old.tracker k (blocked_subscribed old.tracker.mailbox.desk)) k) old new r × (links ≡ l)
+NodeDoes k n at seed (act.Ask what m) old new l links r = ((r ≡ ask_answer old.tracker n k what) × Tracks (after_asking old.tracker k what) old new) × (links ≡ l)
 NodeDoes k n at seed (act.Answer e) old new l links r = (Answers n e old.tracker new.tracker r × Tracks new.tracker old new) × (links ≡ l)
 NodeDoes k n at seed (act.Next e) old new l links r = (Continues n e old.tracker new.tracker r × Tracks new.tracker old new) × (links ≡ l)
 NodeDoes k n at seed (act.Tracker m) old new l links r = TrackerStepsBy (is_started old) k n at seed old new r × (links ≡ l)

@@ -80,11 +80,9 @@ same_place (at p n) (at q m) = same_part p q && (n == m)
 same_place links links = true
 same_place _ _ = false
 
--- the node of which an act asks what it may be answered
+-- the node whose tracker an act asks
 abbrev pub asked_node : Act → Option ℕ
-asked_node (act.PeerSet index n) = Some n
-asked_node (act.Subscribe n) = Some n
-asked_node (act.Blocked n) = Some n
+asked_node (act.Ask what n) = Some n
 asked_node _ = None
 
 abbrev pub or_first : Option ℕ → ℕ
@@ -106,12 +104,7 @@ node_of log (act.Router n) = n
 node_of log (act.SendStep conn n) = n
 node_of log (act.RecvStep conn n) = n
 node_of log (act.Recv c n) = n
-node_of log (act.Track index n peers) = n
-node_of log (act.Overwrite n peers) = n
-node_of log (act.Block key n) = n
-node_of log (act.PeerSet index n) = n
-node_of log (act.Subscribe n) = n
-node_of log (act.Blocked n) = n
+node_of log (act.Ask what n) = n
 node_of log (act.Answer e) = node_asked (slice_get log e)
 node_of log (act.Next e) = node_asked (slice_get log e)
 node_of log (act.Tracker n) = n

@@ -5,7 +5,7 @@ use Rattle.p2p_log.specs.declared.entry.Entry.{Entry}
 use Rattle.p2p_log.specs.declared.event.Event.{Event}
 use Rattle.p2p_log.specs.declared.event.Act.{Act}
 use Rattle.p2p_log.specs.declared.event.Act.TheVariants as act
-use Rattle.p2p_log_rules.specs.Valid.{fits_usize}
+use Rattle.p2p_log_rules.specs.Valid.{fits_usize, set_asked_by, subscribed_by}
 use Rattle.p2p_router.specs.Messenger.{is_unbound, is_bound}
 use Rattle.p2p_net_channels.specs.Channels.{capacity_at}
 use Rattle.p2p_log_rules.specs.Tracking.{key_cmp}
@@ -38,12 +38,12 @@ names_node n (Some e) = is_join_of n e.event.act
 -- whether this entry is of a question for a peer set
 abbrev pub asks_set : Option Entry → Bool
 asks_set None = false
-asks_set (Some e) = elim e.event.act [ act.PeerSet index n ↦ true | _ ↦ false ]
+asks_set (Some e) = is_some (set_asked_by e.event.act)
 
 -- whether this entry is of a subscription
 abbrev pub subscribes : Option Entry → Bool
 subscribes None = false
-subscribes (Some e) = elim e.event.act [ act.Subscribe n ↦ true | act.Blocked n ↦ true | _ ↦ false ]
+subscribes (Some e) = is_some (subscribed_by e.event.act)
 
 -- whether a node may be asked, after these entries
 abbrev pub may_ask : List Entry → Node → Act → Bool

@@ -16,7 +16,7 @@ pub use crate::error::{NodeError, RunError};
 pub use crate::node::Node;
 pub use crate::world::World;
 pub use p2p_log::{
-    Act, Cause, Config, End, Entry, Envelope, Event, Fate, Item, Outcome, Queue, Rate, Recipients,
-    Reply, Report, Side,
+    Act, Asked, Cause, Config, End, Entry, Envelope, Event, Fate, Item, Outcome, Queue, Rate,
+    Recipients, Reply, Report, Side,
 };
 pub use p2p_net_links::Links;

@@ -65,14 +65,12 @@ pub fn entry_of(alloc: Global, event: &Event, row: Row) -> Result<Entry, AllocEr
     })
 }
 
-/// The node of which an act asks what it may be answered.
+/// The node whose tracker an act asks.
 fn asked_node(act: &Act) -> Option<u64>
     ensures { result ≡ asked_node_of act.now }
 {
     match act {
-        Act::PeerSet { node, .. } => Some(*node),
-        Act::Subscribe { node } => Some(*node),
-        Act::Blocked { node } => Some(*node),
+        Act::Ask { node, .. } => Some(*node),
         _ => None,
     }
 }
@@ -103,12 +101,7 @@ pub fn node_of(log: &[Entry], act: &Act) -> u64
         Act::SendStep { node, .. } => *node,
         Act::RecvStep { node, .. } => *node,
         Act::Recv { node, .. } => *node,
-        Act::Track { node, .. } => *node,
-        Act::Overwrite { node, .. } => *node,
-        Act::Block { node, .. } => *node,
-        Act::PeerSet { node, .. } => *node,
-        Act::Subscribe { node } => *node,
-        Act::Blocked { node } => *node,
+        Act::Ask { node, .. } => *node,
         Act::Answer { question } => node_asked(log, *question),
         Act::Next { question } => node_asked(log, *question),
         Act::Tracker { node } => *node,
@@ -227,12 +220,7 @@ impl Node {
             Act::RecvStep { conn, .. } => Ok(self.recv_step(turn, links, *conn)?),
             Act::Recv { channel, .. } => Ok(self.read(turn, *channel)?),
             Act::Join { .. } => Ok(only(turn.alloc, Reply::Idle)),
-            Act::Track { index, peers, .. } => Ok(self.tracker.track(turn, *index, peers)?),
-            Act::Overwrite { peers, .. } => Ok(self.tracker.overwrite(turn, peers)?),
-            Act::Block { key, .. } => Ok(self.tracker.block(turn, *key)?),
-            Act::PeerSet { index, .. } => Ok(self.tracker.peer_set(turn, *index)?),
-            Act::Subscribe { .. } => Ok(self.tracker.subscribe(turn)?),
-            Act::Blocked { .. } => Ok(self.tracker.blocked(turn)?),
+            Act::Ask { asked, .. } => Ok(self.tracker.ask(turn, asked)?),
             Act::Answer { question } => Ok(self.tracker.answer(turn, *question)?),
             Act::Next { question } => Ok(self.tracker.next(turn, *question)?),
             Act::Tracker { .. } => Ok(self.track_step(turn, event.at, event.seed)?),

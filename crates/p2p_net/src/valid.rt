@@ -3,7 +3,7 @@ ghost use Rattle.std.specs.Prelude.{◌≡◌, ◌<◌, ◌^◌, ◌&&◌, Some,
 ghost use Rattle.p2p_net.specs.Ready.{capacity_by, is_join_of as is_join_of_test, names_node, asks_set as asks_set_test, subscribes as subscribes_test, may_register as may_register_test, may_ask as may_ask_test, may_at as may_at_test, may_act as may_act_test};
 
 use crate::node::{Node, node_of, other_of};
-use p2p_log::{Act, Entry, Event, Rate};
+use p2p_log::{Act, Asked, Entry, Event, Rate};
 
 /// Whether a channel may be registered at a node: it has not started, the channel is new, and what it would hold can be
 /// counted.
@@ -42,7 +42,10 @@ fn asks_set(log: &[Entry], question: u64) -> bool
     ensures { result ≡ asks_set_test (slice_get log.now question) }
 {
     match log.get(question as usize) {
-        Some(entry) => matches!(entry.event.act, Act::PeerSet { .. }),
+        Some(entry) => match &entry.event.act {
+            Act::Ask { asked, .. } => matches!(asked, Asked::PeerSet { .. }),
+            _ => false,
+        },
         None => false,
     }
 }
@@ -52,7 +55,10 @@ fn subscribes(log: &[Entry], question: u64) -> bool
     ensures { result ≡ subscribes_test (slice_get log.now question) }
 {
     match log.get(question as usize) {
-        Some(entry) => matches!(entry.event.act, Act::Subscribe { .. } | Act::Blocked { .. }),
+        Some(entry) => match &entry.event.act {
+            Act::Ask { asked, .. } => matches!(asked, Asked::Subscribe | Asked::Blocked),
+            _ => false,
+        },
         None => false,
     }
 }

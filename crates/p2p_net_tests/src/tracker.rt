@@ -2,7 +2,7 @@
 use p2p_address::{Address, IpAddr, SocketAddr};
 use p2p_base::{Feedback, Key, Map};
 use p2p_flow::AddressableTrackedPeers;
-use p2p_net::{Act, Config, Event, Reply, RunError, World};
+use p2p_net::{Act, Asked, Config, Event, Reply, RunError, World};
 use std::alloc::{AllocError, Global};
 
 // What a reply says, as plain numbers.
@@ -82,11 +82,15 @@ fn track(alloc: Global, index: u64, peers: u64) -> Result<Act, RunError> {
     let Ok(primary) = Map::try_from(pairs(alloc, peers)?) else {
         return Err(RunError::Memory);
     };
-    Ok(Act::Track {
+    Ok(of_first(Asked::Track {
         index,
-        node: 0,
         peers: AddressableTrackedPeers::primary(alloc, primary),
-    })
+    }))
+}
+
+// The tracker of the first node is asked.
+fn of_first(asked: Asked) -> Act {
+    Act::Ask { asked, node: 0 }
 }
 
 fn ask(world: &mut World, at: u64, act: Act) -> Result<(), RunError> {
@@ -113,7 +117,7 @@ fn tracking(alloc: Global) -> Result<World, RunError> {
 // What the answer to a question for the set of this index is, asked for before the tracker took it, after, and once more.
 fn answers(alloc: Global, index: u64) -> Result<(Said, Said, Said), RunError> {
     let mut world = tracking(alloc)?;
-    ask(&mut world, 0, Act::PeerSet { index, node: 0 })?;
+    ask(&mut world, 0, of_first(Asked::PeerSet { index }))?;
     ask(&mut world, 0, Act::Answer { question: 3 })?;
     let before = newest(&world);
     ask(&mut world, 0, Act::Tracker { node: 0 })?;
@@ -142,7 +146,7 @@ fn an_answer_is_taken_once(rt: HostRuntime) {
 // What a subscription to peer sets is told next, twice, once the tracker took it and a later set.
 fn updates(alloc: Global) -> Result<(Said, Said), RunError> {
     let mut world = tracking(alloc)?;
-    ask(&mut world, 0, Act::Subscribe { node: 0 })?;
+    ask(&mut world, 0, of_first(Asked::Subscribe))?;
     ask(&mut world, 0, Act::Tracker { node: 0 })?;
     ask(&mut world, 0, track(alloc, 4, 1)?)?;
     ask(&mut world, 0, Act::Tracker { node: 0 })?;
@@ -162,16 +166,9 @@ fn a_subscription_is_told_of_each_set(rt: HostRuntime) {
 // What a subscription to the blocked keys is told once a peer was blocked, and once that ended.
 fn blocks(alloc: Global) -> Result<(Said, Said), RunError> {
     let mut world = tracking(alloc)?;
-    ask(&mut world, 0, Act::Blocked { node: 0 })?;
+    ask(&mut world, 0, of_first(Asked::Blocked))?;
     ask(&mut world, 0, Act::Tracker { node: 0 })?;
-    ask(
-        &mut world,
-        0,
-        Act::Block {
-            key: Key(2),
-            node: 0,
-        },
-    )?;
+    ask(&mut world, 0, of_first(Asked::Block { key: Key(2) }))?;
     ask(&mut world, 0, Act::Tracker { node: 0 })?;
     ask(&mut world, 9, Act::Next { question: 3 })?;
     let blocked = newest(&world);
@@ -193,7 +190,7 @@ fn asked(alloc: Global) -> Result<(Said, Said, Said, Said), RunError> {
     let mut world = World::new(alloc, &[config()])?;
     ask(&mut world, 0, track(alloc, 0, 2)?)?;
     let first = newest(&world);
-    ask(&mut world, 0, Act::Subscribe { node: 0 })?;
+    ask(&mut world, 0, of_first(Asked::Subscribe))?;
     let second = newest(&world);
     ask(&mut world, 0, track(alloc, 1, 3)?)?;
     let large = newest(&world);

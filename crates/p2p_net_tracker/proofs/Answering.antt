@@ -13,6 +13,7 @@ use Rattle.p2p_log.specs.declared.entry.Entry.{Entry}
 use Rattle.p2p_log.specs.declared.entry.Reply.{Reply}
 use Rattle.p2p_log.specs.declared.entry.Reply.TheVariants as reply
 use Rattle.p2p_log.specs.declared.event.Event.{Event}
+use Rattle.p2p_log.specs.declared.asked.Asked.TheVariants as ask
 use Rattle.p2p_log.specs.declared.event.Act.{Act}
 use Rattle.p2p_log.specs.declared.event.Act.TheVariants as act
 use Rattle.p2p_log.specs.QueueCode.{same_queue}
@@ -22,7 +23,7 @@ use Rattle.p2p_log_rules.specs.declared.row.Row.{Row}
 use Rattle.p2p_log_rules.specs.Effect.{entry_of}
 use Rattle.p2p_log_rules.specs.Rows.{only}
 use Rattle.p2p_log_rules.specs.Tracking.{asked_by, steps_tracker}
-use Rattle.p2p_log_rules.specs.TrackerRows.{answers, is_answer, was_answered, told_of, taken_row, oldest_row, answer_at, answer_row, next_row}
+use Rattle.p2p_log_rules.specs.TrackerRows.{answers, is_answer, was_answered, told_of, taken_row, oldest_row, answer_at, answer_by, answer_row, next_by, next_row}
 use Rattle.p2p_net_queues.specs.declared.board.Board.{Board}
 use Rattle.p2p_net_queues.specs.Board.{held}
 use Rattle.p2p_net_queues.specs.Tables as table
@@ -173,19 +174,19 @@ note_other l true e d h = lookup-insert_entry e d true l ∙ ap (λ b. cond b (S
 noted_empty : (l : List Envelope) (row : Row) (e : ℕ) (before : List (ℕ × Bool)) → row ≡ oldest_row reply.Pending l → l ≡ [] → noted (is_answer row.reply) e before ≡ before
 noted_empty l row e before is none = ap (λ (k : Row). noted (is_answer k.reply) e before) (is ∙ ap (oldest_row reply.Pending) none)
 
-pub tracker_answers : (configs : List Config) (log : List Entry) (at seed n e index : ℕ) (t u : Tracker) (r : Row) → TrackerStands configs log n t → asked_by log e ≡ Some (act.PeerSet index n) → Answers n e t u r
+pub tracker_answers : (configs : List Config) (log : List Entry) (at seed n e index : ℕ) (t u : Tracker) (r : Row) → TrackerStands configs log n t → asked_by log e ≡ Some (act.Ask (ask.PeerSet index) n) → Answers n e t u r
     → (r ≡ answer_row log e) × TrackerStands configs (log ++ entry_of (record { at = at; seed = seed; act = act.Answer e }) r ∷ []) n u
 tracker_answers configs log at seed n e index t u r s asked h =
     by_taken (is_some (table.at t.answered e)) refl (subst (λ o. AnswersBy o n e t u r) kind h)
   where
     here : asks_at log n e ≡ Some question.PeerSet
-    here = asks-asked log n e (act.PeerSet index n) asked ∙ ap (λ b. cond b (Some question.PeerSet) None) (eq-eqb n n refl)
+    here = asks-asked log n e (act.Ask (ask.PeerSet index) n) asked ∙ ap (λ b. cond b (Some question.PeerSet) None) (eq-eqb n n refl)
 
     kind : table.at t.questions e ≡ Some question.PeerSet
     kind = s.asked e ∙ here
 
     row_is : answer_row log e ≡ answer_at log n e
-    row_is = ap (λ o. elim o [ None ↦ only reply.Gone | Some b ↦ elim b [ act.PeerSet index n ↦ answer_at log n e | _ ↦ only reply.Gone ] ]) asked
+    row_is = ap (answer_by log e) asked
 
     at_is : (b : Bool) → is_some (table.at t.answered e) ≡ b → answer_at log n e ≡ cond b (only reply.Gone) (oldest_row reply.Pending (line log (queue.Answer n e)))
     at_is b is = ap (λ c. cond c (only reply.Gone) (oldest_row reply.Pending (line log (queue.Answer n e)))) (sym (s.answered e here) ∙ is)
@@ -210,7 +211,7 @@ tracker_answers configs log at seed n e index t u r s asked h =
               (λ d past.
               let long = length-append log (entry ∷ []) in
               let before : length log ≤ d = omega (arith, long) in
-              let other : (e == d) ≡ false = apart e d (length log) (asked_before log e (act.PeerSet index n) asked) before in
+              let other : (e == d) ≡ false = apart e d (length log) (asked_before log e (act.Ask (ask.PeerSet index) n) asked) before in
               let was = s.fresh d before in (
                 note_other t.answered (is_answer r.reply) e d other ∙ was.0,
                 was_answered-append log entry d ∙ (ap (λ b. b || ((e == d) && is_answer r.reply)) was.1 ∙ ap (λ b. b && is_answer r.reply) other),
@@ -231,36 +232,16 @@ module _ (configs : List Config) (log : List Entry) (at seed n e : ℕ) (t u : T
             (fresh-longer log entry t.answered s.fresh (λ d past. refl)),
       )
 
-  pub tracker_updates : asked_by log e ≡ Some (act.Subscribe n) → Continues n e t u r
+  pub tracker_updates : asked_by log e ≡ Some (act.Ask ask.Subscribe n) → Continues n e t u r
       → (r ≡ next_row log e) × TrackerStands configs (log ++ entry_of (record { at = at; seed = seed; act = act.Next e }) r ∷ []) n u
   tracker_updates asked h =
-      let kind : table.at t.questions e ≡ Some question.Updates = s.asked e ∙ (asks-asked log n e (act.Subscribe n) asked ∙ ap (λ b. cond b (Some question.Updates) None) (eq-eqb n n refl)) in
+      let kind : table.at t.questions e ≡ Some question.Updates = s.asked e ∙ (asks-asked log n e (act.Ask ask.Subscribe n) asked ∙ ap (λ b. cond b (Some question.Updates) None) (eq-eqb n n refl)) in
       let done = reads_on (queue.Updates n e) (eq-eqb n n refl) (subst (λ o. ContinuesBy o n e t u r) kind h) in
-      (done.0 ∙ sym (ap next_by asked), done.1)
-    where
-      next_by : Option Act → Row
-      next_by o = elim o [
-        | None ↦ only reply.Gone
-        | Some a ↦ elim a [
-          | act.Subscribe m ↦ oldest_row reply.Pending (line log (queue.Updates m e))
-          | act.Blocked m ↦ oldest_row reply.Pending (line log (queue.Blocked m e))
-          | _ ↦ only reply.Gone
-        ]
-      ]
+      (done.0 ∙ sym (ap (next_by log e) asked), done.1)
 
-  pub tracker_sets : asked_by log e ≡ Some (act.Blocked n) → Continues n e t u r
+  pub tracker_sets : asked_by log e ≡ Some (act.Ask ask.Blocked n) → Continues n e t u r
       → (r ≡ next_row log e) × TrackerStands configs (log ++ entry_of (record { at = at; seed = seed; act = act.Next e }) r ∷ []) n u
   tracker_sets asked h =
-      let kind : table.at t.questions e ≡ Some question.Blocked = s.asked e ∙ (asks-asked log n e (act.Blocked n) asked ∙ ap (λ b. cond b (Some question.Blocked) None) (eq-eqb n n refl)) in
+      let kind : table.at t.questions e ≡ Some question.Blocked = s.asked e ∙ (asks-asked log n e (act.Ask ask.Blocked n) asked ∙ ap (λ b. cond b (Some question.Blocked) None) (eq-eqb n n refl)) in
       let done = reads_on (queue.Blocked n e) (eq-eqb n n refl) (subst (λ o. ContinuesBy o n e t u r) kind h) in
-      (done.0 ∙ sym (ap next_by asked), done.1)
-    where
-      next_by : Option Act → Row
-      next_by o = elim o [
-        | None ↦ only reply.Gone
-        | Some a ↦ elim a [
-          | act.Subscribe m ↦ oldest_row reply.Pending (line log (queue.Updates m e))
-          | act.Blocked m ↦ oldest_row reply.Pending (line log (queue.Blocked m e))
-          | _ ↦ only reply.Gone
-        ]
-      ]
+      (done.0 ∙ sym (ap (next_by log e) asked), done.1)

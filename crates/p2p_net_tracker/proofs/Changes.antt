@@ -32,7 +32,7 @@ use Rattle.p2p_log_rules.specs.TrackerRows.{answers, was_answered}
 use Rattle.p2p_net_queues.specs.Tables as table
 use Rattle.p2p_net_tracker.specs.declared.question.Question.{Question}
 use Rattle.p2p_net_tracker.specs.declared.question.Question.TheVariants as question
-use Rattle.p2p_net_tracker.specs.Stands.{asks_of, asks_at, AreFresh, is_told, Match, IsTicket, Says, IsMessage, TrackerStands, LeavesTracker}
+use Rattle.p2p_net_tracker.specs.Stands.{asks_of, asks_at, AreFresh, is_told, Match, IsTicket, kind_of, HasTicket, Says, IsMessage, TrackerStands, LeavesTracker}
 use Rattle.p2p_net_tracker.proofs.Facts.{asks_at-kept, fresh-longer, was_answered-kept, calls-kept, update_subscriptions-kept, blocked_subscriptions-kept, asked_by-longer}
 use Rattle.p2p_net_tracker.proofs.Matching.{Match-weaker, Match-last, slice_get-longer, slice_get-last}
 
@@ -45,13 +45,14 @@ pub record AreMore (old new : Tickets) : Type 0 where
 pub same_tickets : (t : Tickets) → AreMore t t
 same_tickets t = record { questions = λ k e h. h; updates = λ k e h. h; blocked = λ k e h. h }
 
+ticket-more : (old new : Tickets) → AreMore old new → (k : Option Question) (ticket e : ℕ) → HasTicket old k ticket e → HasTicket new k ticket e
+ticket-more old new more None ticket e h = tt
+ticket-more old new more (Some question.PeerSet) ticket e h = more.questions ticket e h
+ticket-more old new more (Some question.Updates) ticket e h = more.updates ticket e h
+ticket-more old new more (Some question.Blocked) ticket e h = more.blocked ticket e h
+
 Says-more : (old new : Tickets) → AreMore old new → (e : ℕ) (a : Act) (m : Message Key) → Says old e a m → Says new e a m
-Says-more old new more e (act.Track index n peers) m h = h
-Says-more old new more e (act.Overwrite n peers) m h = h
-Says-more old new more e (act.Block key n) m h = h
-Says-more old new more e (act.PeerSet index n) m h = (h.0, h.1, more.questions h.0 e h.2)
-Says-more old new more e (act.Subscribe n) m h = (h.0, h.1, more.updates h.0 e h.2)
-Says-more old new more e (act.Blocked n) m h = (h.0, h.1, more.blocked h.0 e h.2)
+Says-more old new more e (act.Ask what n) m h = (h.0, h.1, ticket-more old new more (kind_of what) h.0 e h.2)
 Says-more old new more e _ m h = absurd h
 
 pub IsMessage-longer : (old new : Tickets) → AreMore old new → (log more : List Entry) (i : Item) (m : Message Key) → IsMessage old log i m → IsMessage new (log ++ more) i m

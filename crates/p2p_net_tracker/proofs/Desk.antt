@@ -1,12 +1,12 @@
 -- What a step leaves of the tracker's mailbox: its messages, and as many tickets as before.
 use Rattle.std.proofs.Common.{◌≡◌, List, [], ◌∷◌, length, refl, ◌∙◌}
+use Rattle.std.proofs.lemmas.List.{length-set}
 use Rattle.p2p_base.specs.declared.key.Key.{Key}
 use Rattle.p2p_tracker_mailbox.specs.Desk.{Desk}
 use Rattle.p2p_tracker_mailbox.specs.declared.mailbox.Mailbox.{Mailbox}
 use Rattle.p2p_tracker.specs.Telling.{after_put, after_puts}
 use Rattle.p2p_tracker.specs.declared.stepped.Put.{Put}
 use Rattle.p2p_tracker.specs.declared.stepped.Put.TheVariants as put
-use Rattle.p2p_net_tracker.proofs.Matching.{length-slice_set}
 
 -- the same messages, and as many tickets
 pub record LeavesDesk (old new : Desk Key) : Type 0 where
@@ -21,9 +21,9 @@ same_desk d = record { messages = refl; questions = refl; updates = refl; sets =
 one_left : (p : Put Key) (m : Mailbox Key) → LeavesDesk m.desk (after_put p m).desk
 one_left (put.Kill peer conn) m = same_desk m.desk
 one_left (put.Listenable addresses dropped) m = same_desk m.desk
-one_left (put.Update ticket update) m = record { messages = refl; questions = refl; updates = length-slice_set m.desk.updates ticket _; sets = refl }
-one_left (put.Blocked ticket keys dropped) m = record { messages = refl; questions = refl; updates = refl; sets = length-slice_set m.desk.sets ticket _ }
-one_left (put.PeerSet ticket peers) m = record { messages = refl; questions = length-slice_set m.desk.questions ticket _; updates = refl; sets = refl }
+one_left (put.Update ticket update) m = record { messages = refl; questions = refl; updates = length-set m.desk.updates ticket _; sets = refl }
+one_left (put.Blocked ticket keys dropped) m = record { messages = refl; questions = refl; updates = refl; sets = length-set m.desk.sets ticket _ }
+one_left (put.PeerSet ticket peers) m = record { messages = refl; questions = length-set m.desk.questions ticket _; updates = refl; sets = refl }
 one_left (put.Dialable list) m = same_desk m.desk
 one_left (put.Dial grant) m = same_desk m.desk
 one_left (put.Acceptable handshake acceptable) m = same_desk m.desk

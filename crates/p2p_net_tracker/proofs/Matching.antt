@@ -1,6 +1,6 @@
 -- Two lists of which each place goes together.
 use Rattle.std.proofs.Common.{◌≡◌, ℕ, zero, suc, ◌+◌, List, [], ◌∷◌, ◌++◌, drop, length, Some, refl, ap, sym, ◌∙◌}
-use Rattle.std.specs.Prelude.{slice_get, slice_set, slice_index_or}
+use Rattle.std.specs.Prelude.{slice_get, slice_index_or}
 use Rattle.p2p_net_tracker.specs.Stands.{Match}
 
 pub Match-weaker : {A B : Type 0} (R S : A → B → Type 0) → ((x : A) (y : B) → R x y → S x y) → (xs : List A) (ys : List B) → Match R xs ys → Match S xs ys
@@ -39,8 +39,3 @@ pub slice_index-get : {X : Type 0} (xs : List X) (i : ℕ) (x d : X) → slice_g
 slice_index-get [] i x d h = cc
 slice_index-get (y ∷ xs) zero x d h = cc
 slice_index-get (y ∷ xs) (suc i) x d h = slice_index-get xs i x d h
-
-pub length-slice_set : {X : Type 0} (xs : List X) (k : ℕ) (v : X) → length (slice_set xs k v) ≡ length xs
-length-slice_set [] k v = refl
-length-slice_set (x ∷ xs) zero v = refl
-length-slice_set (x ∷ xs) (suc k) v = ap (λ n. suc n) (length-slice_set xs k v)

@@ -29,6 +29,7 @@ use Rattle.p2p_log.specs.declared.queue.Queue.{Queue}
 use Rattle.p2p_log.specs.declared.queue.Queue.TheVariants as queue
 use Rattle.p2p_log.specs.declared.item.Item.{Item}
 use Rattle.p2p_log.specs.declared.item.Item.TheVariants as item
+use Rattle.p2p_log.specs.declared.asked.Asked.TheVariants as ask
 use Rattle.p2p_log.specs.declared.event.Act.{Act}
 use Rattle.p2p_log.specs.declared.event.Act.TheVariants as act
 use Rattle.p2p_log_rules.specs.Tracking.{key_cmp}
@@ -129,27 +130,27 @@ module _ (n : ℕ) (t : Tickets) where
       -- what is put for a message is what is put for the act that it is of
       pub named-message : (e : ℕ) (a : Act) (m : Message Key) → Says t e a m
           → named_puts n t (puts_for key_cmp rules updates sets waiting heard runs calls now m) ≡ puts.asked_puts rules n now us bs calls e (Some a)
-      named-message e (act.Track index k peers) m h =
+      named-message e (act.Ask (ask.Track index peers) k) m h =
           let c = call.Track index peers.primary peers.secondary in
           let killed = killed_keys key_cmp rules index peers.primary peers.secondary calls in
-          ap (λ d. named_puts n t (puts_for key_cmp rules updates sets waiting heard runs calls now d)) h
+          ap (λ d. named_puts n t (puts_for key_cmp rules updates sets waiting heard runs calls now d)) h.1
           ∙ named-if (is_above index (accepted_sets key_cmp calls)) (registered key_cmp rules updates sets waiting heard calls now c killed) (puts.tracked_puts rules n now us bs calls c killed) (named-registered c killed)
-      named-message e (act.Overwrite k peers) m h =
+      named-message e (act.Ask (ask.Overwrite peers) k) m h =
           let others = overwritten_keys key_cmp rules peers calls in
           let one = heard_put key_cmp rules heard now (overwritten peers calls) in
-          ap (λ d. named_puts n t (puts_for key_cmp rules updates sets waiting heard runs calls now d)) h
+          ap (λ d. named_puts n t (puts_for key_cmp rules updates sets waiting heard runs calls now d)) h.1
           ∙ named-both (overwrite_kills key_cmp rules peers calls) (cond (has_any others) one []) (puts.overwrite_kills rules n now peers calls) (cond (puts.is_some_of others) (puts.heard_put rules n now (overwritten peers calls) ∷ []) [])
           (named-overwrites peers calls)
           (named-if (has_any others) one (puts.heard_put rules n now (overwritten peers calls) ∷ []) refl ∙ ap (λ b. cond b (puts.heard_put rules n now (overwritten peers calls) ∷ []) []) (has_any-is others))
-      named-message e (act.Block key k) m h =
-          ap (λ d. named_puts n t (puts_for key_cmp rules updates sets waiting heard runs calls now d)) h ∙ named-blocked (call.Block key now) key
-      named-message e (act.PeerSet index k) m h =
+      named-message e (act.Ask (ask.Block key) k) m h =
+          ap (λ d. named_puts n t (puts_for key_cmp rules updates sets waiting heard runs calls now d)) h.1 ∙ named-blocked (call.Block key now) key
+      named-message e (act.Ask (ask.PeerSet index) k) m h =
           ap (λ d. named_puts n t (puts_for key_cmp rules updates sets waiting heard runs calls now d)) h.1
           ∙ ap (λ d. (queue.Answer n d, item.PeerSet (peer_set_of key_cmp rules calls index)) ∷ []) (slice_index-get t.questions h.0 e 0 h.2)
-      named-message e (act.Subscribe k) m h =
+      named-message e (act.Ask ask.Subscribe k) m h =
           ap (λ d. named_puts n t (puts_for key_cmp rules updates sets waiting heard runs calls now d)) h.1
           ∙ named-told (h.0 ∷ []) (e ∷ []) (latest_update key_cmp rules calls) (h.2, tt)
-      named-message e (act.Blocked k) m h =
+      named-message e (act.Ask ask.Blocked k) m h =
           ap (λ d. named_puts n t (puts_for key_cmp rules updates sets waiting heard runs calls now d)) h.1
           ∙ ap (λ d. (queue.Blocked n d, item.Blocked (blocked_keys key_cmp rules calls now)) ∷ []) (slice_index-get t.blocked h.0 e 0 h.2)
       named-message e _ m h = absurd h

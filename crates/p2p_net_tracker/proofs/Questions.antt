@@ -20,6 +20,8 @@ use Rattle.p2p_log.specs.declared.queue.Queue.TheVariants as queue
 use Rattle.p2p_log.specs.declared.item.Envelope.{Envelope}
 use Rattle.p2p_log.specs.declared.entry.Entry.{Entry}
 use Rattle.p2p_log.specs.declared.entry.Reply.TheVariants as reply
+use Rattle.p2p_log.specs.declared.asked.Asked.{Asked}
+use Rattle.p2p_log.specs.declared.asked.Asked.TheVariants as ask
 use Rattle.p2p_log.specs.declared.event.Act.{Act}
 use Rattle.p2p_log.specs.declared.event.Act.TheVariants as act
 use Rattle.p2p_log.specs.Lines.{line}
@@ -28,7 +30,7 @@ use Rattle.p2p_log_rules.specs.Effect.{entry_of}
 use Rattle.p2p_log_rules.specs.Facts.{key_at}
 use Rattle.p2p_log_rules.specs.Rows.{only, mailbox_size_at}
 use Rattle.p2p_log_rules.specs.Tracking.{key_cmp, steps_tracker}
-use Rattle.p2p_log_rules.specs.TrackerRows.{answers, was_answered, told_by, asked_row, most_peers_at, size_at, track_row}
+use Rattle.p2p_log_rules.specs.TrackerRows.{answers, was_answered, told_by, asked_row, most_peers_at, size_at, track_row, ask_row}
 use Rattle.p2p_net_queues.specs.Board.{held}
 use Rattle.p2p_net_queues.specs.Tables as table
 use Rattle.p2p_net_queues.proofs.Tables.{lookup-insert_entry}
@@ -36,8 +38,8 @@ use Rattle.p2p_net_tracker.specs.declared.naming.Tickets.{Tickets}
 use Rattle.p2p_net_tracker.specs.declared.question.Question.{Question}
 use Rattle.p2p_net_tracker.specs.declared.question.Question.TheVariants as question
 use Rattle.p2p_net_tracker.specs.declared.tracker.Tracker.{Tracker}
-use Rattle.p2p_net_tracker.specs.Asking.{asking_row, asks_for, with_question, with_updates, with_blocked, size_by, track_answer, tracked_by}
-use Rattle.p2p_net_tracker.specs.Stands.{asks_of, asks_at, Says, TrackerStands}
+use Rattle.p2p_net_tracker.specs.Asking.{asking_row, asks_for, with_question, with_updates, with_blocked, size_by, track_answer, tracked_by, message_of, ask_answer, after_asking}
+use Rattle.p2p_net_tracker.specs.Stands.{kind_of, asks_of, asks_at, Says, TrackerStands}
 use Rattle.p2p_net_tracker.proofs.Answering.{still_stands}
 use Rattle.p2p_net_tracker.proofs.Changes.{AreMore, same_tickets, Asks, tracker_asked}
 use Rattle.p2p_net_tracker.proofs.Facts.{asks_at-longer, asks_at-kept}
@@ -61,6 +63,10 @@ asking_is configs log n t s =
     ap (λ f. asking_row f n (length log))
     (told_is q.closed (length q.items) q.capacity (length (line log (queue.Tracker n))) (mailbox_size_at configs n) s.is_open (Match-long _ (line log (queue.Tracker n)) q.items s.messages) s.size)
 
+-- what an act asks of its own node
+asks_here : (n : ℕ) (what : Asked) → asks_of n (act.Ask what n) ≡ kind_of what
+asks_here n what = ap (λ b. cond b (kind_of what) None) (eq-eqb n n refl)
+
 module _ (configs : List Config) (log : List Entry) (at seed n : ℕ) (a : Act) (t u : Tracker) (r : Row) (s : TrackerStands configs log n t) (is : r ≡ asking_row (told_of t.mailbox.desk) n (length log))
     (no_step : steps_tracker n a ≡ false) (no_answer : (d : ℕ) → answers d a r.reply ≡ false) where
   abbrev e : Entry
@@ -79,7 +85,7 @@ module _ (configs : List Config) (log : List Entry) (at seed n : ℕ) (a : Act) 
   Done = (r ≡ asked_row configs log n) × TrackerStands configs (log ++ e ∷ []) n u
 
   -- a message that nobody is told of
-  pub message_asked : (m : Message Key) → asks_of n a ≡ None → Says t.tickets (length log) a m → u ≡ asks_for t (length log) (with_message t.mailbox.desk m) → Done
+  message_asked : (m : Message Key) → asks_of n a ≡ None → Says t.tickets (length log) a m → u ≡ asks_for t (length log) (with_message t.mailbox.desk m) → Done
   message_asked m no_question says same = (
     is ∙ asking_is configs log n t s,
     subst (TrackerStands configs (log ++ e ∷ []) n) (sym same)
@@ -118,12 +124,12 @@ module _ (configs : List Config) (log : List Entry) (at seed n : ℕ) (a : Act) 
   ticket : {X : Type 0} (given : List X) (events : List ℕ) → length given ≡ length events → slice_get (events ++ length log ∷ []) (length given) ≡ Some (length log)
   ticket given events same = ap (slice_get (events ++ length log ∷ [])) same ∙ slice_get-last events (length log)
 
-  pub peer_set_asked : (index : ℕ) → a ≡ act.PeerSet index n → u ≡ with_question (asks_for t (length log) (asked t.mailbox.desk index)) (length log) → Done
+  peer_set_asked : (index : ℕ) → a ≡ act.Ask (ask.PeerSet index) n → u ≡ with_question (asks_for t (length log) (asked t.mailbox.desk index)) (length log) → Done
   peer_set_asked index acts same =
       let d = t.mailbox.desk in
       let k = length log in
       let tickets : Tickets = record t.tickets { questions = t.tickets.questions ++ k ∷ [] } in
-      let asks_it : asks_of n a ≡ Some question.PeerSet = ap (asks_of n) acts ∙ ap (λ b. cond b (Some question.PeerSet) None) (eq-eqb n n refl) in (
+      let asks_it : asks_of n a ≡ Some question.PeerSet = ap (asks_of n) acts ∙ asks_here n (ask.PeerSet index) in (
         is ∙ asking_is configs log n t s,
         subst (TrackerStands configs (log ++ e ∷ []) n) (sym same)
             (tracker_asked configs log e n t (asked d index) tickets (insert_entry nat_cmp t.questions k question.PeerSet) (message.PeerSet index (length d.questions)) s asks
@@ -132,12 +138,12 @@ module _ (configs : List Config) (log : List Entry) (at seed n : ℕ) (a : Act) 
             (longer d.questions t.tickets.questions _ k s.questions) s.updates s.sets (kind_kept question.PeerSet asks_it) (unanswered question.PeerSet asks_it)),
       )
 
-  pub subscribe_asked : a ≡ act.Subscribe n → u ≡ with_updates (asks_for t (length log) (subscribed t.mailbox.desk)) (length log) → Done
+  subscribe_asked : a ≡ act.Ask ask.Subscribe n → u ≡ with_updates (asks_for t (length log) (subscribed t.mailbox.desk)) (length log) → Done
   subscribe_asked acts same =
       let d = t.mailbox.desk in
       let k = length log in
       let tickets : Tickets = record t.tickets { updates = t.tickets.updates ++ k ∷ [] } in
-      let asks_it : asks_of n a ≡ Some question.Updates = ap (asks_of n) acts ∙ ap (λ b. cond b (Some question.Updates) None) (eq-eqb n n refl) in (
+      let asks_it : asks_of n a ≡ Some question.Updates = ap (asks_of n) acts ∙ asks_here n ask.Subscribe in (
         is ∙ asking_is configs log n t s,
         subst (TrackerStands configs (log ++ e ∷ []) n) (sym same)
             (tracker_asked configs log e n t (subscribed d) tickets (insert_entry nat_cmp t.questions k question.Updates) (message.Subscribe (length d.updates)) s asks
@@ -146,12 +152,12 @@ module _ (configs : List Config) (log : List Entry) (at seed n : ℕ) (a : Act) 
             s.questions (longer d.updates t.tickets.updates _ k s.updates) s.sets (kind_kept question.Updates asks_it) (unanswered question.Updates asks_it)),
       )
 
-  pub blocked_asked : a ≡ act.Blocked n → u ≡ with_blocked (asks_for t (length log) (blocked_subscribed t.mailbox.desk)) (length log) → Done
+  blocked_asked : a ≡ act.Ask ask.Blocked n → u ≡ with_blocked (asks_for t (length log) (blocked_subscribed t.mailbox.desk)) (length log) → Done
   blocked_asked acts same =
       let d = t.mailbox.desk in
       let k = length log in
       let tickets : Tickets = record t.tickets { blocked = t.tickets.blocked ++ k ∷ [] } in
-      let asks_it : asks_of n a ≡ Some question.Blocked = ap (asks_of n) acts ∙ ap (λ b. cond b (Some question.Blocked) None) (eq-eqb n n refl) in (
+      let asks_it : asks_of n a ≡ Some question.Blocked = ap (asks_of n) acts ∙ asks_here n ask.Blocked in (
         is ∙ asking_is configs log n t s,
         subst (TrackerStands configs (log ++ e ∷ []) n) (sym same)
             (tracker_asked configs log e n t (blocked_subscribed d) tickets (insert_entry nat_cmp t.questions k question.Blocked) (message.SubscribeBlocked (length d.sets)) s asks
@@ -161,9 +167,9 @@ module _ (configs : List Config) (log : List Entry) (at seed n : ℕ) (a : Act) 
       )
 
 -- a set is asked for, unless it is too large
-pub track_asked : (configs : List Config) (log : List Entry) (at seed n index : ℕ) (peers : AddressableTrackedPeers Key) (t u : Tracker) (r : Row) → TrackerStands configs log n t
+track_asked : (configs : List Config) (log : List Entry) (at seed n index : ℕ) (peers : AddressableTrackedPeers Key) (t u : Tracker) (r : Row) → TrackerStands configs log n t
     → r ≡ track_answer t n (length log) peers → u ≡ tracked_by t (length log) index peers
-    → (r ≡ track_row configs log n peers) × TrackerStands configs (log ++ entry_of (record { at = at; seed = seed; act = act.Track index n peers }) r ∷ []) n u
+    → (r ≡ track_row configs log n peers) × TrackerStands configs (log ++ entry_of (record { at = at; seed = seed; act = act.Ask (ask.Track index peers) n }) r ∷ []) n u
 track_asked configs log at seed n index peers t u r s is same = by (nat_lt t.oracle.max_peers_per_set (size_by t peers)) refl is same
   where
     size : size_by t peers ≡ size_at configs n peers
@@ -179,12 +185,22 @@ track_asked configs log at seed n index peers t u r s is same = by (nat_lt t.ora
     by : (b : Bool) → nat_lt t.oracle.max_peers_per_set (size_by t peers) ≡ b
         → r ≡ cond b (only (reply.PeerSetTooLarge (size_by t peers) t.oracle.max_peers_per_set)) (asking_row (told_of t.mailbox.desk) n (length log))
         → u ≡ cond b t (asks_for t (length log) (with_message t.mailbox.desk (message.Register index peers)))
-        → (r ≡ track_row configs log n peers) × TrackerStands configs (log ++ entry_of (record { at = at; seed = seed; act = act.Track index n peers }) r ∷ []) n u
+        → (r ≡ track_row configs log n peers) × TrackerStands configs (log ++ entry_of (record { at = at; seed = seed; act = act.Ask (ask.Track index peers) n }) r ∷ []) n u
     by true large is same = (
       is ∙ (ap (λ k. only (reply.PeerSetTooLarge k t.oracle.max_peers_per_set)) size ∙ (ap (λ k. only (reply.PeerSetTooLarge (size_at configs n peers) k)) s.most ∙ sym (row_is true large))),
-      still_stands configs log at seed n (act.Track index n peers) t u r s refl refl (reply.PeerSetTooLarge (size_by t peers) t.oracle.max_peers_per_set) is (λ d. refl)
+      still_stands configs log at seed n (act.Ask (ask.Track index peers) n) t u r s refl refl (reply.PeerSetTooLarge (size_by t peers) t.oracle.max_peers_per_set) is (λ d. refl)
           (same ∙ ap (λ (k : Tracker). record t { told = k.told }) (sym same)) (λ p own. ap (λ (k : Tracker). held k.told p) same ∙ s.told p own),
     )
     by false fits is same =
-        let done = message_asked configs log at seed n (act.Track index n peers) t u r s is refl (λ d. refl) (message.Register index peers) refl refl same in
+        let done = message_asked configs log at seed n (act.Ask (ask.Track index peers) n) t u r s is refl (λ d. refl) (message.Register index peers) (asks_here n (ask.Track index peers)) (0, refl, tt) same in
         (done.0 ∙ sym (row_is false fits), done.1)
+
+pub ask_stands : (configs : List Config) (log : List Entry) (at seed n : ℕ) (what : Asked) (t u : Tracker) (r : Row) → TrackerStands configs log n t
+    → r ≡ ask_answer t n (length log) what → u ≡ after_asking t (length log) what
+    → (r ≡ ask_row configs log n what) × TrackerStands configs (log ++ entry_of (record { at = at; seed = seed; act = act.Ask what n }) r ∷ []) n u
+ask_stands configs log at seed n (ask.Track index peers) t u r s is same = track_asked configs log at seed n index peers t u r s is same
+ask_stands configs log at seed n (ask.PeerSet index) t u r s is same = peer_set_asked configs log at seed n (act.Ask (ask.PeerSet index) n) t u r s is refl (λ d. refl) index refl same
+ask_stands configs log at seed n ask.Subscribe t u r s is same = subscribe_asked configs log at seed n (act.Ask ask.Subscribe n) t u r s is refl (λ d. refl) refl same
+ask_stands configs log at seed n ask.Blocked t u r s is same = blocked_asked configs log at seed n (act.Ask ask.Blocked n) t u r s is refl (λ d. refl) refl same
+ask_stands configs log at seed n what t u r s is same =
+    message_asked configs log at seed n (act.Ask what n) t u r s is refl (λ d. refl) (message_of what 0) (asks_here n what) (0, refl, tt) same

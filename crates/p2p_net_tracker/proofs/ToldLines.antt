@@ -2,7 +2,6 @@
 use Rattle.std.proofs.Common.{◌≡◌, ℕ, ◌+◌, Bool, true, false, cond, List, [], ◌∷◌, ◌++◌, drop, length, refl, ap, sym, ◌∙◌, arith, eq-eqb, append-nil, Option, Some, None}
 use Rattle.std.specs.Prelude.{filter, flat_map, count_by}
 use Rattle.std.specs.List.{AllByRecursion as Each}
-use Rattle.std.proofs.lemmas.List.Sums.{sum_by-cons}
 use Rattle.p2p_base.specs.declared.key.Key.{Key}
 use Rattle.p2p_tracker.specs.declared.stepped.Put.{Put}
 use Rattle.p2p_tracker.specs.declared.stepped.Put.TheVariants as put
@@ -14,7 +13,7 @@ use Rattle.p2p_log.specs.declared.entry.Entry.{Entry}
 use Rattle.p2p_log.specs.Apart.{AreApart}
 use Rattle.p2p_log.specs.QueueCode.{same_queue}
 use Rattle.p2p_log.specs.Lines.{name_of, ended_item, goes, stays, live, line, placed, stands_in}
-use Rattle.p2p_log.proofs.Each.{Each-append, Each-weaker}
+use Rattle.p2p_log.proofs.Each.{Each-append, Each-weaker, count_by-none}
 use Rattle.p2p_log.proofs.Filters.{filter-none}
 use Rattle.p2p_log.proofs.Lines.{filter_stays-nil, filter_stays-append}
 use Rattle.p2p_log.proofs.Names.{AreApart-filter, AreApart-live_from, filter_stays-first}
@@ -56,11 +55,6 @@ ring_is_told n _ h = tt
 rings_are_told : (n : ℕ) (xs : List (Queue × Item)) → Each (IsTold n) xs → Each (λ p. is_told n p ≡ true) (rings_of xs)
 rings_are_told n [] h = tt
 rings_are_told n (x ∷ xs) h = Each-append (λ p. is_told n p ≡ true) (ring_of x.0) (rings_of xs) (ring_is_told n x.0 h.0) (rings_are_told n xs h.1)
-
-count_by-none : {X : Type 0} (p : X → Bool) (xs : List X) → Each (λ x. p x ≡ false) xs → count_by p xs ≡ 0
-count_by-none p [] h = refl
-count_by-none p (x ∷ xs) h =
-    sum_by-cons (λ y. cond (p y) 1 0) x xs ∙ (ap (λ b. cond b 1 0 + count_by p xs) h.0 ∙ ap (λ n. 0 + n) (count_by-none p xs h.1))
 
 -- rings are not its mailbox
 none_same : (n m : ℕ) (qs : List Queue) → Each (λ p. is_told n p ≡ true) qs → count_by (is_same (queue.Tracker m)) qs ≡ 0

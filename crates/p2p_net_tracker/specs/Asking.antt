@@ -7,9 +7,12 @@ use Rattle.p2p_base.specs.declared.key.Key.{Key}
 use Rattle.p2p_base.specs.declared.outcome.Feedback.{Feedback}
 use Rattle.p2p_flow.specs.SetSize.{set_size}
 use Rattle.p2p_flow.specs.declared.addressable.AddressableTrackedPeers.{AddressableTrackedPeers}
-use Rattle.p2p_tracker_mailbox.specs.Desk.{Desk, told_of, with_message}
+use Rattle.p2p_tracker_mailbox.specs.Desk.{Desk, told_of, with_message, asked, subscribed, blocked_subscribed}
 use Rattle.p2p_tracker_mailbox.specs.Mailboxes.{with_desk}
+use Rattle.p2p_tracker_mailbox.specs.declared.message.Message.{Message}
 use Rattle.p2p_tracker_mailbox.specs.declared.message.Message.TheVariants as message
+use Rattle.p2p_log.specs.declared.asked.Asked.{Asked}
+use Rattle.p2p_log.specs.declared.asked.Asked.TheVariants as ask
 use Rattle.p2p_log.specs.declared.queue.Queue.TheVariants as queue
 use Rattle.p2p_log.specs.declared.item.Item.TheVariants as item
 use Rattle.p2p_log.specs.declared.entry.Reply.TheVariants as reply
@@ -18,6 +21,15 @@ use Rattle.p2p_log_rules.specs.Rows.{only}
 use Rattle.p2p_log_rules.specs.Tracking.{key_cmp}
 use Rattle.p2p_net_tracker.specs.declared.question.Question.TheVariants as question
 use Rattle.p2p_net_tracker.specs.declared.tracker.Tracker.{Tracker}
+
+-- the message of what is asked, with this ticket where it has one
+abbrev pub message_of : Asked → ℕ → Message Key
+message_of (ask.Track index peers) ticket = message.Register index peers
+message_of (ask.Overwrite peers) ticket = message.Overwrite peers
+message_of (ask.Block key) ticket = message.Block key
+message_of (ask.PeerSet index) ticket = message.PeerSet index ticket
+message_of ask.Subscribe ticket = message.Subscribe ticket
+message_of ask.Blocked ticket = message.SubscribeBlocked ticket
 
 -- the row of a question of the entry k at the node n, of which its mailbox tells this
 abbrev pub asking_row : Feedback → ℕ → ℕ → Row
@@ -48,3 +60,16 @@ track_answer t n k peers =
 abbrev pub tracked_by : Tracker → ℕ → ℕ → AddressableTrackedPeers Key → Tracker
 tracked_by t k index peers =
     cond (nat_lt t.oracle.max_peers_per_set (size_by t peers)) t (asks_for t k (with_message t.mailbox.desk (message.Register index peers)))
+
+-- the row of what is asked by the entry k at the node n
+abbrev pub ask_answer : Tracker → ℕ → ℕ → Asked → Row
+ask_answer t n k (ask.Track index peers) = track_answer t n k peers
+ask_answer t n k _ = asking_row (told_of t.mailbox.desk) n k
+
+-- and the tracker then
+abbrev pub after_asking : Tracker → ℕ → Asked → Tracker
+after_asking t k (ask.Track index peers) = tracked_by t k index peers
+after_asking t k (ask.PeerSet index) = with_question (asks_for t k (asked t.mailbox.desk index)) k
+after_asking t k ask.Subscribe = with_updates (asks_for t k (subscribed t.mailbox.desk)) k
+after_asking t k ask.Blocked = with_blocked (asks_for t k (blocked_subscribed t.mailbox.desk)) k
+after_asking t k what = asks_for t k (with_message t.mailbox.desk (message_of what 0))

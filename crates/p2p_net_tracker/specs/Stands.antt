@@ -2,7 +2,6 @@
 use Rattle.std.specs.Prelude.{◌≡◌, ℕ, ◌≤◌, Bool, true, false, ◌==◌, cond, is_some, Option, None, List, [], ◌∷◌, ◌++◌, map, length, Some, slice_get}
 use Rattle.p2p_base.specs.declared.key.Key.{Key}
 use Rattle.p2p_tracker_mailbox.specs.declared.message.Message.{Message}
-use Rattle.p2p_tracker_mailbox.specs.declared.message.Message.TheVariants as message
 use Rattle.p2p_tracker.specs.Following.{Follows}
 use Rattle.p2p_log.specs.declared.config.Config.{Config}
 use Rattle.p2p_log.specs.declared.queue.Queue.{Queue}
@@ -10,6 +9,8 @@ use Rattle.p2p_log.specs.declared.queue.Queue.TheVariants as queue
 use Rattle.p2p_log.specs.declared.item.Item.{Item}
 use Rattle.p2p_log.specs.declared.item.Item.TheVariants as item
 use Rattle.p2p_log.specs.declared.entry.Entry.{Entry}
+use Rattle.p2p_log.specs.declared.asked.Asked.{Asked}
+use Rattle.p2p_log.specs.declared.asked.Asked.TheVariants as ask
 use Rattle.p2p_log.specs.declared.event.Act.{Act}
 use Rattle.p2p_log.specs.declared.event.Act.TheVariants as act
 use Rattle.p2p_log.specs.Lines.{name_of, line}
@@ -19,6 +20,7 @@ use Rattle.p2p_log_rules.specs.Tracking.{key_cmp, rules_at, asked_by, steps_trac
 use Rattle.p2p_log_rules.specs.TrackerRows.{most_peers_at, answers, was_answered}
 use Rattle.p2p_net_queues.specs.Board.{held}
 use Rattle.p2p_net_queues.specs.Tables as table
+use Rattle.p2p_net_tracker.specs.Asking.{message_of}
 use Rattle.p2p_net_tracker.specs.declared.question.Question.{Question}
 use Rattle.p2p_net_tracker.specs.declared.question.Question.TheVariants as question
 use Rattle.p2p_net_tracker.specs.declared.naming.Tickets.{Tickets}
@@ -44,14 +46,27 @@ Match R _ _ = ⊥
 abbrev pub IsTicket : List ℕ → ℕ → ℕ → Type 0
 IsTicket events t e = slice_get events t ≡ Some e
 
--- what the message says is what the act of the event e asks
+-- what is answered later, of what is asked
+abbrev pub kind_of : Asked → Option Question
+kind_of (ask.PeerSet index) = Some question.PeerSet
+kind_of ask.Subscribe = Some question.Updates
+kind_of ask.Blocked = Some question.Blocked
+kind_of _ = None
+
+-- the events of the tickets of a kind
+abbrev pub tickets_of : Tickets → Question → List ℕ
+tickets_of t question.PeerSet = t.questions
+tickets_of t question.Updates = t.updates
+tickets_of t question.Blocked = t.blocked
+
+-- the ticket is that of the event, where what it asks is answered later
+abbrev pub HasTicket : Tickets → Option Question → ℕ → ℕ → Type 0
+HasTicket t None ticket e = Unit {0}
+HasTicket t (Some k) ticket e = IsTicket (tickets_of t k) ticket e
+
+-- the message is that of what the act of the event e asks
 abbrev pub Says : Tickets → ℕ → Act → Message Key → Type 0
-Says t e (act.Track index n peers) m = m ≡ message.Register index peers
-Says t e (act.Overwrite n peers) m = m ≡ message.Overwrite peers
-Says t e (act.Block key n) m = m ≡ message.Block key
-Says t e (act.PeerSet index n) m = (ticket : ℕ) × (m ≡ message.PeerSet index ticket) × IsTicket t.questions ticket e
-Says t e (act.Subscribe n) m = (ticket : ℕ) × (m ≡ message.Subscribe ticket) × IsTicket t.updates ticket e
-Says t e (act.Blocked n) m = (ticket : ℕ) × (m ≡ message.SubscribeBlocked ticket) × IsTicket t.blocked ticket e
+Says t e (act.Ask what n) m = (ticket : ℕ) × (m ≡ message_of what ticket) × HasTicket t (kind_of what) ticket e
 Says t e _ m = ⊥
 
 -- the item names the event that the message is of; nothing else asks the tracker yet
@@ -61,9 +76,7 @@ IsMessage t log _ m = ⊥
 
 -- what an act asks of the tracker of a node that may be answered
 abbrev pub asks_of : ℕ → Act → Option Question
-asks_of n (act.PeerSet index m) = cond (m == n) (Some question.PeerSet) None
-asks_of n (act.Subscribe m) = cond (m == n) (Some question.Updates) None
-asks_of n (act.Blocked m) = cond (m == n) (Some question.Blocked) None
+asks_of n (act.Ask what m) = cond (m == n) (kind_of what) None
 asks_of n _ = None
 
 -- what the event of this number asked of it

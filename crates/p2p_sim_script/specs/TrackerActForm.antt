@@ -1,6 +1,7 @@
 -- The form of each act about a node's tracker.
 use Rattle.std.specs.Prelude.{ℕ, List, [], ◌∷◌, codes, bytes_eq, Option, Some, None, if◌then◌else◌}
 use Rattle.serde_json.specs.Data.{Data}
+use Rattle.p2p_log.specs.declared.asked.Asked.TheVariants as ask
 use Rattle.p2p_log.specs.declared.event.Act.{Act}
 use Rattle.p2p_log.specs.declared.event.Act.TheVariants as act
 use Rattle.p2p_sim_script.specs.Tree.{◌>>=◌, ◌>>◌, absent_or, field, whole}
@@ -15,38 +16,38 @@ track_of d = do
   node ← field "node" whole d
   primary ← field "primary" peers_of d
   secondary ← absent_or [] "secondary" peers_of d
-  Some (act.Track index node (record { primary = primary; secondary = secondary }))
+  Some (act.Ask (ask.Track index (record { primary = primary; secondary = secondary })) node)
 
 abbrev pub overwrite_of : Data → Option Act
 overwrite_of d = do
   has ("node" ∷ "peers" ∷ []) d
   node ← field "node" whole d
   peers ← field "peers" peers_of d
-  Some (act.Overwrite node peers)
+  Some (act.Ask (ask.Overwrite peers) node)
 
 abbrev pub block_of : Data → Option Act
 block_of d = do
   has ("key" ∷ "node" ∷ []) d
   key ← field "key" key_of d
   node ← field "node" whole d
-  Some (act.Block key node)
+  Some (act.Ask (ask.Block key) node)
 
 abbrev pub peer_set_of : Data → Option Act
 peer_set_of d = do
   has ("index" ∷ "node" ∷ []) d
   index ← field "index" whole d
   node ← field "node" whole d
-  Some (act.PeerSet index node)
+  Some (act.Ask (ask.PeerSet index) node)
 
 abbrev pub subscribe_of : Data → Option Act
 subscribe_of d = do
   node ← node_of d
-  Some (act.Subscribe node)
+  Some (act.Ask ask.Subscribe node)
 
 abbrev pub blocked_of : Data → Option Act
 blocked_of d = do
   node ← node_of d
-  Some (act.Blocked node)
+  Some (act.Ask ask.Blocked node)
 
 abbrev pub tracker_of : Data → Option Act
 tracker_of d = do

@@ -10,7 +10,7 @@ use crate::parts::read_node;
 use crate::tree::{field, only, whole};
 use p2p_base::Key;
 use p2p_flow::AddressableTrackedPeers;
-use p2p_log::Act;
+use p2p_log::{Act, Asked};
 use serde_json::Value;
 use std::alloc::Global;
 
@@ -27,10 +27,10 @@ fn read_track(alloc: Global, tree: &Value) -> Result<Act, ScriptError>
     let node = field(alloc, tree, "node")?;
     let primary = field(alloc, tree, "primary")?;
     let secondary = peers_or_none(alloc, tree, "secondary")?;
-    Ok(Act::Track {
-        index,
+    let peers = AddressableTrackedPeers { primary, secondary };
+    Ok(Act::Ask {
+        asked: Asked::Track { index, peers },
         node,
-        peers: AddressableTrackedPeers { primary, secondary },
     })
 }
 
@@ -40,9 +40,11 @@ fn read_overwrite(alloc: Global, tree: &Value) -> Result<Act, ScriptError>
     if !only(tree, &["at", "seed", "do", "node", "peers"]) {
         return Err(ScriptError::NotScript);
     }
-    Ok(Act::Overwrite {
-        node: field(alloc, tree, "node")?,
-        peers: field(alloc, tree, "peers")?,
+    let node = field(alloc, tree, "node")?;
+    let peers = field(alloc, tree, "peers")?;
+    Ok(Act::Ask {
+        asked: Asked::Overwrite { peers },
+        node,
     })
 }
 
@@ -54,7 +56,10 @@ fn read_block(tree: &Value) -> Option<Act>
     }
     let key = Key(whole(tree, "key")?);
     let node = whole(tree, "node")?;
-    Some(Act::Block { key, node })
+    Some(Act::Ask {
+        asked: Asked::Block { key },
+        node,
+    })
 }
 
 fn read_peer_set(tree: &Value) -> Option<Act>
@@ -65,21 +70,30 @@ fn read_peer_set(tree: &Value) -> Option<Act>
     }
     let index = whole(tree, "index")?;
     let node = whole(tree, "node")?;
-    Some(Act::PeerSet { index, node })
+    Some(Act::Ask {
+        asked: Asked::PeerSet { index },
+        node,
+    })
 }
 
 fn read_subscribe(tree: &Value) -> Option<Act>
     ensures { result ≡ subscribe_of (view tree.now) }
 {
     let node = read_node(tree)?;
-    Some(Act::Subscribe { node })
+    Some(Act::Ask {
+        asked: Asked::Subscribe,
+        node,
+    })
 }
 
 fn read_blocked(tree: &Value) -> Option<Act>
     ensures { result ≡ blocked_of (view tree.now) }
 {
     let node = read_node(tree)?;
-    Some(Act::Blocked { node })
+    Some(Act::Ask {
+        asked: Asked::Blocked,
+        node,
+    })
 }
 
 fn read_tracker(tree: &Value) -> Option<Act>

@@ -2,7 +2,7 @@
 use p2p_address::{Address, Ingress, IpAddr, SocketAddr};
 use p2p_base::{Key, Map, Text};
 use p2p_flow::AddressableTrackedPeers;
-use p2p_log::{Act, Config, Event};
+use p2p_log::{Act, Asked, Config, Event};
 use p2p_sim_script::{ScriptError, read_script};
 use serde_json::Value;
 use std::alloc::Global;
@@ -145,12 +145,14 @@ fn acts_and_configurations_have_their_names_alone(rt: HostRuntime) -> Result<(),
 // The word of an act about a tracker, and its numbers: its node, and its index, its key or its question.
 fn numbers_of(act: &Act) -> (&'static str, u64, u64) {
     match act {
-        Act::Track { index, node, .. } => ("track", *node, *index),
-        Act::Overwrite { node, .. } => ("overwrite", *node, 0),
-        Act::Block { key, node } => ("block", *node, key.0),
-        Act::PeerSet { index, node } => ("peer_set", *node, *index),
-        Act::Subscribe { node } => ("subscribe", *node, 0),
-        Act::Blocked { node } => ("blocked", *node, 0),
+        Act::Ask { asked, node } => match asked {
+            Asked::Track { index, .. } => ("track", *node, *index),
+            Asked::Overwrite { .. } => ("overwrite", *node, 0),
+            Asked::Block { key } => ("block", *node, key.0),
+            Asked::PeerSet { index } => ("peer_set", *node, *index),
+            Asked::Subscribe => ("subscribe", *node, 0),
+            Asked::Blocked => ("blocked", *node, 0),
+        },
         Act::Answer { question } => ("answer", 0, *question),
         Act::Next { question } => ("next", 0, *question),
         Act::Tracker { node } => ("tracker", *node, 0),
@@ -226,7 +228,11 @@ fn tracks(script: &[Event], place: usize, due: &AddressableTrackedPeers<Key>) ->
     match script.get(place) {
         Some(
             Event {
-                act: Act::Track { peers, .. },
+                act:
+                    Act::Ask {
+                        asked: Asked::Track { peers, .. },
+                        ..
+                    },
                 ..
             },
         ) => peers == due,
@@ -238,7 +244,11 @@ fn overwrites(script: &[Event], place: usize, due: &Map<Key, Address>) -> bool {
     match script.get(place) {
         Some(
             Event {
-                act: Act::Overwrite { peers, .. },
+                act:
+                    Act::Ask {
+                        asked: Asked::Overwrite { peers },
+                        ..
+                    },
                 ..
             },
         ) => peers == due,
