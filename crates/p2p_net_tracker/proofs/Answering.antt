@@ -67,6 +67,7 @@ with_board configs log n t b s holds = record {
   asked = s.asked;
   answered = s.answered;
   fresh = s.fresh;
+  dialer = s.dialer;
   told = holds;
 }
 
@@ -104,14 +105,14 @@ module _ (configs : List Config) (log : List Entry) (at seed n : ℕ) (a : Act) 
       by true is = let none : line log p ≡ [] = ap (line log) (queue_from_same q p is) ∙ empty in ap (drop 1) (s.told p here ∙ none) ∙ sym none
 
   -- the oldest item of a queue, with these questions answered then
-  pub read_stands : (q : Queue) (l : List Envelope) (answered : List (ℕ × Bool)) → line log q ≡ l → is_told n q ≡ true → r ≡ oldest_row reply.Pending l → ((d : ℕ) → answers d a reply.Pending ≡ false)
+  pub read_stands : (q : Queue) (l : List Envelope) (answered : List (ℕ × Bool)) → line log q ≡ l → is_told n q ≡ true → same_queue q (queue.Dialer n) ≡ false → r ≡ oldest_row reply.Pending l → ((d : ℕ) → answers d a reply.Pending ≡ false)
       → Pops q t u → u ≡ record t { told = u.told; answered = answered } → (l ≡ [] → answered ≡ t.answered)
       → ((d : ℕ) → asks_at log n d ≡ Some question.PeerSet → is_some (table.at answered d) ≡ was_answered (log ++ e ∷ []) d) → AreFresh (log ++ e ∷ []) answered → TrackerStands configs (log ++ e ∷ []) n u
-  read_stands q [] answered empty own is none pops same kept noted_all fresh =
+  read_stands q [] answered empty own other is none pops same kept noted_all fresh =
       still_stands reply.Pending is none (same ∙ ap (λ m. record t { told = u.told; answered = m }) (kept refl)) (popped_none q pops own empty)
-  read_stands q (x ∷ rest) answered first own is none pops same kept noted_all fresh =
+  read_stands q (x ∷ rest) answered first own other is none pops same kept noted_all fresh =
       tracker_read configs log e n t u q x rest answered s no_step no_question
-      (record { first = first; gone = ap (λ (k : Row). k.takes ++ flat_map ended_item k.ends) is }) (ap (λ (k : Row). k.puts) is) own same noted_all fresh pops
+      (record { first = first; gone = ap (λ (k : Row). k.takes ++ flat_map ended_item k.ends) is }) (ap (λ (k : Row). k.puts) is) own other same noted_all fresh pops
 
 first_row : (held_there l : List Envelope) → held_there ≡ l → read_first (slice_get held_there 0) ≡ oldest_row reply.Pending l
 first_row h [] is = ap (λ k. read_first (slice_get k 0)) is
@@ -205,7 +206,7 @@ tracker_answers configs log at seed n e index t u r s asked h =
         let first : r ≡ oldest_row reply.Pending (line log q) = taking.0 ∙ first_row (held t.told q) (line log q) (s.told q (eq-eqb n n refl)) in
         let entry = entry_of (record { at = at; seed = seed; act = act.Answer e }) r in (
           first ∙ sym (row_is ∙ at_is false is),
-          read_stands configs log at seed n (act.Answer e) t u r s refl refl q (line log q) (noted (is_answer r.reply) e t.answered) refl (eq-eqb n n refl) first (λ d. no_answer_pending d e) taking.1.0 taking.1.1
+          read_stands configs log at seed n (act.Answer e) t u r s refl refl q (line log q) (noted (is_answer r.reply) e t.answered) refl (eq-eqb n n refl) refl first (λ d. no_answer_pending d e) taking.1.0 taking.1.1
               (λ none. noted_empty (line log q) r e t.answered first none)
               (λ d wants. note_taken t.answered (was_answered log d) (is_answer r.reply) e d (s.answered d wants) ∙ sym (was_answered-append log entry d))
               (λ d past.
@@ -221,13 +222,13 @@ tracker_answers configs log at seed n e index t u r s asked h =
 -- ---- what comes next for a subscription
 
 module _ (configs : List Config) (log : List Entry) (at seed n e : ℕ) (t u : Tracker) (r : Row) (s : TrackerStands configs log n t) where
-  reads_on : (q : Queue) → is_told n q ≡ true → ReadsFrom q t u r
+  reads_on : (q : Queue) → is_told n q ≡ true → same_queue q (queue.Dialer n) ≡ false → ReadsFrom q t u r
       → (r ≡ oldest_row reply.Pending (line log q)) × TrackerStands configs (log ++ entry_of (record { at = at; seed = seed; act = act.Next e }) r ∷ []) n u
-  reads_on q own reads =
+  reads_on q own other reads =
       let first : r ≡ oldest_row reply.Pending (line log q) = reads.0 ∙ first_row (held t.told q) (line log q) (s.told q own) in
       let entry = entry_of (record { at = at; seed = seed; act = act.Next e }) r in (
         first,
-        read_stands configs log at seed n (act.Next e) t u r s refl refl q (line log q) t.answered refl own first (λ d. refl) reads.1.0 reads.1.1 (λ none. refl)
+        read_stands configs log at seed n (act.Next e) t u r s refl refl q (line log q) t.answered refl own other first (λ d. refl) reads.1.0 reads.1.1 (λ none. refl)
             (λ d wants. s.answered d wants ∙ sym (was_answered-kept log entry d refl))
             (fresh-longer log entry t.answered s.fresh (λ d past. refl)),
       )
@@ -236,12 +237,12 @@ module _ (configs : List Config) (log : List Entry) (at seed n e : ℕ) (t u : T
       → (r ≡ next_row log e) × TrackerStands configs (log ++ entry_of (record { at = at; seed = seed; act = act.Next e }) r ∷ []) n u
   tracker_updates asked h =
       let kind : table.at t.questions e ≡ Some question.Updates = s.asked e ∙ (asks-asked log n e (act.Ask ask.Subscribe n) asked ∙ ap (λ b. cond b (Some question.Updates) None) (eq-eqb n n refl)) in
-      let done = reads_on (queue.Updates n e) (eq-eqb n n refl) (subst (λ o. ContinuesBy o n e t u r) kind h) in
+      let done = reads_on (queue.Updates n e) (eq-eqb n n refl) refl (subst (λ o. ContinuesBy o n e t u r) kind h) in
       (done.0 ∙ sym (ap (next_by log e) asked), done.1)
 
   pub tracker_sets : asked_by log e ≡ Some (act.Ask ask.Blocked n) → Continues n e t u r
       → (r ≡ next_row log e) × TrackerStands configs (log ++ entry_of (record { at = at; seed = seed; act = act.Next e }) r ∷ []) n u
   tracker_sets asked h =
       let kind : table.at t.questions e ≡ Some question.Blocked = s.asked e ∙ (asks-asked log n e (act.Ask ask.Blocked n) asked ∙ ap (λ b. cond b (Some question.Blocked) None) (eq-eqb n n refl)) in
-      let done = reads_on (queue.Blocked n e) (eq-eqb n n refl) (subst (λ o. ContinuesBy o n e t u r) kind h) in
+      let done = reads_on (queue.Blocked n e) (eq-eqb n n refl) refl (subst (λ o. ContinuesBy o n e t u r) kind h) in
       (done.0 ∙ sym (ap (next_by log e) asked), done.1)

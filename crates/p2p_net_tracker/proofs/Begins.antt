@@ -30,8 +30,8 @@ use Rattle.p2p_net_queues.specs.Board.{held}
 use Rattle.p2p_net_queues.specs.Tables as table
 use Rattle.p2p_net_tracker.specs.declared.tracker.Tracker.{Tracker}
 use Rattle.p2p_net_tracker.specs.Begins.{IsNew}
-use Rattle.p2p_net_tracker.specs.Stands.{Match, IsTicket, IsMessage, TrackerStands}
-use Rattle.p2p_net_tracker.proofs.Serving.{says-may_take}
+use Rattle.p2p_net_tracker.specs.Stands.{Match, IsTicket, IsMessage, IsAnswer, TrackerStands}
+use Rattle.p2p_net_tracker.proofs.Serving.{item-may_take}
 
 no_calls : (configs : List Config) (n : ℕ) → calls_of configs [] n ≡ []
 unfolding calls_of calls_from
@@ -81,6 +81,8 @@ tracker_new configs n c t is h =
       asked = λ d. ap (λ l. table.at l d) h.questions;
       answered = λ d is. cc;
       fresh = λ d past. (ap (λ l. table.at l d) h.answered, none_answered d);
+      dialer = subst (λ l. Match (λ x a. IsAnswer x.item a) l t.mailbox.dialer) (sym (no_line (queue.Dialer n)))
+          (subst (Match (λ (x : Envelope) a. IsAnswer x.item a) []) (sym (ap (λ (m : Mailbox Key). m.dialer) h.mailbox)) tt);
       told = λ q own. h.told q ∙ sym (no_line q);
     }
 
@@ -90,10 +92,6 @@ may_take configs log n now t s = of_line (line log (queue.Tracker n)) t.mailbox.
   where
     of_line : (l : List Envelope) (ms : List (Message Key)) → Match (λ x m. IsMessage t.tickets log x.item m) l ms → IfSome (slice_get ms 0) (λ m. MayTake key_cmp t.actor.directory m now)
     of_line [] [] h = tt
-    of_line (x ∷ l) (m ∷ ms) h = of_item x.item m h.0
-      where
-        of_item : (i : Item) (m : Message Key) → IsMessage t.tickets log i m → MayTake key_cmp t.actor.directory m now
-        of_item (item.Call e) m h = says-may_take t.actor.directory t.tickets e h.0 m now h.2
-        of_item _ m h = absurd h
+    of_line (x ∷ l) (m ∷ ms) h = item-may_take t.actor.directory t.tickets log x.item m now h.0
     of_line [] (m ∷ ms) h = absurd h
     of_line (x ∷ l) [] h = absurd h

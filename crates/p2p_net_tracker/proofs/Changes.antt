@@ -1,5 +1,5 @@
 -- A node's tracker after one more entry: one that leaves it alone, one that asks it, and one that reads what it told.
-use Rattle.std.proofs.Common.{◌≡◌, ℕ, ◌+◌, Bool, true, false, cond, List, [], ◌∷◌, ◌++◌, map, drop, length, Some, None, refl, ap, sym, subst, ◌∙◌, arith, append-nil, eq-eqb}
+use Rattle.std.proofs.Common.{◌≡◌, ℕ, ◌+◌, Bool, true, false, cond, List, [], ◌∷◌, ◌++◌, map, drop, length, Option, Some, None, refl, ap, sym, subst, ◌∙◌, arith, append-nil, eq-eqb}
 use Rattle.std.specs.Prelude.{◌==◌, filter, flat_map, slice_get, is_some, if◌then◌else◌}
 use Rattle.std.proofs.lemmas.List.{map-append}
 use Rattle.p2p_base.specs.declared.key.Key.{Key}
@@ -32,7 +32,7 @@ use Rattle.p2p_log_rules.specs.TrackerRows.{answers, was_answered}
 use Rattle.p2p_net_queues.specs.Tables as table
 use Rattle.p2p_net_tracker.specs.declared.question.Question.{Question}
 use Rattle.p2p_net_tracker.specs.declared.question.Question.TheVariants as question
-use Rattle.p2p_net_tracker.specs.Stands.{asks_of, asks_at, AreFresh, is_told, Match, IsTicket, kind_of, HasTicket, Says, IsMessage, TrackerStands, LeavesTracker}
+use Rattle.p2p_net_tracker.specs.Stands.{asks_of, asks_at, AreFresh, is_told, Match, IsTicket, kind_of, HasTicket, Says, IsMessage, IsAnswer, TrackerStands, LeavesTracker}
 use Rattle.p2p_net_tracker.proofs.Facts.{asks_at-kept, fresh-longer, was_answered-kept, calls-kept, update_subscriptions-kept, blocked_subscriptions-kept, asked_by-longer}
 use Rattle.p2p_net_tracker.proofs.Matching.{Match-weaker, Match-last, slice_get-longer, slice_get-last}
 
@@ -57,6 +57,8 @@ Says-more old new more e _ m h = absurd h
 
 pub IsMessage-longer : (old new : Tickets) → AreMore old new → (log more : List Entry) (i : Item) (m : Message Key) → IsMessage old log i m → IsMessage new (log ++ more) i m
 IsMessage-longer old new given log more (item.Call e) m h = (h.0, asked_by-longer log more e h.0 h.1, Says-more old new given e h.0 m h.2)
+IsMessage-longer old new given log more item.AskDialable m h = h
+IsMessage-longer old new given log more (item.AskDial key) m h = h
 IsMessage-longer old new given log more _ m h = absurd h
 
 -- an entry that leaves it alone
@@ -84,6 +86,7 @@ tracker_frame configs log e n t s q = record {
       let before : asks_at log n d ≡ Some question.PeerSet = sym (asks_at-kept log e n d q.no_question) ∙ is in
       s.answered d before ∙ sym (was_answered-kept log e d (q.no_answer d before));
   fresh = fresh-longer log e t.answered s.fresh q.no_late_answer;
+  dialer = subst (λ l. Match (λ x a. IsAnswer x.item a) l t.mailbox.dialer) (sym (q.told (queue.Dialer n) (eq-eqb n n refl))) s.dialer;
   told = λ p own. s.told p own ∙ sym (q.told p own);
 }
 
@@ -130,6 +133,9 @@ tracker_asked configs log e n t desk tickets questions_now m s q more put says q
     line-kept log e (queue.Tracker n) none
     ∙ ap (λ l. line log (queue.Tracker n) ++ l) (added (queue.Tracker n) ∙ ap (λ b. cond b (x ∷ []) []) (same_queue-refl (queue.Tracker n)))
     in
+    let same : (p : Queue) → is_told n p ≡ true → line (log ++ e ∷ []) p ≡ line log p = λ p own.
+    line-kept log e p none ∙ (ap (λ l. line log p ++ l) (added p ∙ ap (λ b. cond b (x ∷ []) []) (told_apart n n p own)) ∙ append-nil (line log p))
+    in
     let items : desk.messages.items ≡ t.mailbox.desk.messages.items ++ m ∷ [] =
     ap (λ r. r.items) put ∙ kept_open t.mailbox.desk.messages.closed (has_room t.mailbox.desk.messages) t.mailbox.desk.messages.items m s.is_open
     in
@@ -159,20 +165,19 @@ tracker_asked configs log e n t desk tickets questions_now m s q more put says q
       asked = asked;
       answered = λ d is. answered d is ∙ sym (was_answered-kept log e d (q.no_answer d));
       fresh = fresh-longer log e t.answered s.fresh (λ d past. q.no_answer d);
-      told = λ p own.
-          s.told p own
-          ∙ sym (line-kept log e p none ∙ (ap (λ l. line log p ++ l) (added p ∙ ap (λ b. cond b (x ∷ []) []) (told_apart n n p own)) ∙ append-nil (line log p)));
+      dialer = subst (λ l. Match (λ y a. IsAnswer y.item a) l t.mailbox.dialer) (sym (same (queue.Dialer n) (eq-eqb n n refl))) s.dialer;
+      told = λ p own. s.told p own ∙ sym (same p own);
     }
 
 -- ---- what was told is read
 
--- the entry takes the first item of a queue in which it told something, and does no more; these were answered then
+-- the entry takes the first item of a queue in which it told someone else than the dialer, and does no more; these were answered then
 pub tracker_read : (configs : List Config) (log : List Entry) (e : Entry) (n : ℕ) (t u : Tracker) (q : Queue) (x : Envelope) (rest : List Envelope) (answered : List (ℕ × Bool)) → TrackerStands configs log n t
-    → steps_tracker n e.event.act ≡ false → asks_of n e.event.act ≡ None → TakesFirst log e q x rest → e.puts ≡ [] → is_told n q ≡ true → u ≡ record t { told = u.told; answered = answered }
+    → steps_tracker n e.event.act ≡ false → asks_of n e.event.act ≡ None → TakesFirst log e q x rest → e.puts ≡ [] → is_told n q ≡ true → same_queue q (queue.Dialer n) ≡ false → u ≡ record t { told = u.told; answered = answered }
     → ((d : ℕ) → asks_at log n d ≡ Some question.PeerSet → is_some (table.at answered d) ≡ was_answered (log ++ e ∷ []) d)
     → AreFresh (log ++ e ∷ []) answered
     → ((p : Queue) → held u.told p ≡ (if same_queue q p then drop 1 (held t.told p) else held t.told p)) → TrackerStands configs (log ++ e ∷ []) n u
-tracker_read configs log e n t u q x rest answered s no_step no_question takes none own same noted fresh pops =
+tracker_read configs log e n t u q x rest answered s no_step no_question takes none own other same noted fresh pops =
     subst (TrackerStands configs (log ++ e ∷ []) n) (sym same) (record {
       follows = subst (Follows key_cmp t.actor.directory t.actor.controls) (sym (calls-kept configs log e n no_step)) s.follows;
       rules = s.rules;
@@ -194,6 +199,7 @@ tracker_read configs log e n t u q x rest answered s no_step no_question takes n
       asked = λ d. s.asked d ∙ sym (asks_at-kept log e n d no_question);
       answered = λ d is. noted d (sym (asks_at-kept log e n d no_question) ∙ is);
       fresh = fresh;
+      dialer = subst (λ l. Match (λ y a. IsAnswer y.item a) l t.mailbox.dialer) (sym (after (queue.Dialer n) ∙ ap (λ b. cond b rest (line log (queue.Dialer n))) other)) s.dialer;
       told = λ p here. pops p ∙ (left p here (same_queue q p) refl ∙ sym (after p));
     })
   where

@@ -15,6 +15,12 @@ Match-last R (a ∷ xs) (b ∷ ys) x y h r = (h.0, Match-last R xs ys x y h.1 r)
 Match-last R [] (b ∷ ys) x y h r = absurd h
 Match-last R (a ∷ xs) [] x y h r = absurd h
 
+pub Match-append : {A B : Type 0} (R : A → B → Type 0) (xs us : List A) (ys vs : List B) → Match R xs ys → Match R us vs → Match R (xs ++ us) (ys ++ vs)
+Match-append R [] us [] vs h k = k
+Match-append R (x ∷ xs) us (y ∷ ys) vs h k = (h.0, Match-append R xs us ys vs h.1 k)
+Match-append R [] us (y ∷ ys) vs h k = absurd h
+Match-append R (x ∷ xs) us [] vs h k = absurd h
+
 pub Match-rest : {A B : Type 0} (R : A → B → Type 0) (x : A) (xs : List A) (ys : List B) → Match R (x ∷ xs) ys → Match R xs (drop 1 ys)
 Match-rest R x xs (y ∷ ys) h = h.1
 Match-rest R x xs [] h = absurd h

@@ -2,22 +2,26 @@
 use Rattle.std.proofs.Common.{◌≡◌, ℕ, Bool, true, false, cond, List, [], ◌∷◌, ◌++◌, map, refl, ap, sym, ◌∙◌, append_assoc, append-nil, Option, Some, None}
 use Rattle.std.specs.Prelude.{flat_map, slice_get, slice_set, slice_index_or}
 use Rattle.std.specs.Map.{lookup}
+use Rattle.std.specs.Option.{option_map}
 use Rattle.p2p_base.specs.declared.key.Key.{Key}
 use Rattle.p2p_address.specs.declared.ip.IpAddr.{IpAddr}
 use Rattle.p2p_address.specs.declared.peer.Address.{Address}
+use Rattle.p2p_address.specs.Addresses.{ingress_of}
 use Rattle.p2p_flow.specs.declared.update.PeerSetUpdate.{PeerSetUpdate}
 use Rattle.p2p_tracker_calls.specs.declared.call.Call.{Call}
 use Rattle.p2p_tracker_calls.specs.declared.call.Call.TheVariants as call
+use Rattle.p2p_tracker_calls.specs.Allows.{allows_dial}
 use Rattle.p2p_tracker_calls.specs.BlockedKeys.{blocked_keys}
 use Rattle.p2p_tracker_calls.specs.Blocks.{is_blockable}
 use Rattle.p2p_tracker_calls.specs.Heard.{heard_addresses}
 use Rattle.p2p_tracker_calls.specs.Keeping.{kept_of}
 use Rattle.p2p_tracker_calls.specs.Kills.{killed_keys}
-use Rattle.p2p_tracker_calls.specs.Lives.{is_overwritten}
+use Rattle.p2p_tracker_calls.specs.Lives.{address_of, is_overwritten}
 use Rattle.p2p_tracker_calls.specs.Overwrites.{overwritten, overwritten_keys}
 use Rattle.p2p_tracker_calls.specs.Peers.{peer_set_of, latest_update}
 use Rattle.p2p_tracker_calls.specs.Rules.{Rules}
 use Rattle.p2p_tracker_calls.specs.Sets.{is_above, accepted_sets}
+use Rattle.p2p_tracker_directory.specs.declared.metadata.Metadata.TheVariants as side
 use Rattle.p2p_tracker_mailbox.specs.declared.message.Message.{Message}
 use Rattle.p2p_tracker_mailbox.specs.declared.message.Message.TheVariants as message
 use Rattle.p2p_tracker.specs.Putting.{kills_of, overwrite_kills}
@@ -29,14 +33,15 @@ use Rattle.p2p_log.specs.declared.queue.Queue.{Queue}
 use Rattle.p2p_log.specs.declared.queue.Queue.TheVariants as queue
 use Rattle.p2p_log.specs.declared.item.Item.{Item}
 use Rattle.p2p_log.specs.declared.item.Item.TheVariants as item
+use Rattle.p2p_log.specs.declared.entry.Entry.{Entry}
 use Rattle.p2p_log.specs.declared.asked.Asked.TheVariants as ask
 use Rattle.p2p_log.specs.declared.event.Act.{Act}
 use Rattle.p2p_log.specs.declared.event.Act.TheVariants as act
 use Rattle.p2p_log_rules.specs.Tracking.{key_cmp}
 use Rattle.p2p_log_rules.specs.TrackerPuts as puts
 use Rattle.p2p_net_tracker.specs.declared.naming.Tickets.{Tickets}
-use Rattle.p2p_net_tracker.specs.Naming.{event_at, named_put, before, named_puts}
-use Rattle.p2p_net_tracker.specs.Stands.{Match, IsTicket, Says}
+use Rattle.p2p_net_tracker.specs.Naming.{event_at, named_put, before, named_puts, grant_of}
+use Rattle.p2p_net_tracker.specs.Stands.{Match, IsTicket, Says, IsMessage}
 use Rattle.p2p_net_tracker.proofs.Matching.{slice_index-get}
 
 pub has_any-is : {X : Type 0} (xs : List X) → has_any xs ≡ puts.is_some_of xs
@@ -128,7 +133,7 @@ module _ (n : ℕ) (t : Tickets) where
           ap (λ l. puts.heard_put rules n now (c ∷ calls) ∷ l) (named-sets sets bs waiting keys blocks)
 
       -- what is put for a message is what is put for the act that it is of
-      pub named-message : (e : ℕ) (a : Act) (m : Message Key) → Says t e a m
+      named-message : (e : ℕ) (a : Act) (m : Message Key) → Says t e a m
           → named_puts n t (puts_for key_cmp rules updates sets waiting heard runs calls now m) ≡ puts.asked_puts rules n now us bs calls e (Some a)
       named-message e (act.Ask (ask.Track index peers) k) m h =
           let c = call.Track index peers.primary peers.secondary in
@@ -154,3 +159,18 @@ module _ (n : ℕ) (t : Tickets) where
           ap (λ d. named_puts n t (puts_for key_cmp rules updates sets waiting heard runs calls now d)) h.1
           ∙ ap (λ d. (queue.Blocked n d, item.Blocked (blocked_keys key_cmp rules calls now)) ∷ []) (slice_index-get t.blocked h.0 e 0 h.2)
       named-message e _ m h = absurd h
+
+      -- and so for the item that it waits under
+      pub named-item : (log : List Entry) (i : Item) (m : Message Key) → IsMessage t log i m
+          → named_puts n t (puts_for key_cmp rules updates sets waiting heard runs calls now m) ≡ puts.item_puts rules n now us bs calls log i
+      named-item log (item.Call e) m h = named-message e h.0 m h.2 ∙ ap (λ o. puts.asked_puts rules n now us bs calls e o) (sym h.1)
+      named-item log item.AskDialable m h = ap (λ d. named_puts n t (puts_for key_cmp rules updates sets waiting heard runs calls now d)) h
+      named-item log (item.AskDial key) m h =
+          ap (λ d. named_puts n t (puts_for key_cmp rules updates sets waiting heard runs calls now d)) h
+          ∙ ap (λ o. (queue.Dialer n, item.Dial o) ∷ []) (granted (allows_dial key_cmp rules calls key now) (address_of key_cmp rules calls key))
+        where
+          granted : (b : Bool) (o : Option Address) → grant_of (cond b (option_map (λ a. (side.Dialer key, ingress_of a)) o) None) ≡ cond b (option_map (λ a. (key, ingress_of a)) o) None
+          granted true (Some a) = refl
+          granted true None = refl
+          granted false o = refl
+      named-item log _ m h = absurd h

@@ -188,7 +188,7 @@ track_asked configs log at seed n index peers t u r s is same = by (nat_lt t.ora
         → (r ≡ track_row configs log n peers) × TrackerStands configs (log ++ entry_of (record { at = at; seed = seed; act = act.Ask (ask.Track index peers) n }) r ∷ []) n u
     by true large is same = (
       is ∙ (ap (λ k. only (reply.PeerSetTooLarge k t.oracle.max_peers_per_set)) size ∙ (ap (λ k. only (reply.PeerSetTooLarge (size_at configs n peers) k)) s.most ∙ sym (row_is true large))),
-      still_stands configs log at seed n (act.Ask (ask.Track index peers) n) t u r s refl refl (reply.PeerSetTooLarge (size_by t peers) t.oracle.max_peers_per_set) is (λ d. refl)
+      still_stands configs log at seed n (act.Ask (ask.Track index peers) n) t u r s refl (asks_here n (ask.Track index peers)) (reply.PeerSetTooLarge (size_by t peers) t.oracle.max_peers_per_set) is (λ d. refl)
           (same ∙ ap (λ (k : Tracker). record t { told = k.told }) (sym same)) (λ p own. ap (λ (k : Tracker). held k.told p) same ∙ s.told p own),
     )
     by false fits is same =

@@ -1,20 +1,35 @@
 -- What a message makes of the calls and of the subscriptions is what the log says of the event that it is of.
 use Rattle.std.proofs.Common.{◌≡◌, ℕ, Bool, true, false, cond, List, [], ◌∷◌, ◌++◌, refl, ap, ◌∙◌, append-nil, Some, subst, sym}
+use Rattle.std.specs.Prelude.{◌&&◌, ◌||◌, not, nat_lt, flat_map, Option, None}
+use Rattle.std.specs.List.{list_any}
+use Rattle.std.specs.Option.{option_map}
 use Rattle.p2p_base.specs.declared.key.Key.{Key}
+use Rattle.p2p_address.specs.Addresses.{ingress_of, is_valid}
+use Rattle.p2p_address.specs.declared.peer.Address.{Address}
 use Rattle.p2p_tracker_calls.specs.declared.call.Call.{Call}
+use Rattle.p2p_tracker_calls.specs.declared.call.Call.TheVariants as call
+use Rattle.p2p_tracker_calls.specs.Allows.{allows_dial, has_valid_ingress, is_free}
+use Rattle.p2p_tracker_calls.specs.Lives.{address_of, cool}
+use Rattle.p2p_tracker_calls.specs.Sets.{is_primary}
 use Rattle.p2p_tracker_calls.specs.Rules.{Rules}
 use Rattle.p2p_tracker_mailbox.specs.declared.message.Message.{Message}
 use Rattle.p2p_tracker_directory.specs.Stands.{Kept}
 use Rattle.p2p_tracker.specs.Serving.{calls_after, MayTake}
 use Rattle.p2p_tracker.specs.Steps.{updates_for, sets_for}
+use Rattle.p2p_log.specs.declared.queue.Queue.TheVariants as queue
+use Rattle.p2p_log.specs.declared.item.Item.{Item}
+use Rattle.p2p_log.specs.declared.item.Item.TheVariants as item
+use Rattle.p2p_log.specs.declared.entry.Entry.{Entry}
 use Rattle.p2p_log.specs.declared.asked.Asked.{Asked}
 use Rattle.p2p_log.specs.declared.asked.Asked.TheVariants as ask
 use Rattle.p2p_log.specs.declared.event.Act.{Act}
 use Rattle.p2p_log.specs.declared.event.Act.TheVariants as act
-use Rattle.p2p_log_rules.specs.Tracking.{key_cmp, asked_calls, subscribes, subscribes_blocked}
+use Rattle.p2p_log_rules.specs.Tracking.{key_cmp, asked_by, asked_calls, item_calls, grants_dial, call_where, subscribes, subscribes_blocked}
+use Rattle.p2p_log_rules.specs.TrackerPuts as puts
+use Rattle.p2p_log_rules.specs.TrackerPuts.{dial_grant}
 use Rattle.p2p_net_tracker.specs.Asking.{message_of}
 use Rattle.p2p_net_tracker.specs.declared.naming.Tickets.{Tickets}
-use Rattle.p2p_net_tracker.specs.Stands.{Match, IsTicket, Says, kind_of, HasTicket}
+use Rattle.p2p_net_tracker.specs.Stands.{Match, IsTicket, Says, kind_of, HasTicket, IsMessage}
 use Rattle.p2p_net_tracker.proofs.Matching.{Match-last}
 
 message-calls : (rules : Rules Key) (what : Asked) (n ticket now jitter : ℕ) (calls : List (Call Key)) → calls_after key_cmp rules (message_of what ticket) now jitter calls ≡ asked_calls (Some (act.Ask what n)) now calls
@@ -63,3 +78,53 @@ message-may_take kept _ ticket now = tt
 pub says-may_take : (kept : Kept Key) (t : Tickets) (e : ℕ) (a : Act) (m : Message Key) (now : ℕ) → Says t e a m → MayTake key_cmp kept m now
 says-may_take kept t e (act.Ask what n) m now h = subst (λ d. MayTake key_cmp kept d now) (sym h.1) (message-may_take kept what h.0 now)
 says-may_take kept t e _ m now h = absurd h
+
+-- ---- by the item that is taken
+
+-- once the tracker took this item, which the message is of
+pub item-updates : (t : Tickets) (log : List Entry) (i : Item) (m : Message Key) (ts es : List ℕ) → IsMessage t log i m → Match (IsTicket t.updates) ts es
+    → Match (IsTicket t.updates) (updates_for m ts) (es ++ flat_map (call_where subscribes log) (i ∷ []))
+item-updates t log (item.Call e) m ts es h s =
+    subst (λ o. Match (IsTicket t.updates) (updates_for m ts) (es ++ ((elim o [ None ↦ [] | Some b ↦ cond (subscribes b) (e ∷ []) [] ]) ++ []))) (sym h.1) (says-updates t e h.0 m ts es h.2 s)
+item-updates t log item.AskDialable m ts es h s = subst (λ d. Match (IsTicket t.updates) (updates_for d ts) (es ++ [])) (sym h) (same_events (IsTicket t.updates) ts es s)
+item-updates t log (item.AskDial key) m ts es h s = subst (λ d. Match (IsTicket t.updates) (updates_for d ts) (es ++ [])) (sym h) (same_events (IsTicket t.updates) ts es s)
+item-updates t log _ m ts es h s = absurd h
+
+pub item-sets : (t : Tickets) (log : List Entry) (i : Item) (m : Message Key) (ts es : List ℕ) → IsMessage t log i m → Match (IsTicket t.blocked) ts es
+    → Match (IsTicket t.blocked) (sets_for m ts) (es ++ flat_map (call_where subscribes_blocked log) (i ∷ []))
+item-sets t log (item.Call e) m ts es h s =
+    subst (λ o. Match (IsTicket t.blocked) (sets_for m ts) (es ++ ((elim o [ None ↦ [] | Some b ↦ cond (subscribes_blocked b) (e ∷ []) [] ]) ++ []))) (sym h.1) (says-sets t e h.0 m ts es h.2 s)
+item-sets t log item.AskDialable m ts es h s = subst (λ d. Match (IsTicket t.blocked) (sets_for d ts) (es ++ [])) (sym h) (same_events (IsTicket t.blocked) ts es s)
+item-sets t log (item.AskDial key) m ts es h s = subst (λ d. Match (IsTicket t.blocked) (sets_for d ts) (es ++ [])) (sym h) (same_events (IsTicket t.blocked) ts es s)
+item-sets t log _ m ts es h s = absurd h
+
+pub item-may_take : (kept : Kept Key) (t : Tickets) (log : List Entry) (i : Item) (m : Message Key) (now : ℕ) → IsMessage t log i m → MayTake key_cmp kept m now
+item-may_take kept t log (item.Call e) m now h = says-may_take kept t e h.0 m now h.2
+item-may_take kept t log item.AskDialable m now h = subst (λ k. MayTake key_cmp kept k now) (sym h) tt
+item-may_take kept t log (item.AskDial key) m now h = subst (λ k. MayTake key_cmp kept k now) (sym h) tt
+item-may_take kept t log _ m now h = absurd h
+
+-- a dial is granted where the answer reserves someone
+dial-granted : (rules : Rules Key) (n : ℕ) (calls : List (Call Key)) (k : Key) (now : ℕ)
+    → (grants_dial (queue.Dialer n, item.Dial (dial_grant rules n now [] [] calls k)) || false) ≡ allows_dial key_cmp rules calls k now
+dial-granted rules n calls k now =
+    by (is_free key_cmp rules calls k now && not (nat_lt now (cool key_cmp rules calls k)) && is_primary key_cmp rules calls k) (address_of key_cmp rules calls k)
+  where
+    by : (b : Bool) (o : Option Address)
+        → (grants_dial (queue.Dialer n, item.Dial (cond (b && has_valid_ingress rules.private rules.dns o) (option_map (λ a. (k, ingress_of a)) o) None)) || false) ≡ (b && has_valid_ingress rules.private rules.dns o)
+    by true None = refl
+    by false None = refl
+    by false (Some a) = refl
+    by true (Some a) = by_valid (is_valid rules.private rules.dns (ingress_of a))
+      where
+        by_valid : (v : Bool) → (grants_dial (queue.Dialer n, item.Dial (cond v (Some (k, ingress_of a)) None)) || false) ≡ v
+        by_valid true = refl
+        by_valid false = refl
+
+pub item-calls : (rules : Rules Key) (n : ℕ) (t : Tickets) (log : List Entry) (i : Item) (m : Message Key) (now jitter : ℕ) (us bs : List ℕ) (calls : List (Call Key)) → IsMessage t log i m
+    → calls_after key_cmp rules m now jitter calls ≡ item_calls log i now jitter (list_any grants_dial (puts.item_puts rules n now us bs calls log i)) calls
+item-calls rules n t log (item.Call e) m now jitter us bs calls h = says-calls rules t e h.0 m now jitter calls h.2 ∙ ap (λ o. asked_calls o now calls) (sym h.1)
+item-calls rules n t log item.AskDialable m now jitter us bs calls h = ap (λ d. calls_after key_cmp rules d now jitter calls) h
+item-calls rules n t log (item.AskDial key) m now jitter us bs calls h =
+    ap (λ d. calls_after key_cmp rules d now jitter calls) h ∙ ap (λ b. call.Dial key now jitter b ∷ calls) (sym (dial-granted rules n calls key now))
+item-calls rules n t log _ m now jitter us bs calls h = absurd h

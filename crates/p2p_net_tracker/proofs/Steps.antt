@@ -53,14 +53,15 @@ use Rattle.p2p_net_tracker.specs.declared.tracker.Tracker.{Tracker}
 use Rattle.p2p_net_tracker.specs.Naming.{named_puts}
 use Rattle.p2p_net_tracker.specs.Telling.{lost, told_in, told_to}
 use Rattle.p2p_net_tracker.specs.Stepping.{ActorSteps, Tells, TellsNothing, TellsFor, TellsBy, Steps}
-use Rattle.p2p_net_tracker.specs.Stands.{is_told, Match, IsTicket, Says, IsMessage, TrackerStands}
+use Rattle.p2p_net_tracker.specs.Stands.{is_told, Match, IsTicket, IsMessage, IsAnswer, TrackerStands}
 use Rattle.p2p_net_tracker.proofs.Changes.{same_tickets, IsMessage-longer}
 use Rattle.p2p_net_tracker.proofs.Desk.{LeavesDesk, all_left}
+use Rattle.p2p_net_tracker.proofs.Dialing.{answers_in, answers-after, answers-named}
 use Rattle.p2p_net_tracker.proofs.Facts.{asks_at-kept, fresh-longer, was_answered-kept, calls_of-append, update_subscriptions-append, blocked_subscriptions-append}
-use Rattle.p2p_net_tracker.proofs.Matching.{Match-weaker, Match-rest}
-use Rattle.p2p_net_tracker.proofs.Named.{has_any-is, named-unblocked, named-message}
-use Rattle.p2p_net_tracker.proofs.Serving.{says-calls, with_event, says-updates, says-sets}
-use Rattle.p2p_net_tracker.proofs.ToldLines.{IsTold, named-each, Told, holds_told, mailbox-told, lost_is, away_none, away_first, mailbox_first}
+use Rattle.p2p_net_tracker.proofs.Matching.{Match-append, Match-weaker, Match-rest}
+use Rattle.p2p_net_tracker.proofs.Named.{has_any-is, named-unblocked, named-item}
+use Rattle.p2p_net_tracker.proofs.Serving.{item-calls, item-updates, item-sets}
+use Rattle.p2p_net_tracker.proofs.ToldLines.{IsTold, named-each, Told, holds_told, mailbox-told, dialer-told, lost_is, away_none, away_first, mailbox_first}
 
 pub equal_keys : EqualKeysAreOne key_cmp
 equal_keys p q h = ap (λ n. record { 0 = n }) (same p.0 q.0 h)
@@ -86,6 +87,7 @@ record Left (configs : List Config) (log : List Entry) (at seed n : ℕ) (t u : 
   each : Match (λ x m. IsMessage t.tickets log x.item m) waits messages
   desk : LeavesDesk t.mailbox.desk (record u.mailbox.desk { messages = record u.mailbox.desk.messages { items = t.mailbox.desk.messages.items } })
   items : u.mailbox.desk.messages.items ≡ messages
+  answered : Match (λ x a. IsAnswer x.item a) (line (log ++ step_entry at seed n r ∷ []) (queue.Dialer n)) u.mailbox.dialer
   told_left : (q : Queue) → is_told n q ≡ true → held u.told q ≡ line (log ++ step_entry at seed n r ∷ []) q
 
 stands_after : (configs : List Config) (log : List Entry) (at seed n : ℕ) (t u : Tracker) (r : Row) (waits : List Envelope) (messages : List (Message Key)) → TrackerStands configs log n t
@@ -114,6 +116,7 @@ stands_after configs log at seed n t u r waits messages s h =
       asked = λ d. s.asked d ∙ sym (asks_at-kept log e n d refl);
       answered = λ d is. s.answered d (sym (asks_at-kept log e n d refl) ∙ is) ∙ sym (was_answered-kept log e d refl);
       fresh = fresh-longer log e t.answered s.fresh (λ d past. refl);
+      dialer = h.answered;
       told = h.told_left;
     })
 
@@ -203,6 +206,16 @@ module _ (configs : List Config) (log : List Entry) (at seed n : ℕ) (t u : Tra
       holds_told log e n names (named_puts n t.tickets put) told (held t.told) (held u.told) s.told
       (λ p. tells.told p ∙ ap (λ l. told_to (held t.told) (named_puts n t.tickets put) (length log) (length l) p) none_put)
 
+  -- what the dialer is answered, beside what waits for it
+  answers_now : (names : List (ℕ × ℕ)) (put : List (Put Key)) (start : Mailbox Key) → Told log e n names (named_puts n t.tickets put) → u.mailbox ≡ after_puts put start
+      → Match (λ x a. IsAnswer x.item a) (line log (queue.Dialer n)) start.dialer → Match (λ x a. IsAnswer x.item a) (line (log ++ e ∷ []) (queue.Dialer n)) u.mailbox.dialer
+  answers_now names put start told mailbox before =
+      let xs = named_puts n t.tickets put in
+      let added = filter (stands_in (queue.Dialer n)) (placed (length log) 0 xs) in
+      subst (λ l. Match (λ x a. IsAnswer x.item a) l u.mailbox.dialer) (sym (dialer-told log e n names xs told))
+      (subst (Match (λ (x : Envelope) a. IsAnswer x.item a) (line log (queue.Dialer n) ++ added)) (sym (ap (λ (m : Mailbox Key). m.dialer) mailbox ∙ answers-after put start))
+      (Match-append (λ (x : Envelope) a. IsAnswer x.item a) (line log (queue.Dialer n)) added start.dialer (answers_in put) before (answers-named n t.tickets (length log) 0 put)))
+
   -- blocks had ended
   after_unblocked : (put : List (Put Key)) → ActorSteps t.actor u.actor t.mailbox u.mailbox at seed (stepped.EndedBlocks put) → TellsBy (stepped.EndedBlocks put) (length log) n t u r
       → u ≡ record t { actor = u.actor; mailbox = u.mailbox; names = u.names; told = u.told }
@@ -240,39 +253,38 @@ module _ (configs : List Config) (log : List Entry) (at seed n : ℕ) (t u : Tra
             sets = ap (λ (m : Mailbox Key). length m.desk.sets) mailbox ∙ desk.sets;
           };
           items = ap (λ (m : Mailbox Key). m.desk.messages.items) mailbox ∙ ap (λ (q : base.Queue (Message Key)). q.items) desk.messages;
+          answered = answers_now [] put t.mailbox told mailbox s.dialer;
           told_left = told_after [] (only reply.Ok) put tells.0 refl told;
         }),
       )
 
   -- a message was taken
-  after_message : (x : Envelope) (waits : List Envelope) (m : Message Key) (ms : List (Message Key)) (event : ℕ) (a : Act) (put : List (Put Key))
-      → line log (queue.Tracker n) ≡ x ∷ waits → t.mailbox.desk.messages.items ≡ m ∷ ms → x.item ≡ item.Call event → asked_by log event ≡ Some a → Says t.tickets event a m
+  after_message : (x : Envelope) (waits : List Envelope) (m : Message Key) (ms : List (Message Key)) (i : Item) (put : List (Put Key))
+      → line log (queue.Tracker n) ≡ x ∷ waits → t.mailbox.desk.messages.items ≡ m ∷ ms → x.item ≡ i → IsMessage t.tickets log i m
       → Match (λ y k. IsMessage t.tickets log y.item k) waits ms
       → ActorSteps t.actor u.actor t.mailbox u.mailbox at seed (stepped.Message put) → TellsBy (stepped.Message put) (length log) n t u r
       → u ≡ record t { actor = u.actor; mailbox = u.mailbox; names = u.names; told = u.told }
       → put ≡ puts_for key_cmp rules t.actor.updates t.actor.sets t.mailbox.desk.sets t.mailbox.heard (runs_in t.mailbox) calls at m
       → (r ≡ told_row log (name_of x ∷ []) (puts.item_puts rules n at us bs calls log x.item)) × TrackerStands configs (log ++ e ∷ []) n u
-  after_message x waits m ms event a put first items is asks says each steps tells rest puts_is =
+  after_message x waits m ms i put first items is says each steps tells rest puts_is =
       let name : slice_get t.names 0 ≡ Some (name_of x) = ap (λ l. slice_get l 0) (s.names ∙ ap (map name_of) first) in
       let telling : Tells (length log) (taken_row (name_of x)) (named_puts n t.tickets put) t u r = subst (λ o. TellsFor o (length log) (named_puts n t.tickets put) t u r) name tells.0 in
       let next : next_message t.mailbox.desk ≡ Some m = ap (λ l. slice_get l 0) items in
       let away = away_first log n x waits first in
       let told = told_now (name_of x ∷ []) (taken_row (name_of x)) put telling refl refl refl away in
-      let taken_is : taken log e ≡ item.Call event ∷ [] = first_taken log e (queue.Tracker n) x waits first told.takes ∙ ap (λ i. i ∷ []) is in
+      let taken_is : taken log e ≡ i ∷ [] = first_taken log e (queue.Tracker n) x waits first told.takes ∙ ap (λ k. k ∷ []) is in
       let reply_is : r.reply ≡ reply.Ok = ap (λ (k : Row). k.reply) telling.row in
       let start = left_in (stepped.Message put) t.mailbox in
       let desk = all_left put start in
       let mailbox : u.mailbox ≡ after_puts put start = steps.put in
-      let asked = ap (λ o. puts.asked_puts rules n at us bs calls event o) (sym asks) in
-      let named : named_puts n t.tickets put ≡ puts.item_puts rules n at us bs calls log x.item =
-      ap (named_puts n t.tickets) puts_is
-      ∙ (named-message n t.tickets rules t.mailbox.heard at t.actor.updates t.actor.sets us bs t.mailbox.desk.sets s.subscribed s.subscribed_blocked (runs_in t.mailbox) calls event a m says
-      ∙ (asked ∙ ap (puts.item_puts rules n at us bs calls log) (sym is)))
+      let xs = puts.item_puts rules n at us bs calls log i in
+      let named : named_puts n t.tickets put ≡ xs =
+      ap (named_puts n t.tickets) puts_is ∙ named-item n t.tickets rules t.mailbox.heard at t.actor.updates t.actor.sets us bs t.mailbox.desk.sets s.subscribed s.subscribed_blocked (runs_in t.mailbox) calls log i m says
       in
-      let event_of : (test : Act → Bool) → flat_map (call_where test log) (item.Call event ∷ []) ≡ cond (test a) (event ∷ []) [] ++ [] =
-      λ test. ap (λ o. (elim o [ None ↦ [] | Some b ↦ cond (test b) (event ∷ []) [] ]) ++ []) asks
+      let row_is : r ≡ told_row log (name_of x ∷ []) xs = row_now (name_of x ∷ []) (taken_row (name_of x)) put xs telling refl away named in
+      let puts_are : r.puts ≡ xs = ap (λ (k : Row). k.puts) row_is
       in (
-        row_now (name_of x ∷ []) (taken_row (name_of x)) put (puts.item_puts rules n at us bs calls log x.item) telling refl away named,
+        row_is ∙ ap (λ k. told_row log (name_of x ∷ []) (puts.item_puts rules n at us bs calls log k)) (sym is),
         stands_after configs log at seed n t u r waits ms s (record {
           rest = rest;
           rules = steps.rules;
@@ -280,15 +292,14 @@ module _ (configs : List Config) (log : List Entry) (at seed n : ℕ) (t u : Tra
           works = steps.works;
           follows = follows_next (stepped.Message put) (next_message t.mailbox.desk) (calls_of configs (log ++ e ∷ []) n) (steps.follows calls s.follows)
               (ap (λ o. calls_by key_cmp rules (stepped.Message put) o at (jitter_of rules.cooldown seed) calls) next
-              ∙ (says-calls rules t.tickets event a m at (jitter_of rules.cooldown seed) calls says
-              ∙ sym (calls-step configs log at seed n r (item.Call event ∷ []) taken_is
-              ∙ (ap (λ k. step_calls log k (item.Call event ∷ []) at (jitter_of rules.cooldown seed) (list_any grants_dial r.puts) calls) reply_is ∙ ap (λ o. asked_calls o at calls) asks))));
+              ∙ (item-calls rules n t.tickets log i m at (jitter_of rules.cooldown seed) us bs calls says
+              ∙ sym (calls-step configs log at seed n r (i ∷ []) taken_is
+              ∙ (ap (λ k. step_calls log k (i ∷ []) at (jitter_of rules.cooldown seed) (list_any grants_dial r.puts) calls) reply_is
+              ∙ ap (λ l. item_calls log i at (jitter_of rules.cooldown seed) (list_any grants_dial l) calls) puts_are))));
           subscribed = subst (λ ts. Match (IsTicket t.tickets.updates) ts (update_subscriptions (log ++ e ∷ []) n)) (sym (steps.updates ∙ ap (λ o. by_step (stepped.Message put) o updates_for t.actor.updates) next))
-              (subst (Match (IsTicket t.tickets.updates) (updates_for m t.actor.updates)) (sym (updates-step log at seed n r (item.Call event ∷ []) taken_is ∙ ap (λ l. us ++ l) (event_of subscribes)))
-              (says-updates t.tickets event a m t.actor.updates us says s.subscribed));
+              (subst (Match (IsTicket t.tickets.updates) (updates_for m t.actor.updates)) (sym (updates-step log at seed n r (i ∷ []) taken_is)) (item-updates t.tickets log i m t.actor.updates us says s.subscribed));
           subscribed_blocked = subst (λ ts. Match (IsTicket t.tickets.blocked) ts (blocked_subscriptions (log ++ e ∷ []) n)) (sym (steps.sets ∙ ap (λ o. by_step (stepped.Message put) o sets_for t.actor.sets) next))
-              (subst (Match (IsTicket t.tickets.blocked) (sets_for m t.actor.sets)) (sym (sets-step log at seed n r (item.Call event ∷ []) taken_is ∙ ap (λ l. bs ++ l) (event_of subscribes_blocked)))
-              (says-sets t.tickets event a m t.actor.sets bs says s.subscribed_blocked));
+              (subst (Match (IsTicket t.tickets.blocked) (sets_for m t.actor.sets)) (sym (sets-step log at seed n r (i ∷ []) taken_is)) (item-sets t.tickets log i m t.actor.sets bs says s.subscribed_blocked));
           mailbox = mailbox-told log e n (name_of x ∷ []) (named_puts n t.tickets put) told ∙ mailbox_first log n x waits first;
           names_left = tells.1 ∙ ap (drop 1) (s.names ∙ ap (map name_of) first);
           each = each;
@@ -299,6 +310,7 @@ module _ (configs : List Config) (log : List Entry) (at seed n : ℕ) (t u : Tra
             sets = ap (λ (k : Mailbox Key). length k.desk.sets) mailbox ∙ desk.sets;
           };
           items = ap (λ (k : Mailbox Key). k.desk.messages.items) mailbox ∙ (ap (λ (q : base.Queue (Message Key)). q.items) desk.messages ∙ ap (drop 1) items);
+          answered = answers_now (name_of x ∷ []) put start told mailbox s.dialer;
           told_left = told_after (name_of x ∷ []) (taken_row (name_of x)) put telling refl told;
         }),
       )
@@ -337,6 +349,8 @@ module _ (configs : List Config) (log : List Entry) (at seed n : ℕ) (t u : Tra
             sets = ap (λ (m : Mailbox Key). length m.desk.sets) mailbox;
           };
           items = ap (λ (m : Mailbox Key). m.desk.messages.items) mailbox;
+          answered = subst (λ l. Match (λ x a. IsAnswer x.item a) l u.mailbox.dialer) (sym (same (queue.Dialer n)))
+              (subst (Match (λ (x : Envelope) a. IsAnswer x.item a) (line log (queue.Dialer n))) (sym (ap (λ (m : Mailbox Key). m.dialer) mailbox)) s.dialer);
           told_left = λ q own. tells.0.told q ∙ (s.told q own ∙ sym (same q));
         }),
       )
@@ -362,13 +376,7 @@ module _ (configs : List Config) (log : List Entry) (at seed n : ℕ) (t u : Tra
     by_line [] [] empty none match is = let k = as_step stepped.Idle is in after_idle empty none k.0 k.1 rest
     by_line (x ∷ l) (m ∷ ms) first items match is =
         let k = as_step (stepped.Message (message_is m)) is in
-        of_item x.item refl match.0
-      where
-        of_item : (i : Item) → x.item ≡ i → IsMessage t.tickets log i m → Done (served_row configs log n at (x ∷ l))
-        of_item (item.Call event) named h =
-            let k = as_step (stepped.Message (message_is m)) is in
-            after_message x l m ms event h.0 (message_is m) first items named h.1 h.2 match.1 k.0 k.1 rest refl
-        of_item _ named h = absurd h
+        after_message x l m ms x.item (message_is m) first items refl match.0 match.1 k.0 k.1 rest refl
     by_line [] (m ∷ ms) first items match is = absurd match
     by_line (x ∷ l) [] first items match is = absurd match
 
@@ -417,5 +425,6 @@ gone_stands configs log at seed n t s =
       each = s.messages;
       desk = record { messages = refl; questions = refl; updates = refl; sets = refl };
       items = refl;
+      answered = subst (λ l. Match (λ x a. IsAnswer x.item a) l t.mailbox.dialer) (sym (same (queue.Dialer n))) s.dialer;
       told_left = λ q own. s.told q own ∙ sym (same q);
     })

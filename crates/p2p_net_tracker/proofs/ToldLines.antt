@@ -68,6 +68,16 @@ none_put n m k p xs h = filter-none (stands_in (queue.Tracker m)) (placed k p xs
     each k p [] h = tt
     each k p (x ∷ xs) h = (same_queue-sym (queue.Tracker m) x.0 ∙ told_apart n m x.0 h.0, each k (p + 1) xs h.1)
 
+-- nor the dialer's line
+ring_not_dialer : (n : ℕ) (q : Queue) → Each (λ p. is_same (queue.Dialer n) p ≡ false) (ring_of q)
+ring_not_dialer n (queue.Update m) = (refl, tt)
+ring_not_dialer n (queue.Blocked m e) = (refl, tt)
+ring_not_dialer n _ = tt
+
+rings_not_dialer : (n : ℕ) (xs : List (Queue × Item)) → Each (λ p. is_same (queue.Dialer n) p ≡ false) (rings_of xs)
+rings_not_dialer n [] = tt
+rings_not_dialer n (x ∷ xs) = Each-append (λ p. is_same (queue.Dialer n) p ≡ false) (ring_of x.0) (rings_of xs) (ring_not_dialer n x.0) (rings_not_dialer n xs)
+
 -- an entry that takes these, puts those, and ends what they overwrite
 pub record Told (log : List Entry) (e : Entry) (n : ℕ) (names : List (ℕ × ℕ)) (xs : List (Queue × Item)) : Type 0 where
   pub takes : e.takes ≡ names
@@ -109,6 +119,13 @@ module _ (log : List Entry) (e : Entry) (n : ℕ) (takes : List (ℕ × ℕ)) (x
       line-told (queue.Tracker n)
       ∙ (ap (λ k. drop k (filter (stands_in (queue.Tracker n)) left) ++ filter (stands_in (queue.Tracker n)) (placed (length log) 0 xs)) (none_same n n (rings_of xs) (rings_are_told n xs h.each))
       ∙ (ap (λ l. filter (stands_in (queue.Tracker n)) left ++ l) (none_put n n (length log) 0 xs h.each) ∙ append-nil (filter (stands_in (queue.Tracker n)) left)))
+
+  -- what the dialer is answered
+  pub dialer-told : line (log ++ e ∷ []) (queue.Dialer n) ≡ line log (queue.Dialer n) ++ filter (stands_in (queue.Dialer n)) (placed (length log) 0 xs)
+  dialer-told =
+      let added = filter (stands_in (queue.Dialer n)) (placed (length log) 0 xs) in
+      line-told (queue.Dialer n)
+      ∙ (ap (λ k. drop k (filter (stands_in (queue.Dialer n)) left) ++ added) (count_by-none (is_same (queue.Dialer n)) (rings_of xs) (rings_not_dialer n xs)) ∙ ap (λ l. l ++ added) (h.away (queue.Dialer n) (eq-eqb n n refl)))
 
 -- what the rings lose is what the log ends
 pub lost_is : (log : List Entry) (n : ℕ) (takes : List (ℕ × ℕ)) (xs : List (Queue × Item)) (holds : Queue → List Envelope) → Each (IsTold n) xs

@@ -1,7 +1,12 @@
 -- When a node's tracker stands for a log.
 use Rattle.std.specs.Prelude.{◌≡◌, ℕ, ◌≤◌, Bool, true, false, ◌==◌, cond, is_some, Option, None, List, [], ◌∷◌, ◌++◌, map, length, Some, slice_get}
 use Rattle.p2p_base.specs.declared.key.Key.{Key}
+use Rattle.p2p_address.specs.declared.peer.Ingress.{Ingress}
+use Rattle.p2p_tracker_directory.specs.declared.metadata.Metadata.{Metadata}
+use Rattle.p2p_tracker_mailbox.specs.declared.answer.DialerAnswer.{DialerAnswer}
+use Rattle.p2p_tracker_mailbox.specs.declared.answer.DialerAnswer.TheVariants as answer
 use Rattle.p2p_tracker_mailbox.specs.declared.message.Message.{Message}
+use Rattle.p2p_tracker_mailbox.specs.declared.message.Message.TheVariants as message
 use Rattle.p2p_tracker.specs.Following.{Follows}
 use Rattle.p2p_log.specs.declared.config.Config.{Config}
 use Rattle.p2p_log.specs.declared.queue.Queue.{Queue}
@@ -21,6 +26,7 @@ use Rattle.p2p_log_rules.specs.TrackerRows.{most_peers_at, answers, was_answered
 use Rattle.p2p_net_queues.specs.Board.{held}
 use Rattle.p2p_net_queues.specs.Tables as table
 use Rattle.p2p_net_tracker.specs.Asking.{message_of}
+use Rattle.p2p_net_tracker.specs.Naming.{grant_of}
 use Rattle.p2p_net_tracker.specs.declared.question.Question.{Question}
 use Rattle.p2p_net_tracker.specs.declared.question.Question.TheVariants as question
 use Rattle.p2p_net_tracker.specs.declared.naming.Tickets.{Tickets}
@@ -69,10 +75,18 @@ abbrev pub Says : Tickets → ℕ → Act → Message Key → Type 0
 Says t e (act.Ask what n) m = (ticket : ℕ) × (m ≡ message_of what ticket) × HasTicket t (kind_of what) ticket e
 Says t e _ m = ⊥
 
--- the item names the event that the message is of; nothing else asks the tracker yet
+-- the item names the event that the message is of, or is what a dialer asks; nobody else asks the tracker yet
 abbrev pub IsMessage : Tickets → List Entry → Item → Message Key → Type 0
 IsMessage t log (item.Call e) m = (a : Act) × (asked_by log e ≡ Some a) × Says t e a m
+IsMessage t log item.AskDialable m = m ≡ message.Dialable
+IsMessage t log (item.AskDial key) m = m ≡ message.Dial key
 IsMessage t log _ m = ⊥
+
+-- the item is what the dialer is answered
+abbrev pub IsAnswer : Item → DialerAnswer Key → Type 0
+IsAnswer (item.Dialable next peers) a = a ≡ answer.Dialable (record { peers = peers; next_query_at = next })
+IsAnswer (item.Dial grant) a = (g : Option (Metadata Key × Ingress)) × (a ≡ answer.Dial g) × (grant ≡ grant_of g)
+IsAnswer _ a = ⊥
 
 -- what an act asks of the tracker of a node that may be answered
 abbrev pub asks_of : ℕ → Act → Option Question
@@ -110,6 +124,8 @@ pub record TrackerStands (configs : List Config) (log : List Entry) (n : ℕ) (t
   pub asked : (d : ℕ) → table.at t.questions d ≡ asks_at log n d
   pub answered : (d : ℕ) → asks_at log n d ≡ Some question.PeerSet → is_some (table.at t.answered d) ≡ was_answered log d
   pub fresh : AreFresh log t.answered
+  -- what the dialer is answered is its line
+  pub dialer : Match (λ x a. IsAnswer x.item a) (line log (queue.Dialer n)) t.mailbox.dialer
   -- what waits for those who asked is their line
   pub told : (q : Queue) → is_told n q ≡ true → held t.told q ≡ line log q
 
