@@ -228,11 +228,10 @@ fn tracks(script: &[Event], place: usize, due: &AddressableTrackedPeers<Key>) ->
     match script.get(place) {
         Some(
             Event {
-                act:
-                    Act::Ask {
-                        asked: Asked::Track { peers, .. },
-                        ..
-                    },
+                act: Act::Ask {
+                    asked: Asked::Track { peers, .. },
+                    ..
+                },
                 ..
             },
         ) => peers == due,
@@ -244,11 +243,10 @@ fn overwrites(script: &[Event], place: usize, due: &Map<Key, Address>) -> bool {
     match script.get(place) {
         Some(
             Event {
-                act:
-                    Act::Ask {
-                        asked: Asked::Overwrite { peers },
-                        ..
-                    },
+                act: Act::Ask {
+                    asked: Asked::Overwrite { peers },
+                    ..
+                },
                 ..
             },
         ) => peers == due,
