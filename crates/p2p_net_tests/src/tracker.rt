@@ -64,21 +64,21 @@ fn config() -> Config {
 }
 
 // The keys from 2 on, so many, each with its address.
-fn pairs(alloc: Global, peers: u64) -> Result<Vec<(Key, Address)>, AllocError> {
+fn pairs(alloc: Global, peers: u8) -> Result<Vec<(Key, Address)>, AllocError> {
     let mut pairs = Vec::new(alloc);
     for i in 0..peers {
         let key = i.saturating_add(2);
         let socket = SocketAddr {
-            ip: IpAddr::V4([10, 0, 0, key as u8]),
+            ip: IpAddr::V4([10, 0, 0, key]),
             port: 3000,
         };
-        pairs.push((Key(key), Address::Symmetric(socket)))?;
+        pairs.push((Key(key as u64), Address::Symmetric(socket)))?;
     }
     Ok(pairs)
 }
 
 // These as the primary peers of a set.
-fn track(alloc: Global, index: u64, peers: u64) -> Result<Act, RunError> {
+fn track(alloc: Global, index: u64, peers: u8) -> Result<Act, RunError> {
     let Ok(primary) = Map::try_from(pairs(alloc, peers)?) else {
         return Err(RunError::Memory);
     };
