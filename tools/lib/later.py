@@ -2,15 +2,12 @@
 
 ACTS = frozenset('''
     stop check send_checked close
-    dialer attempt listener handshake spawner
+    attempt listener handshake spawner
     resolve connect refuse finish cut fault
     raw_dial raw_accept raw_write raw_read raw_close
     mux mux_register mux_poll give_up sub_send sub_recv sub_close global_send backup_recv mux_step
 '''.split())
 
-CONFIGURATION_NAMES = frozenset('''
-    handshake_timeout dial_timeout max_concurrent_handshakes allowed_handshake_rate_per_ip allowed_handshake_rate_per_subnet
-    ping_frequency dial_frequency
-'''.split())
+CONFIGURATION_NAMES = frozenset(['ping_frequency'])
 
 START_NAMES = frozenset(['bind'])

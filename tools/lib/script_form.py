@@ -13,6 +13,15 @@ CONFIGURATION_FORMS = {
 
 PRESETS = ('local', 'recommended')
 
+
+def a_rate(field):
+    """A quota: its burst."""
+    an_object(field, ['burst', 'period'])
+    burst = whole(field.at_name('burst'), 1, U32)
+    whole(field.at_name('period'), 1)
+    return burst
+
+
 # What may be left out: the preset gives it.
 GIVEN_FORMS = {
     'tracked_peer_sets': lambda field: whole(field, 1),
@@ -22,18 +31,16 @@ GIVEN_FORMS = {
     'bypass_ip_check': a_flag,
     'peer_connection_cooldown': whole,
     'block_duration': whole,
+    'max_concurrent_handshakes': lambda field: whole(field, 1, U32),
+    'allowed_handshake_rate_per_ip': a_rate,
+    'allowed_handshake_rate_per_subnet': a_rate,
+    'handshake_timeout': whole,
+    'dial_timeout': whole,
+    'dial_frequency': whole,
 }
 
 # That of both presets.
 TRACKED_PEER_SETS = 4
-
-
-def a_rate(field):
-    """A quota: its burst."""
-    an_object(field, ['burst', 'period'])
-    burst = whole(field.at_name('burst'), 1, U32)
-    whole(field.at_name('period'), 1)
-    return burst
 
 
 class NotBuilt(Fault):
@@ -70,6 +77,7 @@ ACT_FORMS = {
     'answer': {'question': whole},
     'next': {'question': whole},
     'tracker': {'node': whole},
+    'dialer': {'node': whole},
 }
 
 # The names of an act that may be left out.

@@ -1,4 +1,5 @@
 //! What a node is made of.
+use crate::event::Rate;
 use p2p_base::Key;
 
 /// What a node is made of.
@@ -38,4 +39,22 @@ pub struct Config {
 
     /// How long a block lasts, in nanoseconds.
     pub block_duration: u64,
+
+    /// How many handshakes run at a time at most.
+    pub max_concurrent_handshakes: u32,
+
+    /// How often a peer may connect from one address.
+    pub allowed_handshake_rate_per_ip: Rate,
+
+    /// How often peers may connect from one subnet.
+    pub allowed_handshake_rate_per_subnet: Rate,
+
+    /// How long a handshake waits until its keys are exchanged, and an attempt once it is linked, in nanoseconds.
+    pub handshake_timeout: u64,
+
+    /// How long an attempt to dial waits in all, in nanoseconds.
+    pub dial_timeout: u64,
+
+    /// How long the dialer waits after a dial, and at least before it asks again whom to dial, in nanoseconds.
+    pub dial_frequency: u64,
 }

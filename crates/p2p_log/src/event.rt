@@ -84,6 +84,10 @@ pub enum Act {
     Tracker {
         node: u64,
     },
+    /// One step of a node's dialer.
+    Dialer {
+        node: u64,
+    },
 }
 
 /// An act at a moment, in nanoseconds, with the seed of what it draws.
@@ -172,6 +176,7 @@ impl Act {
                 question: *question,
             }),
             Act::Tracker { node } => Ok(Act::Tracker { node: *node }),
+            Act::Dialer { node } => Ok(Act::Dialer { node: *node }),
         }
     }
 }

@@ -6,6 +6,7 @@ pub mod Comes
 pub mod Coming
 pub mod ConnShapes
 pub mod Delivering
+pub mod DialerShape
 pub mod Drops
 pub mod Emptying
 pub mod Entries

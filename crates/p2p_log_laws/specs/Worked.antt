@@ -36,6 +36,12 @@ node_of k = record {
   bypass_ip_check = false;
   peer_connection_cooldown = 1000000000;
   block_duration = 3600000000000;
+  max_concurrent_handshakes = 1024;
+  allowed_handshake_rate_per_ip = record { burst = 16; period = 62500000 };
+  allowed_handshake_rate_per_subnet = record { burst = 128; period = 7812500 };
+  handshake_timeout = 5000000000;
+  dial_timeout = 15000000000;
+  dial_frequency = 500000000;
 }
 
 abbrev pub event_of : Act → Event

@@ -9,7 +9,7 @@ use Rattle.p2p_log.specs.declared.config.Config.{Config}
 use Rattle.p2p_log.specs.declared.item.Item.{Item}
 use Rattle.p2p_log.specs.declared.event.Event.{Event}
 use Rattle.p2p_log.specs.declared.entry.Entry.{Entry}
-use Rattle.p2p_log_rules.specs.Facts.{events_of, starts, has_started, registers_at, registered, history_from, history, routed_by, routed, subscriber_of, subscribers, with_route, routes_after, routes, half_of, half_in, half_at, answers_by, is_running, joins, is_joined}
+use Rattle.p2p_log_rules.specs.Facts.{events_of, starts, has_started, registers_at, registered, state_from, history_from, history, routed_by, routed, subscriber_of, subscribers, with_route, routes_after, routes, half_of, half_in, half_at, answers_by, is_running, joins, is_joined}
 use Rattle.p2p_log.proofs.Places.{slice_get-append}
 
 or-false : (b : Bool) → (b || false) ≡ b
@@ -46,6 +46,14 @@ history_from-append adds before (d ∷ es) e =
     (history_from-append adds (before ++ d ∷ []) es e
     ∙ ap (λ b. history_from adds (before ++ d ∷ []) es ++ adds b e) (append_assoc before (d ∷ []) es))
     ∙ sym (append_assoc (adds before d) (history_from adds (before ++ d ∷ []) es) (adds (before ++ d ∷ es) e))
+
+-- and so does what stands
+pub state_from-append : {X : Type 0} (by : List Entry → Entry → X → X) (before es : List Entry) (e : Entry) (x : X) → state_from by before (es ++ e ∷ []) x ≡ by (before ++ es) e (state_from by before es x)
+unfolding state_from
+state_from-append by before [] e x = ap (λ b. by b e x) (sym (append-nil before))
+state_from-append by before (d ∷ es) e x =
+    state_from-append by (before ++ d ∷ []) es e (by before d x)
+    ∙ ap (λ b. by b e (state_from by (before ++ d ∷ []) es (by before d x))) (append_assoc before (d ∷ []) es)
 
 pub routed-append : (log : List Entry) (e : Entry) (n : ℕ) → routed (log ++ e ∷ []) n ≡ routed log n ++ routed_by n log e
 unfolding routed

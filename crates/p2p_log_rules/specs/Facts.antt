@@ -86,6 +86,11 @@ unfoldable pub history_from : {X : Type 0} → (List Entry → Entry → List X)
 history_from adds before [] = []
 history_from adds before (e ∷ es) = adds before e ++ history_from adds (before ++ e ∷ []) es
 
+-- what stands after a log, by what each entry makes of it, given the entries before it
+unfoldable pub state_from : {X : Type 0} → (List Entry → Entry → X → X) → List Entry → List Entry → X → X
+state_from by before [] x = x
+state_from by before (e ∷ es) x = state_from by (before ++ e ∷ []) es (by before e x)
+
 abbrev pub history : {X : Type 0} → (List Entry → Entry → List X) → List Entry → List X
 history adds log = history_from adds [] log
 

@@ -1,3 +1,4 @@
+pub mod Dialing
 pub mod Effect
 pub mod Facts
 pub mod Frames

@@ -17,12 +17,23 @@ use Rattle.p2p_log_rules.specs.Effect.{mailbox_size_at, limit_at}
 abbrev pub fits_usize : ℕ → Bool
 fits_usize n = nat_lt n (2 ^ 64)
 
+-- a quota admits something, sometimes
+abbrev pub is_quota : Rate → Bool
+is_quota r = nat_lt 0 r.burst && nat_lt 0 r.period
+
 -- sizes and counts are 1 or more, a link takes the messages, and the retained peers can be counted
-abbrev pub fits : Config → Bool
-fits c =
+abbrev pub sizes_fit : Config → Bool
+sizes_fit c =
     (((nat_lt 0 c.max_peers_per_set && nat_lt 0 c.mailbox_size) && (nat_lt 0 c.tracked_peer_sets && nat_lt 0 c.send_batch_size))
     && nat_le c.max_message_size 16777200)
     && fits_usize (c.max_peers_per_set * c.tracked_peer_sets)
+
+-- some handshake may run, and some peer may connect
+abbrev pub gates_fit : Config → Bool
+gates_fit c = nat_lt 0 c.max_concurrent_handshakes && (is_quota c.allowed_handshake_rate_per_ip && is_quota c.allowed_handshake_rate_per_subnet)
+
+abbrev pub fits : Config → Bool
+fits c = sizes_fit c && gates_fit c
 
 abbrev pub has_key : Key → Config → Bool
 has_key key c = c.public_key.0 == key.0
@@ -100,6 +111,7 @@ may_act configs events (act.Ask what n) = nat_lt n (length configs)
 may_act configs events (act.Answer e) = is_node configs (set_asked_of (slice_get events e))
 may_act configs events (act.Next e) = is_node configs (subscribed_at (slice_get events e))
 may_act configs events (act.Tracker n) = nat_lt n (length configs)
+may_act configs events (act.Dialer n) = nat_lt n (length configs)
 
 -- moments never go back
 unfoldable pub is_valid_event : List Config → List Event → Event → Bool

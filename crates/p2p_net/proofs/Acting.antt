@@ -28,6 +28,7 @@ use Rattle.p2p_net.proofs.Nodes.{slice_get-set, below}
 use Rattle.p2p_net.proofs.Frames.{part_frame, links_kept}
 use Rattle.p2p_net.proofs.Performing.{asked, Performs, part_still, links_still, effect-still}
 use Rattle.p2p_net.proofs.Calling.{register_performs, start_performs, send_performs, read_performs}
+use Rattle.p2p_net.proofs.Dialing.{dialer_performs}
 use Rattle.p2p_net.proofs.Stepping.{route_performs}
 use Rattle.p2p_net.proofs.Tracking.{ask_performs, answer_performs, next_performs, tracker_performs}
 use Rattle.p2p_net.proofs.Writing.{send_step_performs}
@@ -55,6 +56,7 @@ node_performs configs log moment seed (act.Ask what n) x y l links r s t valid o
 node_performs configs log moment seed (act.Answer e) x y l links r s t valid one d = answer_performs configs log moment seed e x y l links r s t valid d.0.0 d.0.1 d.1
 node_performs configs log moment seed (act.Next e) x y l links r s t valid one d = next_performs configs log moment seed e x y l links r s t valid d.0.0 d.0.1 d.1
 node_performs configs log moment seed (act.Tracker n) x y l links r s t valid one d = tracker_performs configs log moment seed n x y l links r s t d.0 d.1
+node_performs configs log moment seed (act.Dialer n) x y l links r s t valid one d = dialer_performs configs log moment seed n x y l links r s t d.0 d.1
 node_performs configs log moment seed (act.Join a b) x y l links r s t valid one d = cc
 
 -- the parts of the other nodes are not named

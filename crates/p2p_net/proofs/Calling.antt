@@ -32,6 +32,9 @@ use Rattle.p2p_net_channels.proofs.Changes.{channels_moved, same_channel}
 use Rattle.p2p_net_channels.proofs.Registering.{channels_registered}
 use Rattle.p2p_net_links.specs.Stands.{LinksStand}
 use Rattle.p2p_net_links.specs.declared.links.Links.{Links}
+use Rattle.p2p_net_dialer.specs.Dialing.{started}
+use Rattle.p2p_net_dialer.specs.Stands.{DialerStands}
+use Rattle.p2p_net_dialer.proofs.Changes.{dialer_starts}
 use Rattle.p2p_net.specs.Places as place
 use Rattle.p2p_net.specs.Ready.{capacity_by}
 use Rattle.p2p_net.specs.Acts.{Registers, Starts, SendsOn, Sends, ReadsOn, Reads}
@@ -102,14 +105,14 @@ register_performs configs log at seed n c rate x y l links r s t valid d kept =
 -- ---- start
 
 pub start_performs : (configs : List Config) (log : List Entry) (at seed n : ℕ) (x y : Node) (l links : Links) (r : Row) → NodeStands configs log n x → LinksStand log l
-    → Starts (length log) x y r → links ≡ l → Performs configs log (asked at seed (act.Start n)) n y links r
+    → Starts (length log) at x y r → links ≡ l → Performs configs log (asked at seed (act.Start n)) n y links r
 unfolding effect row
 start_performs configs log at seed n x y l links r s t d kept =
     let ev = asked at seed (act.Start n) in
     let e = effect configs log ev in
     let chan : ChannelsStand configs log n x.channels = s.each place.channels in
     let rout : RouterStands configs log n x.router = s.each place.router in
-    let parts : y ≡ record x { router = y.router } = d.0 in
+    let parts : y ≡ record x { router = y.router; dialing = started x.config at x.dialing } = d.0 in
     let calls = d.1 in
     let at_number : x.router.number ≡ n = rout.number in
     let row_is : r ≡ start_row configs log n = calls.row configs log rout.stands ∙ ap (start_row configs log) at_number in
@@ -121,12 +124,15 @@ start_performs configs log at seed n x y l links r s t d kept =
     record {
       row_is = row_is;
       node =
-          each_part configs log ev n x y (place.router ∷ []) s (subst (λ z. z ≡ with_parts (place.router ∷ []) x z) (sym parts) refl)
-          (λ p out. not_among (place.router ∷ []) p n n out) (
+          each_part configs log ev n x y (place.router ∷ place.dialer ∷ []) s (subst (λ z. z ≡ with_parts (place.router ∷ place.dialer ∷ []) x z) (sym parts) refl)
+          (λ p out. not_among (place.router ∷ place.dialer ∷ []) p n n out) (
             RouterStands-moved configs log e n x.router y.router rout
                 (subst (λ (z : Row). StandsFor configs (log ++ entry_of ev z ∷ []) y.router) row_is (calls.stands configs log ev rout.stands refl (ap act.Start (sym at_number)) places))
                 (ap (λ (z : Router). z.number) calls.rest) (ap (λ (z : Router). z.peers) calls.rest),
-            tt,
+            (
+              subst (DialerStands configs (log ++ e ∷ []) n) (sym (ap (λ (z : Node). z.dialing) parts)) (dialer_starts configs log e n x.config x.dialing (s.each place.dialer) s.own.config refl),
+              tt,
+            ),
           );
       linked = subst (LinksStand (log ++ e ∷ [])) (sym kept) (links_kept configs log ev l t refl);
     }

@@ -20,12 +20,14 @@ use Rattle.p2p_log_rules.specs.declared.row.Half.{Half}
 use Rattle.p2p_log_rules.specs.declared.row.Row.{Row}
 use Rattle.p2p_log_rules.specs.Facts.{starts, registers_at, capacity_for, taken, steps_router, steps_sender, is_answer, half_of, key_at, answers_by, joins}
 use Rattle.p2p_log_rules.specs.Effect.{only, row, effect}
+use Rattle.p2p_log_rules.specs.Dialing.{steps_dialer}
 use Rattle.p2p_log_rules.specs.Tracking.{asked_by, steps_tracker}
 use Rattle.p2p_log_rules.specs.TrackerRows.{answers, is_answer as gives_answer, answer_by}
 use Rattle.p2p_net_tracker.specs.declared.question.Question.{Question}
 use Rattle.p2p_net_tracker.specs.declared.question.Question.TheVariants as question
 use Rattle.p2p_net_tracker.specs.Stands.{kind_of, asks_of, asks_at, is_told}
 use Rattle.p2p_net_tracker.proofs.Changes.{tracker_frame}
+use Rattle.p2p_net_dialer.proofs.Changes.{dialer_frame, dialer_unmoved}
 use Rattle.p2p_net_router.specs.Names.{is_routers}
 use Rattle.p2p_net_router.specs.Stands.{IsBeside}
 use Rattle.p2p_net_router.specs.declared.router.Router.{Router}
@@ -36,7 +38,7 @@ use Rattle.p2p_net_connections.proofs.Changes.{connections_frame}
 use Rattle.p2p_net_links.specs.Stands.{LinksStand}
 use Rattle.p2p_net_links.specs.declared.links.Links.{Links}
 use Rattle.p2p_net_links.proofs.Changes.{links_frame}
-use Rattle.p2p_net.specs.Places.{Part, router, channels, connections, tracker, same_part, links, home, names, at, asked_node, or_first, node_asked}
+use Rattle.p2p_net.specs.Places.{Part, router, channels, connections, tracker, dialer, same_part, links, home, names, at, asked_node, or_first, node_asked}
 use Rattle.p2p_net.specs.Stands.{RouterStands, PartStands}
 use Rattle.p2p_net.specs.declared.node.Node.{Node}
 use Rattle.p2p_net.proofs.ActKinds.{registers_unless, starts_unless, half_unless, joins_unless, routes_unless, sends_unless}
@@ -223,6 +225,15 @@ told_home n (queue.Updates m e) h = ap (at tracker) (let e : m ≡ n = grind (ar
 told_home n (queue.Blocked m e) h = ap (at tracker) (let e : m ≡ n = grind (arith, nat_tests) in e)
 told_home n _ h = cc
 
+-- ---- the dialer
+
+dialer_starts_none : (log : List Entry) (n : ℕ) (a : Act) → names log a (at dialer n) ≡ false → starts n a ≡ false
+dialer_starts_none log n a h = starts_unless n a (λ m is. let f : names log (act.Start m) (at dialer n) ≡ false = sym (ap (λ x. names log x (at dialer n)) is) ∙ h in grind (arith, nat_tests))
+
+dials_none : (log : List Entry) (n : ℕ) (a : Act) → names log a (at dialer n) ≡ false → steps_dialer n a ≡ false
+dials_none log n (act.Dialer m) h = grind (arith, nat_tests)
+dials_none log n _ h = refl
+
 -- ---- all parts
 
 pub part_frame : (p : Part) (configs : List Config) (log : List Entry) (ev : Event) (n : ℕ) (x : Node) → PartStands p configs log n x → names log ev.act (at p n) ≡ false → PartStands p configs (log ++ effect configs log ev ∷ []) n x
@@ -252,6 +263,11 @@ part_frame tracker configs log ev n x s h =
       mailbox = line-unnamed configs log ev (queue.Tracker n) h;
       told = λ q own. line-unnamed configs log ev q (ap (names log ev.act) (told_home n q own) ∙ h);
     })
+part_frame dialer configs log ev n x s h =
+    let e = effect configs log ev in
+    let acts = effect-act configs log ev in
+    dialer_frame configs log e n x.dialing s
+    (dialer_unmoved configs log e n (ap (starts n) acts ∙ dialer_starts_none log n ev.act h) (ap (steps_dialer n) acts ∙ dials_none log n ev.act h))
 
 -- the links, where an act does not name them
 pub links_kept : (configs : List Config) (log : List Entry) (ev : Event) (l : Links) → LinksStand log l → names log ev.act links ≡ false → LinksStand (log ++ effect configs log ev ∷ []) l

@@ -1,6 +1,7 @@
 pub mod ActKinds
 pub mod Acting
 pub mod Calling
+pub mod Dialing
 pub mod EachPart
 pub mod Faults
 pub mod Frames

@@ -1,9 +1,10 @@
 -- What an act has to show at a node, and acts that move nothing.
-use Rattle.std.proofs.Common.{◌≡◌, ℕ, Bool, true, false, cond, List, [], ◌∷◌, ◌++◌, length, refl, ap, sym, subst, ◌∙◌, append-nil, None}
-use Rattle.std.specs.Prelude.{map, filter, flat_map}
+use Rattle.std.proofs.Common.{◌≡◌, ℕ, Bool, true, false, cond, List, [], ◌∷◌, ◌++◌, length, refl, ap, sym, subst, ◌∙◌, append-nil, Option, None}
+use Rattle.std.specs.Prelude.{map, filter, flat_map, ◌==◌}
 use Rattle.p2p_log.specs.declared.config.Config.{Config}
 use Rattle.p2p_log.specs.declared.queue.Queue.{Queue}
 use Rattle.p2p_log.specs.declared.queue.Queue.TheVariants as queue
+use Rattle.p2p_log.specs.declared.item.Item.{Item}
 use Rattle.p2p_log.specs.declared.entry.Entry.{Entry}
 use Rattle.p2p_log.specs.declared.entry.Reply.{Reply}
 use Rattle.p2p_log.specs.declared.entry.Reply.TheVariants as reply
@@ -12,6 +13,8 @@ use Rattle.p2p_log.specs.declared.event.Act.{Act}
 use Rattle.p2p_log.specs.declared.event.Act.TheVariants as act
 use Rattle.p2p_log.specs.Lines.{line, placed, ended_item, stands_in}
 use Rattle.p2p_log_rules.specs.declared.row.Row.{Row}
+use Rattle.p2p_log_rules.specs.Dialing.{Pace, pace_at, Dials, steps_dialer, acted_dials, dials_of, begun_of}
+use Rattle.p2p_net_dialer.proofs.Changes.{dialer_frame}
 use Rattle.p2p_log_rules.specs.Facts.{starts, registers_at, taken, item_named, steps_router, steps_sender, is_answer, half_of, joins}
 use Rattle.p2p_log_rules.specs.Effect.{only, row, effect}
 use Rattle.p2p_log_rules.specs.Tracking.{steps_tracker}
@@ -24,7 +27,7 @@ use Rattle.p2p_net_connections.proofs.Changes.{connections_frame}
 use Rattle.p2p_net_links.specs.Stands.{LinksStand}
 use Rattle.p2p_net_links.specs.declared.links.Links.{Links}
 use Rattle.p2p_net_links.proofs.Changes.{links_frame}
-use Rattle.p2p_net.specs.Places.{Part, router, channels, connections, tracker}
+use Rattle.p2p_net.specs.Places.{Part, router, channels, connections, tracker, dialer}
 use Rattle.p2p_net.specs.Stands.{PartStands, NodeStands}
 use Rattle.p2p_net.specs.declared.node.Node.{Node}
 use Rattle.p2p_net.proofs.ActKinds.{registers_unless, starts_unless, half_unless, joins_unless}
@@ -51,6 +54,9 @@ is_quiet (act.Join a b) r = false
 is_quiet (act.Ask what n) r = false
 is_quiet (act.Answer e) r = false
 is_quiet (act.Tracker n) r = false
+is_quiet (act.Dialer n) reply.Idle = true
+is_quiet (act.Dialer n) reply.Gone = true
+is_quiet (act.Dialer n) r = false
 is_quiet a r = true
 
 quiet_registers : (configs : List Config) (n : ℕ) (a : Act) (r : Reply) → is_quiet a r ≡ true → registers_at configs n a ≡ []
@@ -87,6 +93,21 @@ quiet_asks n _ r h = refl
 quiet_answers : (d : ℕ) (a : Act) (r s : Reply) → is_quiet a r ≡ true → answers d a s ≡ false
 quiet_answers d (act.Answer e) r s h = cc
 quiet_answers d _ r s h = refl
+
+either_same : (b : Bool) (d : Dials) → cond b d d ≡ d
+either_same true d = refl
+either_same false d = refl
+
+quiet_dials : (pace : Pace) (n : ℕ) (a : Act) (at seed : ℕ) (r : Reply) (items : List Item) (puts : List (Queue × Item)) (d : Dials) → is_quiet a r ≡ true → acted_dials pace n a at seed r items puts d ≡ d
+quiet_dials pace n (act.Start m) at seed r items puts d h = cc
+quiet_dials pace n (act.Dialer m) at seed reply.Idle items puts d h = either_same (m == n) d
+quiet_dials pace n (act.Dialer m) at seed reply.Gone items puts d h = either_same (m == n) d
+quiet_dials pace n (act.Dialer m) at seed _ items puts d h = cc
+quiet_dials pace n _ at seed r items puts d h = refl
+
+either_none : {X : Type 0} (b : Bool) (o : Option X) → o ≡ None → cond b o None ≡ None
+either_none true o h = h
+either_none false o h = refl
 
 pub taken-none : (log : List Entry) (e : Entry) → e.takes ≡ [] → taken log e ≡ []
 unfolding taken
@@ -140,6 +161,17 @@ part_still tracker configs log e n x a rep s is q h =
       no_late_answer = λ d past. ap (λ b. answers d b e.reply) is ∙ quiet_answers d a rep e.reply q;
       mailbox = line-still log e rep (queue.Tracker n) h;
       told = λ p own. line-still log e rep p h;
+    })
+part_still dialer configs log e n x a rep s is q h =
+    let none = taken-none log e h.takes in
+    dialer_frame configs log e n x.dialing s
+    (record {
+      no_start = ap (starts n) is ∙ quiet_starts n a rep q;
+      dials =
+          ap (λ b. acted_dials (pace_at configs n) n b e.event.at e.event.seed e.reply (taken log e) e.puts (dials_of configs log n)) is
+          ∙ (ap (λ r. acted_dials (pace_at configs n) n a e.event.at e.event.seed r (taken log e) e.puts (dials_of configs log n)) h.reply
+          ∙ quiet_dials (pace_at configs n) n a e.event.at e.event.seed rep (taken log e) e.puts (dials_of configs log n) q);
+      begins = either_none (steps_dialer n e.event.act) (begun_of e.event.at (taken log e)) (ap (begun_of e.event.at) none);
     })
 
 pub links_still : (log : List Entry) (e : Entry) (rep : Reply) (l : Links) → LinksStand log l → IsStill e rep → LinksStand (log ++ e ∷ []) l

@@ -11,7 +11,7 @@ use Rattle.p2p_log.specs.declared.event.Act.{Act}
 use Rattle.p2p_log.specs.declared.event.Act.TheVariants as act
 use Rattle.p2p_log_rules.specs.Facts.{events_of, has_started, is_up, registered, capacity_for, capacity_in}
 use Rattle.p2p_log_rules.specs.Effect.{mailbox_size_at, limit_at}
-use Rattle.p2p_log_rules.specs.Valid.{fits, fits_usize, config_fault, joins_node, names_join}
+use Rattle.p2p_log_rules.specs.Valid.{fits, sizes_fit, gates_fit, is_quota, fits_usize, config_fault, joins_node, names_join}
 use Rattle.p2p_log_rules.specs.Valid as valid
 use Rattle.p2p_net_channels.specs.Channels.{capacity_at}
 use Rattle.p2p_net_channels.specs.Stands.{ChannelsStand}
@@ -168,15 +168,21 @@ sizes_there configs log nodes links s n x g = fits_there configs n x.config s.va
 
 pub one_mailbox : (c : Config) → fits c ≡ true → 1 ≤ c.mailbox_size
 one_mailbox c fit =
-    let sizes = and_parts (((nat_lt 0 c.max_peers_per_set && nat_lt 0 c.mailbox_size) && (nat_lt 0 c.tracked_peer_sets && nat_lt 0 c.send_batch_size)) && nat_le c.max_message_size 16777200) (fits_usize (c.max_peers_per_set * c.tracked_peer_sets)) fit in
+    let sizes = and_parts (((nat_lt 0 c.max_peers_per_set && nat_lt 0 c.mailbox_size) && (nat_lt 0 c.tracked_peer_sets && nat_lt 0 c.send_batch_size)) && nat_le c.max_message_size 16777200) (fits_usize (c.max_peers_per_set * c.tracked_peer_sets)) (and_parts (sizes_fit c) (gates_fit c) fit).0 in
     let four = and_parts ((nat_lt 0 c.max_peers_per_set && nat_lt 0 c.mailbox_size) && (nat_lt 0 c.tracked_peer_sets && nat_lt 0 c.send_batch_size)) (nat_le c.max_message_size 16777200) sizes.0 in
     let two = and_parts (nat_lt 0 c.max_peers_per_set && nat_lt 0 c.mailbox_size) (nat_lt 0 c.tracked_peer_sets && nat_lt 0 c.send_batch_size) four.0 in
     let one = (and_parts (nat_lt 0 c.max_peers_per_set) (nat_lt 0 c.mailbox_size) two.0).1 in
     grind (arith, nat_tests)
 
+quotas : (c : Config) → fits c ≡ true → (is_quota c.allowed_handshake_rate_per_ip ≡ true) × (is_quota c.allowed_handshake_rate_per_subnet ≡ true)
+quotas c fit =
+    let gates = (and_parts (sizes_fit c) (gates_fit c) fit).1 in
+    let both = (and_parts (nat_lt 0 c.max_concurrent_handshakes) (is_quota c.allowed_handshake_rate_per_ip && is_quota c.allowed_handshake_rate_per_subnet) gates).1 in
+    and_parts (is_quota c.allowed_handshake_rate_per_ip) (is_quota c.allowed_handshake_rate_per_subnet) both
+
 short_message : (c : Config) → fits c ≡ true → nat_le c.max_message_size 16777200 ≡ true
 short_message c fit =
-    let sizes = and_parts (((nat_lt 0 c.max_peers_per_set && nat_lt 0 c.mailbox_size) && (nat_lt 0 c.tracked_peer_sets && nat_lt 0 c.send_batch_size)) && nat_le c.max_message_size 16777200) (fits_usize (c.max_peers_per_set * c.tracked_peer_sets)) fit in
+    let sizes = and_parts (((nat_lt 0 c.max_peers_per_set && nat_lt 0 c.mailbox_size) && (nat_lt 0 c.tracked_peer_sets && nat_lt 0 c.send_batch_size)) && nat_le c.max_message_size 16777200) (fits_usize (c.max_peers_per_set * c.tracked_peer_sets)) (and_parts (sizes_fit c) (gates_fit c) fit).0 in
     (and_parts ((nat_lt 0 c.max_peers_per_set && nat_lt 0 c.mailbox_size) && (nat_lt 0 c.tracked_peer_sets && nat_lt 0 c.send_batch_size)) (nat_le c.max_message_size 16777200) sizes.0).1
 
 fits_below : (m t k : ℕ) → nat_lt (m + (t + k)) (2 ^ 64) ≡ true → t + k < 2 ^ 64
@@ -193,7 +199,10 @@ ready_by configs log n (act.Start m) x s fit may =
     let chan : ChannelsStand configs log n x.channels = s.each place.channels in
     let off : is_up log n ≡ false = sym (started_is configs log n x s) ∙ not-true (is_started x) may in (
       is_unbound-before configs log n x.router (s.each place.router) off,
-      (one_mailbox x.config fit, subst (λ k. k + x.channels.total < 2 ^ 64) (sym (size_is configs n x s.own)) chan.room),
+      (
+        one_mailbox x.config fit,
+        (subst (λ k. k + x.channels.total < 2 ^ 64) (sym (size_is configs n x s.own)) chan.room, quotas x.config fit),
+      ),
     )
 ready_by configs log n (act.Send bytes c m priority to) x s fit may = short (length bytes) x.config.max_message_size may (short_message x.config fit)
 ready_by configs log n (act.Tracker m) x s fit may = λ now. may_take configs log n now x.tracker (s.each place.tracker)

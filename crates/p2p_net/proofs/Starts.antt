@@ -18,6 +18,9 @@ use Rattle.p2p_net_channels.specs.Channels.{no_channels}
 use Rattle.p2p_net_channels.specs.Stands.{ChannelsStand}
 use Rattle.p2p_net_connections.specs.Connections.{no_connections}
 use Rattle.p2p_net_connections.specs.Stands.{ConnectionsStand}
+use Rattle.p2p_net_dialer.specs.Dialing.{no_dialing}
+use Rattle.p2p_net_dialer.specs.Stands.{DialerStands}
+use Rattle.p2p_net_dialer.proofs.Changes.{dialer_new}
 use Rattle.p2p_net_tracker.specs.Begins.{IsNew}
 use Rattle.p2p_net_tracker.proofs.Begins.{tracker_new}
 use Rattle.p2p_net_queues.specs.Lines.{HoldsLines}
@@ -84,8 +87,8 @@ links_new = record {
 -- a node that was asked for nothing
 pub node_new :
     (configs : List Config) (n : ℕ) (x : Node) → slice_get configs n ≡ Some x.config → x.retained ≡ x.config.max_peers_per_set * x.config.tracked_peer_sets → x.failed ≡ false → x.config.mailbox_size < 2 ^ 64
-    → x.router.number ≡ n → StandsFor configs [] x.router → ((c : ℕ) → tree.get nat_cmp x.router.peers c ≡ None) → x.channels ≡ no_channels → x.connections ≡ no_connections → IsNew x.config x.tracker → NodeStands configs [] n x
-node_new configs n x config retained works small number stands none ch cs tr = record {
+    → x.router.number ≡ n → StandsFor configs [] x.router → ((c : ℕ) → tree.get nat_cmp x.router.peers c ≡ None) → x.channels ≡ no_channels → x.connections ≡ no_connections → IsNew x.config x.tracker → x.dialing ≡ no_dialing → NodeStands configs [] n x
+node_new configs n x config retained works small number stands none ch cs tr di = record {
   own = record { config = config; retained = retained; works = works };
   each = λ p. elim p as (λ q. PartStands q configs [] n x) [
     | place.router ↦
@@ -102,6 +105,7 @@ node_new configs n x config retained works small number stands none ch cs tr = r
         (channels_new configs n (subst (λ k. k < 2 ^ 64) (sym (ap (λ (o : Option Config). elim o [ None ↦ 0 | Some c ↦ c.mailbox_size ]) config)) small))
     | place.connections ↦ subst (ConnectionsStand configs [] n) (sym cs) (connections_new configs n)
     | place.tracker ↦ tracker_new configs n x.config x.tracker config tr
+    | place.dialer ↦ subst (DialerStands configs [] n) (sym di) (dialer_new configs n)
   ];
 }
 
@@ -119,4 +123,10 @@ absent = record {
   bypass_ip_check = false;
   peer_connection_cooldown = 0;
   block_duration = 0;
+  max_concurrent_handshakes = 0;
+  allowed_handshake_rate_per_ip = record { burst = 0; period = 0 };
+  allowed_handshake_rate_per_subnet = record { burst = 0; period = 0 };
+  handshake_timeout = 0;
+  dial_timeout = 0;
+  dial_frequency = 0;
 }

@@ -17,7 +17,7 @@ use Rattle.p2p_log_rules.specs.Effect.{effect}
 use Rattle.p2p_log_rules.proofs.Touches.{in_router, in_half, in_link, in_channels, in_tracker, is_told_to, reads, writes, away}
 use Rattle.p2p_log_rules.specs.Tracking.{asked_by}
 use Rattle.p2p_log_laws.proofs.Untouched.{line-untouched}
-use Rattle.p2p_net.specs.Places.{home, names, at, router, channels, connections, tracker, links, same_place, asked_node, or_first, node_asked}
+use Rattle.p2p_net.specs.Places.{home, names, at, router, channels, connections, tracker, dialer, links, same_place, asked_node, or_first, node_asked}
 
 -- ---- what the kinds of queues that an act reaches are of
 
@@ -55,6 +55,9 @@ channel_queue n c q h = same_queue-sym (queue.Channel n c) q ∙ away (λ r. sam
 
 tracker_queue : (n : ℕ) (q : Queue) → same_place (at tracker n) (home q) ≡ false → same_queue (queue.Tracker n) q ≡ false
 tracker_queue n q h = same_queue-sym (queue.Tracker n) q ∙ away (λ r. same_place (at tracker n) (home r)) q (queue.Tracker n) h (eqb-refl n)
+
+answers_queue : (n : ℕ) (q : Queue) → same_place (at tracker n) (home q) ≡ false → same_queue (queue.Dialer n) q ≡ false
+answers_queue n q h = same_queue-sym (queue.Dialer n) q ∙ away (λ r. same_place (at tracker n) (home r)) q (queue.Dialer n) h (eqb-refl n)
 
 tracker_kinds : (n : ℕ) (q : Queue) → same_place (at tracker n) (home q) ≡ false → in_tracker n q ≡ false
 tracker_kinds n (queue.Tracker m) h = grind (arith, nat_tests)
@@ -108,6 +111,7 @@ reads-named configs log (act.Recv c n) q h = channel_queue n c q (first_false (s
 reads-named configs log (act.Answer e) q h = told_queue log e q (first_false (same_place (at tracker (node_asked (slice_get log e))) (home q)) false h)
 reads-named configs log (act.Next e) q h = told_queue log e q (first_false (same_place (at tracker (node_asked (slice_get log e))) (home q)) false h)
 reads-named configs log (act.Tracker n) q h = tracker_queue n q (first_false (same_place (at tracker n) (home q)) false h)
+reads-named configs log (act.Dialer n) q h = answers_queue n q (first_false (same_place (at tracker n) (home q)) (same_place (at dialer n) (home q) || false) h)
 reads-named configs log _ q h = refl
 
 both_false : (a b : Bool) → a ≡ false → b ≡ false → (a || b) ≡ false
@@ -115,7 +119,7 @@ both_false true b h k = h
 both_false false b h k = k
 
 writes-named : (configs : List Config) (log : List Entry) (a : Act) (q : Queue) → names log a (home q) ≡ false → writes configs log a q ≡ false
-writes-named configs log (act.Start n) q h = router_queue n q (first_false (same_place (at router n) (home q)) false h)
+writes-named configs log (act.Start n) q h = router_queue n q (first_false (same_place (at router n) (home q)) (same_place (at dialer n) (home q) || false) h)
 writes-named configs log (act.Join a b) q h =
     let rest = second_false (same_place (at router a) (home q)) (same_place (at connections a) (home q) || (same_place (at router b) (home q) || (same_place (at connections b) (home q) || false))) h in
     let more = second_false (same_place (at connections a) (home q)) (same_place (at router b) (home q) || (same_place (at connections b) (home q) || false)) rest in
@@ -130,6 +134,7 @@ writes-named configs log (act.SendStep conn n) q h = reads-named configs log (ac
 writes-named configs log (act.RecvStep conn n) q h = channel_kinds n q (first_false (same_place (at channels n) (home q)) false (second_false (same_place links (home q)) (same_place (at channels n) (home q) || false) h))
 writes-named configs log (act.Ask what n) q h = tracker_queue n q (first_false (same_place (at tracker n) (home q)) false h)
 writes-named configs log (act.Tracker n) q h = tracker_kinds n q (first_false (same_place (at tracker n) (home q)) false h)
+writes-named configs log (act.Dialer n) q h = tracker_queue n q (first_false (same_place (at tracker n) (home q)) (same_place (at dialer n) (home q) || false) h)
 writes-named configs log _ q h = refl
 
 pub line-unnamed : (configs : List Config) (log : List Entry) (ev : Event) (q : Queue) → names log ev.act (home q) ≡ false → line (log ++ effect configs log ev ∷ []) q ≡ line log q

@@ -1,6 +1,8 @@
 -- What each act comes to, and what it makes of a node and of the links. No log: of the router's calls the log is a matter of its own.
-use Rattle.std.specs.Prelude.{◌≡◌, ℕ, ◌+◌, Bool, true, false, List, Option, Some, None, slice_get}
+use Rattle.std.specs.Prelude.{◌≡◌, ℕ, ◌+◌, Bool, true, false, ◌&&◌, List, ◌++◌, drop, Option, Some, None, slice_get, if◌then◌else◌}
 use Rattle.p2p_base.specs.declared.key.Key.{Key}
+use Rattle.p2p_log.specs.declared.queue.Queue.{Queue}
+use Rattle.p2p_log.specs.declared.queue.Queue.TheVariants as queue
 use Rattle.p2p_log.specs.declared.queue.Side.{Side}
 use Rattle.p2p_log.specs.declared.item.Item.{Item}
 use Rattle.p2p_log.specs.declared.item.Envelope.{Envelope}
@@ -10,9 +12,11 @@ use Rattle.p2p_log.specs.declared.event.Recipients.{Recipients}
 use Rattle.p2p_log.specs.declared.event.Act.{Act}
 use Rattle.p2p_log.specs.declared.event.Act.TheVariants as act
 use Rattle.p2p_log.specs.Copies.{keys_of_recipients}
+use Rattle.p2p_log.specs.QueueCode.{same_queue}
 use Rattle.p2p_log.specs.Lines.{name_of}
 use Rattle.p2p_log_rules.specs.declared.row.Row.{Row}
 use Rattle.p2p_log_rules.specs.Effect.{only, oldest_read, begin_row, other_side}
+use Rattle.p2p_net_queues.specs.Board.{held}
 use Rattle.p2p_net_queues.specs.Rows.{taken_row}
 use Rattle.p2p_net_queues.specs.Tables as table
 use Rattle.p2p_net_queues.specs.Tables.{waiting, popped_at}
@@ -24,7 +28,11 @@ use Rattle.p2p_net_connections.specs.declared.connections.Connection.{Connection
 use Rattle.p2p_net_connections.specs.Connections.{answered, begun}
 use Rattle.p2p_net_links.specs.declared.links.Links.{Links}
 use Rattle.p2p_net_links.specs.Links.{way_of, with_way, written_way, write_frames_row}
+use Rattle.p2p_net_dialer.specs.Dialing as dialing
+use Rattle.p2p_net_dialer.specs.Dialing.{started}
+use Rattle.p2p_net_dialer.specs.declared.dialing.Dialed.{Dialed}
 use Rattle.p2p_net_tracker.specs.Asking.{ask_answer, after_asking}
+use Rattle.p2p_net_tracker.specs.Dialed.{names_asked, dialed_row}
 use Rattle.p2p_net_tracker.specs.Reading.{Answers, Continues}
 use Rattle.p2p_net_tracker.specs.Stepping as tracking
 use Rattle.p2p_net_tracker.specs.declared.tracker.Tracker.{Tracker}
@@ -44,9 +52,9 @@ Registers c rate old new r =
     (r ≡ only (reply.Capacity (capacity_by old rate)))
     × ((new ≡ record old { router = new.router; channels = registered_with old.channels c (capacity_by old rate) }) × routing.Subscribes c old.router new.router)
 
-abbrev pub Starts : ℕ → Node → Node → Row → Type 0
-Starts k old new r =
-    (new ≡ record old { router = new.router }) × routing.Starts k (old.config.mailbox_size + old.channels.total) old.router new.router r
+abbrev pub Starts : ℕ → ℕ → Node → Node → Row → Type 0
+Starts k at old new r =
+    (new ≡ record old { router = new.router; dialing = started old.config at old.dialing }) × routing.Starts k (old.config.mailbox_size + old.channels.total) old.router new.router r
 
 abbrev pub SendsOn : Option ℕ → ℕ → ℕ → Bool → List ℕ → Recipients → Node → Node → Row → Type 0
 SendsOn None k c priority bytes to old new r = Stays old new r (only reply.Gone)
@@ -176,12 +184,33 @@ abbrev pub TrackerStepsBy : Bool → ℕ → ℕ → ℕ → ℕ → Node → No
 TrackerStepsBy false k n at seed old new r = Stays old new r (only reply.Gone)
 TrackerStepsBy true k n at seed old new r = tracking.Steps k n at seed old.tracker new.tracker r × Tracks new.tracker old new
 
+-- ---- the dialer
+
+-- what it took and asked, at the tracker
+abbrev pub DialedBy : Option Dialed → ℕ → ℕ → Tracker → Tracker → Row → Type 0
+DialedBy None k n old new r = (r ≡ only reply.Idle) × (new ≡ record old { mailbox = new.mailbox })
+DialedBy (Some d) k n old new r =
+    (r ≡ dialed_row (held old.told (queue.Dialer n)) n d.took d.asked)
+    × (((q : Queue) → held new.told q ≡ (if d.took && same_queue (queue.Dialer n) q then drop 1 (held old.told q) else held old.told q))
+    × (new ≡ record old { mailbox = new.mailbox; told = new.told; names = old.names ++ names_asked k d.asked }))
+
+-- a step of the dialer, whose answers wait in the tracker's mailbox
+pub record DialerSteps (k n at seed : ℕ) (old new : Node) (r : Row) : Type 0 where
+  pub dialed : Option Dialed
+  pub steps : dialing.Steps old.dialing.actor k at seed old.dialing new.dialing old.tracker.mailbox new.tracker.mailbox dialed
+  pub tracks : DialedBy dialed k n old.tracker new.tracker r
+  pub rest : new ≡ record old { tracker = new.tracker; dialing = new.dialing }
+
+abbrev pub DialerStepsBy : Bool → ℕ → ℕ → ℕ → ℕ → Node → Node → Row → Type 0
+DialerStepsBy false k n at seed old new r = Stays old new r (only reply.Gone)
+DialerStepsBy true k n at seed old new r = DialerSteps k n at seed old new r
+
 -- ---- all acts that name one node
 
 -- what the entry k of an act comes to at the node n, at a moment and with a seed
 abbrev pub NodeDoes : ℕ → ℕ → ℕ → ℕ → Act → Node → Node → Links → Links → Row → Type 0
 NodeDoes k n at seed (act.Register c m rate) old new l links r = Registers c rate old new r × (links ≡ l)
-NodeDoes k n at seed (act.Start m) old new l links r = Starts k old new r × (links ≡ l)
+NodeDoes k n at seed (act.Start m) old new l links r = Starts k at old new r × (links ≡ l)
 NodeDoes k n at seed (act.Send bytes c m priority to) old new l links r = Sends k c priority bytes to old new r × (links ≡ l)
 NodeDoes k n at seed (act.Router m) old new l links r = Routes k n old new r × (links ≡ l)
 NodeDoes k n at seed (act.SendStep conn m) old new l links r = SendSteps k conn old new l links r
@@ -192,3 +221,4 @@ NodeDoes k n at seed (act.Ask what m) old new l links r = ((r ≡ ask_answer old
 NodeDoes k n at seed (act.Answer e) old new l links r = (Answers n e old.tracker new.tracker r × Tracks new.tracker old new) × (links ≡ l)
 NodeDoes k n at seed (act.Next e) old new l links r = (Continues n e old.tracker new.tracker r × Tracks new.tracker old new) × (links ≡ l)
 NodeDoes k n at seed (act.Tracker m) old new l links r = TrackerStepsBy (is_started old) k n at seed old new r × (links ≡ l)
+NodeDoes k n at seed (act.Dialer m) old new l links r = DialerStepsBy (is_started old) k n at seed old new r × (links ≡ l)

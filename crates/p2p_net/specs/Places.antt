@@ -13,6 +13,7 @@ pub data Part : Type 0 where
   channels : Part
   connections : Part
   tracker : Part
+  dialer : Part
 
 -- where queues stand: at a part of a node, or at the links
 pub data Place : Type 0 where
@@ -25,6 +26,7 @@ code router = 0
 code channels = 1
 code connections = 2
 code tracker = 3
+code dialer = 4
 
 abbrev pub same_part : Part → Part → Bool
 same_part p q = code p == code q
@@ -56,13 +58,14 @@ and_links ps = links ∷ ps
 -- the parts that an act names, at each node that it names
 abbrev pub parts_named : Act → List Part
 parts_named (act.Register c n rate) = channels ∷ router ∷ []
-parts_named (act.Start n) = router ∷ []
+parts_named (act.Start n) = router ∷ dialer ∷ []
 parts_named (act.Join a b) = router ∷ connections ∷ []
 parts_named (act.Send bytes c n priority to) = router ∷ []
 parts_named (act.Router n) = router ∷ connections ∷ []
 parts_named (act.SendStep conn n) = connections ∷ router ∷ []
 parts_named (act.RecvStep conn n) = channels ∷ []
 parts_named (act.Recv c n) = channels ∷ []
+parts_named (act.Dialer n) = tracker ∷ dialer ∷ []
 parts_named _ = tracker ∷ []
 
 -- whether it names the links
@@ -108,6 +111,7 @@ node_of log (act.Ask what n) = n
 node_of log (act.Answer e) = node_asked (slice_get log e)
 node_of log (act.Next e) = node_asked (slice_get log e)
 node_of log (act.Tracker n) = n
+node_of log (act.Dialer n) = n
 
 -- and the other one that it names
 abbrev pub other_of : ℕ → Act → ℕ

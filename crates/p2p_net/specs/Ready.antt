@@ -5,7 +5,7 @@ use Rattle.p2p_log.specs.declared.entry.Entry.{Entry}
 use Rattle.p2p_log.specs.declared.event.Event.{Event}
 use Rattle.p2p_log.specs.declared.event.Act.{Act}
 use Rattle.p2p_log.specs.declared.event.Act.TheVariants as act
-use Rattle.p2p_log_rules.specs.Valid.{fits_usize, set_asked_by, subscribed_by}
+use Rattle.p2p_log_rules.specs.Valid.{fits_usize, is_quota, set_asked_by, subscribed_by}
 use Rattle.p2p_router.specs.Messenger.{is_unbound, is_bound}
 use Rattle.p2p_net_channels.specs.Channels.{capacity_at}
 use Rattle.p2p_log_rules.specs.Tracking.{key_cmp}
@@ -59,7 +59,11 @@ may_ask log x _ = true
 -- the sizes of a node, where it is asked for an act, and that its tracker may take what waits for it
 abbrev pub IsReady : Act → Node → Type 0
 IsReady (act.Register c n rate) x = x.channels.total + capacity_by x rate < 2 ^ 64
-IsReady (act.Start n) x = IsTrue (is_unbound x.router.messenger.binding) × ((1 ≤ x.config.mailbox_size) × (x.config.mailbox_size + x.channels.total < 2 ^ 64))
+IsReady (act.Start n) x =
+    IsTrue (is_unbound x.router.messenger.binding)
+    × ((1 ≤ x.config.mailbox_size)
+    × ((x.config.mailbox_size + x.channels.total < 2 ^ 64)
+    × ((is_quota x.config.allowed_handshake_rate_per_ip ≡ true) × (is_quota x.config.allowed_handshake_rate_per_subnet ≡ true))))
 IsReady (act.Send bytes c n priority to) x = length bytes < 2 ^ 32
 IsReady (act.Tracker n) x = (now : ℕ) → IfSome (next_message x.tracker.mailbox.desk) (λ m. MayTake key_cmp x.tracker.actor.directory m now)
 IsReady _ x = Unit {0}

@@ -13,9 +13,10 @@ use Rattle.p2p_net_router.specs.declared.router.Router.{Router}
 use Rattle.p2p_net_channels.specs.Stands.{ChannelsStand}
 use Rattle.p2p_net_connections.specs.Stands.{ConnectionsStand}
 use Rattle.p2p_net_tracker.specs.Stands.{TrackerStands}
+use Rattle.p2p_net_dialer.specs.Stands.{DialerStands}
 use Rattle.p2p_net_links.specs.Stands.{LinksStand}
 use Rattle.p2p_net_links.specs.declared.links.Links.{Links}
-use Rattle.p2p_net.specs.Places.{Part, router, channels, connections, tracker}
+use Rattle.p2p_net.specs.Places.{Part, router, channels, connections, tracker, dialer}
 use Rattle.p2p_net.specs.declared.node.Node.{Node}
 
 -- a node's router was told of no connection to come, and of none with a node that its own was not joined to
@@ -35,6 +36,7 @@ PartStands router configs log n x = RouterStands configs log n x.router
 PartStands channels configs log n x = ChannelsStand configs log n x.channels
 PartStands connections configs log n x = ConnectionsStand configs log n x.connections
 PartStands tracker configs log n x = TrackerStands configs log n x.tracker
+PartStands dialer configs log n x = DialerStands configs log n x.dialing
 
 -- what a node has beside its parts: the sizes of its configuration, and it has found memory so far
 pub record OwnStands (configs : List Config) (n : ℕ) (x : Node) : Type 0 where

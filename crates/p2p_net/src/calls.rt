@@ -1,7 +1,8 @@
 //! The calls of a node: registering a channel, starting, sending and reading.
-ghost use Rattle.std.specs.Prelude.{◌≡◌, ◌+◌, ◌<◌, ◌≤◌, ◌^◌, length, IfOk, OnOk, IsTrue};
+ghost use Rattle.std.specs.Prelude.{◌≡◌, ◌+◌, ◌<◌, ◌≤◌, ◌^◌, true, length, IfOk, OnOk, IsTrue};
 ghost use Rattle.p2p_log.specs.Copies.{keys_of_recipients};
 ghost use Rattle.p2p_log_rules.specs.Effect.{oldest_read};
+ghost use Rattle.p2p_log_rules.specs.Valid.{is_quota};
 ghost use Rattle.p2p_router.specs.Messenger.{is_unbound};
 ghost use Rattle.p2p_net.specs.Ready.{capacity_by};
 ghost use Rattle.p2p_net.specs.Acts.{Registers, Starts, Sends, Reads};
@@ -31,16 +32,20 @@ impl Node {
         Ok(only(turn.alloc, Reply::Capacity(capacity)))
     }
 
-    /// Starts the node: the subscriptions that waited are put to its router, in order of registration.
-    pub(crate) fn start(&mut self, turn: Turn) -> Result<Row, AllocError>
+    /// Starts the node, at the moment `at`: the subscriptions that waited are put to its router, in order of registration, and
+    /// its dialer begins.
+    pub(crate) fn start(&mut self, turn: Turn, at: u64) -> Result<Row, AllocError>
         requires unbound { IsTrue (is_unbound self.old.router.messenger.binding) }
         requires size { 1 ≤ self.old.config.mailbox_size }
         requires room { self.old.config.mailbox_size + self.old.channels.total < 2 ^ 64 }
-        ensures does { IfOk result (λ r. Starts turn.entry self.old self.new r) }
+        requires per_ip { is_quota self.old.config.allowed_handshake_rate_per_ip ≡ true }
+        requires per_subnet { is_quota self.old.config.allowed_handshake_rate_per_subnet ≡ true }
+        ensures does { IfOk result (λ r. Starts turn.entry at self.old self.new r) }
         ensures failed { OnOk result (self.new.failed ≡ self.old.failed) }
     {
         let places = self.config.mailbox_size + self.channels.total;
         let row = self.router.start(turn, places)?;
+        self.dialing.start(turn.alloc, &self.config, at);
         Ok(row)
     }
 

@@ -1,17 +1,34 @@
 //! Whether configurations may be asked for.
 ghost use Rattle.std.specs.Prelude.{◌≡◌, ℕ, ◌*◌, ◌<◌, ◌^◌, IfOk, true};
-ghost use Rattle.p2p_log_rules.specs.Valid.{fits as fits_of, config_fault as fault_of};
+ghost use Rattle.p2p_log_rules.specs.Valid.{fits as fits_of, sizes_fit as sizes_test, is_quota as quota_test, config_fault as fault_of};
 
-use p2p_log::Config;
+use p2p_log::{Config, Rate};
 use std::alloc::{AllocError, Global};
 use std::collections::BTreeSet;
 
 /// The greatest `max_message_size` that a link takes, in bytes.
 pub const MESSAGE_MAX: u32 = 16_777_200;
 
-/// Whether sizes and counts are 1 or more, a link takes the messages, and the retained peers can be counted.
+/// Whether a rate admits something, sometimes.
+fn is_quota(rate: Rate) -> bool
+    ensures { result ≡ quota_test rate }
+{
+    rate.burst > 0 && rate.period > 0
+}
+
+/// Whether sizes and counts are 1 or more, a link takes the messages, the retained peers can be counted, and peers may connect.
 pub fn fits(config: &Config) -> bool
     ensures { result ≡ fits_of config.now }
+{
+    sizes_fit(config)
+        && (config.max_concurrent_handshakes > 0
+            && (is_quota(config.allowed_handshake_rate_per_ip)
+                && is_quota(config.allowed_handshake_rate_per_subnet)))
+}
+
+/// Whether sizes and counts are 1 or more, a link takes the messages, and the retained peers can be counted.
+fn sizes_fit(config: &Config) -> bool
+    ensures { result ≡ sizes_test config.now }
 {
     config.max_peers_per_set > 0
         && config.mailbox_size > 0

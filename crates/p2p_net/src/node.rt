@@ -6,6 +6,7 @@ ghost use Rattle.p2p_log_rules.specs.Effect.{entry_of as entry_of_row};
 ghost use Rattle.p2p_log_rules.specs.Valid.{fits};
 ghost use Rattle.p2p_net_channels.specs.Channels.{no_channels};
 ghost use Rattle.p2p_net_connections.specs.Connections.{no_connections};
+ghost use Rattle.p2p_net_dialer.specs.Dialing.{no_dialing};
 ghost use Rattle.p2p_net_router.specs.Stands.{StandsFor};
 ghost use Rattle.p2p_net_tracker.specs.Begins.{IsNew};
 ghost use Rattle.p2p_net.specs.Places.{asked_node as asked_node_of, node_asked as node_asked_by, node_of as node_of_act, other_of as other_of_act};
@@ -19,6 +20,7 @@ use p2p_log::{Act, Config, Entry, Event, Reply};
 use p2p_log_rules::Row;
 use p2p_net_channels::Channels;
 use p2p_net_connections::Connections;
+use p2p_net_dialer::Dialing;
 use p2p_net_links::Links;
 use p2p_net_queues::{Turn, only};
 use p2p_net_router::Router;
@@ -40,6 +42,8 @@ pub struct Node {
     pub connections: Connections,
     /// Its tracker, with what waits for those who asked it.
     pub tracker: Tracker,
+    /// Its dialer, once it has started, and the attempts that this has begun.
+    pub dialing: Dialing,
     /// Whether it found no memory.
     pub failed: bool,
 }
@@ -105,6 +109,7 @@ pub fn node_of(log: &[Entry], act: &Act) -> u64
         Act::Answer { question } => node_asked(log, *question),
         Act::Next { question } => node_asked(log, *question),
         Act::Tracker { node } => *node,
+        Act::Dialer { node } => *node,
     }
 }
 
@@ -133,6 +138,7 @@ impl Node {
         ensures tracker { IfOk result (λ x. IsNew config x.tracker) }
         ensures channels { IfOk result (λ x. x.channels ≡ no_channels) }
         ensures connections { IfOk result (λ x. x.connections ≡ no_connections) }
+        ensures dialing { IfOk result (λ x. x.dialing ≡ no_dialing) }
         ensures works { IfOk result (λ x. x.failed ≡ false) }
     {
         let size = config.mailbox_size;
@@ -145,6 +151,7 @@ impl Node {
             channels: Channels::new(alloc),
             connections: Connections::new(alloc),
             tracker,
+            dialing: Dialing::new(alloc),
             failed: false,
         })
     }
@@ -207,7 +214,7 @@ impl Node {
     {
         match &event.act {
             Act::Register { channel, quota, .. } => Ok(self.register(turn, *channel, *quota)?),
-            Act::Start { .. } => Ok(self.start(turn)?),
+            Act::Start { .. } => Ok(self.start(turn, event.at)?),
             Act::Send {
                 bytes,
                 channel,
@@ -224,6 +231,7 @@ impl Node {
             Act::Answer { question } => Ok(self.tracker.answer(turn, *question)?),
             Act::Next { question } => Ok(self.tracker.next(turn, *question)?),
             Act::Tracker { .. } => Ok(self.track_step(turn, event.at, event.seed)?),
+            Act::Dialer { .. } => Ok(self.dial_step(turn, event.at, event.seed)?),
         }
     }
 }

@@ -7,13 +7,14 @@ ghost use Rattle.p2p_log_rules.specs.Tracking.{key_cmp};
 ghost use Rattle.p2p_tracker_mailbox.specs.Desk.{next_message};
 ghost use Rattle.p2p_tracker.specs.Serving.{MayTake};
 ghost use Rattle.p2p_net.specs.Ready.{is_started as is_started_test};
-ghost use Rattle.p2p_net.specs.Acts.{TrackerStepsBy, Routes, Writes, Begins, SendSteps, Receives, RecvSteps, arrived_row, arrived_into, arrived_off, accepted_row, accepted_into, accepted_off, first_in, frame_in};
+ghost use Rattle.p2p_net.specs.Acts.{TrackerStepsBy, DialerStepsBy, Routes, Writes, Begins, SendSteps, Receives, RecvSteps, arrived_row, arrived_into, arrived_off, accepted_row, accepted_into, accepted_off, first_in, frame_in};
 
 use crate::node::Node;
 use p2p_base::Key;
 use p2p_log::{Reply, Side};
 use p2p_log_rules::Row;
 use p2p_net_channels::{Arrived, open};
+use p2p_net_dialer::Dialed;
 use p2p_net_links::Links;
 use p2p_net_queues::{Turn, only, taking};
 use std::alloc::AllocError;
@@ -73,6 +74,23 @@ impl Node {
             return Ok(only(turn.alloc, Reply::Gone));
         }
         Ok(self.tracker.step(turn, at, seed)?)
+    }
+
+    /// One step of the dialer, at a moment and with a seed.
+    pub(crate) fn dial_step(&mut self, turn: Turn, at: u64, seed: u64) -> Result<Row, AllocError>
+        ensures does { IfOk result (λ r. DialerStepsBy (is_started_test self.old) turn.entry turn.node at seed self.old self.new r) }
+        ensures failed { OnOk result (self.new.failed ≡ self.old.failed) }
+    {
+        if !self.is_started() {
+            return Ok(only(turn.alloc, Reply::Gone));
+        }
+        match self
+            .dialing
+            .step(turn.entry, &mut self.tracker.mailbox, at, seed)?
+        {
+            None => Ok(only(turn.alloc, Reply::Idle)),
+            Some(Dialed { took, asked }) => Ok(self.tracker.dialed(turn, took, asked)?),
+        }
     }
 
     /// Writes a batch of a connection to its link.

@@ -2,9 +2,12 @@
 //! that the gate proves each of those crates once.
 //!
 //! Of `p2p_router` is `router`, of `p2p_net_queues` is `queues`, of `p2p_net_router` is `routers`, of `p2p_net_channels` and
-//! `p2p_net_links` is `parts`, and of `p2p_net` are `world` and, with `p2p_net_tracker`, `tracker`.
+//! `p2p_net_links` is `parts`, and of `p2p_net` are `world` and, with the parts of these names, `tracker` and
+//! `dialer`.
 #![tactic(auto)]
 
+#[cfg(test)]
+mod dialer;
 #[cfg(test)]
 mod parts;
 #[cfg(test)]

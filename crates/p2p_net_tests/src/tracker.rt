@@ -2,7 +2,7 @@
 use p2p_address::{Address, IpAddr, SocketAddr};
 use p2p_base::{Feedback, Key, Map};
 use p2p_flow::AddressableTrackedPeers;
-use p2p_net::{Act, Asked, Config, Event, Reply, RunError, World};
+use p2p_net::{Act, Asked, Config, Event, Rate, Reply, RunError, World};
 use std::alloc::{AllocError, Global};
 
 // What a reply says, as plain numbers.
@@ -47,7 +47,7 @@ fn meaning(reply: &Reply) -> Said {
 }
 
 // A node of key 1, in whose sets three keys may be, and whose mailboxes hold one message.
-fn config() -> Config {
+pub fn config() -> Config {
     Config {
         public_key: Key(1),
         max_peers_per_set: 3,
@@ -60,6 +60,18 @@ fn config() -> Config {
         bypass_ip_check: false,
         peer_connection_cooldown: 1_000_000_000,
         block_duration: 10,
+        max_concurrent_handshakes: 1024,
+        allowed_handshake_rate_per_ip: Rate {
+            burst: 16,
+            period: 62_500_000,
+        },
+        allowed_handshake_rate_per_subnet: Rate {
+            burst: 128,
+            period: 7_812_500,
+        },
+        handshake_timeout: 5_000_000_000,
+        dial_timeout: 15_000_000_000,
+        dial_frequency: 500_000_000,
     }
 }
 
@@ -93,7 +105,7 @@ fn of_first(asked: Asked) -> Act {
     Act::Ask { asked, node: 0 }
 }
 
-fn ask(world: &mut World, at: u64, act: Act) -> Result<(), RunError> {
+pub fn ask(world: &mut World, at: u64, act: Act) -> Result<(), RunError> {
     world.apply(&Event { at, seed: 0, act })
 }
 
@@ -106,7 +118,7 @@ fn newest(world: &World) -> Said {
 }
 
 // A started node, whose tracker took one set of two peers.
-fn tracking(alloc: Global) -> Result<World, RunError> {
+pub fn tracking(alloc: Global) -> Result<World, RunError> {
     let mut world = World::new(alloc, &[config()])?;
     ask(&mut world, 0, Act::Start { node: 0 })?;
     ask(&mut world, 0, track(alloc, 3, 2)?)?;

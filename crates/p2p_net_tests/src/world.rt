@@ -17,6 +17,18 @@ fn node(max_peers_per_set: usize) -> Config {
         bypass_ip_check: false,
         peer_connection_cooldown: 1_000_000_000,
         block_duration: 3_600_000_000_000,
+        max_concurrent_handshakes: 1024,
+        allowed_handshake_rate_per_ip: Rate {
+            burst: 16,
+            period: 62_500_000,
+        },
+        allowed_handshake_rate_per_subnet: Rate {
+            burst: 128,
+            period: 7_812_500,
+        },
+        handshake_timeout: 5_000_000_000,
+        dial_timeout: 15_000_000_000,
+        dial_frequency: 500_000_000,
     }
 }
 

@@ -103,7 +103,7 @@ told_apart n m (queue.Blocked k e) h = refl
 told_apart n m _ h = cc
 
 -- a mailbox that is open keeps each message
-kept_open : {T : Type 0} (closed room : Bool) (xs : List T) (m : T) → closed ≡ false → (if closed then xs else (if room then xs ++ m ∷ [] else xs ++ m ∷ [])) ≡ xs ++ m ∷ []
+pub kept_open : {T : Type 0} (closed room : Bool) (xs : List T) (m : T) → closed ≡ false → (if closed then xs else (if room then xs ++ m ∷ [] else xs ++ m ∷ [])) ≡ xs ++ m ∷ []
 kept_open true room xs m h = cc
 kept_open false true xs m h = refl
 kept_open false false xs m h = refl

@@ -2,6 +2,7 @@ pub mod Answering
 pub mod Begins
 pub mod Changes
 pub mod Desk
+pub mod DialerSteps
 pub mod Dialing
 pub mod Facts
 pub mod Matching

@@ -21,6 +21,12 @@ Match-append R (x ∷ xs) us (y ∷ ys) vs h k = (h.0, Match-append R xs us ys v
 Match-append R [] us (y ∷ ys) vs h k = absurd h
 Match-append R (x ∷ xs) us [] vs h k = absurd h
 
+pub Match-drop : {A B : Type 0} (R : A → B → Type 0) (xs : List A) (ys : List B) → Match R xs ys → Match R (drop 1 xs) (drop 1 ys)
+Match-drop R [] [] h = tt
+Match-drop R (x ∷ xs) (y ∷ ys) h = h.1
+Match-drop R [] (y ∷ ys) h = absurd h
+Match-drop R (x ∷ xs) [] h = absurd h
+
 pub Match-rest : {A B : Type 0} (R : A → B → Type 0) (x : A) (xs : List A) (ys : List B) → Match R (x ∷ xs) ys → Match R xs (drop 1 ys)
 Match-rest R x xs (y ∷ ys) h = h.1
 Match-rest R x xs [] h = absurd h

@@ -143,11 +143,11 @@ sets-step log at seed n r items is =
     blocked_subscriptions-append log (step_entry at seed n r) n
     ∙ ap (λ l. blocked_subscriptions log n ++ l) (ap (λ b. cond b (flat_map (call_where subscribes_blocked log) (taken log (step_entry at seed n r))) []) (eq-eqb n n refl) ∙ ap (flat_map (call_where subscribes_blocked log)) is)
 
-none_taken : (log : List Entry) (e : Entry) → e.takes ≡ [] → taken log e ≡ []
+pub none_taken : (log : List Entry) (e : Entry) → e.takes ≡ [] → taken log e ≡ []
 unfolding taken
 none_taken log e h = ap (flat_map (item_named log)) h
 
-first_taken : (log : List Entry) (e : Entry) (q : Queue) (x : Envelope) (rest : List Envelope) → line log q ≡ x ∷ rest → e.takes ≡ name_of x ∷ [] → taken log e ≡ x.item ∷ []
+pub first_taken : (log : List Entry) (e : Entry) (q : Queue) (x : Envelope) (rest : List Envelope) → line log q ≡ x ∷ rest → e.takes ≡ name_of x ∷ [] → taken log e ≡ x.item ∷ []
 unfolding taken
 first_taken log e q x rest first h = ap (flat_map (item_named log)) h ∙ (append-nil (item_named log (name_of x)) ∙ item_named-first log q x rest first)
 

@@ -1,5 +1,6 @@
 pub mod Asking
 pub mod Begins
+pub mod Dialed
 pub mod Naming
 pub mod Reading
 pub mod Stands

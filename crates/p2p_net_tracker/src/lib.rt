@@ -2,6 +2,7 @@
 #![tactic(auto)]
 
 pub mod asking;
+pub mod dialed;
 pub mod naming;
 pub mod question;
 pub mod reading;

@@ -46,7 +46,7 @@ pub fn tell(
 }
 
 /// The name of the oldest item of a queue, which is taken.
-fn pop_name(told: &mut Board<Envelope>, queue: Queue) -> Option<(u64, u64)>
+pub fn pop_name(told: &mut Board<Envelope>, queue: Queue) -> Option<(u64, u64)>
     ensures name { result ≡ name_first (slice_get (held told.old queue) 0) }
     ensures told { (q : Name) → held told.new q ≡ (if same_queue queue q then drop 1 (held told.old q) else held told.old q) }
 {

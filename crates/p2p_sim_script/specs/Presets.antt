@@ -14,6 +14,12 @@ recommended = record {
   bypass_ip_check = false;
   peer_connection_cooldown = 60000000000;
   block_duration = 14400000000000;
+  max_concurrent_handshakes = 512;
+  allowed_handshake_rate_per_ip = record { burst = 1; period = 5000000000 };
+  allowed_handshake_rate_per_subnet = record { burst = 64; period = 15625000 };
+  handshake_timeout = 5000000000;
+  dial_timeout = 15000000000;
+  dial_frequency = 1000000000;
 }
 
 abbrev pub local : Preset
@@ -25,6 +31,12 @@ local = record {
   bypass_ip_check = false;
   peer_connection_cooldown = 1000000000;
   block_duration = 3600000000000;
+  max_concurrent_handshakes = 1024;
+  allowed_handshake_rate_per_ip = record { burst = 16; period = 62500000 };
+  allowed_handshake_rate_per_subnet = record { burst = 128; period = 7812500 };
+  handshake_timeout = 5000000000;
+  dial_timeout = 15000000000;
+  dial_frequency = 500000000;
 }
 
 abbrev pub preset_named : List ℕ → Option Preset

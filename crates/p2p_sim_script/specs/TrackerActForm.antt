@@ -1,4 +1,4 @@
--- The form of each act about a node's tracker.
+-- The form of each act about a node's tracker and its dialer.
 use Rattle.std.specs.Prelude.{ℕ, List, [], ◌∷◌, codes, bytes_eq, Option, Some, None, if◌then◌else◌}
 use Rattle.serde_json.specs.Data.{Data}
 use Rattle.p2p_log.specs.declared.asked.Asked.TheVariants as ask
@@ -54,6 +54,11 @@ tracker_of d = do
   node ← node_of d
   Some (act.Tracker node)
 
+abbrev pub dialer_of : Data → Option Act
+dialer_of d = do
+  node ← node_of d
+  Some (act.Dialer node)
+
 -- the event that asked
 abbrev pub question_of : Data → Option ℕ
 question_of d = do
@@ -70,7 +75,7 @@ next_of d = do
   question ← question_of d
   Some (act.Next question)
 
--- the act about a tracker that this word asks for
+-- the act about a tracker or a dialer that this word asks for
 abbrev pub tracker_act_named : List ℕ → Data → Option Act
 tracker_act_named word d =
     if bytes_eq word (codes "track") then track_of d
@@ -82,4 +87,5 @@ tracker_act_named word d =
     else if bytes_eq word (codes "answer") then answer_of d
     else if bytes_eq word (codes "next") then next_of d
     else if bytes_eq word (codes "tracker") then tracker_of d
+    else if bytes_eq word (codes "dialer") then dialer_of d
     else None

@@ -1,9 +1,11 @@
 //! The configuration of a node.
-ghost use Rattle.std.specs.Prelude.{◌≡◌};
+ghost use Rattle.std.specs.Prelude.{◌≡◌, ◌-◌, ◌^◌};
 ghost use Rattle.serde_json.specs.View.{view};
-ghost use Rattle.p2p_sim_script.specs.ConfigForm.{config_of};
+ghost use Rattle.p2p_sim_script.specs.Tree.{absent_or, within as a_within};
+ghost use Rattle.p2p_sim_script.specs.ConfigForm.{config_of, named_of, with_dials, with_peers};
 
 use crate::error::ScriptError;
+use crate::parts::rate_or;
 use crate::preset::read_preset;
 use crate::tree::{FromTree, flag_or, only, whole, whole_or, within, within_or};
 use p2p_base::Key;
@@ -11,7 +13,7 @@ use p2p_log::Config;
 use serde_json::Value;
 use std::alloc::Global;
 
-const NAMES: [&str; 12] = [
+const NAMES: [&str; 18] = [
     "key",
     "preset",
     "max_peers_per_set",
@@ -24,35 +26,60 @@ const NAMES: [&str; 12] = [
     "bypass_ip_check",
     "peer_connection_cooldown",
     "block_duration",
+    "max_concurrent_handshakes",
+    "allowed_handshake_rate_per_ip",
+    "allowed_handshake_rate_per_subnet",
+    "handshake_timeout",
+    "dial_timeout",
+    "dial_frequency",
 ];
 
-fn read_config(tree: &Value) -> Option<Config>
-    ensures { result ≡ config_of (view tree.now) }
+// What has to be there, and all else as the preset gives it.
+fn read_named(tree: &Value) -> Option<Config>
+    ensures { result ≡ named_of (view tree.now) }
 {
-    if !only(tree, &NAMES) {
-        return None;
-    }
     let public_key = Key(whole(tree, "key")?);
     let preset = read_preset(tree.get("preset")?)?;
     let max_peers_per_set = within(tree, "max_peers_per_set", 1, u64::MAX)? as usize;
     let max_message_size = within(tree, "max_message_size", 0, u32::MAX as u64)? as u32;
     let mailbox_size = within(tree, "mailbox_size", 1, u64::MAX)? as usize;
-    let sets = within_or(tree, "tracked_peer_sets", 1, preset.tracked_peer_sets)?;
-    let batch = within_or(tree, "send_batch_size", 1, preset.send_batch_size)?;
-    let private = flag_or(tree, "allow_private_ips", preset.allow_private_ips)?;
-    let dns = flag_or(tree, "allow_dns", preset.allow_dns)?;
-    let bypass = flag_or(tree, "bypass_ip_check", preset.bypass_ip_check)?;
-    let cooldown = whole_or(
-        tree,
-        "peer_connection_cooldown",
-        preset.peer_connection_cooldown,
-    )?;
-    let block_duration = whole_or(tree, "block_duration", preset.block_duration)?;
     Some(Config {
         public_key,
         max_peers_per_set,
         max_message_size,
         mailbox_size,
+        tracked_peer_sets: preset.tracked_peer_sets as usize,
+        send_batch_size: preset.send_batch_size as usize,
+        allow_private_ips: preset.allow_private_ips,
+        allow_dns: preset.allow_dns,
+        bypass_ip_check: preset.bypass_ip_check,
+        peer_connection_cooldown: preset.peer_connection_cooldown,
+        block_duration: preset.block_duration,
+        max_concurrent_handshakes: preset.max_concurrent_handshakes,
+        allowed_handshake_rate_per_ip: preset.allowed_handshake_rate_per_ip,
+        allowed_handshake_rate_per_subnet: preset.allowed_handshake_rate_per_subnet,
+        handshake_timeout: preset.handshake_timeout,
+        dial_timeout: preset.dial_timeout,
+        dial_frequency: preset.dial_frequency,
+    })
+}
+
+// `base` with what `tree` says of peer sets, batches, addresses and blocks, where it does.
+fn read_peers(tree: &Value, base: Config) -> Option<Config>
+    ensures { result ≡ with_peers base (view tree.now) }
+{
+    let sets = within_or(tree, "tracked_peer_sets", 1, base.tracked_peer_sets as u64)?;
+    let batch = within_or(tree, "send_batch_size", 1, base.send_batch_size as u64)?;
+    let private = flag_or(tree, "allow_private_ips", base.allow_private_ips)?;
+    let dns = flag_or(tree, "allow_dns", base.allow_dns)?;
+    let bypass = flag_or(tree, "bypass_ip_check", base.bypass_ip_check)?;
+    let cooldown = whole_or(
+        tree,
+        "peer_connection_cooldown",
+        base.peer_connection_cooldown,
+    )?;
+    let block_duration = whole_or(tree, "block_duration", base.block_duration)?;
+    Some(Config {
         tracked_peer_sets: sets as usize,
         send_batch_size: batch as usize,
         allow_private_ips: private,
@@ -60,7 +87,59 @@ fn read_config(tree: &Value) -> Option<Config>
         bypass_ip_check: bypass,
         peer_connection_cooldown: cooldown,
         block_duration,
+        ..base
     })
+}
+
+// How many handshakes run at a time at most, or `default` where nothing is said of it.
+fn handshakes_or(tree: &Value, default: u32) -> Option<u32>
+    ensures { result ≡ absent_or default "max_concurrent_handshakes" (a_within 1 (2 ^ 32 - 1)) (view tree.now) }
+{
+    let name = "max_concurrent_handshakes";
+    match tree.get(name) {
+        Some(_) => Some(within(tree, name, 1, u32::MAX as u64)? as u32),
+        None => Some(default),
+    }
+}
+
+// `base` with what `tree` says of dials and handshakes, where it does.
+fn read_dials(tree: &Value, base: Config) -> Option<Config>
+    ensures { result ≡ with_dials base (view tree.now) }
+{
+    let max_concurrent_handshakes = handshakes_or(tree, base.max_concurrent_handshakes)?;
+    let allowed_handshake_rate_per_ip = rate_or(
+        tree,
+        "allowed_handshake_rate_per_ip",
+        base.allowed_handshake_rate_per_ip,
+    )?;
+    let allowed_handshake_rate_per_subnet = rate_or(
+        tree,
+        "allowed_handshake_rate_per_subnet",
+        base.allowed_handshake_rate_per_subnet,
+    )?;
+    let handshake_timeout = whole_or(tree, "handshake_timeout", base.handshake_timeout)?;
+    let dial_timeout = whole_or(tree, "dial_timeout", base.dial_timeout)?;
+    let dial_frequency = whole_or(tree, "dial_frequency", base.dial_frequency)?;
+    Some(Config {
+        max_concurrent_handshakes,
+        allowed_handshake_rate_per_ip,
+        allowed_handshake_rate_per_subnet,
+        handshake_timeout,
+        dial_timeout,
+        dial_frequency,
+        ..base
+    })
+}
+
+fn read_config(tree: &Value) -> Option<Config>
+    ensures { result ≡ config_of (view tree.now) }
+{
+    if !only(tree, &NAMES) {
+        return None;
+    }
+    let named = read_named(tree)?;
+    let config = read_peers(tree, named)?;
+    read_dials(tree, config)
 }
 
 impl FromTree for Config {

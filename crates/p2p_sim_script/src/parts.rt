@@ -1,8 +1,9 @@
 //! What an event names: keys, bytes, recipients, rates.
 ghost use Rattle.std.specs.Prelude.{◌≡◌};
+ghost use Rattle.serde_json.specs.Find.{get};
 ghost use Rattle.serde_json.specs.View.{view};
 ghost use Rattle.p2p_sim_script.specs.Gives.{Gives};
-ghost use Rattle.p2p_sim_script.specs.Tree.{field_at};
+ghost use Rattle.p2p_sim_script.specs.Tree.{field_at, form_or};
 ghost use Rattle.p2p_sim_script.specs.Parts.{bytes_of, key_of, node_of, one_of, rate_of, recipients_of, some_of};
 
 use crate::error::ScriptError;
@@ -58,7 +59,7 @@ impl FromTree for Bytes {
     }
 }
 
-/// What may be sent on a channel.
+/// How often something may happen: what a channel takes, or how often peers may connect.
 pub(crate) fn read_rate(tree: &Value) -> Option<Rate>
     ensures { result ≡ rate_of (view tree.now) }
 {
@@ -68,6 +69,16 @@ pub(crate) fn read_rate(tree: &Value) -> Option<Rate>
     let burst = within(tree, "burst", 1, u32::MAX as u64)? as u32;
     let period = within(tree, "period", 1, u64::MAX)?;
     Some(Rate { burst, period })
+}
+
+/// The rate at `name`, or `default` where there is no such name.
+pub(crate) fn rate_or(tree: &Value, name: &str, default: Rate) -> Option<Rate>
+    ensures { result ≡ form_or default rate_of (get name.now (view tree.now)) }
+{
+    match tree.get(name) {
+        Some(value) => read_rate(value),
+        None => Some(default),
+    }
 }
 
 fn read_one(tree: &Value) -> Option<Recipients>

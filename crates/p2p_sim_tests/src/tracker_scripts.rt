@@ -1,20 +1,23 @@
-//! Which texts about a node's tracker are scripts, and what they say.
+//! Which texts about a node's tracker and its dialer are scripts, and what they say.
 use p2p_address::{Address, Ingress, IpAddr, SocketAddr};
 use p2p_base::{Key, Map, Text};
 use p2p_flow::AddressableTrackedPeers;
-use p2p_log::{Act, Asked, Config, Event};
+use p2p_log::{Act, Asked, Config, Event, Rate};
 use p2p_sim_script::{ScriptError, read_script};
 use serde_json::Value;
 use std::alloc::Global;
 use std::test::Fail;
 
-// Each act about a tracker, and each form of an address.
+// Each act about a tracker or a dialer, and each form of an address.
 const TRACKING: &str = r#"{"configs":[
     {"key":1,"preset":"local","max_peers_per_set":2,"max_message_size":9,"mailbox_size":4},
     {"key":2,"preset":"recommended","max_peers_per_set":2,"max_message_size":9,"mailbox_size":4},
     {"key":3,"preset":"local","max_peers_per_set":2,"max_message_size":9,"mailbox_size":4,
      "tracked_peer_sets":1,"send_batch_size":3,"allow_private_ips":false,"allow_dns":false,
-     "bypass_ip_check":true,"peer_connection_cooldown":0,"block_duration":18446744073709551615}],
+     "bypass_ip_check":true,"peer_connection_cooldown":0,"block_duration":18446744073709551615,
+     "max_concurrent_handshakes":4294967295,"allowed_handshake_rate_per_ip":{"burst":2,"period":11},
+     "allowed_handshake_rate_per_subnet":{"burst":4294967294,"period":18446744073709551614},
+     "handshake_timeout":0,"dial_timeout":18446744073709551613,"dial_frequency":12}],
 "script":[
     {"at":0,"do":"track","index":5,"node":0,
      "primary":[[3,{"symmetric":{"ip":[10,0,0,3],"port":3000}}],
@@ -29,7 +32,8 @@ const TRACKING: &str = r#"{"configs":[
     {"at":0,"do":"blocked","node":2},
     {"at":0,"do":"answer","question":4},
     {"at":0,"do":"next","question":6},
-    {"at":0,"do":"tracker","node":3}]}"#;
+    {"at":0,"do":"tracker","node":3},
+    {"at":0,"do":"dialer","node":4}]}"#;
 
 // ---- what is a script
 
@@ -107,6 +111,9 @@ const CHANGES_OF_NAMES: &[(&str, &str, &str)] = &[
     (r#""question":4"#, r#""question":4,"node":0"#, "none"),
     (r#""question":6"#, r#""event":6"#, "none"),
     (r#""node":3"#, r#""node":3,"index":0"#, "none"),
+    (r#""node":4"#, r#""node":4,"index":0"#, "none"),
+    (r#""node":4"#, r#""key":4"#, "none"),
+    (r#""do":"dialer""#, r#""do":"dial""#, "none"),
     (r#""do":"peer_set""#, r#""do":"peer_sets""#, "none"),
     (r#""preset":"recommended""#, r#""preset":"remote""#, "none"),
     (
@@ -118,15 +125,61 @@ const CHANGES_OF_NAMES: &[(&str, &str, &str)] = &[
     (r#""allow_dns":false"#, r#""allow_dns":null"#, "none"),
     (r#""allow_dns":false"#, r#""allow_dns":0"#, "none"),
     (r#""bypass_ip_check":true"#, r#""bypass_ip":true"#, "none"),
-    (r#""bypass_ip_check":true"#, r#""dial_timeout":1"#, "none"),
+    (r#""bypass_ip_check":true"#, r#""ping_frequency":1"#, "none"),
     ("18446744073709551615", "0", "a script"),
     ("18446744073709551615", "18446744073709551616", "none"),
     ("_cooldown\":0", "_cooldown\":-1", "none"),
 ];
 
+// Changes of what a configuration says of dials and handshakes.
+const CHANGES_OF_DIALS: &[(&str, &str, &str)] = &[
+    (r#""max_concurrent_handshakes":4294967295,"#, "", "a script"),
+    ("4294967295", "1", "a script"),
+    ("4294967295", "0", "none"),
+    ("4294967295", "4294967296", "none"),
+    (r#""burst":2"#, r#""burst":1"#, "a script"),
+    (r#""burst":2"#, r#""burst":0"#, "none"),
+    (r#""burst":2,"#, "", "none"),
+    (r#""period":11"#, r#""period":1"#, "a script"),
+    (r#""period":11"#, r#""period":0"#, "none"),
+    (r#""period":11"#, r#""period":11,"more":1"#, "none"),
+    (r#"{"burst":2,"period":11}"#, "null", "none"),
+    (r#"{"burst":2,"period":11}"#, "[2,11]", "none"),
+    ("4294967294", "4294967296", "none"),
+    ("4294967294", "0", "none"),
+    ("18446744073709551614", "18446744073709551616", "none"),
+    ("18446744073709551614", "0", "none"),
+    (
+        r#""handshake_timeout":0"#,
+        r#""handshake_timeout":-1"#,
+        "none",
+    ),
+    (
+        r#""handshake_timeout":0"#,
+        r#""handshake_timeout":null"#,
+        "none",
+    ),
+    ("18446744073709551613", "0", "a script"),
+    ("18446744073709551613", "18446744073709551616", "none"),
+    (
+        r#""dial_frequency":12"#,
+        r#""dial_frequency":0"#,
+        "a script",
+    ),
+    (r#""dial_frequency":12"#, r#""dial_frequency":1.0"#, "none"),
+];
+
 #[test]
 fn peers_have_distinct_keys_and_whole_addresses(rt: HostRuntime) -> Result<(), Fail> {
     for &(from, to, expected) in CHANGES_OF_PEERS {
+        assert_eq!(rt; kind_with(rt.alloc(), from, to)?, expected, "{to}");
+    }
+    Ok(())
+}
+
+#[test]
+fn dials_and_handshakes_have_their_bounds(rt: HostRuntime) -> Result<(), Fail> {
+    for &(from, to, expected) in CHANGES_OF_DIALS {
         assert_eq!(rt; kind_with(rt.alloc(), from, to)?, expected, "{to}");
     }
     Ok(())
@@ -142,7 +195,7 @@ fn acts_and_configurations_have_their_names_alone(rt: HostRuntime) -> Result<(),
 
 // ---- what it says
 
-// The word of an act about a tracker, and its numbers: its node, and its index, its key or its question.
+// The word of an act about a tracker or a dialer, and its numbers: its node, and its index, its key or its question.
 fn numbers_of(act: &Act) -> (&'static str, u64, u64) {
     match act {
         Act::Ask { asked, node } => match asked {
@@ -156,6 +209,7 @@ fn numbers_of(act: &Act) -> (&'static str, u64, u64) {
         Act::Answer { question } => ("answer", 0, *question),
         Act::Next { question } => ("next", 0, *question),
         Act::Tracker { node } => ("tracker", *node, 0),
+        Act::Dialer { node } => ("dialer", *node, 0),
         _ => ("another", 0, 0),
     }
 }
@@ -171,6 +225,7 @@ const NUMBERS: &[(&str, u64, u64)] = &[
     ("answer", 0, 4),
     ("next", 0, 6),
     ("tracker", 3, 0),
+    ("dialer", 4, 0),
 ];
 
 fn have_numbers(script: &[Event]) -> bool {
@@ -306,17 +361,66 @@ fn are_given(configs: &[Config]) -> bool {
             .all(|(config, due)| given(config) == *due)
 }
 
-fn read(alloc: Global) -> Result<(bool, bool, [bool; 3]), Fail> {
+// What it gives of dials and handshakes.
+type Dials = (u32, [(u32, u64); 2], [u64; 3]);
+
+fn pair(rate: Rate) -> (u32, u64) {
+    (rate.burst, rate.period)
+}
+
+fn dials(config: &Config) -> Dials {
+    (
+        config.max_concurrent_handshakes,
+        [
+            pair(config.allowed_handshake_rate_per_ip),
+            pair(config.allowed_handshake_rate_per_subnet),
+        ],
+        [
+            config.handshake_timeout,
+            config.dial_timeout,
+            config.dial_frequency,
+        ],
+    )
+}
+
+const DIALS: &[Dials] = &[
+    (
+        1024,
+        [(16, 62_500_000), (128, 7_812_500)],
+        [5_000_000_000, 15_000_000_000, 500_000_000],
+    ),
+    (
+        512,
+        [(1, 5_000_000_000), (64, 15_625_000)],
+        [5_000_000_000, 15_000_000_000, 1_000_000_000],
+    ),
+    (
+        4_294_967_295,
+        [(2, 11), (4_294_967_294, 18_446_744_073_709_551_614)],
+        [0, 18_446_744_073_709_551_613, 12],
+    ),
+];
+
+fn have_dials(configs: &[Config]) -> bool {
+    configs.len() == DIALS.len()
+        && configs
+            .iter()
+            .zip(DIALS.iter())
+            .all(|(config, due)| dials(config) == *due)
+}
+
+fn read(alloc: Global) -> Result<([bool; 2], bool, [bool; 3]), Fail> {
     let tree = Value::from_str(alloc, TRACKING)?;
     let (configs, script) = read_script(alloc, &tree)?;
     let peers = have_peers(alloc, script.as_slice())?;
     let numbers = have_numbers(script.as_slice());
-    Ok((are_given(configs.as_slice()), numbers, peers))
+    let configs = configs.as_slice();
+    Ok(([are_given(configs), have_dials(configs)], numbers, peers))
 }
 
 // The fields go where they belong, and what a configuration leaves out its preset gives.
 #[test]
 fn what_trackers_are_asked_is_read(rt: HostRuntime) -> Result<(), Fail> {
-    assert_eq!(rt; read(rt.alloc())?, (true, true, [true; 3]));
+    assert_eq!(rt; read(rt.alloc())?, ([true; 2], true, [true; 3]));
     Ok(())
 }

@@ -1,0 +1,147 @@
+//! `Dialing`, the dialer of a node.
+ghost use Rattle.std.specs.Prelude.{◌≡◌, [], None, Some, true, ◌&&◌, IfOk, OnOk};
+ghost use Rattle.p2p_log_rules.specs.Valid.{is_quota};
+ghost use Rattle.p2p_net_dialer.specs.Dialing.{gates_of, no_dialing, started, asked_item, is_answer as answer_test, begun_by, Steps};
+
+use p2p_base::Key;
+use p2p_gates::{Attempt, Config as GatesConfig, Dialer, Input, Outcome, Put, Stepped};
+use p2p_log::{Config, Item, Rate};
+use p2p_net_queues::Table;
+use p2p_runtime::Quota;
+use p2p_tracker_mailbox::Mailbox;
+use std::alloc::{AllocError, Global};
+
+/// The dialer of a node, once the node has started, and the attempts that it has begun, by the events that began them.
+#[derive(Drop)]
+pub struct Dialing {
+    /// The dialer.
+    pub actor: Option<Dialer<Key>>,
+    /// The attempts.
+    pub attempts: Table<Attempt<Key>>,
+}
+
+/// What a dialer did in a step.
+#[derive(Drop)]
+pub struct Dialed {
+    /// Whether it took the oldest of its answers.
+    pub took: bool,
+    /// What it asked the tracker.
+    pub asked: Option<Item>,
+}
+
+/// The quota of a rate that admits something.
+fn quota(rate: Rate) -> Option<Quota>
+    requires { is_quota rate ≡ true }
+    ensures { result ≡ Some (record { burst = rate.burst; period = rate.period }) }
+{
+    Quota::new(rate.burst, rate.period)
+}
+
+/// What the gates of a node are told, of a configuration that fits.
+fn gates_config(config: &Config) -> Option<GatesConfig>
+    requires per_ip { is_quota config.now.allowed_handshake_rate_per_ip ≡ true }
+    requires per_subnet { is_quota config.now.allowed_handshake_rate_per_subnet ≡ true }
+    ensures { result ≡ Some (gates_of config.now) }
+{
+    let per_ip = quota(config.allowed_handshake_rate_per_ip)?;
+    let per_subnet = quota(config.allowed_handshake_rate_per_subnet)?;
+    Some(GatesConfig {
+        allow_private_ips: config.allow_private_ips,
+        bypass_ip_check: config.bypass_ip_check,
+        max_concurrent_handshakes: config.max_concurrent_handshakes,
+        allowed_handshake_rate_per_ip: per_ip,
+        allowed_handshake_rate_per_subnet: per_subnet,
+        handshake_timeout: config.handshake_timeout,
+        dial_timeout: config.dial_timeout,
+        dial_frequency: config.dial_frequency,
+        peer_connection_cooldown: config.peer_connection_cooldown,
+    })
+}
+
+/// What a dialer asked, as an item of its tracker's mailbox.
+fn asked(put: Option<Put<Key>>) -> Option<Item>
+    ensures { result ≡ asked_item put }
+{
+    match put {
+        Some(Put::Dialable) => Some(Item::AskDialable),
+        Some(Put::Dial { public_key }) => Some(Item::AskDial(public_key)),
+        _ => None,
+    }
+}
+
+/// Whether a step took an answer.
+fn is_answer(took: Input) -> bool
+    ensures { result ≡ answer_test took }
+{
+    match took {
+        Input::Answer => true,
+        _ => false,
+    }
+}
+
+impl Dialing {
+    /// Nobody dials yet.
+    pub fn new(alloc: Global) -> Dialing
+        ensures { result ≡ no_dialing }
+    {
+        Dialing {
+            actor: None,
+            attempts: Table::new(alloc),
+        }
+    }
+
+    /// A dialer begins, at the moment `at`.
+    pub fn start(&mut self, alloc: Global, config: &Config, at: u64)
+        requires per_ip { is_quota config.now.allowed_handshake_rate_per_ip ≡ true }
+        requires per_subnet { is_quota config.now.allowed_handshake_rate_per_subnet ≡ true }
+        ensures { self.new ≡ started config.now at self.old }
+    {
+        match gates_config(config) {
+            Some(gates) => self.actor = Some(Dialer::new(alloc, gates, at)),
+            None => self.actor = None,
+        }
+    }
+
+    /// One step of the dialer, whose answers wait in its tracker's mailbox, at the moment `at`. A grant begins an attempt of
+    /// this name. `None` where no input was ready.
+    ///
+    /// `Err` only where there is no memory.
+    pub fn step(
+        &mut self,
+        name: u64,
+        way: &mut Mailbox<Key>,
+        at: u64,
+        seed: u64,
+    ) -> Result<Option<Dialed>, AllocError>
+        ensures { IfOk result (λ o. Steps self.old.actor name at seed self.old self.new way.old way.new o) }
+    {
+        let Some(actor) = &mut self.actor else {
+            return Ok(None);
+        };
+        match actor.step(way, name, at, seed)? {
+            Stepped::Idle => Ok(None),
+            Stepped::Served {
+                took,
+                put,
+                outcome,
+                ..
+            } => {
+                self.begin(name, outcome)?;
+                Ok(Some(Dialed {
+                    took: is_answer(took),
+                    asked: asked(put),
+                }))
+            }
+        }
+    }
+
+    /// Keeps the attempt that a step began, if it began one.
+    fn begin(&mut self, name: u64, outcome: Outcome<Key>) -> Result<(), AllocError>
+        ensures { OnOk result (self.new ≡ record self.old { attempts = begun_by outcome name self.old.attempts }) }
+    {
+        match outcome {
+            Outcome::Dialed(attempt) => Ok(self.attempts.insert(name, attempt)?),
+            _ => Ok(()),
+        }
+    }
+}

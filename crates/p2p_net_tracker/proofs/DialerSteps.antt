@@ -1,0 +1,127 @@
+-- A node's dialer takes an answer, or none, and asks something, or nothing: the tracker stands for the log with that entry.
+use Rattle.std.proofs.Common.{◌≡◌, ℕ, Bool, true, false, cond, List, [], ◌∷◌, ◌++◌, map, drop, length, refl, ap, sym, subst, ◌∙◌, append-nil, eq-eqb, Option, Some, None}
+use Rattle.std.specs.Prelude.{filter, slice_get, ◌&&◌, if◌then◌else◌}
+use Rattle.std.proofs.lemmas.List.{map-append}
+use Rattle.p2p_base.specs.declared.key.Key.{Key}
+use Rattle.p2p_tracker.specs.Following.{Follows}
+use Rattle.p2p_tracker_mailbox.specs.Desk.{Desk}
+use Rattle.p2p_tracker_mailbox.specs.declared.answer.DialerAnswer.{DialerAnswer}
+use Rattle.p2p_tracker_mailbox.specs.declared.message.Message.{Message}
+use Rattle.p2p_log.specs.declared.config.Config.{Config}
+use Rattle.p2p_log.specs.declared.queue.Queue.{Queue}
+use Rattle.p2p_log.specs.declared.queue.Queue.TheVariants as queue
+use Rattle.p2p_log.specs.declared.item.Envelope.{Envelope}
+use Rattle.p2p_log.specs.declared.entry.Entry.{Entry}
+use Rattle.p2p_log.specs.QueueCode.{same_queue}
+use Rattle.p2p_log.specs.Lines.{name_of, goes, line, live, stays, stands_in}
+use Rattle.p2p_log.proofs.Names.{AreApart-live_from, filter_stays-first}
+use Rattle.p2p_log.proofs.QueueNames.{queue_from_same}
+use Rattle.p2p_log.proofs.Queues.{same_queue-refl}
+use Rattle.p2p_log_rules.specs.Tracking.{key_cmp, steps_tracker, calls_of, update_subscriptions, blocked_subscriptions}
+use Rattle.p2p_log_rules.specs.TrackerRows.{answers}
+use Rattle.p2p_net_queues.specs.Board.{held}
+use Rattle.p2p_net_queues.proofs.Going.{put_in, line-append}
+use Rattle.p2p_net_tracker.specs.declared.tracker.Tracker.{Tracker}
+use Rattle.p2p_net_tracker.specs.Stands.{asks_of, is_told, Match, IsTicket, IsMessage, IsAnswer, TrackerStands}
+use Rattle.p2p_net_tracker.proofs.Changes.{same_tickets, IsMessage-longer, told_apart}
+use Rattle.p2p_net_tracker.proofs.Facts.{asks_at-kept, fresh-longer, was_answered-kept, calls-kept, update_subscriptions-kept, blocked_subscriptions-kept}
+use Rattle.p2p_net_tracker.proofs.Matching.{Match-append, Match-drop, Match-weaker}
+use Rattle.p2p_net_tracker.proofs.ToldLines.{away_none}
+
+-- the queue is the dialer's line, of which the first item is taken
+abbrev pub is_taken_of : Bool → ℕ → Queue → Bool
+is_taken_of took n p = took && same_queue (queue.Dialer n) p
+
+-- what a step of the dialer makes of the tracker: these messages wait in these envelopes beside those before
+pub record DialerMoves (log : List Entry) (e : Entry) (n : ℕ) (t u : Tracker) (took : Bool) (xs : List Envelope) (ms : List (Message Key)) : Type 0 where
+  pub no_step : steps_tracker n e.event.act ≡ false
+  pub no_question : asks_of n e.event.act ≡ None
+  pub no_answer : (d : ℕ) → answers d e.event.act e.reply ≡ false
+  pub rest : u ≡ record t { mailbox = record t.mailbox { desk = u.mailbox.desk; dialer = u.mailbox.dialer }; names = t.names ++ map name_of xs; told = u.told }
+  pub items : u.mailbox.desk.messages.items ≡ t.mailbox.desk.messages.items ++ ms
+  pub closed : u.mailbox.desk.messages.closed ≡ t.mailbox.desk.messages.closed
+  pub capacity : u.mailbox.desk.messages.capacity ≡ t.mailbox.desk.messages.capacity
+  pub questions : length u.mailbox.desk.questions ≡ length t.mailbox.desk.questions
+  pub updates : length u.mailbox.desk.updates ≡ length t.mailbox.desk.updates
+  pub sets : length u.mailbox.desk.sets ≡ length t.mailbox.desk.sets
+  pub each : Match (λ x m. IsMessage t.tickets log x.item m) xs ms
+  pub left : (p : Queue) → filter (stands_in p) (filter (stays (goes e)) (live log)) ≡ cond (is_taken_of took n p) (drop 1 (line log p)) (line log p)
+  pub asked : put_in log e (queue.Tracker n) ≡ xs
+  pub quiet : (p : Queue) → is_told n p ≡ true → put_in log e p ≡ []
+  pub answered : u.mailbox.dialer ≡ cond took (drop 1 t.mailbox.dialer) t.mailbox.dialer
+  pub told : (p : Queue) → held u.told p ≡ (if is_taken_of took n p then drop 1 (held t.told p) else held t.told p)
+
+-- nothing is taken
+pub none_left : (log : List Entry) (n : ℕ) (p : Queue) → filter (stands_in p) (filter (stays []) (live log)) ≡ cond (is_taken_of false n p) (drop 1 (line log p)) (line log p)
+none_left log n p = away_none log p
+
+-- the dialer's oldest answer is taken
+pub first_left : (log : List Entry) (n : ℕ) (x : Envelope) (rest : List Envelope) → line log (queue.Dialer n) ≡ x ∷ rest → (p : Queue)
+    → filter (stands_in p) (filter (stays (name_of x ∷ [])) (live log)) ≡ cond (is_taken_of true n p) (drop 1 (line log p)) (line log p)
+unfolding line
+first_left log n x rest first p = filter_stays-first (live log) (queue.Dialer n) p x rest (AreApart-live_from 0 log) first ∙ by (same_queue (queue.Dialer n) p) refl
+  where
+    by : (b : Bool) → same_queue (queue.Dialer n) p ≡ b → cond b rest (line log p) ≡ cond b (drop 1 (line log p)) (line log p)
+    by true is = sym (ap (drop 1) (ap (line log) (queue_from_same (queue.Dialer n) p is) ∙ first))
+    by false is = refl
+
+and_false : (b : Bool) → (b && false) ≡ false
+and_false true = refl
+and_false false = refl
+
+and_true : (b c : Bool) → c ≡ true → (b && c) ≡ b
+and_true true c h = h
+and_true false c h = refl
+
+pub tracker_dialed : (configs : List Config) (log : List Entry) (e : Entry) (n : ℕ) (t u : Tracker) (took : Bool) (xs : List Envelope) (ms : List (Message Key)) → TrackerStands configs log n t → DialerMoves log e n t u took xs ms
+    → TrackerStands configs (log ++ e ∷ []) n u
+tracker_dialed configs log e n t u took xs ms s q =
+    subst (TrackerStands configs (log ++ e ∷ []) n) (sym q.rest) (record {
+      follows = subst (Follows key_cmp t.actor.directory t.actor.controls) (sym (calls-kept configs log e n q.no_step)) s.follows;
+      rules = s.rules;
+      cooldown = s.cooldown;
+      works = s.works;
+      local = s.local;
+      most = s.most;
+      is_open = q.closed ∙ s.is_open;
+      size = q.capacity ∙ s.size;
+      names = ap (λ l. l ++ map name_of xs) s.names ∙ (sym (map-append name_of (line log (queue.Tracker n)) xs) ∙ ap (map name_of) (sym mailbox));
+      messages = subst (λ l. Match (λ x m. IsMessage t.tickets (log ++ e ∷ []) x.item m) l u.mailbox.desk.messages.items) (sym mailbox)
+          (subst (Match (λ (x : Envelope) m. IsMessage t.tickets (log ++ e ∷ []) x.item m) (line log (queue.Tracker n) ++ xs)) (sym q.items)
+          (Match-weaker (λ (x : Envelope) m. IsMessage t.tickets log x.item m) (λ (x : Envelope) m. IsMessage t.tickets (log ++ e ∷ []) x.item m)
+          (λ (x : Envelope) m h. IsMessage-longer t.tickets t.tickets (same_tickets t.tickets) log (e ∷ []) x.item m h) (line log (queue.Tracker n) ++ xs) (t.mailbox.desk.messages.items ++ ms)
+          (Match-append (λ (x : Envelope) m. IsMessage t.tickets log x.item m) (line log (queue.Tracker n)) xs t.mailbox.desk.messages.items ms s.messages q.each)));
+      questions = q.questions ∙ s.questions;
+      updates = q.updates ∙ s.updates;
+      sets = q.sets ∙ s.sets;
+      subscribed = subst (Match (IsTicket t.tickets.updates) t.actor.updates) (sym (update_subscriptions-kept log e n q.no_step)) s.subscribed;
+      subscribed_blocked = subst (Match (IsTicket t.tickets.blocked) t.actor.sets) (sym (blocked_subscriptions-kept log e n q.no_step)) s.subscribed_blocked;
+      asked = λ d. s.asked d ∙ sym (asks_at-kept log e n d q.no_question);
+      answered = λ d is. s.answered d (sym (asks_at-kept log e n d q.no_question) ∙ is) ∙ sym (was_answered-kept log e d (q.no_answer d));
+      fresh = fresh-longer log e t.answered s.fresh (λ d past. q.no_answer d);
+      dialer = subst (λ l. Match (λ x a. IsAnswer x.item a) l u.mailbox.dialer) (sym (told_line (queue.Dialer n) (eq-eqb n n refl)))
+          (subst (Match (λ (x : Envelope) a. IsAnswer x.item a) (cond (is_taken_of took n (queue.Dialer n)) (drop 1 (line log (queue.Dialer n))) (line log (queue.Dialer n)))) (sym q.answered)
+          (subst (λ b. Match (λ (x : Envelope) a. IsAnswer x.item a) (cond b (drop 1 (line log (queue.Dialer n))) (line log (queue.Dialer n))) (cond took (drop 1 t.mailbox.dialer) t.mailbox.dialer))
+          (sym (and_true took (same_queue (queue.Dialer n) (queue.Dialer n)) (same_queue-refl (queue.Dialer n)))) (by_taken took)));
+      told = λ p own. q.told p ∙ (by_place (is_taken_of took n p) (held t.told p) (line log p) (s.told p own) ∙ sym (told_line p own));
+    })
+  where
+    by_place : (b : Bool) (h l : List Envelope) → h ≡ l → (if b then drop 1 h else h) ≡ cond b (drop 1 l) l
+    by_place true h l is = ap (drop 1) is
+    by_place false h l is = is
+
+    by_taken : (b : Bool) → Match (λ x a. IsAnswer x.item a) (cond b (drop 1 (line log (queue.Dialer n))) (line log (queue.Dialer n))) (cond b (drop 1 t.mailbox.dialer) t.mailbox.dialer)
+    by_taken true = Match-drop (λ (x : Envelope) a. IsAnswer x.item a) (line log (queue.Dialer n)) t.mailbox.dialer s.dialer
+    by_taken false = s.dialer
+
+    line_after : (p : Queue) → line (log ++ e ∷ []) p ≡ cond (is_taken_of took n p) (drop 1 (line log p)) (line log p) ++ put_in log e p
+    line_after p = line-append log e p ∙ ap (λ l. l ++ put_in log e p) (q.left p)
+
+    told_line : (p : Queue) → is_told n p ≡ true → line (log ++ e ∷ []) p ≡ cond (is_taken_of took n p) (drop 1 (line log p)) (line log p)
+    told_line p own =
+        line_after p ∙ (ap (λ l. cond (is_taken_of took n p) (drop 1 (line log p)) (line log p) ++ l) (q.quiet p own) ∙ append-nil (cond (is_taken_of took n p) (drop 1 (line log p)) (line log p)))
+
+    mailbox : line (log ++ e ∷ []) (queue.Tracker n) ≡ line log (queue.Tracker n) ++ xs
+    mailbox =
+        line_after (queue.Tracker n)
+        ∙ (ap (λ b. cond b (drop 1 (line log (queue.Tracker n))) (line log (queue.Tracker n)) ++ put_in log e (queue.Tracker n)) (and_false took) ∙ ap (λ l. line log (queue.Tracker n) ++ l) q.asked)

@@ -1,0 +1,64 @@
+//! What a node's dialer took of its answers, and what it asked.
+ghost use Rattle.std.specs.Prelude.{◌≡◌, ◌++◌, ◌&&◌, drop, IfOk, OnOk, if◌then◌else◌};
+ghost use Rattle.p2p_log.specs.declared.queue.Queue.{Queue as Name};
+ghost use Rattle.p2p_log.specs.declared.queue.Queue.TheVariants as queue;
+ghost use Rattle.p2p_log.specs.QueueCode.{same_queue};
+ghost use Rattle.p2p_net_queues.specs.Board.{held};
+ghost use Rattle.p2p_net_tracker.specs.Dialed.{taken_names, asked_puts, names_asked, dialed_row};
+
+use crate::telling::pop_name;
+use crate::tracker::Tracker;
+use p2p_log::{Item, Queue, Reply};
+use p2p_log_rules::Row;
+use p2p_net_queues::{Turn, only};
+use std::alloc::AllocError;
+
+impl Tracker {
+    /// The row of a step of the node's dialer, which took the oldest of its answers or none, and asked this. Both were done in
+    /// the actor's mailbox already.
+    ///
+    /// `Err` only where there is no memory.
+    pub fn dialed(&mut self, turn: Turn, took: bool, asked: Option<Item>) -> Result<Row, AllocError>
+        ensures row { IfOk result (λ r. r ≡ dialed_row (held self.old.told (queue.Dialer turn.node)) turn.node took asked) }
+        ensures told { OnOk result ((q : Name) → held self.new.told q
+            ≡ (if took && same_queue (queue.Dialer turn.node) q then drop 1 (held self.old.told q) else held self.old.told q)) }
+        ensures rest { OnOk result (self.new ≡ record self.old { told = self.new.told; names = self.old.names ++ names_asked turn.entry asked }) }
+    {
+        let mut row = only(turn.alloc, Reply::Ok);
+        self.take_answer(turn.node, took, &mut row)?;
+        self.put_question(turn, asked, &mut row)?;
+        Ok(row)
+    }
+
+    // Takes the oldest answer of the dialer, where it took one.
+    fn take_answer(&mut self, node: u64, took: bool, row: &mut Row) -> Result<(), AllocError>
+        ensures row { OnOk result (row.new ≡ record row.old { takes = row.old.takes ++ taken_names took (held self.old.told (queue.Dialer node)) }) }
+        ensures told { OnOk result ((q : Name) → held self.new.told q
+            ≡ (if took && same_queue (queue.Dialer node) q then drop 1 (held self.old.told q) else held self.old.told q)) }
+        ensures rest { OnOk result (self.new ≡ record self.old { told = self.new.told }) }
+    {
+        if took {
+            if let Some(name) = pop_name(&mut self.told, Queue::Dialer(node)) {
+                row.takes.push(name)?;
+            }
+        }
+        Ok(())
+    }
+
+    // What the dialer asked has this entry's name.
+    fn put_question(
+        &mut self,
+        turn: Turn,
+        asked: Option<Item>,
+        row: &mut Row,
+    ) -> Result<(), AllocError>
+        ensures row { OnOk result (row.new ≡ record row.old { puts = row.old.puts ++ asked_puts turn.node asked }) }
+        ensures names { OnOk result (self.new ≡ record self.old { names = self.old.names ++ names_asked turn.entry asked }) }
+    {
+        if let Some(item) = asked {
+            self.names.push((turn.entry, 0))?;
+            row.puts.push((Queue::Tracker(turn.node), item))?;
+        }
+        Ok(())
+    }
+}
