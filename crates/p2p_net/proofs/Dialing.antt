@@ -1,5 +1,5 @@
 -- The acts of a node's dialer.
-use Rattle.std.proofs.Common.{◌≡◌, ℕ, suc, ◌+◌, ◌<◌, ◌≤◌, Bool, true, false, cond, List, [], ◌∷◌, ◌++◌, map, drop, length, refl, ap, sym, subst, ◌∙◌, arith, append-nil, eq-eqb, Option, Some, None}
+use Rattle.std.proofs.Common.{◌≡◌, ℕ, suc, ◌+◌, ◌<◌, Bool, true, false, cond, List, [], ◌∷◌, ◌++◌, map, drop, length, refl, ap, sym, subst, ◌∙◌, arith, append-nil, eq-eqb, Option, Some, None}
 use Rattle.std.specs.Prelude.{◌-◌, ◌&&◌, not, nat_le, filter, slice_get}
 use Rattle.p2p_base.specs.declared.key.Key.{Key}
 use Rattle.p2p_base.specs.Queue.{has_room}
@@ -31,13 +31,12 @@ use Rattle.p2p_log.specs.declared.entry.Entry.{Entry}
 use Rattle.p2p_log.specs.declared.entry.Reply.TheVariants as reply
 use Rattle.p2p_log.specs.declared.event.Event.{Event}
 use Rattle.p2p_log.specs.declared.event.Act.TheVariants as act
-use Rattle.p2p_log.specs.QueueCode.{same_queue}
-use Rattle.p2p_log.specs.Lines.{name_of, goes, line, live, placed, stays, stands_in}
+use Rattle.p2p_log.specs.Lines.{name_of, goes, line, live, stays, stands_in}
 use Rattle.p2p_log.proofs.Queues.{same_queue-refl}
 use Rattle.p2p_log_rules.specs.declared.row.Row.{Row}
 use Rattle.p2p_log_rules.specs.Facts.{is_up, taken}
 use Rattle.p2p_log_rules.specs.Effect.{only, row, effect, entry_of}
-use Rattle.p2p_log_rules.specs.Dialing.{Pace, pace_at, next_deadline, Dials, dials_of, in_drawn_order, last_key, without_last, stepped_dials, Begun, begun_of, dial_puts, dials_row, answered_row, due_row, dialer_turn, dialer_row}
+use Rattle.p2p_log_rules.specs.Dialing.{Pace, pace_at, next_deadline, Dials, dials_of, in_drawn_order, last_key, without_last, stepped_dials, begun_of, dial_puts, dials_row, answered_row, due_row, dialer_turn}
 use Rattle.p2p_net_queues.proofs.Going.{put_in}
 use Rattle.p2p_net_dialer.specs.Dialing as dialing
 use Rattle.p2p_net_dialer.specs.Stands.{no_gates, gates_at, actor_of, IsBegun, DialerStands}
@@ -50,17 +49,15 @@ use Rattle.p2p_net_tracker.specs.Dialed.{taken_names, asked_puts, names_asked, d
 use Rattle.p2p_net_tracker.specs.Naming.{grant_of}
 use Rattle.p2p_net_tracker.specs.Stands.{is_told, Match, IsMessage, IsAnswer, TrackerStands}
 use Rattle.p2p_net_tracker.specs.declared.naming.Tickets.{Tickets}
-use Rattle.p2p_net_tracker.specs.declared.tracker.Tracker.{Tracker}
 use Rattle.p2p_net_tracker.proofs.Changes.{told_apart, kept_open}
-use Rattle.p2p_net_tracker.proofs.DialerSteps.{is_taken_of, DialerMoves, tracker_dialed, none_left, first_left}
+use Rattle.p2p_net_tracker.proofs.DialerSteps.{is_taken_of, tracker_dialed, none_left, first_left}
 use Rattle.p2p_net_tracker.proofs.Steps.{none_taken, first_taken}
 use Rattle.p2p_net.specs.Places as place
-use Rattle.p2p_net.specs.Places.{at}
 use Rattle.p2p_net.specs.Ready.{is_started}
-use Rattle.p2p_net.specs.Acts.{DialedBy, DialerSteps, DialerStepsBy}
+use Rattle.p2p_net.specs.Acts.{DialedBy, DialerStepsBy}
 use Rattle.p2p_net.specs.Stands.{NodeStands}
 use Rattle.p2p_net.specs.declared.node.Node.{Node}
-use Rattle.p2p_net.proofs.EachPart.{with_parts, each_part, not_among}
+use Rattle.p2p_net.proofs.EachPart.{each_part, not_among}
 use Rattle.p2p_net.proofs.Frames.{links_kept}
 use Rattle.p2p_net.proofs.Nodes.{some_at}
 use Rattle.p2p_net.proofs.Performing.{asked, Performs, stays_performs}

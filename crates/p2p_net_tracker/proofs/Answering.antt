@@ -12,24 +12,22 @@ use Rattle.p2p_log.specs.declared.item.Envelope.{Envelope}
 use Rattle.p2p_log.specs.declared.entry.Entry.{Entry}
 use Rattle.p2p_log.specs.declared.entry.Reply.{Reply}
 use Rattle.p2p_log.specs.declared.entry.Reply.TheVariants as reply
-use Rattle.p2p_log.specs.declared.event.Event.{Event}
 use Rattle.p2p_log.specs.declared.asked.Asked.TheVariants as ask
 use Rattle.p2p_log.specs.declared.event.Act.{Act}
 use Rattle.p2p_log.specs.declared.event.Act.TheVariants as act
 use Rattle.p2p_log.specs.QueueCode.{same_queue}
-use Rattle.p2p_log.specs.Lines.{name_of, ended_item, goes, line, placed, stands_in}
+use Rattle.p2p_log.specs.Lines.{ended_item, goes, line, placed, stands_in}
 use Rattle.p2p_log.proofs.QueueNames.{queue_from_same}
 use Rattle.p2p_log_rules.specs.declared.row.Row.{Row}
 use Rattle.p2p_log_rules.specs.Effect.{entry_of}
 use Rattle.p2p_log_rules.specs.Rows.{only}
 use Rattle.p2p_log_rules.specs.Tracking.{asked_by, steps_tracker}
-use Rattle.p2p_log_rules.specs.TrackerRows.{answers, is_answer, was_answered, told_of, taken_row, oldest_row, answer_at, answer_by, answer_row, next_by, next_row}
+use Rattle.p2p_log_rules.specs.TrackerRows.{answers, is_answer, was_answered, oldest_row, answer_at, answer_by, answer_row, next_by, next_row}
 use Rattle.p2p_net_queues.specs.declared.board.Board.{Board}
 use Rattle.p2p_net_queues.specs.Board.{held}
 use Rattle.p2p_net_queues.specs.Tables as table
 use Rattle.p2p_net_queues.proofs.Going.{line-kept}
 use Rattle.p2p_net_queues.proofs.Tables.{lookup-insert_entry}
-use Rattle.p2p_net_tracker.specs.declared.question.Question.{Question}
 use Rattle.p2p_net_tracker.specs.declared.question.Question.TheVariants as question
 use Rattle.p2p_net_tracker.specs.declared.tracker.Tracker.{Tracker}
 use Rattle.p2p_net_tracker.specs.Reading.{read_first, Pops, ReadsFrom, OnlyAnswers, noted, ReadsAnswerBy, ReadsAnswer, AnswersBy, Answers, ContinuesBy, Continues}

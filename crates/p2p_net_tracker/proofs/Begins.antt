@@ -1,31 +1,26 @@
 -- A new tracker stands for no entry, and what waits for one that stands may be taken.
-use Rattle.std.proofs.Common.{◌≡◌, ℕ, Bool, true, false, List, [], ◌∷◌, map, length, refl, ap, sym, subst, ◌∙◌, Option, Some, None}
+use Rattle.std.proofs.Common.{◌≡◌, ℕ, false, List, [], ◌∷◌, map, length, refl, ap, sym, subst, ◌∙◌, Option, Some, None}
 use Rattle.std.specs.Prelude.{slice_get, IfSome}
 use Rattle.p2p_base.specs.declared.key.Key.{Key}
-use Rattle.p2p_tracker_calls.specs.declared.call.Call.{Call}
 use Rattle.p2p_tracker_calls.specs.Keeping.{kept_of}
 use Rattle.p2p_tracker_directory.specs.Stands.{Kept, StandsFor}
 use Rattle.p2p_tracker_mailbox.specs.Desk.{next_message}
-use Rattle.p2p_tracker_mailbox.specs.Mailboxes.{new_mailbox}
 use Rattle.p2p_tracker_mailbox.specs.declared.message.Message.{Message}
 use Rattle.p2p_tracker.specs.Following.{Follows}
 use Rattle.p2p_tracker.specs.Serving.{MayTake}
-use Rattle.p2p_tracker.specs.Tracking.{Tracking, new_tracking}
+use Rattle.p2p_tracker.specs.Tracking.{Tracking}
 use Rattle.p2p_tracker_mailbox.specs.declared.mailbox.Mailbox.{Mailbox}
 use Rattle.p2p_tracker_calls.specs.Rules.{Rules}
 use Rattle.p2p_net_tracker.specs.declared.naming.Tickets.{Tickets}
 use Rattle.p2p_log.specs.declared.config.Config.{Config}
 use Rattle.p2p_log.specs.declared.queue.Queue.{Queue}
 use Rattle.p2p_log.specs.declared.queue.Queue.TheVariants as queue
-use Rattle.p2p_log.specs.declared.item.Item.{Item}
-use Rattle.p2p_log.specs.declared.item.Item.TheVariants as item
 use Rattle.p2p_log.specs.declared.item.Envelope.{Envelope}
 use Rattle.p2p_log.specs.declared.entry.Entry.{Entry}
 use Rattle.p2p_log.specs.Lines.{name_of, live_from, line}
-use Rattle.p2p_log_rules.specs.Facts.{history_from, key_at}
-use Rattle.p2p_log_rules.specs.Rows.{mailbox_size_at}
+use Rattle.p2p_log_rules.specs.Facts.{history_from}
 use Rattle.p2p_log_rules.specs.Tracking.{key_cmp, rules_of, no_rules, rules_at, calls_from, calls_of, update_subscriptions, blocked_subscriptions}
-use Rattle.p2p_log_rules.specs.TrackerRows.{most_peers_at, was_answered}
+use Rattle.p2p_log_rules.specs.TrackerRows.{was_answered}
 use Rattle.p2p_net_queues.specs.Board.{held}
 use Rattle.p2p_net_queues.specs.Tables as table
 use Rattle.p2p_net_tracker.specs.declared.tracker.Tracker.{Tracker}

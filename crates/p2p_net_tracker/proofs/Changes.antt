@@ -1,6 +1,6 @@
 -- A node's tracker after one more entry: one that leaves it alone, one that asks it, and one that reads what it told.
-use Rattle.std.proofs.Common.{◌≡◌, ℕ, ◌+◌, Bool, true, false, cond, List, [], ◌∷◌, ◌++◌, map, drop, length, Option, Some, None, refl, ap, sym, subst, ◌∙◌, arith, append-nil, eq-eqb}
-use Rattle.std.specs.Prelude.{◌==◌, filter, flat_map, slice_get, is_some, if◌then◌else◌}
+use Rattle.std.proofs.Common.{◌≡◌, ℕ, ◌+◌, Bool, true, false, cond, List, [], ◌∷◌, ◌++◌, map, drop, length, Option, Some, None, refl, ap, sym, subst, ◌∙◌, append-nil, eq-eqb}
+use Rattle.std.specs.Prelude.{filter, flat_map, slice_get, is_some, if◌then◌else◌}
 use Rattle.std.proofs.lemmas.List.{map-append}
 use Rattle.p2p_base.specs.declared.key.Key.{Key}
 use Rattle.p2p_base.specs.declared.policy.Keep.TheVariants.{Append}
@@ -22,7 +22,7 @@ use Rattle.p2p_log.specs.QueueCode.{same_queue}
 use Rattle.p2p_log.specs.Lines.{name_of, ended_item, goes, line, placed, stands_in}
 use Rattle.p2p_log.proofs.Queues.{same_queue-refl}
 use Rattle.p2p_log.proofs.QueueNames.{queue_from_same}
-use Rattle.p2p_log_rules.specs.Tracking.{key_cmp, asked_by, steps_tracker, calls_of, update_subscriptions, blocked_subscriptions}
+use Rattle.p2p_log_rules.specs.Tracking.{key_cmp, asked_by, steps_tracker, update_subscriptions, blocked_subscriptions}
 use Rattle.p2p_net_queues.specs.Board.{held}
 use Rattle.p2p_net_queues.proofs.Going.{put_in, line-kept, line-taken}
 use Rattle.p2p_net_queues.proofs.Holding.{TakesFirst}
@@ -34,7 +34,7 @@ use Rattle.p2p_net_tracker.specs.declared.question.Question.{Question}
 use Rattle.p2p_net_tracker.specs.declared.question.Question.TheVariants as question
 use Rattle.p2p_net_tracker.specs.Stands.{asks_of, asks_at, AreFresh, is_told, Match, IsTicket, kind_of, HasTicket, Says, IsMessage, IsAnswer, TrackerStands, LeavesTracker}
 use Rattle.p2p_net_tracker.proofs.Facts.{asks_at-kept, fresh-longer, was_answered-kept, calls-kept, update_subscriptions-kept, blocked_subscriptions-kept, asked_by-longer}
-use Rattle.p2p_net_tracker.proofs.Matching.{Match-weaker, Match-last, slice_get-longer, slice_get-last}
+use Rattle.p2p_net_tracker.proofs.Matching.{Match-weaker, Match-last, slice_get-last}
 
 -- the tickets are these, and some more
 pub record AreMore (old new : Tickets) : Type 0 where

@@ -1,11 +1,9 @@
 -- A node's dialer takes an answer, or none, and asks something, or nothing: the tracker stands for the log with that entry.
-use Rattle.std.proofs.Common.{◌≡◌, ℕ, Bool, true, false, cond, List, [], ◌∷◌, ◌++◌, map, drop, length, refl, ap, sym, subst, ◌∙◌, append-nil, eq-eqb, Option, Some, None}
-use Rattle.std.specs.Prelude.{filter, slice_get, ◌&&◌, if◌then◌else◌}
+use Rattle.std.proofs.Common.{◌≡◌, ℕ, Bool, true, false, cond, List, [], ◌∷◌, ◌++◌, map, drop, length, refl, ap, sym, subst, ◌∙◌, append-nil, eq-eqb, None}
+use Rattle.std.specs.Prelude.{filter, ◌&&◌, if◌then◌else◌}
 use Rattle.std.proofs.lemmas.List.{map-append}
 use Rattle.p2p_base.specs.declared.key.Key.{Key}
 use Rattle.p2p_tracker.specs.Following.{Follows}
-use Rattle.p2p_tracker_mailbox.specs.Desk.{Desk}
-use Rattle.p2p_tracker_mailbox.specs.declared.answer.DialerAnswer.{DialerAnswer}
 use Rattle.p2p_tracker_mailbox.specs.declared.message.Message.{Message}
 use Rattle.p2p_log.specs.declared.config.Config.{Config}
 use Rattle.p2p_log.specs.declared.queue.Queue.{Queue}
@@ -17,13 +15,13 @@ use Rattle.p2p_log.specs.Lines.{name_of, goes, line, live, stays, stands_in}
 use Rattle.p2p_log.proofs.Names.{AreApart-live_from, filter_stays-first}
 use Rattle.p2p_log.proofs.QueueNames.{queue_from_same}
 use Rattle.p2p_log.proofs.Queues.{same_queue-refl}
-use Rattle.p2p_log_rules.specs.Tracking.{key_cmp, steps_tracker, calls_of, update_subscriptions, blocked_subscriptions}
+use Rattle.p2p_log_rules.specs.Tracking.{key_cmp, steps_tracker}
 use Rattle.p2p_log_rules.specs.TrackerRows.{answers}
 use Rattle.p2p_net_queues.specs.Board.{held}
 use Rattle.p2p_net_queues.proofs.Going.{put_in, line-append}
 use Rattle.p2p_net_tracker.specs.declared.tracker.Tracker.{Tracker}
 use Rattle.p2p_net_tracker.specs.Stands.{asks_of, is_told, Match, IsTicket, IsMessage, IsAnswer, TrackerStands}
-use Rattle.p2p_net_tracker.proofs.Changes.{same_tickets, IsMessage-longer, told_apart}
+use Rattle.p2p_net_tracker.proofs.Changes.{same_tickets, IsMessage-longer}
 use Rattle.p2p_net_tracker.proofs.Facts.{asks_at-kept, fresh-longer, was_answered-kept, calls-kept, update_subscriptions-kept, blocked_subscriptions-kept}
 use Rattle.p2p_net_tracker.proofs.Matching.{Match-append, Match-drop, Match-weaker}
 use Rattle.p2p_net_tracker.proofs.ToldLines.{away_none}

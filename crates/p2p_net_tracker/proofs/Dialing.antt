@@ -1,5 +1,5 @@
 -- What a node's tracker answers the dialer.
-use Rattle.std.proofs.Common.{◌≡◌, ℕ, ◌+◌, Bool, true, false, cond, List, [], ◌∷◌, ◌++◌, refl, ap, sym, subst, ◌∙◌, append_assoc, append-nil}
+use Rattle.std.proofs.Common.{◌≡◌, ℕ, ◌+◌, cond, List, [], ◌∷◌, ◌++◌, refl, sym, subst, ◌∙◌, append_assoc, append-nil}
 use Rattle.std.specs.Prelude.{filter}
 use Rattle.p2p_base.specs.declared.key.Key.{Key}
 use Rattle.p2p_tracker_mailbox.specs.declared.answer.DialerAnswer.{DialerAnswer}
@@ -16,7 +16,7 @@ use Rattle.p2p_log.specs.declared.item.Envelope.{Envelope}
 use Rattle.p2p_log.specs.Lines.{placed, stands_in}
 use Rattle.p2p_log.proofs.Queues.{same_queue-refl}
 use Rattle.p2p_net_tracker.specs.declared.naming.Tickets.{Tickets}
-use Rattle.p2p_net_tracker.specs.Naming.{named_put, named_puts, grant_of}
+use Rattle.p2p_net_tracker.specs.Naming.{named_puts, grant_of}
 use Rattle.p2p_net_tracker.specs.Stands.{Match, IsAnswer}
 
 -- what the dialer is answered, of what was put

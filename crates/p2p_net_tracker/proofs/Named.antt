@@ -1,7 +1,6 @@
 -- What the tracker put, as items in queues, is what the log says of the message that it took.
-use Rattle.std.proofs.Common.{◌≡◌, ℕ, Bool, true, false, cond, List, [], ◌∷◌, ◌++◌, map, refl, ap, sym, ◌∙◌, append_assoc, append-nil, Option, Some, None}
-use Rattle.std.specs.Prelude.{flat_map, slice_get, slice_set, slice_index_or}
-use Rattle.std.specs.Map.{lookup}
+use Rattle.std.proofs.Common.{◌≡◌, ℕ, Bool, true, false, cond, List, [], ◌∷◌, ◌++◌, map, refl, ap, sym, ◌∙◌, Option, Some, None}
+use Rattle.std.specs.Prelude.{flat_map, slice_set}
 use Rattle.std.specs.Option.{option_map}
 use Rattle.p2p_base.specs.declared.key.Key.{Key}
 use Rattle.p2p_address.specs.declared.ip.IpAddr.{IpAddr}
@@ -13,7 +12,6 @@ use Rattle.p2p_tracker_calls.specs.declared.call.Call.TheVariants as call
 use Rattle.p2p_tracker_calls.specs.Allows.{allows_dial}
 use Rattle.p2p_tracker_calls.specs.BlockedKeys.{blocked_keys}
 use Rattle.p2p_tracker_calls.specs.Blocks.{is_blockable}
-use Rattle.p2p_tracker_calls.specs.Heard.{heard_addresses}
 use Rattle.p2p_tracker_calls.specs.Keeping.{kept_of}
 use Rattle.p2p_tracker_calls.specs.Kills.{killed_keys}
 use Rattle.p2p_tracker_calls.specs.Lives.{address_of, is_overwritten}
@@ -23,12 +21,10 @@ use Rattle.p2p_tracker_calls.specs.Rules.{Rules}
 use Rattle.p2p_tracker_calls.specs.Sets.{is_above, accepted_sets}
 use Rattle.p2p_tracker_directory.specs.declared.metadata.Metadata.TheVariants as side
 use Rattle.p2p_tracker_mailbox.specs.declared.message.Message.{Message}
-use Rattle.p2p_tracker_mailbox.specs.declared.message.Message.TheVariants as message
 use Rattle.p2p_tracker.specs.Putting.{kills_of, overwrite_kills}
 use Rattle.p2p_tracker.specs.Steps.{heard_put, registered, blocked, unblocked, puts_for}
 use Rattle.p2p_tracker.specs.Telling.{has_any, kill_put, updates_put, told_of_sets, sets_put}
 use Rattle.p2p_tracker.specs.declared.stepped.Put.{Put}
-use Rattle.p2p_tracker.specs.declared.stepped.Put.TheVariants as put
 use Rattle.p2p_log.specs.declared.queue.Queue.{Queue}
 use Rattle.p2p_log.specs.declared.queue.Queue.TheVariants as queue
 use Rattle.p2p_log.specs.declared.item.Item.{Item}
@@ -40,7 +36,7 @@ use Rattle.p2p_log.specs.declared.event.Act.TheVariants as act
 use Rattle.p2p_log_rules.specs.Tracking.{key_cmp}
 use Rattle.p2p_log_rules.specs.TrackerPuts as puts
 use Rattle.p2p_net_tracker.specs.declared.naming.Tickets.{Tickets}
-use Rattle.p2p_net_tracker.specs.Naming.{event_at, named_put, before, named_puts, grant_of}
+use Rattle.p2p_net_tracker.specs.Naming.{named_put, before, named_puts, grant_of}
 use Rattle.p2p_net_tracker.specs.Stands.{Match, IsTicket, Says, IsMessage}
 use Rattle.p2p_net_tracker.proofs.Matching.{slice_index-get}
 

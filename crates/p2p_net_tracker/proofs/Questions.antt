@@ -1,23 +1,19 @@
 -- A node's tracker is asked: the row is the log's, and it stands for the log with that entry.
-use Rattle.std.proofs.Common.{◌≡◌, ℕ, suc, ◌+◌, ◌≤◌, Bool, true, false, cond, List, [], ◌∷◌, ◌++◌, length, refl, ap, sym, subst, ◌∙◌, arith, eq-eqb, length-append, Option, Some, None}
+use Rattle.std.proofs.Common.{◌≡◌, ℕ, ◌+◌, ◌≤◌, Bool, true, false, cond, List, [], ◌∷◌, ◌++◌, length, refl, ap, sym, subst, ◌∙◌, arith, eq-eqb, length-append, Some, None}
 use Rattle.std.specs.Prelude.{slice_get, nat_lt, is_some, ◌==◌, if◌then◌else◌}
 use Rattle.std.specs.Map.{keys_of}
 use Rattle.std.specs.BTreeMap.{is_at, insert_entry}
 use Rattle.std.specs.Ordering.{nat_cmp}
 use Rattle.std.proofs.lemmas.Bool.Decides.{nat_tests}
 use Rattle.p2p_base.specs.declared.key.Key.{Key}
-use Rattle.p2p_base.specs.declared.outcome.Feedback.{Feedback}
 use Rattle.p2p_base.specs.declared.outcome.Feedback.TheVariants as feedback
-use Rattle.p2p_address.specs.declared.peer.Address.{Address}
 use Rattle.p2p_flow.specs.SetSize.{set_size}
 use Rattle.p2p_flow.specs.declared.addressable.AddressableTrackedPeers.{AddressableTrackedPeers}
-use Rattle.p2p_tracker_mailbox.specs.Desk.{Desk, told_of, with_message, asked, subscribed, blocked_subscribed}
-use Rattle.p2p_tracker_mailbox.specs.Mailboxes.{with_desk}
+use Rattle.p2p_tracker_mailbox.specs.Desk.{told_of, with_message, asked, subscribed, blocked_subscribed}
 use Rattle.p2p_tracker_mailbox.specs.declared.message.Message.{Message}
 use Rattle.p2p_tracker_mailbox.specs.declared.message.Message.TheVariants as message
 use Rattle.p2p_log.specs.declared.config.Config.{Config}
 use Rattle.p2p_log.specs.declared.queue.Queue.TheVariants as queue
-use Rattle.p2p_log.specs.declared.item.Envelope.{Envelope}
 use Rattle.p2p_log.specs.declared.entry.Entry.{Entry}
 use Rattle.p2p_log.specs.declared.entry.Reply.TheVariants as reply
 use Rattle.p2p_log.specs.declared.asked.Asked.{Asked}
@@ -27,10 +23,9 @@ use Rattle.p2p_log.specs.declared.event.Act.TheVariants as act
 use Rattle.p2p_log.specs.Lines.{line}
 use Rattle.p2p_log_rules.specs.declared.row.Row.{Row}
 use Rattle.p2p_log_rules.specs.Effect.{entry_of}
-use Rattle.p2p_log_rules.specs.Facts.{key_at}
 use Rattle.p2p_log_rules.specs.Rows.{only, mailbox_size_at}
 use Rattle.p2p_log_rules.specs.Tracking.{key_cmp, steps_tracker}
-use Rattle.p2p_log_rules.specs.TrackerRows.{answers, was_answered, told_by, asked_row, most_peers_at, size_at, track_row, ask_row}
+use Rattle.p2p_log_rules.specs.TrackerRows.{answers, was_answered, asked_row, most_peers_at, size_at, track_row, ask_row}
 use Rattle.p2p_net_queues.specs.Board.{held}
 use Rattle.p2p_net_queues.specs.Tables as table
 use Rattle.p2p_net_queues.proofs.Tables.{lookup-insert_entry}
@@ -41,7 +36,7 @@ use Rattle.p2p_net_tracker.specs.declared.tracker.Tracker.{Tracker}
 use Rattle.p2p_net_tracker.specs.Asking.{asking_row, asks_for, with_question, with_updates, with_blocked, size_by, track_answer, tracked_by, message_of, ask_answer, after_asking}
 use Rattle.p2p_net_tracker.specs.Stands.{kind_of, asks_of, asks_at, Says, TrackerStands}
 use Rattle.p2p_net_tracker.proofs.Answering.{still_stands}
-use Rattle.p2p_net_tracker.proofs.Changes.{AreMore, same_tickets, Asks, tracker_asked}
+use Rattle.p2p_net_tracker.proofs.Changes.{same_tickets, Asks, tracker_asked}
 use Rattle.p2p_net_tracker.proofs.Facts.{asks_at-longer, asks_at-kept}
 use Rattle.p2p_net_tracker.proofs.Matching.{Match-long, slice_get-longer, slice_get-last}
 

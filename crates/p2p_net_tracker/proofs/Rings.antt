@@ -1,11 +1,10 @@
 -- What rings lose: the queues of a board beside the items of a log.
-use Rattle.std.proofs.Common.{◌≡◌, ℕ, ◌+◌, Bool, true, false, cond, List, [], ◌∷◌, ◌++◌, map, take, drop, refl, ap, sym, subst, ◌∙◌, arith, append_assoc, append-nil, drop-drop, Option, Some, None}
-use Rattle.std.specs.Prelude.{filter, flat_map, count_by, slice_get, if◌then◌else◌}
+use Rattle.std.proofs.Common.{◌≡◌, ℕ, ◌+◌, Bool, true, false, cond, List, [], ◌∷◌, ◌++◌, drop, refl, ap, sym, ◌∙◌, arith, append_assoc, append-nil, drop-drop}
+use Rattle.std.specs.Prelude.{filter, flat_map, count_by, if◌then◌else◌}
 use Rattle.std.proofs.lemmas.List.Sums.{sum_by-append, sum_by-cons}
 use Rattle.p2p_log.specs.declared.queue.Queue.{Queue}
 use Rattle.p2p_log.specs.declared.queue.Queue.TheVariants as queue
 use Rattle.p2p_log.specs.declared.item.Envelope.{Envelope}
-use Rattle.p2p_log.specs.declared.end.End.{End}
 use Rattle.p2p_log.specs.QueueCode.{same_queue}
 use Rattle.p2p_log.specs.declared.item.Item.{Item}
 use Rattle.p2p_log.specs.Lines.{stands_in, stays, ended_item, placed}
@@ -20,7 +19,7 @@ use Rattle.p2p_log.proofs.Lines.{filter_stays-nil, filter_stays-append}
 use Rattle.p2p_log.proofs.Names.{AreApart-filter, filter_stays-first}
 use Rattle.p2p_log.proofs.QueueNames.{queue_from_same}
 use Rattle.std.proofs.lemmas.Grind.{flat_map-append}
-use Rattle.p2p_net_tracker.specs.Telling.{is_ring, lost, name_first}
+use Rattle.p2p_net_tracker.specs.Telling.{is_ring, lost}
 
 -- whether a queue is this one
 abbrev pub is_same : Queue → Queue → Bool

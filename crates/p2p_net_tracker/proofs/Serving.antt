@@ -24,7 +24,7 @@ use Rattle.p2p_log.specs.declared.asked.Asked.{Asked}
 use Rattle.p2p_log.specs.declared.asked.Asked.TheVariants as ask
 use Rattle.p2p_log.specs.declared.event.Act.{Act}
 use Rattle.p2p_log.specs.declared.event.Act.TheVariants as act
-use Rattle.p2p_log_rules.specs.Tracking.{key_cmp, asked_by, asked_calls, item_calls, grants_dial, call_where, subscribes, subscribes_blocked}
+use Rattle.p2p_log_rules.specs.Tracking.{key_cmp, asked_calls, item_calls, grants_dial, call_where, subscribes, subscribes_blocked}
 use Rattle.p2p_log_rules.specs.TrackerPuts as puts
 use Rattle.p2p_log_rules.specs.TrackerPuts.{dial_grant}
 use Rattle.p2p_net_tracker.specs.Asking.{message_of}

@@ -1,7 +1,7 @@
 -- A step of a node's tracker: its row is the log's, and it stands for the log with that entry.
-use Rattle.std.proofs.Common.{◌≡◌, ℕ, ◌+◌, Bool, true, false, cond, List, [], ◌∷◌, ◌++◌, map, drop, length, refl, ap, sym, subst, ◌∙◌, arith, eq-eqb, append-nil, Option, Some, None}
+use Rattle.std.proofs.Common.{◌≡◌, ℕ, ◌+◌, Bool, true, false, cond, List, [], ◌∷◌, ◌++◌, map, drop, length, refl, ap, sym, subst, ◌∙◌, arith, eq-eqb, append-nil, Option, Some}
 use Rattle.std.specs.Prelude.{filter, flat_map, slice_get}
-use Rattle.std.specs.List.{list_any, AllByRecursion as Each}
+use Rattle.std.specs.List.{list_any}
 use Rattle.std.specs.BTreeMap.{is_at}
 use Rattle.std.specs.Ordering.{nat_cmp}
 use Rattle.std.proofs.lemmas.Bool.Decides.{nat_tests}
@@ -18,8 +18,7 @@ use Rattle.p2p_tracker_mailbox.specs.Mailboxes.{runs_in}
 use Rattle.p2p_tracker_mailbox.specs.declared.mailbox.Mailbox.{Mailbox}
 use Rattle.p2p_tracker_mailbox.specs.declared.message.Message.{Message}
 use Rattle.p2p_tracker.specs.Following.{Follows}
-use Rattle.p2p_tracker.specs.Putting as putting
-use Rattle.p2p_tracker.specs.Serving.{calls_by, left_in, puts_of}
+use Rattle.p2p_tracker.specs.Serving.{calls_by, left_in}
 use Rattle.p2p_tracker.specs.Steps.{unblocked, puts_for, stepped_of, taken_or_idle, by_step, updates_for, sets_for}
 use Rattle.p2p_tracker.specs.Telling.{has_any, after_puts}
 use Rattle.p2p_tracker.specs.declared.stepped.Put.{Put}
@@ -29,39 +28,35 @@ use Rattle.p2p_log.specs.declared.config.Config.{Config}
 use Rattle.p2p_log.specs.declared.queue.Queue.{Queue}
 use Rattle.p2p_log.specs.declared.queue.Queue.TheVariants as queue
 use Rattle.p2p_log.specs.declared.item.Item.{Item}
-use Rattle.p2p_log.specs.declared.item.Item.TheVariants as item
 use Rattle.p2p_log.specs.declared.item.Envelope.{Envelope}
 use Rattle.p2p_log.specs.declared.entry.Entry.{Entry}
-use Rattle.p2p_log.specs.declared.entry.Reply.{Reply}
 use Rattle.p2p_log.specs.declared.entry.Reply.TheVariants as reply
-use Rattle.p2p_log.specs.declared.event.Event.{Event}
-use Rattle.p2p_log.specs.declared.event.Act.{Act}
 use Rattle.p2p_log.specs.declared.event.Act.TheVariants as act
 use Rattle.p2p_log.specs.Lines.{name_of, ended_item, goes, stays, live, line, placed, stands_in}
 use Rattle.p2p_log_rules.specs.declared.row.Row.{Row}
 use Rattle.p2p_log_rules.specs.Facts.{taken, item_named}
 use Rattle.p2p_log_rules.specs.Effect.{entry_of}
-use Rattle.p2p_log_rules.specs.Rows.{only, ring_ends}
-use Rattle.p2p_log_rules.specs.Tracking.{key_cmp, rules_at, asked_by, steps_tracker, item_calls, step_calls, grants_dial, call_where, asked_calls, calls_of, subscribes, subscribes_blocked, update_subscriptions, blocked_subscriptions}
+use Rattle.p2p_log_rules.specs.Rows.{only}
+use Rattle.p2p_log_rules.specs.Tracking.{key_cmp, rules_at, item_calls, step_calls, grants_dial, call_where, calls_of, subscribes, subscribes_blocked, update_subscriptions, blocked_subscriptions}
 use Rattle.p2p_log_rules.specs.TrackerPuts as puts
 use Rattle.p2p_log_rules.specs.TrackerRows.{rings_of, told_row, served_row, tracker_step}
 use Rattle.p2p_log_rules.proofs.Recorded.{item_named-first}
 use Rattle.p2p_net_queues.specs.Board.{held}
 use Rattle.p2p_net_queues.specs.Rows.{taken_row}
-use Rattle.p2p_net_queues.proofs.Going.{put_in, line-kept}
+use Rattle.p2p_net_queues.proofs.Going.{line-kept}
 use Rattle.p2p_net_tracker.specs.declared.tracker.Tracker.{Tracker}
 use Rattle.p2p_net_tracker.specs.Naming.{named_puts}
 use Rattle.p2p_net_tracker.specs.Telling.{lost, told_in, told_to}
-use Rattle.p2p_net_tracker.specs.Stepping.{ActorSteps, Tells, TellsNothing, TellsFor, TellsBy, Steps}
+use Rattle.p2p_net_tracker.specs.Stepping.{ActorSteps, Tells, TellsFor, TellsBy, Steps}
 use Rattle.p2p_net_tracker.specs.Stands.{is_told, Match, IsTicket, IsMessage, IsAnswer, TrackerStands}
 use Rattle.p2p_net_tracker.proofs.Changes.{same_tickets, IsMessage-longer}
 use Rattle.p2p_net_tracker.proofs.Desk.{LeavesDesk, all_left}
 use Rattle.p2p_net_tracker.proofs.Dialing.{answers_in, answers-after, answers-named}
 use Rattle.p2p_net_tracker.proofs.Facts.{asks_at-kept, fresh-longer, was_answered-kept, calls_of-append, update_subscriptions-append, blocked_subscriptions-append}
-use Rattle.p2p_net_tracker.proofs.Matching.{Match-append, Match-weaker, Match-rest}
+use Rattle.p2p_net_tracker.proofs.Matching.{Match-append, Match-weaker}
 use Rattle.p2p_net_tracker.proofs.Named.{has_any-is, named-unblocked, named-item}
 use Rattle.p2p_net_tracker.proofs.Serving.{item-calls, item-updates, item-sets}
-use Rattle.p2p_net_tracker.proofs.ToldLines.{IsTold, named-each, Told, holds_told, mailbox-told, dialer-told, lost_is, away_none, away_first, mailbox_first}
+use Rattle.p2p_net_tracker.proofs.ToldLines.{named-each, Told, holds_told, mailbox-told, dialer-told, lost_is, away_none, away_first, mailbox_first}
 
 pub equal_keys : EqualKeysAreOne key_cmp
 equal_keys p q h = ap (λ n. record { 0 = n }) (same p.0 q.0 h)

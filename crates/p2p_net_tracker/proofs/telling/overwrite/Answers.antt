@@ -1,4 +1,4 @@
-use Rattle.std.proofs.Common.{◌≡◌, ◌+◌, [], ◌∷◌, ◌++◌, List, get_or, take, drop, ap, sym, subst, ◌∙◌, append-nil, refl}
+use Rattle.std.proofs.Common.{◌≡◌, ◌+◌, [], ◌∷◌, ◌++◌, List, take, drop, ap, sym, subst, ◌∙◌, append-nil, refl}
 use Rattle.std.specs.Prelude.{count_by}
 use Rattle.std.proofs.lemmas.List.{take_more, take_all}
 use Rattle.p2p_log.specs.declared.queue.Queue.{Queue}
