@@ -2,7 +2,7 @@
 use p2p_address::{Address, Ingress, IpAddr, SocketAddr};
 use p2p_base::{Key, Map, Text};
 use p2p_flow::AddressableTrackedPeers;
-use p2p_log::{Act, Asked, Config, Event, Rate};
+use p2p_log::{Act, Asked, Config, Event};
 use p2p_sim_script::{ScriptError, read_script};
 use serde_json::Value;
 use std::alloc::Global;
@@ -361,21 +361,19 @@ fn are_given(configs: &[Config]) -> bool {
             .all(|(config, due)| given(config) == *due)
 }
 
-// What it gives of dials and handshakes.
-type Dials = (u32, [(u32, u64); 2], [u64; 3]);
-
-fn pair(rate: Rate) -> (u32, u64) {
-    (rate.burst, rate.period)
-}
+// What it gives of dials and handshakes: how many run at a time, the bursts of both rates, and their periods with the times.
+type Dials = (u32, [u32; 2], [u64; 5]);
 
 fn dials(config: &Config) -> Dials {
     (
         config.max_concurrent_handshakes,
         [
-            pair(config.allowed_handshake_rate_per_ip),
-            pair(config.allowed_handshake_rate_per_subnet),
+            config.allowed_handshake_rate_per_ip.burst,
+            config.allowed_handshake_rate_per_subnet.burst,
         ],
         [
+            config.allowed_handshake_rate_per_ip.period,
+            config.allowed_handshake_rate_per_subnet.period,
             config.handshake_timeout,
             config.dial_timeout,
             config.dial_frequency,
@@ -386,18 +384,36 @@ fn dials(config: &Config) -> Dials {
 const DIALS: &[Dials] = &[
     (
         1024,
-        [(16, 62_500_000), (128, 7_812_500)],
-        [5_000_000_000, 15_000_000_000, 500_000_000],
+        [16, 128],
+        [
+            62_500_000,
+            7_812_500,
+            5_000_000_000,
+            15_000_000_000,
+            500_000_000,
+        ],
     ),
     (
         512,
-        [(1, 5_000_000_000), (64, 15_625_000)],
-        [5_000_000_000, 15_000_000_000, 1_000_000_000],
+        [1, 64],
+        [
+            5_000_000_000,
+            15_625_000,
+            5_000_000_000,
+            15_000_000_000,
+            1_000_000_000,
+        ],
     ),
     (
         4_294_967_295,
-        [(2, 11), (4_294_967_294, 18_446_744_073_709_551_614)],
-        [0, 18_446_744_073_709_551_613, 12],
+        [2, 4_294_967_294],
+        [
+            11,
+            18_446_744_073_709_551_614,
+            0,
+            18_446_744_073_709_551_613,
+            12,
+        ],
     ),
 ];
 
