@@ -84,10 +84,9 @@ impl Node {
         if !self.is_started() {
             return Ok(only(turn.alloc, Reply::Gone));
         }
-        match self
-            .dialing
-            .step(turn.entry, &mut self.tracker.mailbox, at, seed)?
-        {
+        let way = &mut self.tracker.mailbox;
+        let done = self.dialing.step(turn.entry, way, at, seed)?;
+        match done {
             None => Ok(only(turn.alloc, Reply::Idle)),
             Some(Dialed { took, asked }) => Ok(self.tracker.dialed(turn, took, asked)?),
         }
