@@ -157,7 +157,7 @@ AreDifferent [] = Unit {0}
 AreDifferent (q ∷ qs) = Each (λ p. same_queue q p ≡ false) qs × AreDifferent qs
 
 -- where a line goes, another stays
-other_left : (xs : List Envelope) (q p : Queue) → AreApart xs → same_queue q p ≡ false
+pub other_left : (xs : List Envelope) (q p : Queue) → AreApart xs → same_queue q p ≡ false
     → filter (stands_in p) (filter (stays (map name_of (filter (stands_in q) xs))) xs) ≡ filter (stands_in p) xs
 other_left xs q p apart differ =
     let line = filter (stands_in q) xs in

@@ -21,6 +21,7 @@ kind_of (queue.Control n e) = 11
 kind_of (queue.Answer n e) = 12
 kind_of (queue.Updates n e) = 13
 kind_of (queue.Blocked n e) = 14
+kind_of (queue.Attempt n e) = 15
 
 -- the node, or the link, that it belongs to
 abbrev pub owner_of : Queue → ℕ
@@ -38,8 +39,9 @@ owner_of (queue.Control n e) = n
 owner_of (queue.Answer n e) = n
 owner_of (queue.Updates n e) = n
 owner_of (queue.Blocked n e) = n
+owner_of (queue.Attempt n e) = n
 
--- its channel, connection or question, or 0 where it has none
+-- its channel, connection, question or attempt, or 0 where it has none
 abbrev pub detail_of : Queue → ℕ
 detail_of (queue.Router n) = 0
 detail_of (queue.Peers n c) = c
@@ -55,6 +57,7 @@ detail_of (queue.Control n e) = e
 detail_of (queue.Answer n e) = e
 detail_of (queue.Updates n e) = e
 detail_of (queue.Blocked n e) = e
+detail_of (queue.Attempt n e) = e
 
 -- whether two names are of one queue
 abbrev pub same_queue : Queue → Queue → Bool

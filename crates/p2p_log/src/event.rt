@@ -3,6 +3,7 @@ ghost use Rattle.std.specs.Prelude.{◌≡◌, IfOk};
 
 use crate::asked::Asked;
 use bytes::Bytes;
+use p2p_address::SocketAddr;
 use p2p_base::{Key, List};
 use std::alloc::{AllocError, Global};
 
@@ -86,6 +87,22 @@ pub enum Act {
     },
     /// One step of a node's dialer.
     Dialer {
+        node: u64,
+    },
+    /// One step of the attempt that a step of a node's dialer began.
+    Attempt {
+        attempt: u64,
+        node: u64,
+    },
+    /// Tells an attempt the addresses that its peer's name stands for.
+    Resolve {
+        addresses: List<SocketAddr>,
+        attempt: u64,
+        node: u64,
+    },
+    /// Tells an attempt that there is no link to its peer.
+    Refuse {
+        attempt: u64,
         node: u64,
     },
 }
@@ -177,6 +194,23 @@ impl Act {
             }),
             Act::Tracker { node } => Ok(Act::Tracker { node: *node }),
             Act::Dialer { node } => Ok(Act::Dialer { node: *node }),
+            Act::Attempt { attempt, node } => Ok(Act::Attempt {
+                attempt: *attempt,
+                node: *node,
+            }),
+            Act::Resolve {
+                addresses,
+                attempt,
+                node,
+            } => Ok(Act::Resolve {
+                addresses: addresses.try_clone(alloc)?,
+                attempt: *attempt,
+                node: *node,
+            }),
+            Act::Refuse { attempt, node } => Ok(Act::Refuse {
+                attempt: *attempt,
+                node: *node,
+            }),
         }
     }
 }

@@ -3,7 +3,7 @@ ghost use Rattle.std.specs.Prelude.{◌≡◌, IfOk};
 
 use crate::queue::Queue;
 use bytes::Bytes;
-use p2p_address::{Ingress, IpAddr};
+use p2p_address::{Ingress, IpAddr, SocketAddr};
 use p2p_base::{Key, List, Set};
 use p2p_flow::{PeerSetUpdate, TrackedPeers};
 use std::alloc::{AllocError, Global};
@@ -63,6 +63,10 @@ pub enum Item {
     },
     /// The peer that is reserved for a dial and where to dial it, or none where it is not.
     Dial(Option<(Key, Ingress)>),
+    /// To an attempt: the addresses that its peer's name stands for.
+    Resolved(List<SocketAddr>),
+    /// To an attempt: there is no link to its peer.
+    Refused,
     /// A connection is to end.
     Kill,
     /// The peers of the set that was asked for, or none where no set of that index is kept.
@@ -131,6 +135,8 @@ impl Item {
                 peers: peers.try_clone(alloc)?,
             }),
             Item::Dial(grant) => Ok(Item::Dial(clone_grant(alloc, grant)?)),
+            Item::Resolved(addresses) => Ok(Item::Resolved(addresses.try_clone(alloc)?)),
+            Item::Refused => Ok(Item::Refused),
             Item::Kill => Ok(Item::Kill),
             Item::PeerSet(peers) => Ok(Item::PeerSet(clone_peers(peers)?)),
             Item::Update(update) => Ok(Item::Update(update.try_clone()?)),

@@ -13,7 +13,7 @@ pub enum Side {
     In,
 }
 
-/// The name of a queue. Nodes, channels and connections are named by their numbers.
+/// The name of a queue. Nodes, channels, connections, questions and attempts are named by their numbers.
 #[derive(Clone, Copy, Debug)]
 pub enum Queue {
     /// The mailbox of a node's router.
@@ -36,6 +36,8 @@ pub enum Queue {
     Update(u64),
     /// What the tracker answered to a node's dialer.
     Dialer(u64),
+    /// What an attempt of a node's dialer is told.
+    Attempt { node: u64, attempt: u64 },
     /// What a connection of a node is told to do.
     Control { node: u64, conn: u64 },
     /// The answer to the question for a peer set that an event asked of a node.
@@ -70,6 +72,7 @@ impl Queue {
             Queue::Answer { .. } => 12,
             Queue::Updates { .. } => 13,
             Queue::Blocked { .. } => 14,
+            Queue::Attempt { .. } => 15,
         }
     }
 
@@ -92,10 +95,11 @@ impl Queue {
             Queue::Answer { node, .. } => node,
             Queue::Updates { node, .. } => node,
             Queue::Blocked { node, .. } => node,
+            Queue::Attempt { node, .. } => node,
         }
     }
 
-    /// The channel, the connection or the question of the queue, or 0 where it has none.
+    /// The channel, the connection, the question or the attempt of the queue, or 0 where it has none.
     pub fn detail(&self) -> u64
         ensures { result ≡ detail_of self.now }
     {
@@ -114,6 +118,7 @@ impl Queue {
             Queue::Answer { question, .. } => question,
             Queue::Updates { question, .. } => question,
             Queue::Blocked { question, .. } => question,
+            Queue::Attempt { attempt, .. } => attempt,
         }
     }
 }

@@ -1,3 +1,4 @@
+pub mod Attempts
 pub mod Facts
 pub mod Lawful
 pub mod Moves

@@ -79,6 +79,7 @@ reads configs log (act.Answer e) q = is_told_to (asked_by log e) e q
 reads configs log (act.Next e) q = is_told_to (asked_by log e) e q
 reads configs log (act.Tracker n) q = same_queue (queue.Tracker n) q
 reads configs log (act.Dialer n) q = same_queue (queue.Dialer n) q
+reads configs log (act.Attempt e n) q = same_queue (queue.Attempt n e) q
 reads configs log a q = elim (reading_of configs log a) [ None ↦ false | Some p ↦ same_queue p q ]
 
 -- the others in which it puts or ends something
@@ -92,6 +93,9 @@ writes configs log (act.RecvStep conn n) q = in_channels n q
 writes configs log (act.Ask what n) q = same_queue (queue.Tracker n) q
 writes configs log (act.Tracker n) q = in_tracker n q
 writes configs log (act.Dialer n) q = same_queue (queue.Tracker n) q
+writes configs log (act.Attempt e n) q = same_queue (queue.Tracker n) q || same_queue (queue.Attempt n e) q
+writes configs log (act.Resolve addresses e n) q = same_queue (queue.Attempt n e) q
+writes configs log (act.Refuse e n) q = same_queue (queue.Attempt n e) q
 writes configs log _ q = false
 
 pub Has-among : (qs : List Queue) (q : Queue) → Has qs q → is_among qs q ≡ true

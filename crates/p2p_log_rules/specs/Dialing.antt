@@ -1,7 +1,6 @@
 -- A node's dialer, by the log: whom it dials next and when, and the row of its step.
-use Rattle.std.specs.Prelude.{ℕ, ◌+◌, ◌-◌, Bool, true, false, ◌==◌, ◌&&◌, not, cond, nat_le, min, max, take, List, [], ◌∷◌, ◌++◌, length, Option, Some, None, unwrap_or, slice_get}
+use Rattle.std.specs.Prelude.{ℕ, ◌+◌, ◌-◌, Bool, true, false, ◌==◌, ◌&&◌, not, cond, nat_le, min, max, take, List, [], ◌∷◌, length, Option, Some, None, unwrap_or, slice_get}
 use Rattle.p2p_base.specs.declared.key.Key.{Key}
-use Rattle.p2p_address.specs.declared.peer.Ingress.{Ingress}
 use Rattle.p2p_runtime.specs.Draws.{seeded, shuffled}
 use Rattle.p2p_log.specs.declared.config.Config.{Config}
 use Rattle.p2p_log.specs.declared.queue.Queue.{Queue}
@@ -103,35 +102,6 @@ dials_by configs n before e d = acted_dials (pace_at configs n) n e.event.act e.
 
 unfoldable pub dials_of : List Config → List Entry → ℕ → Dials
 dials_of configs log n = state_from (dials_by configs n) [] log (new_dials 0)
-
--- ---- the attempts
-
--- who is reserved for an attempt, where it dials, and when it began
-pub record Begun : Type 0 where
-  pub key : Key
-  pub ingress : Ingress
-  pub at : ℕ
-
--- the attempt that is begun at this moment once these were taken: by a grant alone
-abbrev pub begun_of : ℕ → List Item → Option Begun
-begun_of at (item.Dial (Some grant) ∷ items) = Some (record { key = grant.0; ingress = grant.1; at = at })
-begun_of at _ = None
-
--- what an entry begins, given those before it
-abbrev pub begun_at : ℕ → List Entry → Entry → Option Begun
-begun_at n before e = cond (steps_dialer n e.event.act) (begun_of e.event.at (taken before e)) None
-
--- one more of this name, where it was begun
-abbrev pub with_begun : Option Begun → ℕ → (ℕ → Option Begun) → ℕ → Option Begun
-with_begun None name attempts k = attempts k
-with_begun (Some b) name attempts k = cond (k == name) (Some b) (attempts k)
-
-abbrev pub attempts_by : ℕ → List Entry → Entry → (ℕ → Option Begun) → ℕ → Option Begun
-attempts_by n before e attempts = with_begun (begun_at n before e) (length before) attempts
-
--- the attempts that the dialer of a node has begun, by the events that began them
-unfoldable pub attempts_of : List Entry → ℕ → ℕ → Option Begun
-attempts_of log n = state_from (attempts_by n) [] log (λ k. None)
 
 -- ---- its step
 

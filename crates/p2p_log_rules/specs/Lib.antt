@@ -1,3 +1,4 @@
+pub mod Attempting
 pub mod Dialing
 pub mod Effect
 pub mod Facts

@@ -66,6 +66,15 @@ joins_node n (Some v) = elim v.act [ act.Join a b ↦ (a == n) || (b == n) | _ �
 abbrev pub names_join : List Event → ℕ → ℕ → Bool
 names_join events n conn = joins_node n (slice_get events conn)
 
+-- whether an act is a step of the node's dialer
+abbrev pub dials_node : ℕ → Option Event → Bool
+dials_node n None = false
+dials_node n (Some v) = elim v.act [ act.Dialer m ↦ m == n | _ ↦ false ]
+
+-- whether an earlier event is a step of the node's dialer
+abbrev pub names_dialer : List Event → ℕ → ℕ → Bool
+names_dialer events n e = dials_node n (slice_get events e)
+
 -- a channel is registered once, before the start, and its capacity and their sum can be counted
 abbrev pub may_register : List Config → List Event → ℕ → ℕ → Rate → Bool
 may_register configs events c n rate =
@@ -112,6 +121,9 @@ may_act configs events (act.Answer e) = is_node configs (set_asked_of (slice_get
 may_act configs events (act.Next e) = is_node configs (subscribed_at (slice_get events e))
 may_act configs events (act.Tracker n) = nat_lt n (length configs)
 may_act configs events (act.Dialer n) = nat_lt n (length configs)
+may_act configs events (act.Attempt e n) = nat_lt n (length configs) && names_dialer events n e
+may_act configs events (act.Resolve addresses e n) = nat_lt n (length configs) && names_dialer events n e
+may_act configs events (act.Refuse e n) = nat_lt n (length configs) && names_dialer events n e
 
 -- moments never go back
 unfoldable pub is_valid_event : List Config → List Event → Event → Bool

@@ -1,0 +1,184 @@
+-- The attempts of a node's dialer, by the log, and the rows of what they are told and of their steps.
+use Rattle.std.specs.Prelude.{ℕ, ◌+◌, ◌-◌, Bool, true, false, ◌==◌, ◌||◌, cond, nat_le, List, [], ◌∷◌, map, filter, length, Option, Some, None, slice_get}
+use Rattle.std.specs.Option.{option_map}
+use Rattle.p2p_base.specs.declared.key.Key.{Key}
+use Rattle.p2p_address.specs.Addresses.{is_global}
+use Rattle.p2p_address.specs.declared.ip.SocketAddr.{SocketAddr}
+use Rattle.p2p_address.specs.declared.peer.Ingress.{Ingress}
+use Rattle.p2p_address.specs.declared.peer.Ingress.TheVariants as ingress
+use Rattle.p2p_runtime.specs.Draws.{seeded, drawn}
+use Rattle.p2p_log.specs.declared.config.Config.{Config}
+use Rattle.p2p_log.specs.declared.queue.Queue.TheVariants as queue
+use Rattle.p2p_log.specs.declared.item.Item.{Item}
+use Rattle.p2p_log.specs.declared.item.Item.TheVariants as item
+use Rattle.p2p_log.specs.declared.item.Envelope.{Envelope}
+use Rattle.p2p_log.specs.declared.end.End.{End}
+use Rattle.p2p_log.specs.declared.end.End.TheVariants as end
+use Rattle.p2p_log.specs.declared.entry.Entry.{Entry}
+use Rattle.p2p_log.specs.declared.entry.Reply.{Reply}
+use Rattle.p2p_log.specs.declared.entry.Reply.TheVariants as reply
+use Rattle.p2p_log.specs.declared.event.Act.{Act}
+use Rattle.p2p_log.specs.declared.event.Act.TheVariants as act
+use Rattle.p2p_log.specs.Lines.{name_of, line}
+use Rattle.p2p_log_rules.specs.declared.row.Row.{Row}
+use Rattle.p2p_log_rules.specs.Facts.{taken, state_from}
+use Rattle.p2p_log_rules.specs.Rows.{only}
+
+-- how long a dial may take, and whether it may reach addresses that aren't global
+pub record DialRules : Type 0 where
+  pub timeout : ℕ
+  pub private : Bool
+
+abbrev pub dial_rules_at : List Config → ℕ → DialRules
+dial_rules_at configs n = elim (slice_get configs n) [
+  | None ↦ record { timeout = 0; private = false }
+  | Some c ↦ record { timeout = c.dial_timeout; private = c.allow_private_ips }
+]
+
+-- an attempt that has not ended: who is reserved for it, and where it dials; the address that it dials, once there is one; the moment at
+-- which it gives up; and whether it was told addresses, and whether it was refused a link
+pub record Attempt : Type 0 where
+  pub key : Key
+  pub ingress : Ingress
+  pub address : Option SocketAddr
+  pub deadline : ℕ
+  pub is_resolved : Bool
+  pub is_refused : Bool
+
+-- the address of an ingress that needs no look-up
+abbrev pub socket_of : Ingress → Option SocketAddr
+socket_of (ingress.Socket s) = Some s
+socket_of (ingress.Dns host port) = None
+
+-- one of the addresses that may be dialed, which is drawn
+abbrev pub drawn_address : Bool → List SocketAddr → ℕ → Option SocketAddr
+drawn_address private addresses seed =
+    let allowed = filter (λ s. private || is_global s.ip) addresses in
+    slice_get allowed (drawn (length allowed - 1) (seeded seed)).0
+
+-- ---- what an entry makes of an attempt
+
+-- the attempt that is begun at this moment once these were taken: by a grant alone
+abbrev pub begun_of : ℕ → ℕ → List Item → Option Attempt
+begun_of timeout at (item.Dial (Some grant) ∷ items) = Some (record {
+  key = grant.0;
+  ingress = grant.1;
+  address = socket_of grant.1;
+  deadline = at + timeout;
+  is_resolved = false;
+  is_refused = false;
+})
+begun_of timeout at _ = None
+
+-- once it dials this address: without one it ends
+abbrev pub dialing : Option SocketAddr → Attempt → Option Attempt
+dialing None a = None
+dialing (Some s) a = Some (record a { address = Some s })
+
+-- once it was told these addresses: it keeps the one that it has
+abbrev pub resolved : Option SocketAddr → Bool → List SocketAddr → ℕ → Attempt → Option Attempt
+resolved (Some s) private addresses seed a = Some a
+resolved None private addresses seed a = dialing (drawn_address private addresses seed) a
+
+-- after its step of this reply, in which it took these: it ends by all but addresses
+abbrev pub stepped_attempt : Bool → ℕ → Reply → List Item → Attempt → Option Attempt
+stepped_attempt private seed reply.Ok (item.Resolved addresses ∷ items) a = resolved a.address private addresses seed a
+stepped_attempt private seed reply.Ok _ a = None
+stepped_attempt private seed _ items a = Some a
+
+abbrev pub told_addresses : Reply → Attempt → Attempt
+told_addresses reply.Ok a = record a { is_resolved = true }
+told_addresses _ a = a
+
+abbrev pub told_refused : Reply → Attempt → Attempt
+told_refused reply.Ok a = record a { is_refused = true }
+told_refused _ a = a
+
+-- the attempts with this one of this name in place of another, or without any
+abbrev pub with_attempt : ℕ → Option Attempt → (ℕ → Option Attempt) → ℕ → Option Attempt
+with_attempt name o attempts k = cond (k == name) o (attempts k)
+
+-- once the entry of this name may have begun one
+abbrev pub with_begun : Option Attempt → ℕ → (ℕ → Option Attempt) → ℕ → Option Attempt
+with_begun None name attempts k = attempts k
+with_begun (Some a) name attempts k = with_attempt name (Some a) attempts k
+
+-- what comes of an attempt, if there is one
+abbrev pub and_then : (Attempt → Option Attempt) → Option Attempt → Option Attempt
+and_then f None = None
+and_then f (Some a) = f a
+
+module _ (rules : DialRules) (n name : ℕ) (at seed : ℕ) (r : Reply) (items : List Item) where
+  -- after an act of this name at a moment, with this seed and reply, which took these
+  abbrev pub acted_attempts : Act → (ℕ → Option Attempt) → ℕ → Option Attempt
+  acted_attempts (act.Dialer m) attempts k = cond (m == n) (with_begun (begun_of rules.timeout at items) name attempts k) (attempts k)
+  acted_attempts (act.Attempt e m) attempts k =
+      cond (m == n) (with_attempt e (and_then (stepped_attempt rules.private seed r items) (attempts e)) attempts k) (attempts k)
+  acted_attempts (act.Resolve addresses e m) attempts k = cond (m == n) (with_attempt e (option_map (told_addresses r) (attempts e)) attempts k) (attempts k)
+  acted_attempts (act.Refuse e m) attempts k = cond (m == n) (with_attempt e (option_map (told_refused r) (attempts e)) attempts k) (attempts k)
+  acted_attempts _ attempts k = attempts k
+
+-- after an entry, given those before it
+abbrev pub attempts_by : List Config → ℕ → List Entry → Entry → (ℕ → Option Attempt) → ℕ → Option Attempt
+attempts_by configs n before e attempts =
+    acted_attempts (dial_rules_at configs n) n (length before) e.event.at e.event.seed e.reply (taken before e) e.event.act attempts
+
+-- the attempts of a node that have not ended, by the events that began them
+unfoldable pub attempts_of : List Config → List Entry → ℕ → ℕ → Option Attempt
+attempts_of configs log n = state_from (attempts_by configs n) [] log (λ k. None)
+
+-- ---- its step
+
+-- the ends of all that still waits for it
+abbrev pub left_ends : List Envelope → List End
+left_ends xs = map (λ x. end.Item x.entry x.place) xs
+
+-- it ends without a connection, once it took this: what waits for it ends, and its reservation is given back
+abbrev pub given_up_row : ℕ → Key → List (ℕ × ℕ) → List Envelope → Row
+given_up_row n key names left = record { reply = reply.Ok; takes = names; puts = (queue.Tracker n, item.Release key) ∷ []; ends = left_ends left }
+
+-- it goes on if anything is left of it
+abbrev pub resolved_row : Option Attempt → ℕ → Key → ℕ × ℕ → List Envelope → Row
+resolved_row None n key name left = given_up_row n key (name ∷ []) left
+resolved_row (Some a) n key name left = record { reply = reply.Ok; takes = name ∷ []; puts = []; ends = [] }
+
+-- by what it took
+abbrev pub took_row : ℕ → Bool → ℕ → Attempt → ℕ × ℕ → Item → List Envelope → Row
+took_row n private seed a name (item.Resolved addresses) left = resolved_row (resolved a.address private addresses seed a) n a.key name left
+took_row n private seed a name _ left = given_up_row n a.key (name ∷ []) left
+
+-- the oldest item, or else its deadline
+abbrev pub attempt_turn : ℕ → ℕ → ℕ → Bool → Attempt → List Envelope → Row
+attempt_turn n at seed private a [] = cond (nat_le a.deadline at) (given_up_row n a.key [] []) (only reply.Idle)
+attempt_turn n at seed private a (x ∷ xs) = took_row n private seed a (name_of x) x.item xs
+
+abbrev pub attempt_by : Option Attempt → ℕ → ℕ → ℕ → Bool → List Envelope → Row
+attempt_by None n at seed private waiting = only reply.Gone
+attempt_by (Some a) n at seed private waiting = attempt_turn n at seed private a waiting
+
+abbrev pub attempt_row : List Config → List Entry → ℕ → ℕ → ℕ → ℕ → Row
+attempt_row configs log e n at seed =
+    attempt_by (attempts_of configs log n e) n at seed (dial_rules_at configs n).private (line log (queue.Attempt n e))
+
+-- ---- what it is told
+
+abbrev pub told_row : ℕ → ℕ → Item → Row
+told_row e n i = record { reply = reply.Ok; takes = []; puts = (queue.Attempt n e, i) ∷ []; ends = [] }
+
+-- a name is looked up once
+abbrev pub resolve_by : Ingress → Bool → ℕ → ℕ → List SocketAddr → Row
+resolve_by (ingress.Dns host port) false e n addresses = told_row e n (item.Resolved addresses)
+resolve_by _ _ e n addresses = only reply.Gone
+
+abbrev pub resolve_row : List Config → List Entry → List SocketAddr → ℕ → ℕ → Row
+resolve_row configs log addresses e n =
+    elim (attempts_of configs log n e) [ None ↦ only reply.Gone | Some a ↦ resolve_by a.ingress a.is_resolved e n addresses ]
+
+-- a link is refused once there is an address, and once
+abbrev pub refuse_by : Option SocketAddr → Bool → ℕ → ℕ → Row
+refuse_by None refused e n = only reply.Pending
+refuse_by (Some s) true e n = only reply.Gone
+refuse_by (Some s) false e n = told_row e n item.Refused
+
+abbrev pub refuse_row : List Config → List Entry → ℕ → ℕ → Row
+refuse_row configs log e n = elim (attempts_of configs log n e) [ None ↦ only reply.Gone | Some a ↦ refuse_by a.address a.is_refused e n ]
