@@ -47,7 +47,7 @@ all_gone ys =
     filter-none (stays (map name_of ys)) ys
     (Each-from_has (λ (y : Envelope). stays (map name_of ys) y ≡ false) ys (λ y h. ap not (named_any (name_of y) ys y h refl)))
 
-line_gone : (xs : List Envelope) (q : Queue) → filter (stands_in q) (filter (stays (map name_of (filter (stands_in q) xs))) xs) ≡ []
+pub line_gone : (xs : List Envelope) (q : Queue) → filter (stands_in q) (filter (stays (map name_of (filter (stands_in q) xs))) xs) ≡ []
 line_gone xs q = filter-swap (stands_in q) (stays (map name_of (filter (stands_in q) xs))) xs ∙ all_gone (filter (stands_in q) xs)
 
 -- a queue in which nothing stands has nothing when more goes

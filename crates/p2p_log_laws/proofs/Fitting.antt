@@ -33,6 +33,8 @@ fits (queue.Tracker n) (item.Release key) = true
 fits (queue.Update n) (item.Addresses ips) = true
 fits (queue.Dialer n) (item.Dialable next peers) = true
 fits (queue.Dialer n) (item.Dial grant) = true
+fits (queue.Attempt n e) (item.Resolved addresses) = true
+fits (queue.Attempt n e) item.Refused = true
 fits (queue.Control n conn) item.Kill = true
 fits (queue.Answer n e) (item.PeerSet peers) = true
 fits (queue.Updates n e) (item.Update update) = true
@@ -59,7 +61,6 @@ is_idle (item.Content c frame priority send to) = false
 is_idle (item.Frame copy frame) = false
 is_idle (item.Message bytes copy from) = false
 is_idle (item.Connect conn key) = false
-is_idle (item.Release key) = false
 is_idle _ = true
 
 -- whether what a queue takes carries no copy

@@ -55,7 +55,6 @@ idle_marks all (item.Content c frame priority send to) q h = absurd (cc)
 idle_marks all (item.Frame copy frame) q h = absurd (cc)
 idle_marks all (item.Message bytes copy from) q h = absurd (cc)
 idle_marks all (item.Connect conn key) q h = absurd (cc)
-idle_marks all (item.Release key) q h = absurd (cc)
 idle_marks all _ q h = tt
 
 -- what is written into a link was marked where it stood

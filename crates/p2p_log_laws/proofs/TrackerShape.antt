@@ -1,22 +1,12 @@
 -- The shapes of the acts of a node's tracker: none moves a copy.
-use Rattle.std.proofs.Common.{◌≡◌, ℕ, Bool, true, false, cond, List, [], ◌∷◌, ◌++◌, Option, Some, None, refl, ap, ◌∙◌, eq-eqb, subst}
-use Rattle.std.specs.Prelude.{nat_lt, filter, flat_map}
+use Rattle.std.proofs.Common.{◌≡◌, ℕ, Bool, true, false, cond, List, [], ◌∷◌, Option, Some, refl, ap, ◌∙◌, eq-eqb, subst}
+use Rattle.std.specs.Prelude.{nat_lt}
 use Rattle.std.specs.List.{AllByRecursion as Each}
 use Rattle.p2p_base.specs.declared.key.Key.{Key}
-use Rattle.p2p_address.specs.declared.peer.Address.{Address}
-use Rattle.p2p_flow.specs.declared.addressable.AddressableTrackedPeers.{AddressableTrackedPeers}
-use Rattle.p2p_flow.specs.declared.update.PeerSetUpdate.{PeerSetUpdate}
 use Rattle.p2p_tracker_calls.specs.declared.call.Call.{Call}
 use Rattle.p2p_tracker_calls.specs.declared.call.Call.TheVariants as call
-use Rattle.p2p_tracker_calls.specs.Kills.{killed_keys}
-use Rattle.p2p_tracker_calls.specs.Keeping.{kept_of}
 use Rattle.p2p_tracker_calls.specs.Rules.{Rules}
-use Rattle.p2p_tracker_calls.specs.Lives.{accepts, is_overwritten}
-use Rattle.p2p_tracker_calls.specs.Blocks.{is_blockable}
-use Rattle.p2p_tracker_calls.specs.Sets.{is_above, accepted_sets}
-use Rattle.p2p_tracker_calls.specs.Overwrites.{overwritten, overwritten_keys}
-use Rattle.p2p_tracker_calls.specs.BlockedKeys.{due_keys, blocked_keys}
-use Rattle.p2p_tracker_calls.specs.Peers.{latest_update}
+use Rattle.p2p_tracker_calls.specs.BlockedKeys.{due_keys}
 use Rattle.p2p_log.specs.declared.config.Config.{Config}
 use Rattle.p2p_log.specs.declared.queue.Queue.{Queue}
 use Rattle.p2p_log.specs.declared.queue.Queue.TheVariants as queue
@@ -31,7 +21,6 @@ use Rattle.p2p_log.specs.declared.asked.Asked.TheVariants as ask
 use Rattle.p2p_log.specs.declared.event.Act.{Act}
 use Rattle.p2p_log.specs.declared.event.Act.TheVariants as act
 use Rattle.p2p_log_rules.specs.declared.row.Row.{Row}
-use Rattle.p2p_log.specs.Apart.{AreApart}
 use Rattle.p2p_log.specs.Lines.{name_of, stays, live, line}
 use Rattle.p2p_log.specs.Sending.{keys_sent, sending_of}
 use Rattle.p2p_log_rules.specs.Facts.{is_up}
@@ -41,19 +30,17 @@ use Rattle.p2p_log_rules.specs.Tracking.{key_cmp, rules_at, asked_by, calls_of, 
 use Rattle.p2p_log_rules.specs.TrackerPuts as puts
 use Rattle.p2p_log_rules.specs.TrackerPuts.{Put}
 use Rattle.p2p_log_rules.specs.TrackerRows as rows
-use Rattle.p2p_log.proofs.Each.{Each-always, Each-append, Each-filter, Each-map, Each-weaker}
-use Rattle.p2p_log.proofs.Lines.{filter_stays-nil}
-use Rattle.p2p_log.proofs.Names.{AreApart-filter, AreApart-live_from}
+use Rattle.p2p_log.proofs.Each.{Each-append, Each-filter, Each-weaker}
 use Rattle.p2p_log.proofs.Queues.{same_queue-refl}
-use Rattle.p2p_log.specs.Taken.{AreTaken}
-use Rattle.p2p_log.proofs.Taken.{AreTaken-append}
 use Rattle.p2p_log_rules.specs.Moves.{Moves}
-use Rattle.p2p_log_rules.proofs.Moves.{one_taken, stands_first, first_has, rings, rings_gone, rings_in, rings_taken}
+use Rattle.p2p_log_rules.proofs.Moves.{one_taken, first_has, rings, rings_in}
 use Rattle.p2p_log_rules.proofs.Touches.{reads, writes, in_tracker, is_told_to}
 use Rattle.p2p_log_laws.proofs.Fitting.{StandsFit, fits, is_bare, holds_bare, bare_there}
 use Rattle.p2p_log_laws.proofs.Overwriting.{rings_bare, ring_ends_items}
 use Rattle.p2p_log_laws.proofs.Shape.{Shape, IsQuiet, still, no_moves, one_move, first_in, quiet_laws}
 use Rattle.p2p_log_laws.proofs.Showing.{Standing}
+use Rattle.p2p_log_laws.proofs.TrackerMoves.{left, left_apart, qs, served_moves, unblocked_moves}
+use Rattle.p2p_log_laws.proofs.TrackerPuts.{EachKind, each_unblocked, each_asked, each_connected}
 
 -- ---- what it is asked
 
@@ -141,88 +128,25 @@ next_shape configs log e = by_asked (asked_by log e) refl
 abbrev IsTold : ℕ → Put → Type 0
 IsTold n x = IsQuiet x × (in_tracker n x.0 ≡ true)
 
-told_at : (n : ℕ) (x : Put) → IsQuiet x → in_tracker n x.0 ≡ true → IsTold n x
-told_at n x quiet near = (quiet, near)
+kinds_told : (n : ℕ) → EachKind n (IsTold n)
+kinds_told n = record {
+  kill = λ conn. ((refl, refl), eq-eqb n n refl);
+  update = λ e u. ((refl, refl), eq-eqb n n refl);
+  blocked = λ e keys. ((refl, refl), eq-eqb n n refl);
+  heard = λ ips. ((refl, refl), eq-eqb n n refl);
+  answer = λ e o. ((refl, refl), eq-eqb n n refl);
+}
 
-module _ (n : ℕ) where
-  kill_told : (o : Option ℕ) → Each (IsTold n) (puts.kill_put n o)
-  kill_told None = tt
-  kill_told (Some conn) = (((refl, refl), eq-eqb n n refl), tt)
+module _ (n : ℕ) (rules : Rules Key) (at : ℕ) (updates sets : List ℕ) (calls : List (Call Key)) where
+  unblocked_told : (c : Call Key) → Each (IsTold n) (puts.unblocked_puts rules n at updates sets calls c)
+  unblocked_told c = each_unblocked n (IsTold n) (kinds_told n) rules at updates sets calls c
 
-  updates_told : (es : List ℕ) (o : Option (PeerSetUpdate Key)) → Each (IsTold n) (puts.update_puts n es o)
-  updates_told es None = tt
-  updates_told es (Some u) = Each-map (IsTold n) (λ e. (queue.Updates n e, item.Update u)) es (Each-always (λ e. IsTold n (queue.Updates n e, item.Update u)) (λ e. ((refl, refl), eq-eqb n n refl)) es)
-
-  sets_told : (es : List ℕ) (keys : List Key) → Each (IsTold n) (puts.set_puts n es keys)
-  sets_told es keys = Each-map (IsTold n) (λ e. (queue.Blocked n e, item.Blocked keys)) es (Each-always (λ e. IsTold n (queue.Blocked n e, item.Blocked keys)) (λ e. ((refl, refl), eq-eqb n n refl)) es)
-
-  module _ (rules : Rules Key) (at : ℕ) where
-    heard_told : (calls : List (Call Key)) → IsTold n (puts.heard_put rules n at calls)
-    heard_told calls = ((refl, refl), eq-eqb n n refl)
-
-    kills_told : (calls : List (Call Key)) (ks : List Key) → Each (IsTold n) (flat_map (λ k. puts.kill_put n (kept_of key_cmp rules calls k)) ks)
-    kills_told calls [] = tt
-    kills_told calls (k ∷ ks) =
-        Each-append (IsTold n) (puts.kill_put n (kept_of key_cmp rules calls k)) (flat_map (λ j. puts.kill_put n (kept_of key_cmp rules calls j)) ks)
-        (kill_told (kept_of key_cmp rules calls k)) (kills_told calls ks)
-
-    if_told : (b : Bool) (xs : List Put) → Each (IsTold n) xs → Each (IsTold n) (cond b xs [])
-    if_told true xs h = h
-    if_told false xs h = tt
-
-    overwrites_told : (es : List (Key × Address)) (calls : List (Call Key)) → Each (IsTold n) (puts.overwrite_kills rules n at es calls)
-    overwrites_told [] calls = tt
-    overwrites_told (e ∷ es) calls =
-        Each-append (IsTold n) (cond (is_overwritten key_cmp rules calls e.0 e.1) (puts.kill_put n (kept_of key_cmp rules calls e.0)) []) (puts.overwrite_kills rules n at es (call.Overwrite e.0 e.1 ∷ calls))
-        (if_told (is_overwritten key_cmp rules calls e.0 e.1) (puts.kill_put n (kept_of key_cmp rules calls e.0)) (kill_told (kept_of key_cmp rules calls e.0)))
-        (overwrites_told es (call.Overwrite e.0 e.1 ∷ calls))
-
-    module _ (updates sets : List ℕ) (calls : List (Call Key)) where
-      tracked_told : (c : Call Key) (killed : List Key) → Each (IsTold n) (puts.tracked_puts rules n at updates sets calls c killed)
-      tracked_told c killed =
-          let kills = flat_map (λ k. puts.kill_put n (kept_of key_cmp rules calls k)) killed in
-          let heard = puts.heard_put rules n at (c ∷ calls) in
-          Each-append (IsTold n) (kills ++ heard ∷ []) (puts.update_puts n updates (latest_update key_cmp rules (c ∷ calls)))
-          (Each-append (IsTold n) kills (heard ∷ []) (kills_told calls killed) (heard_told (c ∷ calls), tt))
-          (updates_told updates (latest_update key_cmp rules (c ∷ calls)))
-
-      blocked_told : (c : Call Key) (k : Key) → Each (IsTold n) (puts.blocked_puts rules n at updates sets calls c k)
-      blocked_told c k =
-          let keys = blocked_keys key_cmp rules (c ∷ calls) at in
-          let heard = puts.heard_put rules n at (c ∷ calls) in
-          Each-append (IsTold n) (cond (is_blockable key_cmp rules calls k at) (puts.set_puts n sets keys ++ heard ∷ []) []) (puts.kill_put n (kept_of key_cmp rules calls k))
-          (if_told (is_blockable key_cmp rules calls k at) (puts.set_puts n sets keys ++ heard ∷ [])
-          (Each-append (IsTold n) (puts.set_puts n sets keys) (heard ∷ []) (sets_told sets keys) (heard_told (c ∷ calls), tt)))
-          (kill_told (kept_of key_cmp rules calls k))
-
-      unblocked_told : (c : Call Key) → Each (IsTold n) (puts.unblocked_puts rules n at updates sets calls c)
-      unblocked_told c = (heard_told (c ∷ calls), sets_told sets (blocked_keys key_cmp rules (c ∷ calls) at))
-
-      asked_told : (e : ℕ) (o : Option Act) → Each (IsTold n) (puts.asked_puts rules n at updates sets calls e o)
-      asked_told e (Some (act.Ask (ask.Track index peers) m)) =
-          let c = call.Track index peers.primary peers.secondary in
-          let killed = killed_keys key_cmp rules index peers.primary peers.secondary calls in
-          if_told (is_above index (accepted_sets key_cmp calls)) (puts.tracked_puts rules n at updates sets calls c killed) (tracked_told c killed)
-      asked_told e (Some (act.Ask (ask.Overwrite peers) m)) =
-          let all = cond (puts.is_some_of (overwritten_keys key_cmp rules peers calls)) (puts.heard_put rules n at (overwritten peers calls) ∷ []) [] in
-          Each-append (IsTold n) (puts.overwrite_kills rules n at peers calls) all (overwrites_told peers calls)
-          (if_told (puts.is_some_of (overwritten_keys key_cmp rules peers calls)) (puts.heard_put rules n at (overwritten peers calls) ∷ []) (heard_told (overwritten peers calls), tt))
-      asked_told e (Some (act.Ask (ask.Block key) m)) = blocked_told (call.Block key at) key
-      asked_told e (Some (act.Ask (ask.PeerSet index) m)) = (((refl, refl), eq-eqb n n refl), tt)
-      asked_told e (Some (act.Ask ask.Subscribe m)) = updates_told (e ∷ []) (latest_update key_cmp rules calls)
-      asked_told e (Some (act.Ask ask.Blocked m)) = sets_told (e ∷ []) (blocked_keys key_cmp rules calls at)
-      asked_told e _ = tt
-
-      item_told : (log : List Entry) (i : Item) → Each (IsTold n) (puts.item_puts rules n at updates sets calls log i)
-      item_told log (item.Call e) = asked_told e (asked_by log e)
-      item_told log (item.Connect conn key) = unless_told (accepts key_cmp rules calls key (Some at))
-        where
-          unless_told : (b : Bool) → Each (IsTold n) (cond b [] (puts.kill_put n (Some conn)))
-          unless_told true = tt
-          unless_told false = kill_told (Some conn)
-      item_told log item.AskDialable = (((refl, refl), eq-eqb n n refl), tt)
-      item_told log (item.AskDial key) = (((refl, refl), eq-eqb n n refl), tt)
-      item_told log _ = tt
+  item_told : (log : List Entry) (i : Item) → Each (IsTold n) (puts.item_puts rules n at updates sets calls log i)
+  item_told log (item.Call e) = each_asked n (IsTold n) (kinds_told n) rules at updates sets calls e (asked_by log e)
+  item_told log (item.Connect conn key) = each_connected n (IsTold n) (kinds_told n) rules at updates sets calls conn key
+  item_told log item.AskDialable = (((refl, refl), eq-eqb n n refl), tt)
+  item_told log (item.AskDial key) = (((refl, refl), eq-eqb n n refl), tt)
+  item_told log _ = tt
 
 -- a ring of the tracker takes items that carry no copy
 abbrev IsRing : ℕ → Queue → Type 0
@@ -238,16 +162,7 @@ rings_told n [] h = tt
 rings_told n (x ∷ xs) h = Each-append (IsRing n) (rows.ring_of x.0) (rows.rings_of xs) (ring_near n x.0 h.0.1) (rings_told n xs h.1)
 
 module _ (configs : List Config) (log : List Entry) (n : ℕ) (xs : List Put) (told : Each (IsTold n) xs) where
-  abbrev left : List (ℕ × ℕ) → List Envelope
-  left takes = filter (stays takes) (live log)
-
-  apart : (takes : List (ℕ × ℕ)) → AreApart (left takes)
-  apart takes = AreApart-filter (stays takes) (live log) (AreApart-live_from 0 log)
-
-  abbrev qs : List Queue
-  qs = rows.rings_of xs
-
-  ringed : Each (IsRing n) qs
+  ringed : Each (IsRing n) (qs log xs)
   ringed = rings_told n xs told
 
   quiet : Each IsQuiet xs
@@ -256,47 +171,39 @@ module _ (configs : List Config) (log : List Entry) (n : ℕ) (xs : List Put) (t
   near : Each (λ x. in_tracker n x.0 ≡ true) xs
   near = Each-weaker (IsTold n) (λ x. in_tracker n x.0 ≡ true) (λ x h. h.1) xs told
 
-  ends_near : (takes : List (ℕ × ℕ)) → Each (λ x. in_tracker n x.queue ≡ true) (rings (left takes) qs)
-  ends_near takes = rings_in (λ q. in_tracker n q ≡ true) (left takes) qs (Each-weaker (IsRing n) (λ q. in_tracker n q ≡ true) (λ q h. h.1) qs ringed)
+  ends_near : (takes : List (ℕ × ℕ)) → Each (λ x. in_tracker n x.queue ≡ true) (rings (left log xs takes) (qs log xs))
+  ends_near takes = rings_in (λ q. in_tracker n q ≡ true) (left log xs takes) (qs log xs) (Each-weaker (IsRing n) (λ q. in_tracker n q ≡ true) (λ q h. h.1) (qs log xs) ringed)
 
-  ends_bare : (takes : List (ℕ × ℕ)) → Standing configs log → Each (λ x. is_bare x.item ≡ true) (rings (left takes) qs)
+  ends_bare : (takes : List (ℕ × ℕ)) → Standing configs log → Each (λ x. is_bare x.item ≡ true) (rings (left log xs takes) (qs log xs))
   ends_bare takes stand =
-      rings_bare (left takes) qs (apart takes) (Each-filter StandsFit (stays takes) (live log) stand.fitting)
-      (Each-weaker (IsRing n) (λ q. holds_bare q ≡ true) (λ q h. h.0) qs ringed)
+      rings_bare (left log xs takes) (qs log xs) (left_apart log xs takes) (Each-filter StandsFit (stays takes) (live log) stand.fitting)
+      (Each-weaker (IsRing n) (λ q. holds_bare q ≡ true) (λ q h. h.0) (qs log xs) ringed)
 
   -- the oldest message is taken
   served_shape : (x : Envelope) (rest : List Envelope) → line log (queue.Tracker n) ≡ x ∷ rest → Shape configs log (act.Tracker n) (rows.told_row log (name_of x ∷ []) xs)
   served_shape x rest first =
       let r : Row = rows.told_row log (name_of x ∷ []) xs in
-      let m : Moves log r = record {
-        taken = x ∷ [];
-        ended = rings (left (name_of x ∷ [])) qs;
-        names = refl;
-        gone = rings_gone (left (name_of x ∷ [])) qs;
-        stood = AreTaken-append (live log) (x ∷ []) (rings (left (name_of x ∷ [])) qs) (stands_first log (queue.Tracker n) x rest first) (rings_taken (left (name_of x ∷ [])) qs (apart (name_of x ∷ [])));
-      } in
+      let m : Moves log r = served_moves log xs (queue.Tracker n) x rest first in
       record {
         moves = m;
         reach = record { taken = (first_in (reads configs log (act.Tracker n)) log (queue.Tracker n) x rest first (same_queue-refl (queue.Tracker n)), tt); ended = ends_near (name_of x ∷ []); puts = near };
         laws = λ stand.
             let whole : fits x.queue x.item ≡ true = first_has StandsFit log (queue.Tracker n) x rest stand.fitting first in
             let fit : fits (queue.Tracker n) x.item ≡ true = subst (λ p. fits p x.item ≡ true) (one_taken log (queue.Tracker n) x rest first) whole in
-            quiet_laws configs log (act.Tracker n) r m refl refl (bare_there (queue.Tracker n) x.item refl fit, tt) (ends_bare (name_of x ∷ []) stand) (ring_ends_items (left (name_of x ∷ [])) qs) quiet;
+            quiet_laws configs log (act.Tracker n) r m refl refl (bare_there (queue.Tracker n) x.item refl fit, tt) (ends_bare (name_of x ∷ []) stand)
+            (ring_ends_items (left log xs (name_of x ∷ [])) (qs log xs)) quiet;
       }
 
   -- blocks have ended, and nothing is taken
   unblocked_shape : Shape configs log (act.Tracker n) (rows.told_row log [] xs)
   unblocked_shape =
       let r : Row = rows.told_row log [] xs in
-      let m : Moves log r = record { taken = []; ended = rings (left []) qs; names = refl; gone = rings_gone (left []) qs; stood = from_all (rings_taken (left []) qs (apart [])) } in
+      let m : Moves log r = unblocked_moves log xs in
       record {
         moves = m;
         reach = record { taken = tt; ended = ends_near []; puts = near };
-        laws = λ stand. quiet_laws configs log (act.Tracker n) r m refl refl tt (ends_bare [] stand) (ring_ends_items (left []) qs) quiet;
+        laws = λ stand. quiet_laws configs log (act.Tracker n) r m refl refl tt (ends_bare [] stand) (ring_ends_items (left log xs []) (qs log xs)) quiet;
       }
-    where
-      from_all : AreTaken (left []) (rings (left []) qs) → AreTaken (live log) (rings (left []) qs)
-      from_all h = subst (λ l. AreTaken l (rings (left []) qs)) (filter_stays-nil (live log)) h
 
 module _ (configs : List Config) (log : List Entry) (n at : ℕ) where
   abbrev us : List ℕ

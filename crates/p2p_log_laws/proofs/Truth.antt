@@ -132,7 +132,6 @@ idle_tells configs log (item.Content c frame priority send to) q h = absurd (cc)
 idle_tells configs log (item.Frame copy frame) q h = absurd (cc)
 idle_tells configs log (item.Message bytes copy from) q h = absurd (cc)
 idle_tells configs log (item.Connect conn key) q h = absurd (cc)
-idle_tells configs log (item.Release key) q h = absurd (cc)
 idle_tells configs log _ q h = tt
 
 half_at-new : (configs : List Config) (log : List Entry) (e : Entry) (n : ℕ) (half : Half) → half_of configs n e.event.act e.reply ≡ Some half

@@ -60,13 +60,13 @@ taken false true false true h w r k v a b free old = refl
 taken false true false false h w r k v a b free old = absurd (omega (arith, a, b, old))
 taken false false s held h w r k v a b free old = refl
 
+turns_more : (g : Granting) (before : List Entry) (e : Entry) → turns g (before ++ e ∷ []) ≡ turns g before ++ turn_by g before e
+turns_more g before e = history_from-append (turn_by g) [] before e
+
+pub held_next : (g : Granting) (before : List Entry) (e : Entry) → is_held g (before ++ e ∷ []) ≡ held_after (is_held g before) (turn_by g before e)
+held_next g before e = ap (held_after false) (turns_more g before e) ∙ held_more false (turns g before) (turn_by g before e)
+
 module _ (g : Granting) (log : List Entry) (each : EachIsTurn g log) where
-  turns_more : (before : List Entry) (e : Entry) → turns g (before ++ e ∷ []) ≡ turns g before ++ turn_by g before e
-  turns_more before e = history_from-append (turn_by g) [] before e
-
-  held_next : (before : List Entry) (e : Entry) → is_held g (before ++ e ∷ []) ≡ held_after (is_held g before) (turn_by g before e)
-  held_next before e = ap (held_after false) (turns_more before e) ∙ held_more false (turns g before) (turn_by g before e)
-
   stopped_next : (before : List Entry) (e : Entry) → is_stopped g (before ++ e ∷ []) ≡ (is_stopped g before || g.stops before e)
   stopped_next before e =
       ap (list_any (λ (b : Bool). b)) (history_from-append (λ before e. g.stops before e ∷ []) [] before e)
@@ -100,7 +100,7 @@ module _ (g : Granting) (log : List Entry) (each : EachIsTurn g log) where
         counted (g.grants before e) (g.frees before e) (is_stopped g before) (is_held g before) (g.holders before) (g.waiting before) (g.released before e)
         (g.holders (before ++ e ∷ [])) (g.waiting (before ++ e ∷ [])) hands.holding hands.waiting hands.free hands.up hands.apart old
         ∙ sym (ap (λ s. cond s 0 (one (is_held g (before ++ e ∷ [])))) (runs_on before e hands.runs)
-        ∙ ap (λ b. cond (is_stopped g before) 0 (one b)) (held_next before e))
+        ∙ ap (λ b. cond (is_stopped g before) 0 (one b)) (held_next g before e))
     | inr halts ↦
         let none : g.holders (before ++ e ∷ []) + g.waiting (before ++ e ∷ []) ≡ 0 = let a = halts.none_holds in let b = halts.none_waits in omega (arith, a, b) in
         none ∙ sym (ap (λ s. cond s 0 (one (is_held g (before ++ e ∷ [])))) (stops_here before e halts.stops))
@@ -135,7 +135,7 @@ module _ (g : Granting) (log : List Entry) (each : EachIsTurn g log) where
   pub alternates : GrantsAlternate g log
   alternates =
       at_last log (GrantsAlternate g) no_turns (λ i e at old.
-      ap (alternate false) (turns_more (take i log) e)
+      ap (alternate false) (turns_more g (take i log) e)
       ∙ (alternate_more false (turns g (take i log)) (turn_by g (take i log) e)
       ∙ both (alternate false (turns g (take i log))) (alternate (is_held g (take i log)) (turn_by g (take i log) e)) old
       (turn_of (take i log) e (each.each i e at).hands (one_holder_at i))))

@@ -1,5 +1,5 @@
 -- The grants of one key at one node: they go by turns, and each has one holder or one release that waits. The laws are of any
--- log whose entries do what an act has to supply (`IsTurn`); it is stated before the first act that grants.
+-- log whose entries do what an act has to supply (`IsTurn`).
 use Rattle.std.specs.Prelude.{◌≡◌, ◌⊎◌, ℕ, ◌+◌, ◌≤◌, Bool, true, false, not, ◌&&◌, cond, List, [], ◌∷◌, ◌++◌, length, take, sum_by, Some, slice_get}
 use Rattle.std.specs.List.{AllByRecursion as Each, list_any}
 use Rattle.p2p_log.specs.declared.entry.Entry.{Entry}

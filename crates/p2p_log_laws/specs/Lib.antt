@@ -5,6 +5,7 @@ pub mod Fates
 pub mod Flow
 pub mod Grants
 pub mod Leaving
+pub mod NodeGrants
 pub mod OneEnd
 pub mod Order
 pub mod Worked

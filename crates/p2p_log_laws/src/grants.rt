@@ -1,5 +1,6 @@
 //! A key's grants go by turns, and what its connections say comes in their order.
 ghost use Rattle.std.specs.Prelude.{List, Option, ℕ};
+ghost use Rattle.p2p_base.specs.declared.key.Key.{Key};
 ghost use Rattle.p2p_log.specs.declared.config.Config.{Config};
 ghost use Rattle.p2p_log.specs.declared.event.Event.{Event};
 ghost use Rattle.p2p_log.specs.declared.entry.Entry.{Entry};
@@ -7,6 +8,7 @@ ghost use Rattle.p2p_log.specs.declared.item.Envelope.{Envelope};
 ghost use Rattle.p2p_log.specs.declared.queue.Queue.{Queue};
 ghost use Rattle.p2p_log_rules.specs.Lawful.{IsLawful};
 ghost use Rattle.p2p_log_laws.specs.Grants.{Granting, EachIsTurn, GrantsAlternate, HasOneHolder, EachIsReleased, NewestLives};
+ghost use Rattle.p2p_log_laws.specs.NodeGrants.{granting};
 ghost use Rattle.p2p_log_laws.specs.Leaving.{LeaveInOrder, ArePutAlive, OlderLeaveFirst};
 
 /// States of the grants of a key at a node, whatever entries make them, that they and the releases that are taken go by
@@ -17,6 +19,16 @@ pub fn grants_take_turns()
     ensures holder { (g : Granting) (log : List Entry) → EachIsTurn g log → HasOneHolder g log }
     ensures released { (g : Granting) (log : List Entry) → EachIsTurn g log → EachIsReleased g log }
     ensures newest { (g : Granting) (log : List Entry) → EachIsTurn g log → NewestLives g log }
+{}
+
+/// States of the grants of a key at a node of the network, where the node's tracker grants it to the node's dialer: they and the
+/// releases that the tracker takes go by turns; a key that is held is held by the one answer that waits for the dialer, or by
+/// the one attempt that it began, or one release of it waits for the tracker, and nothing holds another; and each grant is
+/// held or was released. It does nothing.
+pub fn node_grants()
+    ensures alternate { (configs : List Config) (script : List Event) (log : List Entry) (n : ℕ) (key : Key) → IsLawful configs script log → GrantsAlternate (granting configs n key) log }
+    ensures holder { (configs : List Config) (script : List Event) (log : List Entry) (n : ℕ) (key : Key) → IsLawful configs script log → HasOneHolder (granting configs n key) log }
+    ensures released { (configs : List Config) (script : List Event) (log : List Entry) (n : ℕ) (key : Key) → IsLawful configs script log → EachIsReleased (granting configs n key) log }
 {}
 
 /// States that items leave a queue in the order in which they were put there; and that what connections of a key put in a

@@ -15,7 +15,7 @@ pub use causes::each_drop_shows_its_cause;
 pub use delivery::only_sent_is_delivered;
 pub use ends::one_end;
 pub use fates::fates_are_true;
-pub use grants::{grants_take_turns, queues_keep_order};
+pub use grants::{grants_take_turns, node_grants, queues_keep_order};
 pub use moving::{bulk_ends_are_whole, flow_keeps_order};
 pub use order::delivered_in_order;
 pub use worked::worked_rows;

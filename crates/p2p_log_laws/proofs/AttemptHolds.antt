@@ -1,0 +1,106 @@
+-- How many attempts of a node's dialer hold a key after one more entry.
+use Rattle.std.proofs.Common.{◌≡◌, ℕ, ◌+◌, Bool, true, false, cond, List, [], ◌∷◌, ◌++◌, length, Option, Some, None, refl, ap, sym, ◌∙◌, arith, eqb-true}
+use Rattle.std.specs.Prelude.{◌==◌}
+use Rattle.std.specs.Option.{option_map}
+use Rattle.p2p_base.specs.declared.key.Key.{Key}
+use Rattle.p2p_log.specs.declared.config.Config.{Config}
+use Rattle.p2p_log.specs.declared.entry.Entry.{Entry}
+use Rattle.p2p_log.specs.declared.entry.Reply.{Reply}
+use Rattle.p2p_log.specs.declared.entry.Reply.TheVariants as reply
+use Rattle.p2p_log_rules.specs.Attempting.{Attempt, told_addresses, told_refused, with_attempt, with_begun, and_then, attempts_by, attempts_of}
+use Rattle.p2p_log_rules.proofs.Attempts.{attempts_of-append, attempts_of-late}
+use Rattle.p2p_log_laws.specs.Grants.{one}
+use Rattle.p2p_log_laws.specs.NodeGrants.{count_below, is_attempt_of}
+use Rattle.p2p_log_laws.proofs.CountBelow.{count_kept, count_begun, count_changed}
+use Rattle.p2p_log_laws.proofs.StandingAttempts.{Attempts, stands_before, longer}
+
+module _ (key : Key) where
+  abbrev pub holds : Option Attempt → Bool
+  holds o = is_attempt_of key o
+
+  test_cond : (b : Bool) (o u : Option Attempt) → holds (cond b o u) ≡ cond b (holds o) (holds u)
+  test_cond true o u = refl
+  test_cond false o u = refl
+
+  begun_test : (o : Option Attempt) (m k : ℕ) (f : Attempts) → f m ≡ None → holds (with_begun o m f k) ≡ cond (k == m) (holds o) (holds (f k))
+  begun_test (Some a) m k f none = test_cond (k == m) (Some a) (f k)
+  begun_test None m k f none = go (k == m) refl
+    where
+      go : (b : Bool) → (k == m) ≡ b → holds (f k) ≡ cond b false (holds (f k))
+      go true same = ap holds (ap f (eqb-true k m same) ∙ none)
+      go false other = refl
+
+  -- what an attempt is told leaves its key
+  pub told_kept : (t : Bool) (g : Attempt → Attempt) (e k : ℕ) (f : Attempts) → ((a : Attempt) → holds (Some (g a)) ≡ holds (Some a))
+      → holds (cond t (with_attempt e (option_map g (f e)) f k) (f k)) ≡ holds (f k)
+  told_kept false g e k f same = refl
+  told_kept true g e k f same = go (k == e) refl
+    where
+      mapped : (o : Option Attempt) → holds (option_map g o) ≡ holds o
+      mapped None = refl
+      mapped (Some a) = same a
+
+      go : (b : Bool) → (k == e) ≡ b → holds (cond b (option_map g (f e)) (f k)) ≡ holds (f k)
+      go true at = mapped (f e) ∙ ap (λ i. holds (f i)) (sym (eqb-true k e at))
+      go false other = refl
+
+  -- what does not stand does not begin by its own step
+  pub none_kept : (t : Bool) (g : Attempt → Option Attempt) (e k : ℕ) (f : Attempts) → f e ≡ None → holds (cond t (with_attempt e (and_then g (f e)) f k) (f k)) ≡ holds (f k)
+  none_kept false g e k f none = refl
+  none_kept true g e k f none = go (k == e) refl
+    where
+      go : (b : Bool) → (k == e) ≡ b → holds (cond b (and_then g (f e)) (f k)) ≡ holds (f k)
+      go true at = ap (λ o. holds (and_then g o)) none ∙ sym (ap holds (ap f (eqb-true k e at) ∙ none))
+      go false other = refl
+
+  pub addresses_kept : (r : Reply) (a : Attempt) → holds (Some (told_addresses r a)) ≡ holds (Some a)
+  addresses_kept reply.Ok a = refl
+  addresses_kept _ a = refl
+
+  pub refused_kept : (r : Reply) (a : Attempt) → holds (Some (told_refused r a)) ≡ holds (Some a)
+  refused_kept reply.Ok a = refl
+  refused_kept _ a = refl
+
+  -- another node's attempts
+  pub others_kept : (t : Bool) (o u : Option Attempt) → t ≡ false → holds (cond t o u) ≡ holds u
+  others_kept t o u h = ap (λ b. holds (cond b o u)) h
+
+module _ (configs : List Config) (n : ℕ) (key : Key) where
+  abbrev pub held_by_attempts : List Entry → ℕ
+  held_by_attempts log = count_below (length log) (λ k. is_attempt_of key (attempts_of configs log n k))
+
+module _ (configs : List Config) (n : ℕ) (key : Key) (log : List Entry) (e : Entry) where
+  abbrev f : Attempts
+  f = attempts_of configs log n
+
+  abbrev p : ℕ → Bool
+  p k = is_attempt_of key (attempts_of configs log n k)
+
+  abbrev q : ℕ → Bool
+  q k = is_attempt_of key (attempts_of configs (log ++ e ∷ []) n k)
+
+  none : f (length log) ≡ None
+  none = attempts_of-late configs log n (length log) (omega arith)
+
+  -- each attempt holds the key as before
+  pub holds_kept : ((k : ℕ) → is_attempt_of key (attempts_by configs n log e f k) ≡ is_attempt_of key (f k))
+      → held_by_attempts configs n key (log ++ e ∷ []) ≡ held_by_attempts configs n key log
+  holds_kept h =
+      count_kept (length log) (length (log ++ e ∷ [])) (longer log e) p q (ap (is_attempt_of key) none)
+      (λ k. ap (is_attempt_of key) (attempts_of-append configs log e n k) ∙ h k)
+
+  -- one is begun
+  pub holds_begun : (o : Option Attempt) → ((k : ℕ) → attempts_by configs n log e f k ≡ with_begun o (length log) f k)
+      → held_by_attempts configs n key (log ++ e ∷ []) ≡ held_by_attempts configs n key log + one (is_attempt_of key o)
+  holds_begun o h =
+      count_begun (length log) (length (log ++ e ∷ [])) (longer log e) p q (ap (is_attempt_of key) none) (is_attempt_of key o)
+      (λ k. ap (is_attempt_of key) (attempts_of-append configs log e n k ∙ h k) ∙ begun_test key o (length log) k f none)
+
+  -- one goes on or ends
+  pub holds_changed : (i : ℕ) (a : Attempt) (o : Option Attempt) → f i ≡ Some a → ((k : ℕ) → attempts_by configs n log e f k ≡ with_attempt i o f k)
+      → held_by_attempts configs n key (log ++ e ∷ []) + one (a.key.0 == key.0) ≡ held_by_attempts configs n key log + one (is_attempt_of key o)
+  holds_changed i a o stands h =
+      ap (λ b. held_by_attempts configs n key (log ++ e ∷ []) + one b) (sym (ap (is_attempt_of key) stands))
+      ∙ count_changed (length log) (length (log ++ e ∷ [])) (longer log e) p q (ap (is_attempt_of key) none) i (is_attempt_of key o)
+      (stands_before configs n log i a stands)
+      (λ k. ap (is_attempt_of key) (attempts_of-append configs log e n k ∙ h k) ∙ test_cond key (k == i) o (f k))

@@ -1,0 +1,288 @@
+-- What each act does to the grants of a key at a node: who holds them before and after it, and what it makes of the calls.
+use Rattle.std.proofs.Common.{◌≡◌, ℕ, ◌+◌, Bool, true, false, cond, List, [], ◌∷◌, ◌++◌, map, length, Option, Some, None, refl, ap, sym, subst, ◌∙◌, arith, eq-eqb, eqb-true}
+use Rattle.std.specs.Prelude.{◌==◌, ◌&&◌, ◌||◌, count_by, flat_map, nat_lt}
+use Rattle.std.specs.List.{AllByRecursion as Each, list_any}
+use Rattle.std.proofs.lemmas.Bool.{false≢true}
+use Rattle.std.proofs.lemmas.Bool.Decides.{nat_tests}
+use Rattle.p2p_base.specs.declared.key.Key.{Key}
+use Rattle.p2p_tracker_calls.specs.declared.call.Call.{Call}
+use Rattle.p2p_tracker_calls.specs.Blocks.{is_local}
+use Rattle.p2p_tracker_calls.specs.Grants.{is_held}
+use Rattle.p2p_tracker_calls.specs.Jitter.{jitter_of}
+use Rattle.p2p_log.specs.declared.config.Config.{Config}
+use Rattle.p2p_log.specs.declared.queue.Queue.TheVariants as queue
+use Rattle.p2p_log.specs.declared.item.Item.TheVariants as item
+use Rattle.p2p_log.specs.declared.entry.Entry.{Entry}
+use Rattle.p2p_log.specs.declared.entry.Reply.TheVariants as reply
+use Rattle.p2p_log.specs.declared.asked.Asked.{Asked}
+use Rattle.p2p_log.specs.declared.asked.Asked.TheVariants as ask
+use Rattle.p2p_log.specs.declared.event.Act.{Act}
+use Rattle.p2p_log.specs.declared.event.Act.TheVariants as act
+use Rattle.p2p_log.specs.declared.event.Event.{Event}
+use Rattle.p2p_log.specs.Lines.{ended_item, line}
+use Rattle.p2p_log_rules.specs.declared.row.Row.{Row}
+use Rattle.p2p_log_rules.specs.Attempting.{Attempt, DialRules, dial_rules_at, begun_of, told_addresses, told_refused, with_attempt, with_begun, and_then, stepped_attempt, attempts_by, attempts_of, attempt_turn, attempt_by, attempt_row, resolve_row, refuse_row}
+use Rattle.p2p_log_rules.specs.Dialing.{dialer_row}
+use Rattle.p2p_log_rules.specs.Effect.{entry_of, row}
+use Rattle.p2p_log_rules.specs.Facts.{taken}
+use Rattle.p2p_log_rules.specs.Moves.{Moves}
+use Rattle.p2p_log_rules.specs.Rows.{only}
+use Rattle.p2p_log_rules.specs.Tracking.{key_cmp, rules_at, asked_by, steps_tracker, step_calls, grants_dial, calls_by, calls_of}
+use Rattle.p2p_log_rules.specs.TrackerRows as rows
+use Rattle.p2p_log_rules.proofs.Touches.{reads, writes, is_told_to}
+use Rattle.p2p_log_laws.specs.Grants.{one, Granting, turn_by, held_after}
+use Rattle.p2p_log_laws.specs.NodeGrants.{releases_key, is_attempt_of, puts_grant, puts_release, granting}
+use Rattle.p2p_log_laws.proofs.AttemptGrants.{Ends, attempt_ends}
+use Rattle.p2p_log_laws.proofs.AttemptHolds.{told_kept, none_kept, addresses_kept, refused_kept, others_kept, held_by_attempts, holds_kept, holds_begun, holds_changed}
+use Rattle.p2p_log_laws.proofs.DialerGrants.{Hand, dialer_hands}
+use Rattle.p2p_log_laws.proofs.Plain.{Plain, IsPlain, plain_item, no_grants, no_releases, no_grants_stand, no_releases_stand, plain_out_of_reach}
+use Rattle.p2p_log_laws.proofs.Shape.{Shape, no_moves}
+use Rattle.p2p_log_laws.proofs.Shapes.{row_shape}
+use Rattle.p2p_log_laws.proofs.TrackerGrants.{Step, tracker_steps}
+use Rattle.p2p_log_laws.proofs.Weighing.{weight, taken_items}
+
+told_aside : (o : Option Act) (e n : ℕ) → (is_told_to o e (queue.Dialer n) ≡ false) × (is_told_to o e (queue.Tracker n) ≡ false)
+told_aside (Some (act.Ask (ask.PeerSet index) m)) e n = (refl, refl)
+told_aside (Some (act.Ask ask.Subscribe m)) e n = (refl, refl)
+told_aside (Some (act.Ask ask.Blocked m)) e n = (refl, refl)
+told_aside _ e n = (refl, refl)
+
+other_way : (m n : ℕ) → (m == n) ≡ false → (n == m) ≡ false
+other_way m n h = grind (arith, nat_tests)
+
+module _ (configs : List Config) (n : ℕ) (key : Key) (log : List Entry) where
+  abbrev g : Granting
+  g = granting configs n key
+
+  abbrev calls : List (Call Key)
+  calls = calls_of configs log n
+
+  abbrev f : ℕ → Option Attempt
+  f = attempts_of configs log n
+
+  -- what a row moves of the grants and releases, and the turn that it makes
+  pub record Weighs (ev : Event) (r : Row) : Type 0 where
+    pub moves : Moves log r
+    pub holding : (held_by_attempts configs n key log + one (g.grants log (entry_of ev r))) + (weight (puts_grant n key) moves.taken + weight (puts_grant n key) moves.ended)
+        ≡ held_by_attempts configs n key (log ++ entry_of ev r ∷ []) + (count_by (puts_grant n key) r.puts + count_by (puts_release n key) r.puts)
+    pub waiting : weight (puts_release n key) moves.taken + weight (puts_release n key) moves.ended ≡ one (g.frees log (entry_of ev r))
+    pub turn : is_held key_cmp (calls_by configs n log (entry_of ev r) calls) key ≡ held_after (is_held key_cmp calls key) (turn_by g log (entry_of ev r))
+    -- a key that is granted was not held, is not the node's own, and is not freed as well
+    pub free : g.grants log (entry_of ev r) ≡ true → is_held key_cmp calls key ≡ false
+    pub others : g.grants log (entry_of ev r) ≡ true → is_local key_cmp (rules_at configs n) key ≡ false
+    pub apart : g.grants log (entry_of ev r) ≡ true → g.frees log (entry_of ev r) ≡ false
+
+  -- ---- acts other than a step of the tracker
+
+  module _ (ev : Event) (r : Row) (still : steps_tracker n ev.act ≡ false) where
+    abbrev e : Entry
+    e = entry_of ev r
+
+    no_grant : g.grants log e ≡ false
+    no_grant = ap (λ b. b && list_any (puts_grant n key) r.puts) still
+
+    no_free : g.frees log e ≡ false
+    no_free = ap (λ b. b && list_any (releases_key key) (taken log e)) still
+
+    abbrev stepped : List (Call Key)
+    stepped = step_calls log r.reply (taken log e) ev.at (jitter_of (rules_at configs n).cooldown ev.seed) (list_any grants_dial r.puts) calls
+
+    same_turn : is_held key_cmp (calls_by configs n log e calls) key ≡ held_after (is_held key_cmp calls key) (turn_by g log e)
+    same_turn =
+        ap (λ b. is_held key_cmp (cond b stepped calls) key) still
+        ∙ sym (ap (λ b. held_after (is_held key_cmp calls key) (cond b (true ∷ []) (cond (g.frees log e) (false ∷ []) []))) no_grant
+        ∙ ap (λ b. held_after (is_held key_cmp calls key) (cond b (false ∷ []) [])) no_free)
+
+    -- what such an act moves
+    moved : (m : Moves log r) → (weight (puts_grant n key) m.taken + weight (puts_grant n key) m.ended) + held_by_attempts configs n key log
+        ≡ held_by_attempts configs n key (log ++ e ∷ []) + (count_by (puts_grant n key) r.puts + count_by (puts_release n key) r.puts)
+        → weight (puts_release n key) m.taken ≡ 0 → weight (puts_release n key) m.ended ≡ 0 → Weighs ev r
+    moved m held taken ended =
+        let none : one (g.grants log e) ≡ 0 = ap one no_grant in
+        let no_release : one (g.frees log e) ≡ 0 = ap one no_free in
+        record {
+          moves = m;
+          holding = omega (arith, held, none);
+          waiting = omega (arith, taken, ended, no_release);
+          turn = same_turn;
+          free = λ h. absurd (false≢true (sym no_grant ∙ h));
+          others = λ h. absurd (false≢true (sym no_grant ∙ h));
+          apart = λ h. no_free;
+        }
+
+    -- one that moves none of them
+    plain_weighs : (m : Moves log r) → IsPlain n key log r m → ((k : ℕ) → is_attempt_of key (attempts_by configs n log e f k) ≡ is_attempt_of key (f k)) → Weighs ev r
+    plain_weighs m plain kept =
+        let held = holds_kept configs n key log e kept in
+        let taken = no_grants_stand n key m.taken plain.taken in
+        let ended = no_grants_stand n key m.ended plain.ended in
+        let granted = no_grants n key r.puts plain.puts in
+        let released = no_releases n key r.puts plain.puts in
+        moved m (omega (arith, held, taken, ended, granted, released)) (no_releases_stand n key m.taken plain.taken) (no_releases_stand n key m.ended plain.ended)
+
+  abbrev event : ℕ → ℕ → Act → Event
+  event at seed a = record { at = at; seed = seed; act = a }
+
+  module _ (at seed : ℕ) where
+    -- one that reaches neither the tracker's mailbox nor the dialer's
+    other : (a : Act) (r : Row) → Shape configs log a r → (reads configs log a (queue.Dialer n) ≡ false) × (writes configs log a (queue.Dialer n) ≡ false)
+        → (reads configs log a (queue.Tracker n) ≡ false) × (writes configs log a (queue.Tracker n) ≡ false) → steps_tracker n a ≡ false
+        → ((k : ℕ) → is_attempt_of key (attempts_by configs n log (entry_of (event at seed a) r) f k) ≡ is_attempt_of key (f k)) → Weighs (event at seed a) r
+    other a r shape dialer tracker still kept =
+        plain_weighs (event at seed a) r still shape.moves (plain_out_of_reach n key configs a log r shape.moves shape.reach dialer.0 dialer.1 tracker.0 tracker.1) kept
+
+    -- ---- questions
+
+    asks : (a : Act) (r : Row) → steps_tracker n a ≡ false → r.takes ≡ [] → r.ends ≡ [] → Each (Plain n key) r.puts
+        → ((k : ℕ) → is_attempt_of key (attempts_by configs n log (entry_of (event at seed a) r) f k) ≡ is_attempt_of key (f k)) → Weighs (event at seed a) r
+    asks a r still takes ends puts kept =
+        plain_weighs (event at seed a) r still (no_moves log r takes (ap (flat_map ended_item) ends)) (record { taken = tt; ended = tt; puts = puts }) kept
+
+    asked_weighs : (what : Asked) (m : ℕ) → Weighs (event at seed (act.Ask what m)) (rows.asked_row configs log m)
+    asked_weighs what m =
+        asks (act.Ask what m) (rows.asked_row configs log m) refl refl refl (plain_item n key (queue.Tracker m) (item.Call (length log)) refl refl, tt) (λ k. refl)
+
+    ask_weighs : (what : Asked) (m : ℕ) → Weighs (event at seed (act.Ask what m)) (rows.ask_row configs log m what)
+    ask_weighs (ask.Track index peers) m = by_size (nat_lt (rows.most_peers_at configs m) (rows.size_at configs m peers))
+      where
+        by_size : (b : Bool) → Weighs (event at seed (act.Ask (ask.Track index peers) m))
+            (cond b (only (reply.PeerSetTooLarge (rows.size_at configs m peers) (rows.most_peers_at configs m))) (rows.asked_row configs log m))
+        by_size true =
+            asks (act.Ask (ask.Track index peers) m) (only (reply.PeerSetTooLarge (rows.size_at configs m peers) (rows.most_peers_at configs m))) refl refl refl tt (λ k. refl)
+        by_size false = asked_weighs (ask.Track index peers) m
+    ask_weighs what m = asked_weighs what m
+
+    -- ---- the tracker's step
+
+    here : (n == n) ≡ true
+    here = eq-eqb n n refl
+
+    tracker_weighs : Weighs (event at seed (act.Tracker n)) (rows.tracker_row configs log n at)
+    tracker_weighs =
+        let r : Row = rows.tracker_row configs log n at in
+        let jitter : ℕ = jitter_of (rules_at configs n).cooldown seed in
+        let step : Step n key (rules_at configs n) log at jitter calls r = tracker_steps n key configs log at jitter in
+        let m : Moves log r = step.moves in
+        let e : Entry = entry_of (event at seed (act.Tracker n)) r in
+        let items : taken log e ≡ map (λ x. x.item) m.taken = taken_items log (event at seed (act.Tracker n)) r m in
+        let grants : g.grants log e ≡ step.turned.grants = ap (λ b. b && list_any (puts_grant n key) r.puts) here ∙ step.turned.granted in
+        let frees : g.frees log e ≡ step.frees = ap (λ b. b && list_any (releases_key key) (taken log e)) here ∙ (ap (list_any (releases_key key)) items ∙ step.freed) in
+        let held = holds_kept configs n key log e (λ k. refl) in
+        let granted : one (g.grants log e) ≡ one step.turned.grants = ap one grants in
+        let freed : one (g.frees log e) ≡ one step.frees = ap one frees in
+        let grants_taken = step.grants_taken in
+        let grants_ended = no_grants_stand n key m.ended step.ended in
+        let releases_taken = step.releases_taken in
+        let releases_ended = no_releases_stand n key m.ended step.ended in
+        let grants_put = step.turned.grants_put in
+        let releases_put = step.turned.releases_put in
+        record {
+          moves = m;
+          holding = omega (arith, held, granted, grants_taken, grants_ended, grants_put, releases_put);
+          waiting = omega (arith, releases_taken, releases_ended, freed);
+          turn =
+              ap (λ b. is_held key_cmp (cond b (step_calls log r.reply (taken log e) at jitter (list_any grants_dial r.puts) calls) calls) key) here
+              ∙ (ap (λ l. is_held key_cmp (step_calls log r.reply l at jitter (list_any grants_dial r.puts) calls) key) items
+              ∙ (step.turned.turn
+              ∙ sym (ap (λ b. held_after (is_held key_cmp calls key) (cond b (true ∷ []) (cond (g.frees log e) (false ∷ []) []))) grants
+              ∙ ap (λ b. held_after (is_held key_cmp calls key) (cond step.turned.grants (true ∷ []) (cond b (false ∷ []) []))) frees)));
+          free = λ h. step.turned.free (sym grants ∙ h);
+          others = λ h. step.turned.others (sym grants ∙ h);
+          apart = λ h. frees ∙ step.turned.apart (sym grants ∙ h);
+        }
+
+    -- ---- the dialer's
+
+    dialer_weighs : Weighs (event at seed (act.Dialer n)) (dialer_row configs log n at seed)
+    dialer_weighs =
+        let r : Row = dialer_row configs log n at seed in
+        let rules : DialRules = dial_rules_at configs n in
+        let hand : Hand n key log rules.timeout at r = dialer_hands n key configs log rules.timeout at seed in
+        let m : Moves log r = hand.moves in
+        let e : Entry = entry_of (event at seed (act.Dialer n)) r in
+        let items : taken log e ≡ map (λ x. x.item) m.taken = taken_items log (event at seed (act.Dialer n)) r m in
+        let begun : Option Attempt = begun_of rules.timeout at (map (λ x. x.item) m.taken) in
+        let held = holds_begun configs n key log e begun
+        (λ k. ap (λ b. cond b (with_begun (begun_of rules.timeout at (taken log e)) (length log) f k) (f k)) here ∙ ap (λ l. with_begun (begun_of rules.timeout at l) (length log) f k) items) in
+        let taken_here = hand.begun in
+        let ended = no_grants_stand n key m.ended hand.ended in
+        let granted = no_grants n key r.puts hand.puts in
+        let released = no_releases n key r.puts hand.puts in
+        moved (event at seed (act.Dialer n)) r refl m (omega (arith, held, taken_here, ended, granted, released)) hand.releases_taken (no_releases_stand n key m.ended hand.ended)
+
+    -- ---- an attempt's
+
+    stands_weighs : (i : ℕ) (a : Attempt) → f i ≡ Some a
+        → Weighs (event at seed (act.Attempt i n)) (attempt_turn n at seed (dial_rules_at configs n).private a (line log (queue.Attempt n i)))
+    stands_weighs i a stands =
+        let private : Bool = (dial_rules_at configs n).private in
+        let r : Row = attempt_turn n at seed private a (line log (queue.Attempt n i)) in
+        let ends : Ends n key log i private seed a r = attempt_ends n key log i private seed a at (line log (queue.Attempt n i)) refl in
+        let m : Moves log r = ends.moves in
+        let e : Entry = entry_of (event at seed (act.Attempt i n)) r in
+        let items : taken log e ≡ map (λ x. x.item) m.taken = taken_items log (event at seed (act.Attempt i n)) r m in
+        let left : Option Attempt = stepped_attempt private seed r.reply (map (λ x. x.item) m.taken) a in
+        let held = holds_changed configs n key log e i a left stands
+        (λ k. ap (λ b. cond b (with_attempt i (and_then (stepped_attempt private seed r.reply (taken log e)) (f i)) f k) (f k)) here
+        ∙ (ap (λ l. with_attempt i (and_then (stepped_attempt private seed r.reply l) (f i)) f k) items
+        ∙ ap (λ o. with_attempt i (and_then (stepped_attempt private seed r.reply (map (λ x. x.item) m.taken)) o) f k) stands)) in
+        let kept = ends.kept in
+        let taken_here = no_grants_stand n key m.taken ends.taken in
+        let ended = no_grants_stand n key m.ended ends.ended in
+        let granted = ends.grants_put in
+        moved (event at seed (act.Attempt i n)) r refl m (omega (arith, held, kept, taken_here, ended, granted)) (no_releases_stand n key m.taken ends.taken) (no_releases_stand n key m.ended ends.ended)
+
+    attempt_weighs : (i : ℕ) → Weighs (event at seed (act.Attempt i n)) (attempt_row configs log i n at seed)
+    attempt_weighs i = by_attempt (f i) refl
+      where
+        by_attempt : (o : Option Attempt) → f i ≡ o → Weighs (event at seed (act.Attempt i n)) (attempt_by o n at seed (dial_rules_at configs n).private (line log (queue.Attempt n i)))
+        by_attempt None none =
+            asks (act.Attempt i n) (only reply.Gone) refl refl refl tt
+            (λ k. none_kept key (n == n) (stepped_attempt (dial_rules_at configs n).private seed reply.Gone (taken log (entry_of (event at seed (act.Attempt i n)) (only reply.Gone)))) i k f none)
+        by_attempt (Some a) stands = stands_weighs i a stands
+
+    -- ---- each act, at this node or at another
+
+    tracker_at : (m : ℕ) (b : Bool) → (m == n) ≡ b → Weighs (event at seed (act.Tracker m)) (row configs log at seed (act.Tracker m))
+    unfolding row
+    tracker_at m true same = subst (λ i. Weighs (event at seed (act.Tracker i)) (rows.tracker_row configs log i at)) (sym (eqb-true m n same)) tracker_weighs
+    tracker_at m false differ =
+        other (act.Tracker m) (rows.tracker_row configs log m at) (row_shape configs log at seed (act.Tracker m)) (refl, other_way m n differ) (ap (λ b. b && true) differ, other_way m n differ) differ (λ k. refl)
+
+    dialer_at : (m : ℕ) (b : Bool) → (m == n) ≡ b → Weighs (event at seed (act.Dialer m)) (row configs log at seed (act.Dialer m))
+    unfolding row
+    dialer_at m true same = subst (λ i. Weighs (event at seed (act.Dialer i)) (dialer_row configs log i at seed)) (sym (eqb-true m n same)) dialer_weighs
+    dialer_at m false differ =
+        let r : Row = dialer_row configs log m at seed in
+        other (act.Dialer m) r (row_shape configs log at seed (act.Dialer m)) (ap (λ b. b && true) differ, refl) (refl, ap (λ b. b && true) differ) refl
+        (λ k. others_kept key (m == n) (with_begun (begun_of (dial_rules_at configs n).timeout at (taken log (entry_of (event at seed (act.Dialer m)) r))) (length log) f k) (f k) differ)
+
+    attempt_at : (i m : ℕ) (b : Bool) → (m == n) ≡ b → Weighs (event at seed (act.Attempt i m)) (row configs log at seed (act.Attempt i m))
+    unfolding row
+    attempt_at i m true same = subst (λ j. Weighs (event at seed (act.Attempt i j)) (attempt_row configs log i j at seed)) (sym (eqb-true m n same)) (attempt_weighs i)
+    attempt_at i m false differ =
+        let r : Row = attempt_row configs log i m at seed in
+        other (act.Attempt i m) r (row_shape configs log at seed (act.Attempt i m)) (refl, refl) (refl, ap (λ b. b && true || false) differ) refl
+        (λ k. others_kept key (m == n) (with_attempt i (and_then (stepped_attempt (dial_rules_at configs n).private seed r.reply (taken log (entry_of (event at seed (act.Attempt i m)) r))) (f i)) f k) (f k) differ)
+
+    pub each_weighs : (a : Act) → Weighs (event at seed a) (row configs log at seed a)
+    unfolding row
+    each_weighs (act.Ask what m) = ask_weighs what m
+    each_weighs (act.Answer e) =
+        let away = told_aside (asked_by log e) e n in
+        other (act.Answer e) (rows.answer_row log e) (row_shape configs log at seed (act.Answer e)) (away.0, refl) (away.1, refl) refl (λ k. refl)
+    each_weighs (act.Next e) =
+        let away = told_aside (asked_by log e) e n in
+        other (act.Next e) (rows.next_row log e) (row_shape configs log at seed (act.Next e)) (away.0, refl) (away.1, refl) refl (λ k. refl)
+    each_weighs (act.Tracker m) = tracker_at m (m == n) refl
+    each_weighs (act.Dialer m) = dialer_at m (m == n) refl
+    each_weighs (act.Attempt i m) = attempt_at i m (m == n) refl
+    each_weighs (act.Resolve addresses i m) =
+        let r : Row = resolve_row configs log addresses i m in
+        other (act.Resolve addresses i m) r (row_shape configs log at seed (act.Resolve addresses i m)) (refl, refl) (refl, refl) refl
+        (λ k. told_kept key (m == n) (told_addresses r.reply) i k f (addresses_kept key r.reply))
+    each_weighs (act.Refuse i m) =
+        let r : Row = refuse_row configs log i m in
+        other (act.Refuse i m) r (row_shape configs log at seed (act.Refuse i m)) (refl, refl) (refl, refl) refl
+        (λ k. told_kept key (m == n) (told_refused r.reply) i k f (refused_kept key r.reply))
+    each_weighs a = other a (row configs log at seed a) (row_shape configs log at seed a) (refl, refl) (refl, refl) refl (λ k. refl)

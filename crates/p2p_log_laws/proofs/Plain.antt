@@ -1,0 +1,83 @@
+-- What neither grants a key at a node nor releases it.
+use Rattle.std.proofs.Common.{◌≡◌, ℕ, Bool, true, false, List, [], ◌∷◌, refl, ap, ◌∙◌}
+use Rattle.std.specs.Prelude.{◌&&◌, ◌||◌, count_by}
+use Rattle.std.specs.List.{AllByRecursion as Each, list_any}
+use Rattle.p2p_base.specs.declared.key.Key.{Key}
+use Rattle.p2p_log.specs.declared.config.Config.{Config}
+use Rattle.p2p_log.specs.declared.queue.Queue.{Queue}
+use Rattle.p2p_log.specs.declared.queue.Queue.TheVariants as queue
+use Rattle.p2p_log.specs.declared.item.Item.{Item}
+use Rattle.p2p_log.specs.declared.item.Envelope.{Envelope}
+use Rattle.p2p_log.specs.declared.entry.Entry.{Entry}
+use Rattle.p2p_log.specs.declared.event.Act.{Act}
+use Rattle.p2p_log.specs.QueueCode.{same_queue}
+use Rattle.p2p_log.proofs.Each.{Each-weaker, count_by-none}
+use Rattle.p2p_log_rules.specs.declared.row.Row.{Row}
+use Rattle.p2p_log_rules.specs.Moves.{Moves}
+use Rattle.p2p_log_rules.proofs.Touches.{Reach, reads, writes, away}
+use Rattle.p2p_log_laws.specs.NodeGrants.{put_of, grants_key, releases_key, puts_grant, puts_release}
+use Rattle.p2p_log_laws.proofs.Weighing.{weight}
+
+pub and_false : (b : Bool) → (b && false) ≡ false
+and_false true = refl
+and_false false = refl
+
+-- a queue that no grant and no release at the node enters
+abbrev pub IsAside : ℕ → Queue → Type 0
+IsAside n q = (same_queue (queue.Dialer n) q ≡ false) × (same_queue (queue.Tracker n) q ≡ false)
+
+module _ (n : ℕ) (key : Key) where
+  abbrev pub Plain : Queue × Item → Type 0
+  Plain x = (puts_grant n key x ≡ false) × (puts_release n key x ≡ false)
+
+  abbrev pub StandsPlain : Envelope → Type 0
+  StandsPlain x = Plain (put_of x)
+
+  pub plain_aside : (q : Queue) (i : Item) → IsAside n q → Plain (q, i)
+  plain_aside q i h = (ap (λ b. b && grants_key key i) h.0, ap (λ b. b && releases_key key i) h.1)
+
+  -- an item that grants nothing and releases nothing, wherever it is put
+  pub plain_item : (q : Queue) (i : Item) → grants_key key i ≡ false → releases_key key i ≡ false → Plain (q, i)
+  plain_item q i g r =
+      (ap (λ b. same_queue (queue.Dialer n) q && b) g ∙ and_false (same_queue (queue.Dialer n) q), ap (λ b. same_queue (queue.Tracker n) q && b) r ∙ and_false (same_queue (queue.Tracker n) q))
+
+  pub no_grants : (puts : List (Queue × Item)) → Each Plain puts → count_by (puts_grant n key) puts ≡ 0
+  no_grants puts h = count_by-none (puts_grant n key) puts (Each-weaker Plain (λ x. puts_grant n key x ≡ false) (λ x p. p.0) puts h)
+
+  pub no_releases : (puts : List (Queue × Item)) → Each Plain puts → count_by (puts_release n key) puts ≡ 0
+  no_releases puts h = count_by-none (puts_release n key) puts (Each-weaker Plain (λ x. puts_release n key x ≡ false) (λ x p. p.1) puts h)
+
+  pub none_grants : (puts : List (Queue × Item)) → Each Plain puts → list_any (puts_grant n key) puts ≡ false
+  none_grants [] h = refl
+  none_grants (x ∷ xs) h = ap (λ b. b || list_any (puts_grant n key) xs) h.0.0 ∙ none_grants xs h.1
+
+  pub no_grants_stand : (xs : List Envelope) → Each StandsPlain xs → weight (puts_grant n key) xs ≡ 0
+  no_grants_stand xs h =
+      count_by-none (λ x. puts_grant n key (put_of x)) xs (Each-weaker StandsPlain (λ x. puts_grant n key (put_of x) ≡ false) (λ x p. p.0) xs h)
+
+  pub no_releases_stand : (xs : List Envelope) → Each StandsPlain xs → weight (puts_release n key) xs ≡ 0
+  no_releases_stand xs h =
+      count_by-none (λ x. puts_release n key (put_of x)) xs (Each-weaker StandsPlain (λ x. puts_release n key (put_of x) ≡ false) (λ x p. p.1) xs h)
+
+  -- what stands in such a queue
+  pub stand_aside : (xs : List Envelope) → Each (λ x. IsAside n x.queue) xs → Each StandsPlain xs
+  stand_aside xs h = Each-weaker (λ x. IsAside n x.queue) StandsPlain (λ x a. plain_aside x.queue x.item a) xs h
+
+  -- a row moves no grant and no release
+  pub record IsPlain (log : List Entry) (r : Row) (m : Moves log r) : Type 0 where
+    pub taken : Each StandsPlain m.taken
+    pub ended : Each StandsPlain m.ended
+    pub puts : Each Plain r.puts
+
+  -- as where its act reaches neither of their queues
+  pub plain_out_of_reach : (configs : List Config) (a : Act) (log : List Entry) (r : Row) (m : Moves log r) → Reach configs a log r m
+      → reads configs log a (queue.Dialer n) ≡ false → writes configs log a (queue.Dialer n) ≡ false
+      → reads configs log a (queue.Tracker n) ≡ false → writes configs log a (queue.Tracker n) ≡ false → IsPlain log r m
+  plain_out_of_reach configs a log r m reach rd wd rt wt = record {
+    taken = stand_aside m.taken (Each-weaker (λ x. reads configs log a x.queue ≡ true) (λ x. IsAside n x.queue)
+        (λ x k. (away (reads configs log a) (queue.Dialer n) x.queue rd k, away (reads configs log a) (queue.Tracker n) x.queue rt k)) m.taken reach.taken);
+    ended = stand_aside m.ended (Each-weaker (λ x. writes configs log a x.queue ≡ true) (λ x. IsAside n x.queue)
+        (λ x k. (away (writes configs log a) (queue.Dialer n) x.queue wd k, away (writes configs log a) (queue.Tracker n) x.queue wt k)) m.ended reach.ended);
+    puts = Each-weaker (λ x. writes configs log a x.0 ≡ true) Plain
+        (λ x k. plain_aside x.0 x.1 (away (writes configs log a) (queue.Dialer n) x.0 wd k, away (writes configs log a) (queue.Tracker n) x.0 wt k)) r.puts reach.puts;
+  }

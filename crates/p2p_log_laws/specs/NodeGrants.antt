@@ -1,0 +1,70 @@
+-- The grants of a key at a node, read off the log: who holds them, and which releases of them wait.
+use Rattle.std.specs.Prelude.{ℕ, zero, suc, ◌+◌, Bool, false, ◌==◌, ◌&&◌, List, [], length, count_by, Option, Some, None}
+use Rattle.std.specs.List.{list_any}
+use Rattle.p2p_base.specs.declared.key.Key.{Key}
+use Rattle.p2p_log.specs.declared.config.Config.{Config}
+use Rattle.p2p_log.specs.declared.queue.Queue.{Queue}
+use Rattle.p2p_log.specs.declared.queue.Queue.TheVariants as queue
+use Rattle.p2p_log.specs.declared.item.Item.{Item}
+use Rattle.p2p_log.specs.declared.item.Item.TheVariants as item
+use Rattle.p2p_log.specs.declared.item.Envelope.{Envelope}
+use Rattle.p2p_log.specs.declared.entry.Entry.{Entry}
+use Rattle.p2p_log.specs.QueueCode.{same_queue}
+use Rattle.p2p_log.specs.Lines.{live}
+use Rattle.p2p_log_rules.specs.Facts.{taken}
+use Rattle.p2p_log_rules.specs.Attempting.{Attempt, attempts_of}
+use Rattle.p2p_log_rules.specs.Tracking.{steps_tracker}
+use Rattle.p2p_log_laws.specs.Grants.{one, Granting}
+
+-- how many numbers below this one pass
+unfoldable pub count_below : ℕ → (ℕ → Bool) → ℕ
+count_below zero p = 0
+count_below (suc m) p = one (p m) + count_below m p
+
+module _ (key : Key) where
+  -- whether an item grants the key
+  abbrev pub grants_key : Item → Bool
+  grants_key (item.Dial (Some grant)) = grant.0.0 == key.0
+  grants_key _ = false
+
+  -- whether an item gives it back
+  abbrev pub releases_key : Item → Bool
+  releases_key (item.Release k) = k.0 == key.0
+  releases_key _ = false
+
+  -- whether an attempt is by a grant of it
+  abbrev pub is_attempt_of : Option Attempt → Bool
+  is_attempt_of None = false
+  is_attempt_of (Some a) = a.key.0 == key.0
+
+-- what an envelope puts in its queue
+abbrev pub put_of : Envelope → Queue × Item
+put_of x = (x.queue, x.item)
+
+module _ (n : ℕ) (key : Key) where
+  abbrev pub puts_grant : Queue × Item → Bool
+  puts_grant x = same_queue (queue.Dialer n) x.0 && grants_key key x.1
+
+  abbrev pub puts_release : Queue × Item → Bool
+  puts_release x = same_queue (queue.Tracker n) x.0 && releases_key key x.1
+
+  -- a grant is held by the answer that waits for the dialer, and then by the attempt that it begins
+  abbrev pub holders_of : List Config → List Entry → ℕ
+  holders_of configs log =
+      count_by (λ x. puts_grant (put_of x)) (live log) + count_below (length log) (λ e. is_attempt_of key (attempts_of configs log n e))
+
+  abbrev pub waiting_of : List Entry → ℕ
+  waiting_of log = count_by (λ x. puts_release (put_of x)) (live log)
+
+-- of a key at a node: the tracker grants it and takes its releases, and nothing stops the node yet
+abbrev pub granting : List Config → ℕ → Key → Granting
+granting configs n key = record {
+  grants = λ before e. steps_tracker n e.event.act && list_any (puts_grant n key) e.puts;
+  frees = λ before e. steps_tracker n e.event.act && list_any (releases_key key) (taken before e);
+  stops = λ before e. false;
+  holders = holders_of n key configs;
+  waiting = waiting_of n key;
+  released = λ before e. count_by (puts_release n key) e.puts;
+  alive = λ log. [];
+  begins = λ before e. [];
+}
