@@ -27,9 +27,12 @@ use Rattle.p2p_net.specs.declared.node.Node.{Node}
 use Rattle.p2p_net.proofs.Nodes.{slice_get-set, below}
 use Rattle.p2p_net.proofs.Frames.{part_frame, links_kept}
 use Rattle.p2p_net.proofs.Performing.{asked, Performs, part_still, links_still, effect-still}
+use Rattle.p2p_net.proofs.Refusing.{refuse_performs}
+use Rattle.p2p_net.proofs.Resolving.{resolve_performs}
 use Rattle.p2p_net.proofs.Calling.{register_performs, start_performs, send_performs, read_performs}
 use Rattle.p2p_net.proofs.Dialing.{dialer_performs}
 use Rattle.p2p_net.proofs.Stepping.{route_performs}
+use Rattle.p2p_net.proofs.Trying.{attempt_performs}
 use Rattle.p2p_net.proofs.Tracking.{ask_performs, answer_performs, next_performs, tracker_performs}
 use Rattle.p2p_net.proofs.Writing.{send_step_performs}
 use Rattle.p2p_net.proofs.Receiving.{recv_step_performs}
@@ -57,6 +60,9 @@ node_performs configs log moment seed (act.Answer e) x y l links r s t valid one
 node_performs configs log moment seed (act.Next e) x y l links r s t valid one d = next_performs configs log moment seed e x y l links r s t valid d.0.0 d.0.1 d.1
 node_performs configs log moment seed (act.Tracker n) x y l links r s t valid one d = tracker_performs configs log moment seed n x y l links r s t d.0 d.1
 node_performs configs log moment seed (act.Dialer n) x y l links r s t valid one d = dialer_performs configs log moment seed n x y l links r s t d.0 d.1
+node_performs configs log moment seed (act.Attempt e n) x y l links r s t valid one d = attempt_performs configs log moment seed e n x y l links r s t d.0 d.1
+node_performs configs log moment seed (act.Resolve addresses e n) x y l links r s t valid one d = resolve_performs configs log moment seed addresses e n x y l links r s t d.0.0 d.0.1 d.1
+node_performs configs log moment seed (act.Refuse e n) x y l links r s t valid one d = refuse_performs configs log moment seed e n x y l links r s t d.0.0 d.0.1 d.1
 node_performs configs log moment seed (act.Join a b) x y l links r s t valid one d = cc
 
 -- the parts of the other nodes are not named

@@ -36,13 +36,16 @@ use Rattle.p2p_log.proofs.Queues.{same_queue-refl}
 use Rattle.p2p_log_rules.specs.declared.row.Row.{Row}
 use Rattle.p2p_log_rules.specs.Facts.{is_up, taken}
 use Rattle.p2p_log_rules.specs.Effect.{only, row, effect, entry_of}
-use Rattle.p2p_log_rules.specs.Dialing.{Pace, pace_at, next_deadline, Dials, dials_of, in_drawn_order, last_key, without_last, stepped_dials, begun_of, dial_puts, dials_row, answered_row, due_row, dialer_turn}
+use Rattle.p2p_log_rules.specs.Attempting.{DialRules, dial_rules_at, begun_of}
+use Rattle.p2p_log_rules.specs.Dialing.{Pace, pace_at, next_deadline, Dials, dials_of, in_drawn_order, last_key, without_last, stepped_dials, dial_puts, dials_row, answered_row, due_row, dialer_turn}
+use Rattle.p2p_log_laws.proofs.Untouched.{line-untouched}
 use Rattle.p2p_net_queues.proofs.Going.{put_in}
 use Rattle.p2p_net_dialer.specs.Dialing as dialing
-use Rattle.p2p_net_dialer.specs.Stands.{no_gates, gates_at, actor_of, IsBegun, DialerStands}
+use Rattle.p2p_net_dialer.specs.Stands.{no_gates, gates_at, actor_of, DialerStands}
 use Rattle.p2p_net_dialer.specs.declared.dialing.Dialed.{Dialed}
 use Rattle.p2p_net_dialer.specs.declared.dialing.Dialing.{Dialing}
-use Rattle.p2p_net_dialer.proofs.Changes.{attempts_with, dialer_stepped}
+use Rattle.p2p_net_dialer.specs.declared.attempt.RunningAttempt.{RunningAttempt}
+use Rattle.p2p_net_dialer.proofs.Changes.{attempts_with, IsBegun, begun_is, timeout_is, dialer_stepped}
 use Rattle.p2p_net_links.specs.Stands.{LinksStand}
 use Rattle.p2p_net_links.specs.declared.links.Links.{Links}
 use Rattle.p2p_net_tracker.specs.Dialed.{taken_names, asked_puts, names_asked, dialed_row}
@@ -50,7 +53,7 @@ use Rattle.p2p_net_tracker.specs.Naming.{grant_of}
 use Rattle.p2p_net_tracker.specs.Stands.{is_told, Match, IsMessage, IsAnswer, TrackerStands}
 use Rattle.p2p_net_tracker.specs.declared.naming.Tickets.{Tickets}
 use Rattle.p2p_net_tracker.proofs.Changes.{told_apart, kept_open}
-use Rattle.p2p_net_tracker.proofs.DialerSteps.{is_taken_of, tracker_dialed, none_left, first_left}
+use Rattle.p2p_net_tracker.proofs.DialerSteps.{is_taken_of, tracker_dialed, told_moved, mailbox_moved, none_left, first_left}
 use Rattle.p2p_net_tracker.proofs.Steps.{none_taken, first_taken}
 use Rattle.p2p_net.specs.Places as place
 use Rattle.p2p_net.specs.Ready.{is_started}
@@ -129,6 +132,9 @@ module _ (configs : List Config) (log : List Entry) (moment seed n : ℕ) (x y :
 
   abbrev g : Gates
   g = gates_at configs n
+
+  abbrev rules : DialRules
+  rules = dial_rules_at configs n
 
   abbrev ds : Dials
   ds = dials_of configs log n
@@ -233,26 +239,26 @@ module _ (configs : List Config) (log : List Entry) (moment seed n : ℕ) (x y :
           updates = ap (λ (d : Desk Key). length d.updates) desk ∙ updates_are o;
           sets = ap (λ (d : Desk Key). length d.sets) desk ∙ sets_are o;
           each = each_is o asks;
-          left = left;
-          asked = put_is o;
-          quiet = quiet_is o;
+          waits = mailbox_moved log (e took o) n took (waits_in k n o) left (put_is o) (quiet_is o);
+          lines = told_moved log (e took o) n took (waits_in k n o) left (put_is o) (quiet_is o);
           answered = answered;
           told = tracks.1.0;
         })
 
     -- and where the dialer comes to this
     moved : (items : List Item) (begun : Option (Attempting Key)) → row configs log moment seed (act.Dialer n) ≡ due took o → taken log (e took o) ≡ items
-        → y.dialing.actor ≡ Some (actor_of g (stepped_dials (pace_of g) moment seed reply.Ok items (asked_puts n (item_in o)) ds)) → IsBegun g k begun (begun_of moment items) → y.dialing.attempts ≡ attempts_with begun k x.dialing.attempts
+        → y.dialing.actor ≡ Some (actor_of g (stepped_dials (pace_of g) moment seed reply.Ok items (asked_puts n (item_in o)) ds)) → IsBegun g k begun (begun_of rules.timeout moment items) → y.dialing.attempts ≡ attempts_with begun k x.dialing.attempts
         → Performs configs log ev n y ls r
     moved items begun row_is items_is actor new attempts =
+        let same = effect_is (due took o) row_is in
         let dialer_is : DialerStands configs (log ++ e took o ∷ []) n y.dialing =
         dialer_stepped configs log (e took o) n x.dialing y.dialing begun dialed_before refl up
         (actor
         ∙ (ap (λ p. Some (actor_of g (stepped_dials p moment seed reply.Ok items (asked_puts n (item_in o)) ds))) (sym (pace_is configs n))
         ∙ ap (λ i. Some (actor_of g (stepped_dials (pace_at configs n) moment seed reply.Ok i (asked_puts n (item_in o)) ds))) (sym items_is)))
-        (subst (λ i. IsBegun g k begun (begun_of moment i)) (sym items_is) new) attempts
+        (subst (λ i. IsBegun g k begun (begun_of rules.timeout moment i)) (sym items_is) new) attempts
+        (λ j. subst (λ (d : Entry). line (log ++ d ∷ []) (queue.Attempt n j) ≡ line log (queue.Attempt n j)) (sym same) (line-untouched configs log ev (queue.Attempt n j) refl refl))
         in
-        let same = effect_is (due took o) row_is in
         record {
           row_is = tracks.0 ∙ (ap (λ h. dialed_row h n took (item_in o)) (tracked.told (queue.Dialer n) (eq-eqb n n refl)) ∙ sym row_is);
           node =
@@ -272,10 +278,10 @@ module _ (configs : List Config) (log : List Entry) (moment seed n : ℕ) (x y :
   abbrev Tracks : Option Dialed → Type 0
   Tracks d = DialedBy d k n x.tracker y.tracker r
 
-  actor_now : (a : Actor Key) (attempts : List (ℕ × Attempting Key)) → y.dialing ≡ record { actor = Some a; attempts = attempts } → y.dialing.actor ≡ Some a
+  actor_now : (a : Actor Key) (attempts : List (ℕ × RunningAttempt)) → y.dialing ≡ record { actor = Some a; attempts = attempts } → y.dialing.actor ≡ Some a
   actor_now a attempts is = ap (λ (d : Dialing). d.actor) is
 
-  attempts_now : (a : Actor Key) (attempts : List (ℕ × Attempting Key)) → y.dialing ≡ record { actor = Some a; attempts = attempts } → y.dialing.attempts ≡ attempts
+  attempts_now : (a : Actor Key) (attempts : List (ℕ × RunningAttempt)) → y.dialing ≡ record { actor = Some a; attempts = attempts } → y.dialing.attempts ≡ attempts
   attempts_now a attempts is = ap (λ (d : Dialing). d.attempts) is
 
   -- no input was ready
@@ -300,7 +306,7 @@ module _ (configs : List Config) (log : List Entry) (moment seed n : ℕ) (x y :
       → way ≡ record m { desk = way.desk; dialer = way.dialer } → row configs log moment seed (act.Dialer n) ≡ record { reply = reply.Ok; takes = taken_names took answers; puts = dial_puts n o; ends = [] }
       → ((a : Option Ask) → taken log (e took a) ≡ items)
       → ((a : Option Ask) (p : Queue) → filter (stands_in p) (filter (stays (goes (e took a))) (live log)) ≡ cond (is_taken_of took n p) (drop 1 (line log p)) (line log p))
-      → stepped_dials (pace_of g) moment seed reply.Ok items (dial_puts n o) ds ≡ dials_after o d → begun_of moment items ≡ None → TurnsTo (turns.asks_for o inp (actor_of g d) way) what → Tracks what → Performs configs log ev n y ls r
+      → stepped_dials (pace_of g) moment seed reply.Ok items (dial_puts n o) ds ≡ dials_after o d → begun_of rules.timeout moment items ≡ None → TurnsTo (turns.asks_for o inp (actor_of g d) way) what → Tracks what → Performs configs log ev n y ls r
   asks_next took inp items d way None what is_taken desk answered rest_of row_is items_are left next none h tracks =
       let it : Tracks (Some (record { took = took; asked = None })) = subst (λ b. Tracks (Some (record { took = b; asked = None }))) is_taken (subst Tracks h.0 tracks) in
       moved took None tt it (ap (λ (w : Mailbox Key). w.desk) h.1.1 ∙ desk) (ap (λ (w : Mailbox Key). w.dialer) h.1.1 ∙ answered)
@@ -405,7 +411,7 @@ module _ (configs : List Config) (log : List Entry) (moment seed n : ℕ) (x y :
         let later = attempts_with (Some a) k x.dialing.attempts in
         moved true None tt (subst Tracks h.0 tracks) (ap (λ (w : Mailbox Key). w.desk) h.1.1) (ap (λ (w : Mailbox Key). w.dialer) h.1.1)
         (h.1.1 ∙ ap (λ (w : Mailbox Key). record m { desk = w.desk; dialer = w.dialer }) (sym h.1.1)) (first_gone None) (i ∷ []) (Some a) (answer_row i is ∙ takes_are []) (one_taken i is None)
-        (actor_now now later h.1.0) (p.0, refl, refl) (attempts_now now later h.1.0)
+        (actor_now now later h.1.0) (p.0, refl, begun_is g rules k p.0 (peer_of p.0) moment p.1 (timeout_is configs n)) (attempts_now now later h.1.0)
 
     by_answer : (i : Item) (a : DialerAnswer Key) (what : Option Dialed) → z.item ≡ i → IsAnswer i a → TurnsTo (turns.answer_turn a (actor_of g ds) way_left k moment seed) what → Tracks what → Performs configs log ev n y ls r
     by_answer (item.Dialable next peers) a what is h turn tracks = told next peers what is (subst (λ b. TurnsTo (turns.answer_turn b (actor_of g ds) way_left k moment seed) what) h turn) tracks

@@ -17,16 +17,15 @@ use Rattle.p2p_log.specs.declared.event.Act.{Act}
 use Rattle.p2p_log.specs.declared.event.Act.TheVariants as act
 use Rattle.p2p_log.specs.Lines.{live, line, stands_in}
 use Rattle.p2p_log_rules.specs.declared.row.Half.{Half}
-use Rattle.p2p_log_rules.specs.declared.row.Row.{Row}
 use Rattle.p2p_log_rules.specs.Facts.{starts, registers_at, capacity_for, taken, steps_router, steps_sender, is_answer, half_of, key_at, answers_by, joins}
-use Rattle.p2p_log_rules.specs.Effect.{only, row, effect}
-use Rattle.p2p_log_rules.specs.Dialing.{steps_dialer}
+use Rattle.p2p_log_rules.specs.Effect.{row, effect}
 use Rattle.p2p_log_rules.specs.Tracking.{asked_by, steps_tracker}
 use Rattle.p2p_log_rules.specs.TrackerRows.{answers, is_answer as gives_answer, answer_by}
 use Rattle.p2p_net_tracker.specs.declared.question.Question.{Question}
 use Rattle.p2p_net_tracker.specs.declared.question.Question.TheVariants as question
 use Rattle.p2p_net_tracker.specs.Stands.{kind_of, asks_of, asks_at, is_told}
 use Rattle.p2p_net_tracker.proofs.Changes.{tracker_frame}
+use Rattle.p2p_net_dialer.specs.Stands.{is_of_dialer}
 use Rattle.p2p_net_dialer.proofs.Changes.{dialer_frame, dialer_unmoved}
 use Rattle.p2p_net_router.specs.Names.{is_routers}
 use Rattle.p2p_net_router.specs.Stands.{IsBeside}
@@ -230,8 +229,11 @@ told_home n _ h = cc
 dialer_starts_none : (log : List Entry) (n : ℕ) (a : Act) → names log a (at dialer n) ≡ false → starts n a ≡ false
 dialer_starts_none log n a h = starts_unless n a (λ m is. let f : names log (act.Start m) (at dialer n) ≡ false = sym (ap (λ x. names log x (at dialer n)) is) ∙ h in grind (arith, nat_tests))
 
-dials_none : (log : List Entry) (n : ℕ) (a : Act) → names log a (at dialer n) ≡ false → steps_dialer n a ≡ false
+dials_none : (log : List Entry) (n : ℕ) (a : Act) → names log a (at dialer n) ≡ false → is_of_dialer n a ≡ false
 dials_none log n (act.Dialer m) h = grind (arith, nat_tests)
+dials_none log n (act.Attempt e m) h = grind (arith, nat_tests)
+dials_none log n (act.Resolve addresses e m) h = grind (arith, nat_tests)
+dials_none log n (act.Refuse e m) h = grind (arith, nat_tests)
 dials_none log n _ h = refl
 
 -- ---- all parts
@@ -267,7 +269,7 @@ part_frame dialer configs log ev n x s h =
     let e = effect configs log ev in
     let acts = effect-act configs log ev in
     dialer_frame configs log e n x.dialing s
-    (dialer_unmoved configs log e n (ap (starts n) acts ∙ dialer_starts_none log n ev.act h) (ap (steps_dialer n) acts ∙ dials_none log n ev.act h))
+    (dialer_unmoved configs log e n (ap (starts n) acts ∙ dialer_starts_none log n ev.act h) (ap (is_of_dialer n) acts ∙ dials_none log n ev.act h) (λ k. line-unnamed configs log ev (queue.Attempt n k) h))
 
 -- the links, where an act does not name them
 pub links_kept : (configs : List Config) (log : List Entry) (ev : Event) (l : Links) → LinksStand log l → names log ev.act links ≡ false → LinksStand (log ++ effect configs log ev ∷ []) l

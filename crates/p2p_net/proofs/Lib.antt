@@ -1,5 +1,6 @@
 pub mod ActKinds
 pub mod Acting
+pub mod Attempting
 pub mod Calling
 pub mod Dialing
 pub mod EachPart
@@ -12,11 +13,14 @@ pub mod Performing
 pub mod Readying
 pub mod Receiving
 pub mod Records
+pub mod Refusing
+pub mod Resolving
 pub mod Routers
 pub mod Running
 pub mod Starts
 pub mod Stepping
 pub mod Touching
 pub mod Tracking
+pub mod Trying
 pub mod Welcoming
 pub mod Writing

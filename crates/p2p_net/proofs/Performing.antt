@@ -13,7 +13,8 @@ use Rattle.p2p_log.specs.declared.event.Act.{Act}
 use Rattle.p2p_log.specs.declared.event.Act.TheVariants as act
 use Rattle.p2p_log.specs.Lines.{line, placed, ended_item, stands_in}
 use Rattle.p2p_log_rules.specs.declared.row.Row.{Row}
-use Rattle.p2p_log_rules.specs.Dialing.{Pace, pace_at, Dials, steps_dialer, acted_dials, dials_of, begun_of}
+use Rattle.p2p_log_rules.specs.Attempting.{Attempt, DialRules, dial_rules_at, acted_attempts, attempts_of}
+use Rattle.p2p_log_rules.specs.Dialing.{Pace, pace_at, Dials, acted_dials, dials_of}
 use Rattle.p2p_net_dialer.proofs.Changes.{dialer_frame}
 use Rattle.p2p_log_rules.specs.Facts.{starts, registers_at, taken, item_named, steps_router, steps_sender, is_answer, half_of, joins}
 use Rattle.p2p_log_rules.specs.Effect.{only, row, effect}
@@ -57,6 +58,9 @@ is_quiet (act.Tracker n) r = false
 is_quiet (act.Dialer n) reply.Idle = true
 is_quiet (act.Dialer n) reply.Gone = true
 is_quiet (act.Dialer n) r = false
+is_quiet (act.Attempt e n) r = false
+is_quiet (act.Resolve addresses e n) r = false
+is_quiet (act.Refuse e n) r = false
 is_quiet a r = true
 
 quiet_registers : (configs : List Config) (n : ℕ) (a : Act) (r : Reply) → is_quiet a r ≡ true → registers_at configs n a ≡ []
@@ -105,9 +109,17 @@ quiet_dials pace n (act.Dialer m) at seed reply.Gone items puts d h = either_sam
 quiet_dials pace n (act.Dialer m) at seed _ items puts d h = cc
 quiet_dials pace n _ at seed r items puts d h = refl
 
-either_none : {X : Type 0} (b : Bool) (o : Option X) → o ≡ None → cond b o None ≡ None
-either_none true o h = h
-either_none false o h = refl
+-- nothing is taken, so nothing is begun
+quiet_tries : (rules : DialRules) (n name at seed : ℕ) (a : Act) (r s : Reply) (attempts : ℕ → Option Attempt) (k : ℕ) → is_quiet a r ≡ true → acted_attempts rules n name at seed s [] a attempts k ≡ attempts k
+quiet_tries rules n name at seed (act.Dialer m) r s attempts k h = by (m == n)
+  where
+    by : (b : Bool) → cond b (attempts k) (attempts k) ≡ attempts k
+    by true = refl
+    by false = refl
+quiet_tries rules n name at seed (act.Attempt e m) r s attempts k h = cc
+quiet_tries rules n name at seed (act.Resolve addresses e m) r s attempts k h = cc
+quiet_tries rules n name at seed (act.Refuse e m) r s attempts k h = cc
+quiet_tries rules n name at seed _ r s attempts k h = refl
 
 pub taken-none : (log : List Entry) (e : Entry) → e.takes ≡ [] → taken log e ≡ []
 unfolding taken
@@ -171,7 +183,12 @@ part_still dialer configs log e n x a rep s is q h =
           ap (λ b. acted_dials (pace_at configs n) n b e.event.at e.event.seed e.reply (taken log e) e.puts (dials_of configs log n)) is
           ∙ (ap (λ r. acted_dials (pace_at configs n) n a e.event.at e.event.seed r (taken log e) e.puts (dials_of configs log n)) h.reply
           ∙ quiet_dials (pace_at configs n) n a e.event.at e.event.seed rep (taken log e) e.puts (dials_of configs log n) q);
-      begins = either_none (steps_dialer n e.event.act) (begun_of e.event.at (taken log e)) (ap (begun_of e.event.at) none);
+      tries = λ k.
+          let rules = dial_rules_at configs n in
+          let attempts = attempts_of configs log n in
+          ap (λ b. acted_attempts rules n (length log) e.event.at e.event.seed e.reply (taken log e) b attempts k) is
+          ∙ (ap (λ l. acted_attempts rules n (length log) e.event.at e.event.seed e.reply l a attempts k) none ∙ quiet_tries rules n (length log) e.event.at e.event.seed a rep e.reply attempts k q);
+      lines = λ k. line-still log e rep (queue.Attempt n k) h;
     })
 
 pub links_still : (log : List Entry) (e : Entry) (rep : Reply) (l : Links) → LinksStand log l → IsStill e rep → LinksStand (log ++ e ∷ []) l

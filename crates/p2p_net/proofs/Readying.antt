@@ -11,15 +11,19 @@ use Rattle.p2p_log.specs.declared.event.Act.{Act}
 use Rattle.p2p_log.specs.declared.event.Act.TheVariants as act
 use Rattle.p2p_log_rules.specs.Facts.{events_of, has_started, is_up, registered, capacity_for, capacity_in}
 use Rattle.p2p_log_rules.specs.Effect.{mailbox_size_at, limit_at}
-use Rattle.p2p_log_rules.specs.Valid.{fits, sizes_fit, gates_fit, is_quota, fits_usize, config_fault, joins_node, names_join}
+use Rattle.p2p_log_rules.specs.Valid.{fits, sizes_fit, gates_fit, is_quota, fits_usize, names_join}
 use Rattle.p2p_log_rules.specs.Valid as valid
+use Rattle.p2p_log_rules.specs.Lawful.{IsLawful}
+use Rattle.p2p_log_laws.proofs.HeldPeers.{held_is_others}
+use Rattle.p2p_log_laws.proofs.NodeGrants.{release_is_held}
+use Rattle.p2p_net_tracker.specs.Stands.{ReleasesHeld}
 use Rattle.p2p_net_channels.specs.Channels.{capacity_at}
 use Rattle.p2p_net_channels.specs.Stands.{ChannelsStand}
 use Rattle.p2p_net_links.specs.declared.links.Links.{Links}
 use Rattle.p2p_net.specs.Places as place
 use Rattle.p2p_net_tracker.proofs.Begins.{may_take}
 use Rattle.p2p_net.specs.Places.{asked_node, or_first, node_asked, node_of, other_of}
-use Rattle.p2p_net.specs.Ready.{is_started, capacity_by, may_register, names_node, asks_set, subscribes, may_ask, may_at, may_act, IsReady, MayPerform}
+use Rattle.p2p_net.specs.Ready.{is_started, capacity_by, may_register, names_node, asks_set, subscribes, may_ask, may_at, may_act, IsReady, MayPerform, names_dialer}
 use Rattle.p2p_net.specs.Stands.{RouterStands, OwnStands, NodeStands, WorldStands}
 use Rattle.p2p_net.specs.declared.node.Node.{Node}
 use Rattle.p2p_net.proofs.Nodes.{some_at}
@@ -88,6 +92,11 @@ subscription_is configs (d ∷ ds) zero = by d.event.act
     by _ = and-false (nat_lt 0 (length configs))
 subscription_is configs (d ∷ ds) (suc i) = subscription_is configs ds i
 
+dialed_is : (log : List Entry) (n e : ℕ) → names_dialer n (slice_get log e) ≡ valid.names_dialer (events_of log) n e
+dialed_is [] n e = refl
+dialed_is (d ∷ ds) n zero = refl
+dialed_is (d ∷ ds) n (suc i) = dialed_is ds n i
+
 -- by whether the node is there
 there : (b : Bool) (at rest : Bool) → (b ≡ true → at ≡ rest) → (b && (b && at)) ≡ (b && rest)
 there true at rest h = h refl
@@ -123,6 +132,14 @@ module _ (configs : List Config) (log : List Entry) (nodes : List Node) (links :
   free : (a : Act) → ((x : Node) → may_ask log x a ≡ true) → nat_lt (node_of log a) (length nodes) && (nat_lt (node_of log a) (length nodes) && may_at (slice_get nodes (node_of log a)) log a) ≡ nat_lt (node_of log a) (length configs)
   free a h = there_plain (nat_lt (node_of log a) (length nodes)) (may_at (slice_get nodes (node_of log a)) log a) (λ lt. asks a true lt (λ x t. h x)) ∙ counted (node_of log a)
 
+  -- an act that names a step of its node's dialer
+  of_dialer : (n e : ℕ) (a : Act) → ((x : Node) → may_ask log x a ≡ names_dialer n (slice_get log e))
+      → (nat_lt n (length nodes) && (nat_lt n (length nodes) && may_at (slice_get nodes n) log a)) ≡ (nat_lt n (length configs) && valid.names_dialer (events_of log) n e)
+  of_dialer n e a asks_it =
+      there (nat_lt n (length nodes)) (may_at (slice_get nodes n) log a) (valid.names_dialer (events_of log) n e)
+      (λ lt. at_by a (slice_get nodes n) ∙ asked_at n (λ x. may_ask log x a) (valid.names_dialer (events_of log) n e) lt (λ x t. asks_it x ∙ dialed_is log n e))
+      ∙ ap (λ b. b && valid.names_dialer (events_of log) n e) (counted n)
+
   may_by : (a : Act) → may_act nodes log a ≡ valid.may_act configs (events_of log) a
   may_by (act.Register c n rate) =
       there (nat_lt n (length nodes)) (may_at (slice_get nodes n) log (act.Register c n rate)) (valid.may_register configs (events_of log) c n rate)
@@ -155,6 +172,9 @@ module _ (configs : List Config) (log : List Entry) (nodes : List Node) (links :
       let n = node_asked (slice_get log e) in
       there (nat_lt n (length nodes)) (may_at (slice_get nodes n) log (act.Next e)) (subscribes (slice_get log e)) (λ lt. asks (act.Next e) (subscribes (slice_get log e)) lt (λ x t. refl))
       ∙ (ap (λ b. b && subscribes (slice_get log e)) (counted n) ∙ subscription_is configs log e)
+  may_by (act.Attempt e n) = of_dialer n e (act.Attempt e n) (λ x. refl)
+  may_by (act.Resolve addresses e n) = of_dialer n e (act.Resolve addresses e n) (λ x. refl)
+  may_by (act.Refuse e n) = of_dialer n e (act.Refuse e n) (λ x. refl)
   may_by a = free a (λ x. refl)
 
 pub may_act-nodes : (configs : List Config) (log : List Entry) (nodes : List Node) (links : Links) (a : Act) → WorldStands configs log nodes links → may_act nodes log a ≡ valid.may_act configs (events_of log) a
@@ -191,11 +211,11 @@ fits_below m t k h = grind (arith, nat_tests)
 short : (k m : ℕ) → nat_le k m ≡ true → nat_le m 16777200 ≡ true → k < 2 ^ 32
 short k m h g = grind (arith, nat_tests)
 
-ready_by : (configs : List Config) (log : List Entry) (n : ℕ) (a : Act) (x : Node) → NodeStands configs log n x → fits x.config ≡ true → may_ask log x a ≡ true → IsReady a x
-ready_by configs log n (act.Register c m rate) x s fit may =
+ready_by : (configs : List Config) (log : List Entry) (n : ℕ) (a : Act) (x : Node) → NodeStands configs log n x → ReleasesHeld configs log n → fits x.config ≡ true → may_ask log x a ≡ true → IsReady a x
+ready_by configs log n (act.Register c m rate) x s released fit may =
     let halves = and_parts (not (is_started x) && not (is_some (capacity_at x.channels c))) (fits_usize (capacity_by x rate) && fits_usize (x.config.mailbox_size + (x.channels.total + capacity_by x rate))) may in
     fits_below x.config.mailbox_size x.channels.total (capacity_by x rate) (and_parts (fits_usize (capacity_by x rate)) (fits_usize (x.config.mailbox_size + (x.channels.total + capacity_by x rate))) halves.1).1
-ready_by configs log n (act.Start m) x s fit may =
+ready_by configs log n (act.Start m) x s released fit may =
     let chan : ChannelsStand configs log n x.channels = s.each place.channels in
     let off : is_up log n ≡ false = sym (started_is configs log n x s) ∙ not-true (is_started x) may in (
       is_unbound-before configs log n x.router (s.each place.router) off,
@@ -204,14 +224,20 @@ ready_by configs log n (act.Start m) x s fit may =
         (subst (λ k. k + x.channels.total < 2 ^ 64) (sym (size_is configs n x s.own)) chan.room, quotas x.config fit),
       ),
     )
-ready_by configs log n (act.Send bytes c m priority to) x s fit may = short (length bytes) x.config.max_message_size may (short_message x.config fit)
-ready_by configs log n (act.Tracker m) x s fit may = λ now. may_take configs log n now x.tracker (s.each place.tracker)
-ready_by configs log n _ x s fit may = tt
+ready_by configs log n (act.Send bytes c m priority to) x s released fit may = short (length bytes) x.config.max_message_size may (short_message x.config fit)
+ready_by configs log n (act.Tracker m) x s released fit may = λ now. may_take configs log n now x.tracker (s.each place.tracker) released
+ready_by configs log n _ x s released fit may = tt
+
+-- in a lawful log a release that the tracker is to take is of a key that is held
+releases_held : (configs : List Config) (log : List Entry) (n : ℕ) → IsLawful configs (events_of log) log → ReleasesHeld configs log n
+releases_held configs log n lawful key x rest first is =
+    let held = release_is_held configs (events_of log) log lawful n key x rest first is in
+    (held, held_is_others configs (events_of log) log lawful n key held)
 
 -- an act that may be asked for finds its nodes there, and ready
-pub may_perform : (configs : List Config) (log : List Entry) (nodes : List Node) (links : Links) (a : Act) → WorldStands configs log nodes links → valid.may_act configs (events_of log) a ≡ true
+pub may_perform : (configs : List Config) (log : List Entry) (nodes : List Node) (links : Links) (a : Act) → WorldStands configs log nodes links → IsLawful configs (events_of log) log → valid.may_act configs (events_of log) a ≡ true
     → MayPerform nodes (node_of log a) a
-may_perform configs log nodes links a s may =
+may_perform configs log nodes links a s lawful may =
     let n = node_of log a in
     let m = other_of n a in
     let test : may_act nodes log a ≡ true = may_act-nodes configs log nodes links a s ∙ may in
@@ -221,7 +247,7 @@ may_perform configs log nodes links a s may =
       first = lower n (length nodes) one.0;
       second = lower m (length nodes) two.0;
       ready = λ x there.
-          ready_by configs log n a x (s.each n x there) (sizes_there configs log nodes links s n x there) (sym (ap (λ o. may_at o log a) there) ∙ two.1);
+          ready_by configs log n a x (s.each n x there) (releases_held configs log n lawful) (sizes_there configs log nodes links s n x there) (sym (ap (λ o. may_at o log a) there) ∙ two.1);
       ends = λ i k is. ap (node_of log) is;
       sizes = λ i x there. one_mailbox x.config (sizes_there configs log nodes links s i x there);
       numbers = λ i x there. let r : RouterStands configs log i x.router = (s.each i x there).each place.router in r.number;

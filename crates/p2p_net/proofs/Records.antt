@@ -9,7 +9,9 @@ use Rattle.p2p_log_rules.specs.declared.row.Row.{Row}
 use Rattle.p2p_log_rules.specs.Facts.{events_of}
 use Rattle.p2p_log_rules.specs.Effect.{row, entry_of, effect}
 use Rattle.p2p_log_rules.specs.Valid.{last_moment, may_act, is_valid_event}
+use Rattle.p2p_log_rules.specs.Lawful.{IsLawful}
 use Rattle.p2p_log_rules.proofs.Facts.{events_of-append}
+use Rattle.p2p_log_rules.proofs.Lawful.{IsLawful-nil, IsLawful-append}
 use Rattle.p2p_net_links.specs.declared.links.Links.{Links}
 use Rattle.p2p_net.specs.declared.node.Node.{Node}
 use Rattle.p2p_net.specs.Ready as ready
@@ -46,9 +48,13 @@ tested configs log nodes links last v k =
     ∙ ap (λ b. nat_le (last_moment (events_of log)) v.at && b) (may_act-nodes configs log nodes links v.act k.world)
 
 -- a world whose log has one more entry, and that was the last moment
-pub kept_more : (configs : List Config) (log later : List Entry) (nodes : List Node) (links : Links) (v : Event) → later ≡ log ++ effect configs log v ∷ [] → WorldStands configs later nodes links → KeptStands configs later nodes links v.at
-kept_more configs log later nodes links v is s = record {
+pub kept_more : (configs : List Config) (log later : List Entry) (nodes : List Node) (links : Links) (v : Event) → IsLawful configs (events_of log) log → later ≡ log ++ effect configs log v ∷ [] → WorldStands configs later nodes links
+    → KeptStands configs later nodes links v.at
+kept_more configs log later nodes links v lawful is s = record {
   world = s;
+  lawful = subst (λ l. IsLawful configs (events_of l) l) (sym is)
+      (subst (λ l. IsLawful configs l (log ++ effect configs log v ∷ [])) (sym (events_of-append log (effect configs log v) ∙ ap (λ e. events_of log ++ e ∷ []) (event-effect configs log v)))
+      (IsLawful-append configs (events_of log) log v lawful));
   last_is =
       sym
       (ap (λ l. last_moment (events_of l)) is
@@ -79,4 +85,8 @@ stands_new configs kept log nodes links same none bare s =
     subst (λ c. WorldStands c log nodes links) (sym same) (subst (λ l. WorldStands configs l nodes links) (sym none) (subst (WorldStands configs [] nodes) (sym bare) s))
 
 pub kept_new : (configs : List Config) (log : List Entry) (nodes : List Node) (links : Links) → log ≡ [] → WorldStands configs log nodes links → KeptStands configs log nodes links 0
-kept_new configs log nodes links none s = record { world = s; last_is = sym (ap (λ l. last_moment (events_of l)) none) }
+kept_new configs log nodes links none s = record {
+  world = s;
+  lawful = subst (λ l. IsLawful configs (events_of l) l) (sym none) (IsLawful-nil configs);
+  last_is = sym (ap (λ l. last_moment (events_of l)) none);
+}

@@ -59,6 +59,9 @@ tracker_queue n q h = same_queue-sym (queue.Tracker n) q ∙ away (λ r. same_pl
 answers_queue : (n : ℕ) (q : Queue) → same_place (at tracker n) (home q) ≡ false → same_queue (queue.Dialer n) q ≡ false
 answers_queue n q h = same_queue-sym (queue.Dialer n) q ∙ away (λ r. same_place (at tracker n) (home r)) q (queue.Dialer n) h (eqb-refl n)
 
+attempt_queue : (n e : ℕ) (q : Queue) → same_place (at dialer n) (home q) ≡ false → same_queue (queue.Attempt n e) q ≡ false
+attempt_queue n e q h = same_queue-sym (queue.Attempt n e) q ∙ away (λ r. same_place (at dialer n) (home r)) q (queue.Attempt n e) h (eqb-refl n)
+
 tracker_kinds : (n : ℕ) (q : Queue) → same_place (at tracker n) (home q) ≡ false → in_tracker n q ≡ false
 tracker_kinds n (queue.Tracker m) h = grind (arith, nat_tests)
 tracker_kinds n (queue.Update m) h = grind (arith, nat_tests)
@@ -97,6 +100,9 @@ second_false false b h = h
 second_false true false h = refl
 second_false true true h = h
 
+second_of_two : (a b : Bool) → (a || (b || false)) ≡ false → b ≡ false
+second_of_two a b h = first_false b false (second_false a (b || false) h)
+
 reads-named : (configs : List Config) (log : List Entry) (a : Act) (q : Queue) → names log a (home q) ≡ false → reads configs log a q ≡ false
 reads-named configs log (act.Router n) q h = router_queue n q (first_false (same_place (at router n) (home q)) (same_place (at connections n) (home q) || false) h)
 reads-named configs log (act.SendStep conn n) q h =
@@ -112,6 +118,7 @@ reads-named configs log (act.Answer e) q h = told_queue log e q (first_false (sa
 reads-named configs log (act.Next e) q h = told_queue log e q (first_false (same_place (at tracker (node_asked (slice_get log e))) (home q)) false h)
 reads-named configs log (act.Tracker n) q h = tracker_queue n q (first_false (same_place (at tracker n) (home q)) false h)
 reads-named configs log (act.Dialer n) q h = answers_queue n q (first_false (same_place (at tracker n) (home q)) (same_place (at dialer n) (home q) || false) h)
+reads-named configs log (act.Attempt e n) q h = attempt_queue n e q (second_of_two (same_place (at tracker n) (home q)) (same_place (at dialer n) (home q)) h)
 reads-named configs log _ q h = refl
 
 both_false : (a b : Bool) → a ≡ false → b ≡ false → (a || b) ≡ false
@@ -135,6 +142,12 @@ writes-named configs log (act.RecvStep conn n) q h = channel_kinds n q (first_fa
 writes-named configs log (act.Ask what n) q h = tracker_queue n q (first_false (same_place (at tracker n) (home q)) false h)
 writes-named configs log (act.Tracker n) q h = tracker_kinds n q (first_false (same_place (at tracker n) (home q)) false h)
 writes-named configs log (act.Dialer n) q h = tracker_queue n q (first_false (same_place (at tracker n) (home q)) (same_place (at dialer n) (home q) || false) h)
+writes-named configs log (act.Attempt e n) q h =
+    both_false (same_queue (queue.Tracker n) q) (same_queue (queue.Attempt n e) q)
+    (tracker_queue n q (first_false (same_place (at tracker n) (home q)) (same_place (at dialer n) (home q) || false) h))
+    (attempt_queue n e q (second_of_two (same_place (at tracker n) (home q)) (same_place (at dialer n) (home q)) h))
+writes-named configs log (act.Resolve addresses e n) q h = attempt_queue n e q (first_false (same_place (at dialer n) (home q)) false h)
+writes-named configs log (act.Refuse e n) q h = attempt_queue n e q (first_false (same_place (at dialer n) (home q)) false h)
 writes-named configs log _ q h = refl
 
 pub line-unnamed : (configs : List Config) (log : List Entry) (ev : Event) (q : Queue) → names log ev.act (home q) ≡ false → line (log ++ effect configs log ev ∷ []) q ≡ line log q

@@ -5,6 +5,7 @@ use Rattle.p2p_log.specs.declared.queue.Queue.{Queue}
 use Rattle.p2p_log.specs.declared.queue.Queue.TheVariants as queue
 use Rattle.p2p_log.specs.declared.queue.Side.{Side}
 use Rattle.p2p_log.specs.declared.item.Item.{Item}
+use Rattle.p2p_log.specs.declared.item.Item.TheVariants as item
 use Rattle.p2p_log.specs.declared.item.Envelope.{Envelope}
 use Rattle.p2p_log.specs.declared.entry.Reply.TheVariants as reply
 use Rattle.p2p_log.specs.declared.event.Rate.{Rate}
@@ -28,11 +29,13 @@ use Rattle.p2p_net_connections.specs.declared.connections.Connection.{Connection
 use Rattle.p2p_net_connections.specs.Connections.{answered, begun}
 use Rattle.p2p_net_links.specs.declared.links.Links.{Links}
 use Rattle.p2p_net_links.specs.Links.{way_of, with_way, written_way, write_frames_row}
+use Rattle.p2p_net_dialer.specs.Attempts.{Tries, Resolves, Refuses}
 use Rattle.p2p_net_dialer.specs.Dialing as dialing
 use Rattle.p2p_net_dialer.specs.Dialing.{started}
+use Rattle.p2p_net_dialer.specs.declared.attempt.Tried.{Tried}
 use Rattle.p2p_net_dialer.specs.declared.dialing.Dialed.{Dialed}
 use Rattle.p2p_net_tracker.specs.Asking.{ask_answer, after_asking}
-use Rattle.p2p_net_tracker.specs.Dialed.{names_asked, dialed_row}
+use Rattle.p2p_net_tracker.specs.Dialed.{asked_puts, names_asked, dialed_row}
 use Rattle.p2p_net_tracker.specs.Reading.{Answers, Continues}
 use Rattle.p2p_net_tracker.specs.Stepping as tracking
 use Rattle.p2p_net_tracker.specs.declared.tracker.Tracker.{Tracker}
@@ -205,6 +208,26 @@ abbrev pub DialerStepsBy : Bool → ℕ → ℕ → ℕ → ℕ → Node → Nod
 DialerStepsBy false k n at seed old new r = Stays old new r (only reply.Gone)
 DialerStepsBy true k n at seed old new r = DialerSteps k n at seed old new r
 
+-- ---- its attempts
+
+-- what gives the reservation of a key back
+abbrev pub release_item : Option Key → Option Item
+release_item None = None
+release_item (Some key) = Some (item.Release key)
+
+-- a step of the attempt of this name, which gives its reservation back into the tracker's mailbox where it ends
+pub record AttemptSteps (k n name at seed : ℕ) (old new : Node) (r : Row) : Type 0 where
+  pub tried : Tried
+  pub tries : Tries (table.at old.dialing.attempts name) name at seed old.dialing.attempts new.dialing.attempts old.tracker.mailbox new.tracker.mailbox tried
+  pub row : r ≡ record tried.row { puts = tried.row.puts ++ asked_puts n (release_item tried.released) }
+  pub tracker : new.tracker ≡ record old.tracker { mailbox = new.tracker.mailbox; names = old.tracker.names ++ names_asked k (release_item tried.released) }
+  pub actor : new.dialing.actor ≡ old.dialing.actor
+  pub rest : new ≡ record old { tracker = new.tracker; dialing = new.dialing }
+
+-- what an attempt is told changes the attempts alone
+abbrev pub TellsAttempt : Node → Node → Type 0
+TellsAttempt old new = (new.dialing.actor ≡ old.dialing.actor) × (new ≡ record old { dialing = new.dialing })
+
 -- ---- all acts that name one node
 
 -- what the entry k of an act comes to at the node n, at a moment and with a seed
@@ -222,3 +245,7 @@ NodeDoes k n at seed (act.Answer e) old new l links r = (Answers n e old.tracker
 NodeDoes k n at seed (act.Next e) old new l links r = (Continues n e old.tracker new.tracker r × Tracks new.tracker old new) × (links ≡ l)
 NodeDoes k n at seed (act.Tracker m) old new l links r = TrackerStepsBy (is_started old) k n at seed old new r × (links ≡ l)
 NodeDoes k n at seed (act.Dialer m) old new l links r = DialerStepsBy (is_started old) k n at seed old new r × (links ≡ l)
+NodeDoes k n at seed (act.Attempt e m) old new l links r = AttemptSteps k n e at seed old new r × (links ≡ l)
+NodeDoes k n at seed (act.Resolve addresses e m) old new l links r =
+    (Resolves (table.at old.dialing.attempts e) k n e addresses old.dialing.attempts new.dialing.attempts r × TellsAttempt old new) × (links ≡ l)
+NodeDoes k n at seed (act.Refuse e m) old new l links r = (Refuses (table.at old.dialing.attempts e) k n e old.dialing.attempts new.dialing.attempts r × TellsAttempt old new) × (links ≡ l)

@@ -42,6 +42,7 @@ home (queue.Channel n c) = at channels n
 home (queue.Tracker n) = at tracker n
 home (queue.Update n) = at tracker n
 home (queue.Dialer n) = at tracker n
+home (queue.Attempt n e) = at dialer n
 home (queue.Control n conn) = at tracker n
 home (queue.Answer n e) = at tracker n
 home (queue.Updates n e) = at tracker n
@@ -66,6 +67,9 @@ parts_named (act.SendStep conn n) = connections ∷ router ∷ []
 parts_named (act.RecvStep conn n) = channels ∷ []
 parts_named (act.Recv c n) = channels ∷ []
 parts_named (act.Dialer n) = tracker ∷ dialer ∷ []
+parts_named (act.Attempt e n) = tracker ∷ dialer ∷ []
+parts_named (act.Resolve addresses e n) = dialer ∷ []
+parts_named (act.Refuse e n) = dialer ∷ []
 parts_named _ = tracker ∷ []
 
 -- whether it names the links
@@ -112,6 +116,9 @@ node_of log (act.Answer e) = node_asked (slice_get log e)
 node_of log (act.Next e) = node_asked (slice_get log e)
 node_of log (act.Tracker n) = n
 node_of log (act.Dialer n) = n
+node_of log (act.Attempt e n) = n
+node_of log (act.Resolve addresses e n) = n
+node_of log (act.Refuse e n) = n
 
 -- and the other one that it names
 abbrev pub other_of : ℕ → Act → ℕ

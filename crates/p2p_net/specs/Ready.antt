@@ -35,6 +35,14 @@ abbrev pub names_node : ℕ → Option Entry → Bool
 names_node n None = false
 names_node n (Some e) = is_join_of n e.event.act
 
+abbrev pub is_dial_of : ℕ → Act → Bool
+is_dial_of n a = elim a [ act.Dialer m ↦ m == n | _ ↦ false ]
+
+-- whether this entry is of a step of the node's dialer
+abbrev pub names_dialer : ℕ → Option Entry → Bool
+names_dialer n None = false
+names_dialer n (Some e) = is_dial_of n e.event.act
+
 -- whether this entry is of a question for a peer set
 abbrev pub asks_set : Option Entry → Bool
 asks_set None = false
@@ -54,6 +62,9 @@ may_ask log x (act.SendStep conn n) = names_node n (slice_get log conn)
 may_ask log x (act.RecvStep conn n) = names_node n (slice_get log conn)
 may_ask log x (act.Answer e) = asks_set (slice_get log e)
 may_ask log x (act.Next e) = subscribes (slice_get log e)
+may_ask log x (act.Attempt e n) = names_dialer n (slice_get log e)
+may_ask log x (act.Resolve addresses e n) = names_dialer n (slice_get log e)
+may_ask log x (act.Refuse e n) = names_dialer n (slice_get log e)
 may_ask log x _ = true
 
 -- the sizes of a node, where it is asked for an act, and that its tracker may take what waits for it

@@ -5,6 +5,7 @@ use Rattle.p2p_log.specs.declared.entry.Entry.{Entry}
 use Rattle.p2p_log.specs.declared.event.Event.{Event}
 use Rattle.p2p_log_rules.specs.Effect.{effect}
 use Rattle.p2p_log_rules.specs.Facts.{events_of}
+use Rattle.p2p_log_rules.specs.Lawful.{IsLawful}
 use Rattle.p2p_log_rules.specs.Valid.{last_moment}
 use Rattle.p2p_net_links.specs.declared.links.Links.{Links}
 use Rattle.p2p_net.specs.declared.node.Node.{Node}
@@ -22,9 +23,10 @@ pub record WorldView : Type 0 where
 abbrev pub Stands : WorldView → Type 0
 Stands w = w.failed ≡ false → WorldStands w.configs w.log w.nodes w.links
 
--- what a world keeps stands for its log
+-- what a world keeps stands for its log, which is lawful for what was asked so far
 pub record KeptStands (configs : List Config) (log : List Entry) (nodes : List Node) (links : Links) (last : ℕ) : Type 0 where
   pub world : WorldStands configs log nodes links
+  pub lawful : IsLawful configs (events_of log) log
   pub last_is : last ≡ last_moment (events_of log)
 
 -- what was recorded of an event after this log

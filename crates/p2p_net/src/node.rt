@@ -42,7 +42,7 @@ pub struct Node {
     pub connections: Connections,
     /// Its tracker, with what waits for those who asked it.
     pub tracker: Tracker,
-    /// Its dialer, once it has started, and the attempts that this has begun.
+    /// Its dialer, once it has started, and the attempts of it that have not ended.
     pub dialing: Dialing,
     /// Whether it found no memory.
     pub failed: bool,
@@ -110,6 +110,9 @@ pub fn node_of(log: &[Entry], act: &Act) -> u64
         Act::Next { question } => node_asked(log, *question),
         Act::Tracker { node } => *node,
         Act::Dialer { node } => *node,
+        Act::Attempt { node, .. } => *node,
+        Act::Resolve { node, .. } => *node,
+        Act::Refuse { node, .. } => *node,
     }
 }
 
@@ -232,6 +235,15 @@ impl Node {
             Act::Next { question } => Ok(self.tracker.next(turn, *question)?),
             Act::Tracker { .. } => Ok(self.track_step(turn, event.at, event.seed)?),
             Act::Dialer { .. } => Ok(self.dial_step(turn, event.at, event.seed)?),
+            Act::Attempt { attempt, .. } => {
+                Ok(self.attempt_step(turn, *attempt, event.at, event.seed)?)
+            }
+            Act::Resolve {
+                addresses,
+                attempt,
+                ..
+            } => Ok(self.dialing.resolve(turn, *attempt, addresses)?),
+            Act::Refuse { attempt, .. } => Ok(self.dialing.refuse(turn, *attempt)?),
         }
     }
 }

@@ -1,4 +1,4 @@
-//! The steps of a node: of its router, and of the two halves of each connection.
+//! The steps of a node: of its router, its tracker, its dialer and attempts, and of the two halves of each connection.
 ghost use Rattle.std.specs.Prelude.{◌≡◌, ℕ, IfOk, OnOk, IfSome, Option, slice_get};
 ghost use Rattle.p2p_log_rules.specs.Effect.{other_side as other_side_of};
 ghost use Rattle.p2p_log.specs.Lines.{name_of};
@@ -7,14 +7,14 @@ ghost use Rattle.p2p_log_rules.specs.Tracking.{key_cmp};
 ghost use Rattle.p2p_tracker_mailbox.specs.Desk.{next_message};
 ghost use Rattle.p2p_tracker.specs.Serving.{MayTake};
 ghost use Rattle.p2p_net.specs.Ready.{is_started as is_started_test};
-ghost use Rattle.p2p_net.specs.Acts.{TrackerStepsBy, DialerStepsBy, Routes, Writes, Begins, SendSteps, Receives, RecvSteps, arrived_row, arrived_into, arrived_off, accepted_row, accepted_into, accepted_off, first_in, frame_in};
+ghost use Rattle.p2p_net.specs.Acts.{TrackerStepsBy, DialerStepsBy, AttemptSteps, release_item, Routes, Writes, Begins, SendSteps, Receives, RecvSteps, arrived_row, arrived_into, arrived_off, accepted_row, accepted_into, accepted_off, first_in, frame_in};
 
 use crate::node::Node;
 use p2p_base::Key;
-use p2p_log::{Reply, Side};
+use p2p_log::{Item, Reply, Side};
 use p2p_log_rules::Row;
 use p2p_net_channels::{Arrived, open};
-use p2p_net_dialer::Dialed;
+use p2p_net_dialer::{Dialed, Tried};
 use p2p_net_links::Links;
 use p2p_net_queues::{Turn, only, taking};
 use std::alloc::AllocError;
@@ -47,6 +47,16 @@ fn look(links: &Links, conn: u64, side: Side, limit: u32) -> Result<Option<Arriv
             let message = open(&first.item, limit as usize)?;
             Ok(Some(Arrival { name, message }))
         }
+    }
+}
+
+/// What gives the reservation of a key back, in a tracker's mailbox.
+fn release_of(released: Option<Key>) -> Option<Item>
+    ensures { result ≡ release_item released }
+{
+    match released {
+        Some(key) => Some(Item::Release(key)),
+        None => None,
     }
 }
 
@@ -85,11 +95,30 @@ impl Node {
             return Ok(only(turn.alloc, Reply::Gone));
         }
         let way = &mut self.tracker.mailbox;
-        let done = self.dialing.step(turn.entry, way, at, seed)?;
+        let done = self.dialing.step(turn.alloc, turn.entry, way, at, seed)?;
         match done {
             None => Ok(only(turn.alloc, Reply::Idle)),
             Some(Dialed { took, asked }) => Ok(self.tracker.dialed(turn, took, asked)?),
         }
+    }
+
+    /// One step of an attempt of the dialer, at a moment and with a seed.
+    pub(crate) fn attempt_step(
+        &mut self,
+        turn: Turn,
+        attempt: u64,
+        at: u64,
+        seed: u64,
+    ) -> Result<Row, AllocError>
+        ensures does { IfOk result (λ r. AttemptSteps turn.entry turn.node attempt at seed self.old self.new r) }
+        ensures failed { OnOk result (self.new.failed ≡ self.old.failed) }
+    {
+        let way = &mut self.tracker.mailbox;
+        let tried = self.dialing.attempt(turn.alloc, attempt, way, at, seed)?;
+        let Tried { mut row, released } = tried;
+        self.tracker
+            .put_question(turn, release_of(released), &mut row)?;
+        Ok(row)
     }
 
     /// Writes a batch of a connection to its link.

@@ -1,6 +1,6 @@
 //! Whether an event may be asked for, after those before it.
 ghost use Rattle.std.specs.Prelude.{◌≡◌, ◌<◌, ◌^◌, ◌&&◌, Some, slice_get, length, nat_le};
-ghost use Rattle.p2p_net.specs.Ready.{capacity_by, is_join_of as is_join_of_test, names_node, asks_set as asks_set_test, subscribes as subscribes_test, may_register as may_register_test, may_ask as may_ask_test, may_at as may_at_test, may_act as may_act_test};
+ghost use Rattle.p2p_net.specs.Ready.{capacity_by, is_join_of as is_join_of_test, names_node, names_dialer, asks_set as asks_set_test, subscribes as subscribes_test, may_register as may_register_test, may_ask as may_ask_test, may_at as may_at_test, may_act as may_act_test};
 
 use crate::node::{Node, node_of, other_of};
 use p2p_log::{Act, Asked, Entry, Event, Rate};
@@ -63,6 +63,19 @@ fn subscribes(log: &[Entry], question: u64) -> bool
     }
 }
 
+/// Whether the entry of this number is of a step of a node's dialer.
+fn is_dialed(log: &[Entry], attempt: u64, number: u64) -> bool
+    ensures { result ≡ names_dialer number (slice_get log.now attempt) }
+{
+    match log.get(attempt as usize) {
+        Some(entry) => match &entry.event.act {
+            Act::Dialer { node } => *node == number,
+            _ => false,
+        },
+        None => false,
+    }
+}
+
 /// Whether a node may be asked for an act, after these entries.
 fn may_ask(log: &[Entry], node: &Node, act: &Act) -> bool
     ensures { result ≡ may_ask_test log.now node.now act.now }
@@ -75,6 +88,9 @@ fn may_ask(log: &[Entry], node: &Node, act: &Act) -> bool
         Act::RecvStep { conn, node } => is_named(log, *conn, *node),
         Act::Answer { question } => asks_set(log, *question),
         Act::Next { question } => subscribes(log, *question),
+        Act::Attempt { attempt, node } => is_dialed(log, *attempt, *node),
+        Act::Resolve { attempt, node, .. } => is_dialed(log, *attempt, *node),
+        Act::Refuse { attempt, node } => is_dialed(log, *attempt, *node),
         _ => true,
     }
 }

@@ -1,12 +1,15 @@
 //! The world: all nodes and links, with the log of what was asked of them and what came of it.
 ghost use Rattle.std.specs.Prelude.{◌≡◌, ℕ, ◌+◌, ◌<◌, ◌≤◌, ◌++◌, ◌∷◌, [], List, length, slice_get, IfOk, OnOk, OnErr, IfErr, Err, true, false, Some, None};
 ghost use Rattle.std.specs.Option.{option_copied};
+ghost use Rattle.p2p_base.specs.declared.key.Key.{Key};
 ghost use Rattle.p2p_log.specs.declared.config.Config.{Config};
 ghost use Rattle.p2p_log.specs.declared.entry.Entry.{Entry};
 ghost use Rattle.p2p_log_rules.specs.Facts.{events_of};
 ghost use Rattle.p2p_log_rules.specs.Effect.{effect};
 ghost use Rattle.p2p_log_rules.specs.Lawful.{IsLawful};
 ghost use Rattle.p2p_log_rules.specs.Valid.{config_fault as config_fault_of, event_fault, is_valid_event};
+ghost use Rattle.p2p_log_laws.specs.Grants.{HasOneHolder};
+ghost use Rattle.p2p_log_laws.specs.NodeGrants.{granting};
 ghost use Rattle.p2p_net_links.specs.Links.{no_links};
 ghost use Rattle.p2p_net.specs.Places.{node_of as node_of_act};
 ghost use Rattle.p2p_net.specs.Ready.{may_apply, MayPerform};
@@ -164,7 +167,8 @@ impl World {
     /// Asks for all events of a script, in order.
     ///
     /// The log of the world that comes back is the one log that is lawful for the configurations and the script, and its
-    /// nodes and links stand for it: every queue holds its line. Where a configuration is not valid, `RunError::Config` has
+    /// nodes and links stand for it: every queue holds its line, and each key that is reserved at a node is held by one thing
+    /// there, or its one release waits. Where a configuration is not valid, `RunError::Config` has
     /// the place of the first one; where each is, and an event may not be asked for, `RunError::Event` has the place of the
     /// first one. Where there is no memory, the answer is `RunError::Memory`.
     pub fn run(alloc: Global, configs: &[Config], script: &[Event]) -> Result<World, RunError>
@@ -172,6 +176,7 @@ impl World {
         ensures lawful { IfOk result (λ w. IsLawful configs.now script.now w.log) }
         ensures only { IfOk result (λ w. (log : List Entry) → IsLawful configs.now script.now log → log ≡ w.log) }
         ensures stands { IfOk result (λ w. WorldStands configs.now w.log w.nodes w.links) }
+        ensures grants { IfOk result (λ w. (n : ℕ) (key : Key) → HasOneHolder (granting configs.now n key) w.log) }
         ensures works { IfOk result (λ w. w.failed ≡ false) }
         ensures valid { OnOk result (config_fault_of configs.now ≡ None) }
         ensures allowed { OnOk result (event_fault configs.now script.now ≡ None) }

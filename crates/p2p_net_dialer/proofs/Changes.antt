@@ -1,35 +1,43 @@
 -- The dialer of a node after one more entry.
-use Rattle.std.proofs.Common.{◌≡◌, ℕ, Bool, true, false, cond, List, [], ◌∷◌, ◌++◌, length, refl, ap, sym, subst, ◌∙◌, arith, eq-eqb, eqb-true, Option, Some, None}
+use Rattle.std.proofs.Common.{◌≡◌, ℕ, ◌+◌, Bool, true, false, cond, List, [], ◌∷◌, ◌++◌, length, refl, ap, sym, subst, ◌∙◌, arith, eq-eqb, eqb-true, Option, Some, None}
 use Rattle.std.specs.Prelude.{slice_get, ◌==◌, ◌||◌}
+use Rattle.std.specs.Option.{option_map}
 use Rattle.std.specs.BTreeMap.{is_at, insert_entry}
 use Rattle.std.specs.Ordering.{nat_cmp}
 use Rattle.std.proofs.lemmas.Bool.Decides.{nat_tests}
 use Rattle.p2p_base.specs.declared.key.Key.{Key}
-use Rattle.p2p_gates.specs.Attempting.{Attempting}
+use Rattle.p2p_tracker_directory.specs.Reserved.{peer_of}
+use Rattle.p2p_tracker_directory.specs.declared.metadata.Metadata.{Metadata}
+use Rattle.p2p_gates.specs.Attempting.{Attempting, new_attempt}
 use Rattle.p2p_gates.specs.declared.config.Config.{Config as Gates}
+use Rattle.p2p_address.specs.declared.peer.Ingress.{Ingress}
+use Rattle.p2p_address.specs.declared.peer.Ingress.TheVariants as ingress
 use Rattle.p2p_log.specs.declared.config.Config.{Config}
 use Rattle.p2p_log.specs.declared.queue.Queue.{Queue}
+use Rattle.p2p_log.specs.declared.queue.Queue.TheVariants as queue
 use Rattle.p2p_log.specs.declared.item.Item.{Item}
+use Rattle.p2p_log.specs.declared.item.Envelope.{Envelope}
 use Rattle.p2p_log.specs.declared.entry.Entry.{Entry}
 use Rattle.p2p_log.specs.declared.entry.Reply.{Reply}
 use Rattle.p2p_log.specs.declared.event.Act.{Act}
 use Rattle.p2p_log.specs.declared.event.Act.TheVariants as act
+use Rattle.p2p_log.specs.Lines.{live_from, line}
+use Rattle.p2p_log_rules.specs.Attempting.{Attempt, DialRules, dial_rules_at, socket_of, begun_of, stepped_attempt, told_addresses, told_refused, with_attempt, with_begun, and_then, acted_attempts, attempts_by, attempts_of}
 use Rattle.p2p_log_rules.specs.Facts.{events_of, starts, has_started, is_up, taken, state_from}
-use Rattle.p2p_log_rules.specs.Dialing.{Pace, pace_at, Dials, new_dials, steps_dialer, stepped_dials, acted_dials, dials_by, dials_of, Begun, begun_of, begun_at, with_begun, attempts_by, attempts_of}
+use Rattle.p2p_log_rules.specs.Dialing.{Pace, pace_at, Dials, new_dials, steps_dialer, stepped_dials, acted_dials, dials_by, dials_of}
+use Rattle.p2p_log_rules.proofs.Attempts.{attempts_of-append, attempts_of-late}
 use Rattle.p2p_log_rules.proofs.Facts.{events_of-append, has_started-append, state_from-append}
 use Rattle.p2p_net_queues.specs.Tables as table
 use Rattle.p2p_net_queues.proofs.Tables.{lookup-insert_entry}
+use Rattle.p2p_net_dialer.specs.Attempts.{running}
 use Rattle.p2p_net_dialer.specs.Dialing.{gates_of, no_dialing, started}
-use Rattle.p2p_net_dialer.specs.Stands.{no_gates, gates_at, actor_of, IsBegun, DialerStands, LeavesDialer}
+use Rattle.p2p_net_dialer.specs.Stands.{no_gates, gates_at, actor_of, attempt_of, AttemptStands, DialerStands, is_of_dialer, LeavesDialer}
+use Rattle.p2p_net_dialer.specs.declared.attempt.RunningAttempt.{RunningAttempt}
 use Rattle.p2p_net_dialer.specs.declared.dialing.Dialing.{Dialing}
 
 pub dials_of-append : (configs : List Config) (log : List Entry) (e : Entry) (n : ℕ) → dials_of configs (log ++ e ∷ []) n ≡ dials_by configs n log e (dials_of configs log n)
 unfolding dials_of
 dials_of-append configs log e n = state_from-append (dials_by configs n) [] log e (new_dials 0)
-
-pub attempts_of-append : (log : List Entry) (e : Entry) (n k : ℕ) → attempts_of (log ++ e ∷ []) n k ≡ attempts_by n log e (attempts_of log n) k
-unfolding attempts_of
-attempts_of-append log e n k = ap (λ (f : ℕ → Option Begun). f k) (state_from-append (attempts_by n) [] log e (λ j. None))
 
 is_up-append : (log : List Entry) (e : Entry) (n : ℕ) → is_up (log ++ e ∷ []) n ≡ (is_up log n || starts n e.event.act)
 is_up-append log e n = ap (λ l. has_started l n) (events_of-append log e) ∙ has_started-append (events_of log) e.event n
@@ -41,39 +49,56 @@ none_acted pace n (act.Start m) at seed r items puts d h k = ap (λ b. cond b (n
 none_acted pace n (act.Dialer m) at seed r items puts d h k = ap (λ b. cond b (stepped_dials pace at seed r items puts d) d) k
 none_acted pace n _ at seed r items puts d h k = refl
 
+none_steps : (n : ℕ) (a : Act) → is_of_dialer n a ≡ false → steps_dialer n a ≡ false
+none_steps n (act.Dialer m) h = h
+none_steps n _ h = refl
+
+none_tried : (rules : DialRules) (n name at seed : ℕ) (r : Reply) (items : List Item) (a : Act) (attempts : ℕ → Option Attempt) (k : ℕ) → is_of_dialer n a ≡ false → acted_attempts rules n name at seed r items a attempts k ≡ attempts k
+none_tried rules n name at seed r items (act.Dialer m) attempts k h = ap (λ b. cond b (with_begun (begun_of rules.timeout at items) name attempts k) (attempts k)) h
+none_tried rules n name at seed r items (act.Attempt e m) attempts k h = ap (λ b. cond b (with_attempt e (and_then (stepped_attempt rules.private seed r items) (attempts e)) attempts k) (attempts k)) h
+none_tried rules n name at seed r items (act.Resolve addresses e m) attempts k h = ap (λ b. cond b (with_attempt e (option_map (told_addresses r) (attempts e)) attempts k) (attempts k)) h
+none_tried rules n name at seed r items (act.Refuse e m) attempts k h = ap (λ b. cond b (with_attempt e (option_map (told_refused r) (attempts e)) attempts k) (attempts k)) h
+none_tried rules n name at seed r items _ attempts k h = refl
+
 or_false : (b c : Bool) → c ≡ false → (b || c) ≡ b
 or_false true c h = refl
 or_false false c h = h
 
-none_begun : (log : List Entry) (e : Entry) (n : ℕ) → steps_dialer n e.event.act ≡ false → begun_at n log e ≡ None
-none_begun log e n h = ap (λ b. cond b (begun_of e.event.at (taken log e)) None) h
-
-attempts-kept : (log : List Entry) (e : Entry) (n k : ℕ) → begun_at n log e ≡ None → attempts_of (log ++ e ∷ []) n k ≡ attempts_of log n k
-attempts-kept log e n k none = attempts_of-append log e n k ∙ ap (λ o. with_begun o (length log) (attempts_of log n) k) none
-
-still_begun : (configs : List Config) (log : List Entry) (e : Entry) (n : ℕ) (d : Dialing) → DialerStands configs log n d → begun_at n log e ≡ None → (k : ℕ) → IsBegun (gates_at configs n) k (table.at d.attempts k) (attempts_of (log ++ e ∷ []) n k)
-still_begun configs log e n d s none k = subst (IsBegun (gates_at configs n) k (table.at d.attempts k)) (sym (attempts-kept log e n k none)) (s.attempts k)
+-- an attempt of which nothing changed
+still_tried : (configs : List Config) (log : List Entry) (e : Entry) (n k : ℕ) (d : Dialing) → DialerStands configs log n d
+    → attempts_by configs n log e (attempts_of configs log n) k ≡ attempts_of configs log n k → line (log ++ e ∷ []) (queue.Attempt n k) ≡ line log (queue.Attempt n k)
+    → AttemptStands (gates_at configs n) k (table.at d.attempts k) (attempts_of configs (log ++ e ∷ []) n k) (line (log ++ e ∷ []) (queue.Attempt n k))
+still_tried configs log e n k d s same waits =
+    subst (λ o. AttemptStands (gates_at configs n) k (table.at d.attempts k) o (line (log ++ e ∷ []) (queue.Attempt n k))) (sym (attempts_of-append configs log e n k ∙ same))
+    (subst (AttemptStands (gates_at configs n) k (table.at d.attempts k) (attempts_of configs log n k)) (sym waits) (s.attempts k))
 
 -- the actor of a node that has started or not
-actor_now : (configs : List Config) (log : List Entry) (n : ℕ) (up : Bool) (d : Dials) → is_up log n ≡ up → dials_of configs log n ≡ d
+pub actor_now : (configs : List Config) (log : List Entry) (n : ℕ) (up : Bool) (d : Dials) → is_up log n ≡ up → dials_of configs log n ≡ d
     → cond up (Some (actor_of (gates_at configs n) d)) None ≡ cond (is_up log n) (Some (actor_of (gates_at configs n) (dials_of configs log n))) None
 actor_now configs log n up d is same = ap (λ b. cond b (Some (actor_of (gates_at configs n) d)) None) (sym is) ∙ ap (λ k. cond (is_up log n) (Some (actor_of (gates_at configs n) k)) None) (sym same)
 
+-- and where the dialer itself is left alone
+pub actor_kept : (configs : List Config) (log : List Entry) (e : Entry) (n : ℕ) (d : Dialing) → DialerStands configs log n d → starts n e.event.act ≡ false
+    → dials_by configs n log e (dials_of configs log n) ≡ dials_of configs log n
+    → d.actor ≡ cond (is_up (log ++ e ∷ []) n) (Some (actor_of (gates_at configs n) (dials_of configs (log ++ e ∷ []) n))) None
+actor_kept configs log e n d s no_start same =
+    s.actor
+    ∙ actor_now configs (log ++ e ∷ []) n (is_up log n) (dials_of configs log n) (is_up-append log e n ∙ or_false (is_up log n) (starts n e.event.act) no_start) (dials_of-append configs log e n ∙ same)
+
 pub dialer_frame : (configs : List Config) (log : List Entry) (e : Entry) (n : ℕ) (d : Dialing) → DialerStands configs log n d → LeavesDialer configs log e n → DialerStands configs (log ++ e ∷ []) n d
 dialer_frame configs log e n d s q = record {
-  actor =
-      s.actor
-      ∙ actor_now configs (log ++ e ∷ []) n (is_up log n) (dials_of configs log n) (is_up-append log e n ∙ or_false (is_up log n) (starts n e.event.act) q.no_start)
-      (dials_of-append configs log e n ∙ q.dials);
-  attempts = still_begun configs log e n d s q.begins;
+  actor = actor_kept configs log e n d s q.no_start q.dials;
+  attempts = λ k. still_tried configs log e n k d s (q.tries k) (q.lines k);
 }
 
 -- an entry of another act, or of another node
-pub dialer_unmoved : (configs : List Config) (log : List Entry) (e : Entry) (n : ℕ) → starts n e.event.act ≡ false → steps_dialer n e.event.act ≡ false → LeavesDialer configs log e n
-dialer_unmoved configs log e n no_start no_step = record {
+pub dialer_unmoved : (configs : List Config) (log : List Entry) (e : Entry) (n : ℕ) → starts n e.event.act ≡ false → is_of_dialer n e.event.act ≡ false
+    → ((k : ℕ) → line (log ++ e ∷ []) (queue.Attempt n k) ≡ line log (queue.Attempt n k)) → LeavesDialer configs log e n
+dialer_unmoved configs log e n no_start no_dialer waits = record {
   no_start = no_start;
-  dials = none_acted (pace_at configs n) n e.event.act e.event.at e.event.seed e.reply (taken log e) e.puts (dials_of configs log n) no_start no_step;
-  begins = none_begun log e n no_step;
+  dials = none_acted (pace_at configs n) n e.event.act e.event.at e.event.seed e.reply (taken log e) e.puts (dials_of configs log n) no_start (none_steps n e.event.act no_dialer);
+  tries = λ k. none_tried (dial_rules_at configs n) n (length log) e.event.at e.event.seed e.reply (taken log e) e.event.act (attempts_of configs log n) k no_dialer;
+  lines = waits;
 }
 
 -- ---- a node that is new, and one that starts
@@ -82,14 +107,18 @@ none_up : (n : ℕ) → is_up [] n ≡ false
 unfolding has_started
 none_up n = refl
 
-no_attempts : (n k : ℕ) → attempts_of [] n k ≡ None
+no_attempts : (configs : List Config) (n k : ℕ) → attempts_of configs [] n k ≡ None
 unfolding attempts_of state_from
-no_attempts n k = refl
+no_attempts configs n k = refl
+
+none_waits : (q : Queue) → line [] q ≡ []
+unfolding line live_from
+none_waits q = refl
 
 pub dialer_new : (configs : List Config) (n : ℕ) → DialerStands configs [] n no_dialing
 dialer_new configs n = record {
   actor = ap (λ b. cond b (Some (actor_of (gates_at configs n) (dials_of configs [] n))) None) (sym (none_up n));
-  attempts = λ k. subst (IsBegun (gates_at configs n) k None) (sym (no_attempts n k)) tt;
+  attempts = λ k. subst (λ o. AttemptStands (gates_at configs n) k None o (line [] (queue.Attempt n k))) (sym (no_attempts configs n k)) (none_waits (queue.Attempt n k));
 }
 
 gates_is : (configs : List Config) (n : ℕ) (c : Config) → slice_get configs n ≡ Some c → gates_of c ≡ gates_at configs n
@@ -99,9 +128,14 @@ or_true : (b : Bool) → (b || true) ≡ true
 or_true true = refl
 or_true false = refl
 
+-- what an entry of this act makes of the attempts
+acted : (configs : List Config) (log : List Entry) (e : Entry) (n k : ℕ) (a : Act) → e.event.act ≡ a
+    → attempts_by configs n log e (attempts_of configs log n) k ≡ acted_attempts (dial_rules_at configs n) n (length log) e.event.at e.event.seed e.reply (taken log e) a (attempts_of configs log n) k
+acted configs log e n k a acts = ap (λ b. acted_attempts (dial_rules_at configs n) n (length log) e.event.at e.event.seed e.reply (taken log e) b (attempts_of configs log n) k) acts
+
 pub dialer_starts : (configs : List Config) (log : List Entry) (e : Entry) (n : ℕ) (c : Config) (d : Dialing) → DialerStands configs log n d → slice_get configs n ≡ Some c → e.event.act ≡ act.Start n
-    → DialerStands configs (log ++ e ∷ []) n (started c e.event.at d)
-dialer_starts configs log e n c d s is acts =
+    → ((k : ℕ) → line (log ++ e ∷ []) (queue.Attempt n k) ≡ line log (queue.Attempt n k)) → DialerStands configs (log ++ e ∷ []) n (started c e.event.at d)
+dialer_starts configs log e n c d s is acts waits =
     let here : starts n e.event.act ≡ true = ap (starts n) acts ∙ eq-eqb n n refl in
     let now : dials_of configs (log ++ e ∷ []) n ≡ new_dials e.event.at =
     dials_of-append configs log e n
@@ -112,49 +146,104 @@ dialer_starts configs log e n c d s is acts =
       actor =
           ap (λ g. Some (actor_of g (new_dials e.event.at))) (gates_is configs n c is)
           ∙ actor_now configs (log ++ e ∷ []) n true (new_dials e.event.at) (is_up-append log e n ∙ (ap (λ b. is_up log n || b) here ∙ or_true (is_up log n))) now;
-      attempts = still_begun configs log e n d s (none_begun log e n (ap (steps_dialer n) acts));
+      attempts = λ k. still_tried configs log e n k d s (acted configs log e n k (act.Start n) acts) (waits k);
     }
 
 -- ---- a step
 
 -- the attempts with this one
-abbrev pub attempts_with : Option (Attempting Key) → ℕ → List (ℕ × Attempting Key) → List (ℕ × Attempting Key)
+abbrev pub attempts_with : Option (Attempting Key) → ℕ → List (ℕ × RunningAttempt) → List (ℕ × RunningAttempt)
 attempts_with None name l = l
-attempts_with (Some a) name l = insert_entry nat_cmp l name a
+attempts_with (Some a) name l = insert_entry nat_cmp l name (running a)
 
-with_is : (g : Gates) (o : Option (Attempting Key)) (b : Option Begun) (name k : ℕ) (l : List (ℕ × Attempting Key)) (f : ℕ → Option Begun) → IsBegun g name o b → IsBegun g k (table.at l k) (f k)
-    → IsBegun g k (table.at (attempts_with o name l) k) (with_begun b name f k)
-with_is g None None name k l f new h = h
-with_is g (Some a) (Some b) name k l f new h = subst (λ t. IsBegun g k t (cond (k == name) (Some b) (f k))) (sym (lookup-insert_entry name k a l ∙ ap (λ c. cond c (Some a) (table.at l k)) (same k name))) (by (k == name) refl)
+-- the attempt of this name is what was begun, with a reservation of its key
+abbrev pub IsBegun : Gates → ℕ → Option (Attempting Key) → Option Attempt → Type 0
+IsBegun gates name None None = Unit {0}
+IsBegun gates name (Some a) (Some b) =
+    (m : Metadata Key) × (peer_of m ≡ b.key) × (running a ≡ attempt_of gates name m b [])
+IsBegun gates name _ _ = ⊥
+
+-- an attempt that begins is what is said of it
+pub begun_is : (g : Gates) (rules : DialRules) (name : ℕ) (m : Metadata Key) (key : Key) (at : ℕ) (to : Ingress) → g.dial_timeout ≡ rules.timeout
+    → running (new_attempt name m to g at)
+    ≡ attempt_of g name m (record { key = key; ingress = to; address = socket_of to; deadline = at + rules.timeout; is_resolved = false; is_refused = false }) []
+begun_is g rules name m key at (ingress.Socket s) same = ap (λ t. running (record (new_attempt name m (ingress.Socket s) g at) { deadline = at + t })) same
+begun_is g rules name m key at (ingress.Dns host port) same = ap (λ t. running (record (new_attempt name m (ingress.Dns host port) g at) { deadline = at + t })) same
+
+abbrev gates_in : Option Config → Gates
+gates_in None = no_gates
+gates_in (Some c) = gates_of c
+
+abbrev rules_in : Option Config → DialRules
+rules_in None = record { timeout = 0; private = false }
+rules_in (Some c) = record { timeout = c.dial_timeout; private = c.allow_private_ips }
+
+-- how long an attempt may take, and which addresses it may dial
+pub timeout_is : (configs : List Config) (n : ℕ) → (gates_at configs n).dial_timeout ≡ (dial_rules_at configs n).timeout
+timeout_is configs n = by (slice_get configs n)
+  where
+    by : (o : Option Config) → (gates_in o).dial_timeout ≡ (rules_in o).timeout
+    by None = refl
+    by (Some c) = refl
+
+pub private_is : (configs : List Config) (n : ℕ) → (gates_at configs n).allow_private_ips ≡ (dial_rules_at configs n).private
+private_is configs n = by (slice_get configs n)
+  where
+    by : (o : Option Config) → (gates_in o).allow_private_ips ≡ (rules_in o).private
+    by None = refl
+    by (Some c) = refl
+
+with_is : (g : Gates) (o : Option (Attempting Key)) (b : Option Attempt) (name k : ℕ) (l : List (ℕ × RunningAttempt)) (f : ℕ → Option Attempt) (waits : List Envelope) → IsBegun g name o b
+    → ((k == name) ≡ true → waits ≡ []) → AttemptStands g k (table.at l k) (f k) waits → AttemptStands g k (table.at (attempts_with o name l) k) (with_begun b name f k) waits
+with_is g None None name k l f waits new none h = h
+with_is g (Some a) (Some b) name k l f waits new none h =
+    subst (λ t. AttemptStands g k t (cond (k == name) (Some b) (f k)) waits) (sym (lookup-insert_entry name k (running a) l ∙ ap (λ c. cond c (Some (running a)) (table.at l k)) (same k name))) (by (k == name) refl)
   where
     same : (d l : ℕ) → is_at (nat_cmp d) l ≡ (d == l)
     same d l = grind (arith, nat_tests)
 
-    by : (c : Bool) → (k == name) ≡ c → IsBegun g k (cond c (Some a) (table.at l k)) (cond c (Some b) (f k))
-    by true is = subst (λ j. IsBegun g j (Some a) (Some b)) (sym (eqb-true k name is)) new
+    by : (c : Bool) → (k == name) ≡ c → AttemptStands g k (cond c (Some (running a)) (table.at l k)) (cond c (Some b) (f k)) waits
+    by true is =
+        subst (λ j. AttemptStands g j (Some (running a)) (Some b) waits) (sym (eqb-true k name is))
+        (subst (AttemptStands g name (Some (running a)) (Some b)) (sym (none is)) (new.0, new.1, new.2))
     by false is = h
-with_is g None (Some b) name k l f new h = absurd new
-with_is g (Some a) None name k l f new h = absurd new
+with_is g None (Some b) name k l f waits new none h = absurd new
+with_is g (Some a) None name k l f waits new none h = absurd new
+
+-- nothing waits for an attempt of a later name
+late_waits : (configs : List Config) (log : List Entry) (n : ℕ) (d : Dialing) → DialerStands configs log n d → line log (queue.Attempt n (length log)) ≡ []
+late_waits configs log n d s = by (table.at d.attempts (length log)) (attempts_of configs log n (length log)) (s.attempts (length log)) (attempts_of-late configs log n (length log) (omega arith))
+  where
+    by : (o : Option RunningAttempt) (b : Option Attempt) → AttemptStands (gates_at configs n) (length log) o b (line log (queue.Attempt n (length log))) → b ≡ None → line log (queue.Attempt n (length log)) ≡ []
+    by None None h none = h
+    by (Some r) (Some b) h none = cc
+    by None (Some b) h none = absurd h
+    by (Some r) None h none = absurd h
 
 -- a step of the dialer of a node that has started, which comes to this
 pub dialer_stepped : (configs : List Config) (log : List Entry) (e : Entry) (n : ℕ) (d u : Dialing) (begun : Option (Attempting Key)) → DialerStands configs log n d → e.event.act ≡ act.Dialer n → is_up log n ≡ true
     → u.actor ≡ Some (actor_of (gates_at configs n) (stepped_dials (pace_at configs n) e.event.at e.event.seed e.reply (taken log e) e.puts (dials_of configs log n)))
-    → IsBegun (gates_at configs n) (length log) begun (begun_of e.event.at (taken log e)) → u.attempts ≡ attempts_with begun (length log) d.attempts → DialerStands configs (log ++ e ∷ []) n u
-dialer_stepped configs log e n d u begun s acts up actor new attempts =
+    → IsBegun (gates_at configs n) (length log) begun (begun_of (dial_rules_at configs n).timeout e.event.at (taken log e)) → u.attempts ≡ attempts_with begun (length log) d.attempts
+    → ((k : ℕ) → line (log ++ e ∷ []) (queue.Attempt n k) ≡ line log (queue.Attempt n k)) → DialerStands configs (log ++ e ∷ []) n u
+dialer_stepped configs log e n d u begun s acts up actor new attempts waits =
     let next = stepped_dials (pace_at configs n) e.event.at e.event.seed e.reply (taken log e) e.puts (dials_of configs log n) in
-    let what = begun_of e.event.at (taken log e) in
+    let what = begun_of (dial_rules_at configs n).timeout e.event.at (taken log e) in
     let no_start : starts n e.event.act ≡ false = ap (starts n) acts in
     let now : dials_of configs (log ++ e ∷ []) n ≡ next =
     dials_of-append configs log e n
     ∙ (ap (λ a. acted_dials (pace_at configs n) n a e.event.at e.event.seed e.reply (taken log e) e.puts (dials_of configs log n)) acts
     ∙ ap (λ b. cond b next (dials_of configs log n)) (eq-eqb n n refl))
     in
-    let is : begun_at n log e ≡ what = ap (λ a. cond (steps_dialer n a) what None) acts ∙ ap (λ b. cond b what None) (eq-eqb n n refl) in
+    let tried : (k : ℕ) → attempts_of configs (log ++ e ∷ []) n k ≡ with_begun what (length log) (attempts_of configs log n) k = λ k.
+    attempts_of-append configs log e n k
+    ∙ (acted configs log e n k (act.Dialer n) acts ∙ ap (λ b. cond b (with_begun what (length log) (attempts_of configs log n) k) (attempts_of configs log n k)) (eq-eqb n n refl))
+    in
     record {
       actor = actor ∙ actor_now configs (log ++ e ∷ []) n true next (is_up-append log e n ∙ (or_false (is_up log n) (starts n e.event.act) no_start ∙ up)) now;
       attempts = λ k.
-          subst (λ l. IsBegun (gates_at configs n) k (table.at l k) (attempts_of (log ++ e ∷ []) n k)) (sym attempts)
-          (subst (IsBegun (gates_at configs n) k (table.at (attempts_with begun (length log) d.attempts) k))
-          (sym (attempts_of-append log e n k ∙ ap (λ o. with_begun o (length log) (attempts_of log n) k) is))
-          (with_is (gates_at configs n) begun what (length log) k d.attempts (attempts_of log n) new (s.attempts k)));
+          subst (λ l. AttemptStands (gates_at configs n) k (table.at l k) (attempts_of configs (log ++ e ∷ []) n k) (line (log ++ e ∷ []) (queue.Attempt n k))) (sym attempts)
+          (subst (AttemptStands (gates_at configs n) k (table.at (attempts_with begun (length log) d.attempts) k) (attempts_of configs (log ++ e ∷ []) n k)) (sym (waits k))
+          (subst (λ o. AttemptStands (gates_at configs n) k (table.at (attempts_with begun (length log) d.attempts) k) o (line log (queue.Attempt n k))) (sym (tried k))
+          (with_is (gates_at configs n) begun what (length log) k d.attempts (attempts_of configs log n) (line log (queue.Attempt n k)) new
+          (λ is. ap (λ j. line log (queue.Attempt n j)) (eqb-true k (length log) is) ∙ late_waits configs log n d s) (s.attempts k))));
     }

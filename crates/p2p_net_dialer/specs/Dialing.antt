@@ -4,7 +4,6 @@ use Rattle.std.specs.BTreeMap.{insert_entry}
 use Rattle.std.specs.Ordering.{nat_cmp}
 use Rattle.p2p_base.specs.declared.key.Key.{Key}
 use Rattle.p2p_tracker_mailbox.specs.declared.mailbox.Mailbox.{Mailbox}
-use Rattle.p2p_gates.specs.Attempting.{Attempting}
 use Rattle.p2p_gates.specs.Dialing.{Dialing as Dials, new_dialer}
 use Rattle.p2p_gates.specs.DialerTurns.{dialer_turn}
 use Rattle.p2p_gates.specs.Stepping.{Turn}
@@ -20,6 +19,8 @@ use Rattle.p2p_gates.specs.declared.stepped.Stepped.TheVariants as stepped
 use Rattle.p2p_log.specs.declared.config.Config.{Config}
 use Rattle.p2p_log.specs.declared.item.Item.{Item}
 use Rattle.p2p_log.specs.declared.item.Item.TheVariants as item
+use Rattle.p2p_net_dialer.specs.Attempts.{running}
+use Rattle.p2p_net_dialer.specs.declared.attempt.RunningAttempt.{RunningAttempt}
 use Rattle.p2p_net_dialer.specs.declared.dialing.Dialed.{Dialed}
 use Rattle.p2p_net_dialer.specs.declared.dialing.Dialing.{Dialing}
 
@@ -54,11 +55,11 @@ is_answer input.Answer = true
 is_answer _ = false
 
 -- the attempts, with the one that a step of this name began
-abbrev pub begun_by : Outcome Key → ℕ → List (ℕ × Attempting Key) → List (ℕ × Attempting Key)
-begun_by (outcome.Dialed a) name attempts = insert_entry nat_cmp attempts name a
+abbrev pub begun_by : Outcome Key → ℕ → List (ℕ × RunningAttempt) → List (ℕ × RunningAttempt)
+begun_by (outcome.Dialed a) name attempts = insert_entry nat_cmp attempts name (running a)
 begun_by _ name attempts = attempts
 
-abbrev pub attempts_after : Stepped Key → ℕ → List (ℕ × Attempting Key) → List (ℕ × Attempting Key)
+abbrev pub attempts_after : Stepped Key → ℕ → List (ℕ × RunningAttempt) → List (ℕ × RunningAttempt)
 attempts_after stepped.Idle name attempts = attempts
 attempts_after (stepped.Served took p left o) name attempts = begun_by o name attempts
 

@@ -1,23 +1,29 @@
 //! `Dialing`, the dialer of a node.
 ghost use Rattle.std.specs.Prelude.{◌≡◌, [], None, Some, true, ◌&&◌, IfOk, OnOk};
 ghost use Rattle.p2p_log_rules.specs.Valid.{is_quota};
+ghost use Rattle.p2p_net_queues.specs.Tables as table;
+ghost use Rattle.p2p_net_dialer.specs.Attempts.{Tries, Resolves, Refuses, kept_with};
 ghost use Rattle.p2p_net_dialer.specs.Dialing.{gates_of, no_dialing, started, asked_item, is_answer as answer_test, begun_by, Steps};
 
-use p2p_base::Key;
-use p2p_gates::{Attempt, Config as GatesConfig, Dialer, Input, Outcome, Put, Stepped};
-use p2p_log::{Config, Item, Rate};
-use p2p_net_queues::Table;
+use crate::attempt::{RunningAttempt, Tried};
+use p2p_address::SocketAddr;
+use p2p_base::{Key, List};
+use p2p_gates::{Config as GatesConfig, Dialer, Input, Outcome, Put, Stepped};
+use p2p_log::{Config, Item, Rate, Reply};
+use p2p_log_rules::Row;
+use p2p_net_queues::{Table, Turn, only};
 use p2p_runtime::Quota;
 use p2p_tracker_mailbox::Mailbox;
 use std::alloc::{AllocError, Global};
 
-/// The dialer of a node, once the node has started, and the attempts that it has begun, by the events that began them.
+/// The dialer of a node, once the node has started, and the attempts that it has begun and that have not ended, by the events
+/// that began them.
 #[derive(Drop)]
 pub struct Dialing {
     /// The dialer.
     pub actor: Option<Dialer<Key>>,
     /// The attempts.
-    pub attempts: Table<Attempt<Key>>,
+    pub attempts: Table<RunningAttempt>,
 }
 
 /// What a dialer did in a step.
@@ -108,6 +114,7 @@ impl Dialing {
     /// `Err` only where there is no memory.
     pub fn step(
         &mut self,
+        alloc: Global,
         name: u64,
         way: &mut Mailbox<Key>,
         at: u64,
@@ -126,7 +133,7 @@ impl Dialing {
                 outcome,
                 ..
             } => {
-                self.begin(name, outcome)?;
+                self.begin(alloc, name, outcome)?;
                 Ok(Some(Dialed {
                     took: is_answer(took),
                     asked: asked(put),
@@ -136,12 +143,85 @@ impl Dialing {
     }
 
     /// Keeps the attempt that a step began, if it began one.
-    fn begin(&mut self, name: u64, outcome: Outcome<Key>) -> Result<(), AllocError>
+    fn begin(&mut self, alloc: Global, name: u64, outcome: Outcome<Key>) -> Result<(), AllocError>
         ensures { OnOk result (self.new ≡ record self.old { attempts = begun_by outcome name self.old.attempts }) }
     {
         match outcome {
-            Outcome::Dialed(attempt) => Ok(self.attempts.insert(name, attempt)?),
+            Outcome::Dialed(attempt) => {
+                let running = RunningAttempt::new(alloc, attempt);
+                Ok(self.attempts.insert(name, running)?)
+            }
             _ => Ok(()),
         }
+    }
+
+    /// One step of the attempt of this name, which gives its reservation back into its tracker's mailbox where it ends.
+    ///
+    /// `Err` only where there is no memory. The attempt may then be dropped, and its node goes no further.
+    pub fn attempt(
+        &mut self,
+        alloc: Global,
+        name: u64,
+        way: &mut Mailbox<Key>,
+        at: u64,
+        seed: u64,
+    ) -> Result<Tried, AllocError>
+        ensures tries { IfOk result (λ t. Tries (table.at self.old.attempts name) name at seed self.old.attempts self.new.attempts way.old way.new t) }
+        ensures actor { OnOk result (self.new.actor ≡ self.old.actor) }
+    {
+        let Some(mut running) = self.attempts.remove(name) else {
+            return Ok(Tried {
+                row: only(alloc, Reply::Gone),
+                released: None,
+            });
+        };
+        let tried = running.step(alloc, way, at, seed)?;
+        self.keep(name, running)?;
+        Ok(tried)
+    }
+
+    /// Keeps an attempt, unless it has ended.
+    fn keep(&mut self, name: u64, running: RunningAttempt) -> Result<(), AllocError>
+        ensures { OnOk result (self.new ≡ record self.old { attempts = kept_with running name self.old.attempts }) }
+    {
+        if !running.actor.has_ended() {
+            self.attempts.insert(name, running)?;
+        }
+        Ok(())
+    }
+
+    /// The attempt of this name is told the addresses that its peer's name stands for.
+    ///
+    /// `Err` only where there is no memory. The attempt may then be dropped, and its node goes no further.
+    pub fn resolve(
+        &mut self,
+        turn: Turn,
+        name: u64,
+        addresses: &List<SocketAddr>,
+    ) -> Result<Row, AllocError>
+        ensures resolves { IfOk result (λ r. Resolves (table.at self.old.attempts name) turn.entry turn.node name addresses.now self.old.attempts self.new.attempts r) }
+        ensures actor { OnOk result (self.new.actor ≡ self.old.actor) }
+    {
+        let Some(mut running) = self.attempts.remove(name) else {
+            return Ok(only(turn.alloc, Reply::Gone));
+        };
+        let row = running.resolve(turn, name, addresses)?;
+        self.attempts.insert(name, running)?;
+        Ok(row)
+    }
+
+    /// The attempt of this name is told that there is no link to its peer.
+    ///
+    /// `Err` only where there is no memory. The attempt may then be dropped, and its node goes no further.
+    pub fn refuse(&mut self, turn: Turn, name: u64) -> Result<Row, AllocError>
+        ensures refuses { IfOk result (λ r. Refuses (table.at self.old.attempts name) turn.entry turn.node name self.old.attempts self.new.attempts r) }
+        ensures actor { OnOk result (self.new.actor ≡ self.old.actor) }
+    {
+        let Some(mut running) = self.attempts.remove(name) else {
+            return Ok(only(turn.alloc, Reply::Gone));
+        };
+        let row = running.refuse(turn, name)?;
+        self.attempts.insert(name, running)?;
+        Ok(row)
     }
 }

@@ -1,6 +1,8 @@
 -- Parts of rows.
-use Rattle.std.specs.Prelude.{ℕ, List, [], ◌∷◌, ◌++◌, flat_map}
+use Rattle.std.specs.Prelude.{ℕ, List, [], ◌∷◌, ◌++◌, flat_map, map}
 use Rattle.p2p_log_rules.specs.declared.row.Row.{Row}
+use Rattle.p2p_log.specs.declared.end.End.{End}
+use Rattle.p2p_log.specs.declared.end.End.TheVariants as end
 use Rattle.p2p_log.specs.declared.entry.Reply.TheVariants as reply
 use Rattle.p2p_log.specs.Lines.{ended_item}
 
@@ -11,3 +13,7 @@ taken_row name = record { reply = reply.Ok; takes = name ∷ []; puts = []; ends
 -- the names of the items that a row takes or ends
 abbrev pub row_goes : Row → List (ℕ × ℕ)
 row_goes r = r.takes ++ flat_map ended_item r.ends
+
+-- the ends of the items of these names
+abbrev pub item_ends : List (ℕ × ℕ) → List End
+item_ends names = map (λ name. end.Item name.0 name.1) names

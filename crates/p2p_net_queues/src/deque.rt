@@ -61,6 +61,14 @@ impl<T: Drop> Deque<T> {
         }
     }
 
+    /// The items, the oldest first.
+    pub fn into_inner(self) -> VecDeque<T>
+        ensures { result.items ≡ self }
+    {
+        let Deque { items } = self;
+        items
+    }
+
     /// Takes the item at a place, counted from the oldest. The others stay in their order.
     pub fn remove(&mut self, place: usize) -> Option<T>
         ensures item { result ≡ slice_get self.old place }

@@ -1,9 +1,12 @@
-//! The ends of the copies of a send.
-ghost use Rattle.std.specs.Prelude.{◌≡◌, IfOk};
+//! The ends of the copies of a send, and of items.
+ghost use Rattle.std.specs.Prelude.{◌≡◌, ◌++◌, IfOk, OnOk};
 ghost use Rattle.p2p_log_rules.specs.Effect.{copies_end};
+ghost use Rattle.p2p_net_queues.specs.Rows.{item_ends};
 
+use crate::deque::Deque;
 use p2p_base::{Key, List};
 use p2p_log::{End, Outcome};
+use p2p_log_rules::Row;
 use std::alloc::{AllocError, Global};
 
 /// Each copy of a send to these keys ends so.
@@ -20,4 +23,14 @@ pub fn end_copies(
         ends.push(End::Copy(send, place as u64, outcome))?;
     }
     Ok(ends)
+}
+
+/// The items of these names end, in order.
+pub fn end_items(row: &mut Row, names: Deque<(u64, u64)>) -> Result<(), AllocError>
+    ensures { OnOk result (row.new ≡ record row.old { ends = row.old.ends ++ item_ends names }) }
+{
+    for name in names.into_inner() {
+        row.ends.push(End::Item(name.0, name.1))?;
+    }
+    Ok(())
 }

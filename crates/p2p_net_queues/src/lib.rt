@@ -11,7 +11,7 @@ pub mod turn;
 
 pub use board::Board;
 pub use deque::Deque;
-pub use ending::end_copies;
+pub use ending::{end_copies, end_items};
 pub use rows::{only, taking};
 pub use table::Table;
 pub use turn::Turn;

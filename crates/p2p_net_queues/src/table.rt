@@ -1,5 +1,5 @@
 //! `Table`, a map from numbers that contracts see as the list of its entries.
-ghost use Rattle.std.specs.Prelude.{◌≡◌, ℕ, [], ◌∷◌, ◌++◌, length, slice_get, is_some, OnOk};
+ghost use Rattle.std.specs.Prelude.{◌≡◌, ◌==◌, ℕ, [], ◌∷◌, ◌++◌, None, cond, length, slice_get, is_some, OnOk};
 ghost use Rattle.std.specs.BTreeMap.{insert_entry};
 ghost use Rattle.std.specs.Ordering.{nat_cmp};
 ghost use Rattle.std.specs.Option.{option_copied};
@@ -50,6 +50,14 @@ impl<V: Drop> Table<V> {
     {
         self.tree.insert(key, value)?;
         Ok(())
+    }
+
+    /// Takes the value of a key out. The other keys keep theirs.
+    pub fn remove(&mut self, key: u64) -> Option<V>
+        ensures value { result ≡ at self.old key }
+        ensures rest { (k : ℕ) → at self.new k ≡ cond (k == key) None (at self.old k) }
+    {
+        self.tree.remove(&key)
     }
 }
 

@@ -1,9 +1,18 @@
 -- A new tracker stands for no entry, and what waits for one that stands may be taken.
-use Rattle.std.proofs.Common.{◌≡◌, ℕ, false, List, [], ◌∷◌, map, length, refl, ap, sym, subst, ◌∙◌, Option, Some, None}
-use Rattle.std.specs.Prelude.{slice_get, IfSome}
+use Rattle.std.proofs.Common.{◌≡◌, ℕ, Bool, true, false, cond, List, [], ◌∷◌, map, length, refl, ap, sym, subst, ◌∙◌, Option, Some, None}
+use Rattle.std.specs.Prelude.{slice_get, IfSome, not}
+use Rattle.std.specs.BTreeMap.{is_at}
+use Rattle.std.specs.Map.{lookup}
+use Rattle.std.specs.Option.{option_map}
+use Rattle.p2p_address.specs.declared.peer.Address.{Address}
 use Rattle.p2p_base.specs.declared.key.Key.{Key}
+use Rattle.p2p_tracker_calls.specs.Blocks.{is_local}
+use Rattle.p2p_tracker_calls.specs.Grants.{is_held}
 use Rattle.p2p_tracker_calls.specs.Keeping.{kept_of}
-use Rattle.p2p_tracker_directory.specs.Stands.{Kept, StandsFor}
+use Rattle.p2p_tracker_calls.specs.Lives.{address_of, is_connected}
+use Rattle.p2p_tracker_calls.specs.declared.call.Call.{Call}
+use Rattle.p2p_tracker_directory.specs.Recorded.{is_inert, is_held_or_unknown}
+use Rattle.p2p_tracker_directory.specs.Stands.{Kept, StandsFor, status_of, own_record, peer_record, record_of}
 use Rattle.p2p_tracker_mailbox.specs.Desk.{next_message}
 use Rattle.p2p_tracker_mailbox.specs.declared.message.Message.{Message}
 use Rattle.p2p_tracker.specs.Following.{Follows}
@@ -15,6 +24,8 @@ use Rattle.p2p_net_tracker.specs.declared.naming.Tickets.{Tickets}
 use Rattle.p2p_log.specs.declared.config.Config.{Config}
 use Rattle.p2p_log.specs.declared.queue.Queue.{Queue}
 use Rattle.p2p_log.specs.declared.queue.Queue.TheVariants as queue
+use Rattle.p2p_log.specs.declared.item.Item.{Item}
+use Rattle.p2p_log.specs.declared.item.Item.TheVariants as item
 use Rattle.p2p_log.specs.declared.item.Envelope.{Envelope}
 use Rattle.p2p_log.specs.declared.entry.Entry.{Entry}
 use Rattle.p2p_log.specs.Lines.{name_of, live_from, line}
@@ -25,8 +36,8 @@ use Rattle.p2p_net_queues.specs.Board.{held}
 use Rattle.p2p_net_queues.specs.Tables as table
 use Rattle.p2p_net_tracker.specs.declared.tracker.Tracker.{Tracker}
 use Rattle.p2p_net_tracker.specs.Begins.{IsNew}
-use Rattle.p2p_net_tracker.specs.Stands.{Match, IsTicket, IsMessage, IsAnswer, TrackerStands}
-use Rattle.p2p_net_tracker.proofs.Serving.{item-may_take}
+use Rattle.p2p_net_tracker.specs.Stands.{Match, IsTicket, IsMessage, IsAnswer, IsHeldByPeer, ReleasesHeld, TrackerStands}
+use Rattle.p2p_net_tracker.proofs.Serving.{MayRelease, item-may_take}
 
 no_calls : (configs : List Config) (n : ℕ) → calls_of configs [] n ≡ []
 unfolding calls_of calls_from
@@ -81,12 +92,37 @@ tracker_new configs n c t is h =
       told = λ q own. h.told q ∙ sym (no_line q);
     }
 
--- the oldest message may be taken
-pub may_take : (configs : List Config) (log : List Entry) (n now : ℕ) (t : Tracker) → TrackerStands configs log n t → IfSome (next_message t.mailbox.desk) (λ m. MayTake key_cmp t.actor.directory m now)
-may_take configs log n now t s = of_line (line log (queue.Tracker n)) t.mailbox.desk.messages.items s.messages
+-- a key that is held, and another's, has a record that says so, or none
+held_record : (rules : Rules Key) (calls : List (Call Key)) (key : Key) → is_held key_cmp calls key ≡ true → is_local key_cmp rules key ≡ false → is_held_or_unknown (record_of key_cmp rules calls key) ≡ true
+unfolding record_of
+held_record rules calls key held others =
+    ap (λ b. is_held_or_unknown (cond b (Some (own_record key_cmp rules calls key)) (option_map (peer_record key_cmp rules calls key) (address_of key_cmp rules calls key)))) others
+    ∙ by (address_of key_cmp rules calls key)
   where
-    of_line : (l : List Envelope) (ms : List (Message Key)) → Match (λ x m. IsMessage t.tickets log x.item m) l ms → IfSome (slice_get ms 0) (λ m. MayTake key_cmp t.actor.directory m now)
-    of_line [] [] h = tt
-    of_line (x ∷ l) (m ∷ ms) h = item-may_take t.actor.directory t.tickets log x.item m now h.0
-    of_line [] (m ∷ ms) h = absurd h
-    of_line (x ∷ l) [] h = absurd h
+    by_status : (h c : Bool) → h ≡ true → not (is_inert (status_of h c)) ≡ true
+    by_status true true is = refl
+    by_status true false is = refl
+    by_status false c is = cc
+
+    by : (o : Option Address) → is_held_or_unknown (option_map (peer_record key_cmp rules calls key) o) ≡ true
+    by None = refl
+    by (Some a) = by_status (is_held key_cmp calls key) (is_connected key_cmp rules calls key) held
+
+-- the oldest message may be taken, where a release that is oldest is of a key that is held
+pub may_take : (configs : List Config) (log : List Entry) (n now : ℕ) (t : Tracker) → TrackerStands configs log n t → ReleasesHeld configs log n → IfSome (next_message t.mailbox.desk) (λ m. MayTake key_cmp t.actor.directory m now)
+may_take configs log n now t s released = of_line (line log (queue.Tracker n)) t.mailbox.desk.messages.items s.messages refl
+  where
+    held_there : (key : Key) → IsHeldByPeer configs log n key → is_held_or_unknown (lookup (is_at (key_cmp key)) t.actor.directory.records) ≡ true
+    held_there key h =
+        ap is_held_or_unknown (s.follows.stands.records key)
+        ∙ held_record t.actor.directory.rules (calls_of configs log n) key h.0 (ap (λ r. is_local key_cmp r key) s.rules ∙ h.1)
+
+    may_release : (x : Envelope) (l : List Envelope) → line log (queue.Tracker n) ≡ x ∷ l → (i : Item) → x.item ≡ i → MayRelease t.actor.directory i
+    may_release x l first (item.Release key) is = held_there key (released key x l first is)
+    may_release x l first _ is = tt
+
+    of_line : (l : List Envelope) (ms : List (Message Key)) → Match (λ x m. IsMessage t.tickets log x.item m) l ms → line log (queue.Tracker n) ≡ l → IfSome (slice_get ms 0) (λ m. MayTake key_cmp t.actor.directory m now)
+    of_line [] [] h first = tt
+    of_line (x ∷ l) (m ∷ ms) h first = item-may_take t.actor.directory t.tickets log x.item m now h.0 (may_release x l first x.item refl)
+    of_line [] (m ∷ ms) h first = absurd h
+    of_line (x ∷ l) [] h first = absurd h

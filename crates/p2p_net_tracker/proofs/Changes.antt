@@ -59,6 +59,7 @@ pub IsMessage-longer : (old new : Tickets) → AreMore old new → (log more : L
 IsMessage-longer old new given log more (item.Call e) m h = (h.0, asked_by-longer log more e h.0 h.1, Says-more old new given e h.0 m h.2)
 IsMessage-longer old new given log more item.AskDialable m h = h
 IsMessage-longer old new given log more (item.AskDial key) m h = h
+IsMessage-longer old new given log more (item.Release key) m h = h
 IsMessage-longer old new given log more _ m h = absurd h
 
 -- an entry that leaves it alone

@@ -43,9 +43,8 @@ pub record DialerMoves (log : List Entry) (e : Entry) (n : ℕ) (t u : Tracker) 
   pub updates : length u.mailbox.desk.updates ≡ length t.mailbox.desk.updates
   pub sets : length u.mailbox.desk.sets ≡ length t.mailbox.desk.sets
   pub each : Match (λ x m. IsMessage t.tickets log x.item m) xs ms
-  pub left : (p : Queue) → filter (stands_in p) (filter (stays (goes e)) (live log)) ≡ cond (is_taken_of took n p) (drop 1 (line log p)) (line log p)
-  pub asked : put_in log e (queue.Tracker n) ≡ xs
-  pub quiet : (p : Queue) → is_told n p ≡ true → put_in log e p ≡ []
+  pub waits : line (log ++ e ∷ []) (queue.Tracker n) ≡ line log (queue.Tracker n) ++ xs
+  pub lines : (p : Queue) → is_told n p ≡ true → line (log ++ e ∷ []) p ≡ cond (is_taken_of took n p) (drop 1 (line log p)) (line log p)
   pub answered : u.mailbox.dialer ≡ cond took (drop 1 t.mailbox.dialer) t.mailbox.dialer
   pub told : (p : Queue) → held u.told p ≡ (if is_taken_of took n p then drop 1 (held t.told p) else held t.told p)
 
@@ -71,6 +70,22 @@ and_true : (b c : Bool) → c ≡ true → (b && c) ≡ b
 and_true true c h = h
 and_true false c h = refl
 
+-- the lines after an entry that takes this of the dialer's line and puts these in the mailbox
+module _ (log : List Entry) (e : Entry) (n : ℕ) (took : Bool) (xs : List Envelope)
+    (left : (p : Queue) → filter (stands_in p) (filter (stays (goes e)) (live log)) ≡ cond (is_taken_of took n p) (drop 1 (line log p)) (line log p))
+    (asked : put_in log e (queue.Tracker n) ≡ xs) (quiet : (p : Queue) → is_told n p ≡ true → put_in log e p ≡ []) where
+  line_after : (p : Queue) → line (log ++ e ∷ []) p ≡ cond (is_taken_of took n p) (drop 1 (line log p)) (line log p) ++ put_in log e p
+  line_after p = line-append log e p ∙ ap (λ l. l ++ put_in log e p) (left p)
+
+  pub told_moved : (p : Queue) → is_told n p ≡ true → line (log ++ e ∷ []) p ≡ cond (is_taken_of took n p) (drop 1 (line log p)) (line log p)
+  told_moved p own =
+      line_after p ∙ (ap (λ l. cond (is_taken_of took n p) (drop 1 (line log p)) (line log p) ++ l) (quiet p own) ∙ append-nil (cond (is_taken_of took n p) (drop 1 (line log p)) (line log p)))
+
+  pub mailbox_moved : line (log ++ e ∷ []) (queue.Tracker n) ≡ line log (queue.Tracker n) ++ xs
+  mailbox_moved =
+      line_after (queue.Tracker n)
+      ∙ (ap (λ b. cond b (drop 1 (line log (queue.Tracker n))) (line log (queue.Tracker n)) ++ put_in log e (queue.Tracker n)) (and_false took) ∙ ap (λ l. line log (queue.Tracker n) ++ l) asked)
+
 pub tracker_dialed : (configs : List Config) (log : List Entry) (e : Entry) (n : ℕ) (t u : Tracker) (took : Bool) (xs : List Envelope) (ms : List (Message Key)) → TrackerStands configs log n t → DialerMoves log e n t u took xs ms
     → TrackerStands configs (log ++ e ∷ []) n u
 tracker_dialed configs log e n t u took xs ms s q =
@@ -83,8 +98,8 @@ tracker_dialed configs log e n t u took xs ms s q =
       most = s.most;
       is_open = q.closed ∙ s.is_open;
       size = q.capacity ∙ s.size;
-      names = ap (λ l. l ++ map name_of xs) s.names ∙ (sym (map-append name_of (line log (queue.Tracker n)) xs) ∙ ap (map name_of) (sym mailbox));
-      messages = subst (λ l. Match (λ x m. IsMessage t.tickets (log ++ e ∷ []) x.item m) l u.mailbox.desk.messages.items) (sym mailbox)
+      names = ap (λ l. l ++ map name_of xs) s.names ∙ (sym (map-append name_of (line log (queue.Tracker n)) xs) ∙ ap (map name_of) (sym q.waits));
+      messages = subst (λ l. Match (λ x m. IsMessage t.tickets (log ++ e ∷ []) x.item m) l u.mailbox.desk.messages.items) (sym q.waits)
           (subst (Match (λ (x : Envelope) m. IsMessage t.tickets (log ++ e ∷ []) x.item m) (line log (queue.Tracker n) ++ xs)) (sym q.items)
           (Match-weaker (λ (x : Envelope) m. IsMessage t.tickets log x.item m) (λ (x : Envelope) m. IsMessage t.tickets (log ++ e ∷ []) x.item m)
           (λ (x : Envelope) m h. IsMessage-longer t.tickets t.tickets (same_tickets t.tickets) log (e ∷ []) x.item m h) (line log (queue.Tracker n) ++ xs) (t.mailbox.desk.messages.items ++ ms)
@@ -97,11 +112,11 @@ tracker_dialed configs log e n t u took xs ms s q =
       asked = λ d. s.asked d ∙ sym (asks_at-kept log e n d q.no_question);
       answered = λ d is. s.answered d (sym (asks_at-kept log e n d q.no_question) ∙ is) ∙ sym (was_answered-kept log e d (q.no_answer d));
       fresh = fresh-longer log e t.answered s.fresh (λ d past. q.no_answer d);
-      dialer = subst (λ l. Match (λ x a. IsAnswer x.item a) l u.mailbox.dialer) (sym (told_line (queue.Dialer n) (eq-eqb n n refl)))
+      dialer = subst (λ l. Match (λ x a. IsAnswer x.item a) l u.mailbox.dialer) (sym (q.lines (queue.Dialer n) (eq-eqb n n refl)))
           (subst (Match (λ (x : Envelope) a. IsAnswer x.item a) (cond (is_taken_of took n (queue.Dialer n)) (drop 1 (line log (queue.Dialer n))) (line log (queue.Dialer n)))) (sym q.answered)
           (subst (λ b. Match (λ (x : Envelope) a. IsAnswer x.item a) (cond b (drop 1 (line log (queue.Dialer n))) (line log (queue.Dialer n))) (cond took (drop 1 t.mailbox.dialer) t.mailbox.dialer))
           (sym (and_true took (same_queue (queue.Dialer n) (queue.Dialer n)) (same_queue-refl (queue.Dialer n)))) (by_taken took)));
-      told = λ p own. q.told p ∙ (by_place (is_taken_of took n p) (held t.told p) (line log p) (s.told p own) ∙ sym (told_line p own));
+      told = λ p own. q.told p ∙ (by_place (is_taken_of took n p) (held t.told p) (line log p) (s.told p own) ∙ sym (q.lines p own));
     })
   where
     by_place : (b : Bool) (h l : List Envelope) → h ≡ l → (if b then drop 1 h else h) ≡ cond b (drop 1 l) l
@@ -111,15 +126,3 @@ tracker_dialed configs log e n t u took xs ms s q =
     by_taken : (b : Bool) → Match (λ x a. IsAnswer x.item a) (cond b (drop 1 (line log (queue.Dialer n))) (line log (queue.Dialer n))) (cond b (drop 1 t.mailbox.dialer) t.mailbox.dialer)
     by_taken true = Match-drop (λ (x : Envelope) a. IsAnswer x.item a) (line log (queue.Dialer n)) t.mailbox.dialer s.dialer
     by_taken false = s.dialer
-
-    line_after : (p : Queue) → line (log ++ e ∷ []) p ≡ cond (is_taken_of took n p) (drop 1 (line log p)) (line log p) ++ put_in log e p
-    line_after p = line-append log e p ∙ ap (λ l. l ++ put_in log e p) (q.left p)
-
-    told_line : (p : Queue) → is_told n p ≡ true → line (log ++ e ∷ []) p ≡ cond (is_taken_of took n p) (drop 1 (line log p)) (line log p)
-    told_line p own =
-        line_after p ∙ (ap (λ l. cond (is_taken_of took n p) (drop 1 (line log p)) (line log p) ++ l) (q.quiet p own) ∙ append-nil (cond (is_taken_of took n p) (drop 1 (line log p)) (line log p)))
-
-    mailbox : line (log ++ e ∷ []) (queue.Tracker n) ≡ line log (queue.Tracker n) ++ xs
-    mailbox =
-        line_after (queue.Tracker n)
-        ∙ (ap (λ b. cond b (drop 1 (line log (queue.Tracker n))) (line log (queue.Tracker n)) ++ put_in log e (queue.Tracker n)) (and_false took) ∙ ap (λ l. line log (queue.Tracker n) ++ l) q.asked)

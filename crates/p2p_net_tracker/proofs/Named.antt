@@ -169,4 +169,5 @@ module _ (n : ℕ) (t : Tickets) where
           granted true (Some a) = refl
           granted true None = refl
           granted false o = refl
+      named-item log (item.Release key) m h = ap (λ d. named_puts n t (puts_for key_cmp rules updates sets waiting heard runs calls now d)) h.2
       named-item log _ m h = absurd h

@@ -3,6 +3,8 @@ use Rattle.std.proofs.Common.{◌≡◌, ℕ, Bool, true, false, cond, List, [],
 use Rattle.std.specs.Prelude.{◌&&◌, ◌||◌, not, nat_lt, flat_map, Option, None}
 use Rattle.std.specs.List.{list_any}
 use Rattle.std.specs.Option.{option_map}
+use Rattle.std.specs.Map.{lookup}
+use Rattle.std.specs.BTreeMap.{is_at}
 use Rattle.p2p_base.specs.declared.key.Key.{Key}
 use Rattle.p2p_address.specs.Addresses.{ingress_of, is_valid}
 use Rattle.p2p_address.specs.declared.peer.Address.{Address}
@@ -13,6 +15,7 @@ use Rattle.p2p_tracker_calls.specs.Lives.{address_of, cool}
 use Rattle.p2p_tracker_calls.specs.Sets.{is_primary}
 use Rattle.p2p_tracker_calls.specs.Rules.{Rules}
 use Rattle.p2p_tracker_mailbox.specs.declared.message.Message.{Message}
+use Rattle.p2p_tracker_directory.specs.Recorded.{is_held_or_unknown}
 use Rattle.p2p_tracker_directory.specs.Stands.{Kept}
 use Rattle.p2p_tracker.specs.Serving.{calls_after, MayTake}
 use Rattle.p2p_tracker.specs.Steps.{updates_for, sets_for}
@@ -88,6 +91,7 @@ item-updates t log (item.Call e) m ts es h s =
     subst (λ o. Match (IsTicket t.updates) (updates_for m ts) (es ++ ((elim o [ None ↦ [] | Some b ↦ cond (subscribes b) (e ∷ []) [] ]) ++ []))) (sym h.1) (says-updates t e h.0 m ts es h.2 s)
 item-updates t log item.AskDialable m ts es h s = subst (λ d. Match (IsTicket t.updates) (updates_for d ts) (es ++ [])) (sym h) (same_events (IsTicket t.updates) ts es s)
 item-updates t log (item.AskDial key) m ts es h s = subst (λ d. Match (IsTicket t.updates) (updates_for d ts) (es ++ [])) (sym h) (same_events (IsTicket t.updates) ts es s)
+item-updates t log (item.Release key) m ts es h s = subst (λ d. Match (IsTicket t.updates) (updates_for d ts) (es ++ [])) (sym h.2) (same_events (IsTicket t.updates) ts es s)
 item-updates t log _ m ts es h s = absurd h
 
 pub item-sets : (t : Tickets) (log : List Entry) (i : Item) (m : Message Key) (ts es : List ℕ) → IsMessage t log i m → Match (IsTicket t.blocked) ts es
@@ -96,13 +100,21 @@ item-sets t log (item.Call e) m ts es h s =
     subst (λ o. Match (IsTicket t.blocked) (sets_for m ts) (es ++ ((elim o [ None ↦ [] | Some b ↦ cond (subscribes_blocked b) (e ∷ []) [] ]) ++ []))) (sym h.1) (says-sets t e h.0 m ts es h.2 s)
 item-sets t log item.AskDialable m ts es h s = subst (λ d. Match (IsTicket t.blocked) (sets_for d ts) (es ++ [])) (sym h) (same_events (IsTicket t.blocked) ts es s)
 item-sets t log (item.AskDial key) m ts es h s = subst (λ d. Match (IsTicket t.blocked) (sets_for d ts) (es ++ [])) (sym h) (same_events (IsTicket t.blocked) ts es s)
+item-sets t log (item.Release key) m ts es h s = subst (λ d. Match (IsTicket t.blocked) (sets_for d ts) (es ++ [])) (sym h.2) (same_events (IsTicket t.blocked) ts es s)
 item-sets t log _ m ts es h s = absurd h
 
-pub item-may_take : (kept : Kept Key) (t : Tickets) (log : List Entry) (i : Item) (m : Message Key) (now : ℕ) → IsMessage t log i m → MayTake key_cmp kept m now
-item-may_take kept t log (item.Call e) m now h = says-may_take kept t e h.0 m now h.2
-item-may_take kept t log item.AskDialable m now h = subst (λ k. MayTake key_cmp kept k now) (sym h) tt
-item-may_take kept t log (item.AskDial key) m now h = subst (λ k. MayTake key_cmp kept k now) (sym h) tt
-item-may_take kept t log _ m now h = absurd h
+-- what is released is held or has no record
+abbrev pub MayRelease : Kept Key → Item → Type 0
+MayRelease kept (item.Release key) = is_held_or_unknown (lookup (is_at (key_cmp key)) kept.records) ≡ true
+MayRelease kept _ = Unit {0}
+
+pub item-may_take : (kept : Kept Key) (t : Tickets) (log : List Entry) (i : Item) (m : Message Key) (now : ℕ) → IsMessage t log i m → MayRelease kept i → MayTake key_cmp kept m now
+item-may_take kept t log (item.Call e) m now h released = says-may_take kept t e h.0 m now h.2
+item-may_take kept t log item.AskDialable m now h released = subst (λ k. MayTake key_cmp kept k now) (sym h) tt
+item-may_take kept t log (item.AskDial key) m now h released = subst (λ k. MayTake key_cmp kept k now) (sym h) tt
+item-may_take kept t log (item.Release key) m now h released =
+    subst (λ k. MayTake key_cmp kept k now) (sym h.2) (ap (λ k. is_held_or_unknown (lookup (is_at (key_cmp k)) kept.records)) h.1 ∙ released)
+item-may_take kept t log _ m now h released = absurd h
 
 -- a dial is granted where the answer reserves someone
 dial-granted : (rules : Rules Key) (n : ℕ) (calls : List (Call Key)) (k : Key) (now : ℕ)
@@ -127,4 +139,6 @@ item-calls rules n t log (item.Call e) m now jitter us bs calls h = says-calls r
 item-calls rules n t log item.AskDialable m now jitter us bs calls h = ap (λ d. calls_after key_cmp rules d now jitter calls) h
 item-calls rules n t log (item.AskDial key) m now jitter us bs calls h =
     ap (λ d. calls_after key_cmp rules d now jitter calls) h ∙ ap (λ b. call.Dial key now jitter b ∷ calls) (sym (dial-granted rules n calls key now))
+item-calls rules n t log (item.Release key) m now jitter us bs calls h =
+    ap (λ d. calls_after key_cmp rules d now jitter calls) h.2 ∙ ap (λ k. call.Release k ∷ calls) h.1
 item-calls rules n t log _ m now jitter us bs calls h = absurd h

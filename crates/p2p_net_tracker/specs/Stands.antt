@@ -2,6 +2,9 @@
 use Rattle.std.specs.Prelude.{◌≡◌, ℕ, ◌≤◌, Bool, true, false, ◌==◌, cond, is_some, Option, None, List, [], ◌∷◌, ◌++◌, map, length, Some, slice_get}
 use Rattle.p2p_base.specs.declared.key.Key.{Key}
 use Rattle.p2p_address.specs.declared.peer.Ingress.{Ingress}
+use Rattle.p2p_tracker_calls.specs.Blocks.{is_local}
+use Rattle.p2p_tracker_calls.specs.Grants.{is_held}
+use Rattle.p2p_tracker_directory.specs.Reserved.{peer_of}
 use Rattle.p2p_tracker_directory.specs.declared.metadata.Metadata.{Metadata}
 use Rattle.p2p_tracker_mailbox.specs.declared.answer.DialerAnswer.{DialerAnswer}
 use Rattle.p2p_tracker_mailbox.specs.declared.answer.DialerAnswer.TheVariants as answer
@@ -13,6 +16,7 @@ use Rattle.p2p_log.specs.declared.queue.Queue.{Queue}
 use Rattle.p2p_log.specs.declared.queue.Queue.TheVariants as queue
 use Rattle.p2p_log.specs.declared.item.Item.{Item}
 use Rattle.p2p_log.specs.declared.item.Item.TheVariants as item
+use Rattle.p2p_log.specs.declared.item.Envelope.{Envelope}
 use Rattle.p2p_log.specs.declared.entry.Entry.{Entry}
 use Rattle.p2p_log.specs.declared.asked.Asked.{Asked}
 use Rattle.p2p_log.specs.declared.asked.Asked.TheVariants as ask
@@ -75,11 +79,12 @@ abbrev pub Says : Tickets → ℕ → Act → Message Key → Type 0
 Says t e (act.Ask what n) m = (ticket : ℕ) × (m ≡ message_of what ticket) × HasTicket t (kind_of what) ticket e
 Says t e _ m = ⊥
 
--- the item names the event that the message is of, or is what a dialer asks; nobody else asks the tracker yet
+-- the item names the event that the message is of, or is what a dialer asks, or gives a reservation of its key back; nobody else asks the tracker yet
 abbrev pub IsMessage : Tickets → List Entry → Item → Message Key → Type 0
 IsMessage t log (item.Call e) m = (a : Act) × (asked_by log e ≡ Some a) × Says t e a m
 IsMessage t log item.AskDialable m = m ≡ message.Dialable
 IsMessage t log (item.AskDial key) m = m ≡ message.Dial key
+IsMessage t log (item.Release key) m = (reserved : Metadata Key) × (peer_of reserved ≡ key) × (m ≡ message.Release reserved)
 IsMessage t log _ m = ⊥
 
 -- the item is what the dialer is answered
@@ -87,6 +92,14 @@ abbrev pub IsAnswer : Item → DialerAnswer Key → Type 0
 IsAnswer (item.Dialable next peers) a = a ≡ answer.Dialable (record { peers = peers; next_query_at = next })
 IsAnswer (item.Dial grant) a = (g : Option (Metadata Key × Ingress)) × (a ≡ answer.Dial g) × (grant ≡ grant_of g)
 IsAnswer _ a = ⊥
+
+-- by the calls so far the key is held, and it is another's
+abbrev pub IsHeldByPeer : List Config → List Entry → ℕ → Key → Type 0
+IsHeldByPeer configs log n key = (is_held key_cmp (calls_of configs log n) key ≡ true) × (is_local key_cmp (rules_at configs n) key ≡ false)
+
+-- a release that is the oldest of what waits is of a key that is held
+abbrev pub ReleasesHeld : List Config → List Entry → ℕ → Type 0
+ReleasesHeld configs log n = (key : Key) (x : Envelope) (rest : List Envelope) → line log (queue.Tracker n) ≡ x ∷ rest → x.item ≡ item.Release key → IsHeldByPeer configs log n key
 
 -- what an act asks of the tracker of a node that may be answered
 abbrev pub asks_of : ℕ → Act → Option Question

@@ -1,4 +1,4 @@
-//! What a node's dialer took of its answers, and what it asked.
+//! What a node's dialer took of its answers, and what it and its attempts asked.
 ghost use Rattle.std.specs.Prelude.{◌≡◌, ◌++◌, ◌&&◌, drop, IfOk, OnOk, if◌then◌else◌};
 ghost use Rattle.p2p_log.specs.declared.queue.Queue.{Queue as Name};
 ghost use Rattle.p2p_log.specs.declared.queue.Queue.TheVariants as queue;
@@ -45,8 +45,11 @@ impl Tracker {
         Ok(())
     }
 
-    // What the dialer asked has this entry's name.
-    fn put_question(
+    /// The row with what the dialer, or an attempt of it, put in the actor's mailbox, which has this entry's name. It was put
+    /// there already.
+    ///
+    /// `Err` only where there is no memory.
+    pub fn put_question(
         &mut self,
         turn: Turn,
         asked: Option<Item>,

@@ -28,7 +28,7 @@ record-requires c =
     let w = c.self.inside in
     let v = c.args.event.now in
     let kept = c.self.invariant c.if-self.false in
-    may_perform w.configs w.report.log w.nodes.items w.links v.act kept.world
+    may_perform w.configs w.report.log w.nodes.items w.links v.act kept.world kept.lawful
     (valid_act w.configs (events_of w.report.log) v
     (sym (tested w.configs w.report.log w.nodes.items w.links w.last v kept) ∙ (ap (λ nodes. may_apply nodes w.report.log w.last v) (sym c.as_slice.ensures.value) ∙ c.in_ok-allow.ensures.ok)))
 
@@ -47,7 +47,7 @@ pub invariant_of-self-2 : goal.invariant_of-self-2
 invariant_of-self-2 c = λ _.
     let w = c.self.inside in
     let r = is_recorded c in
-    kept_more w.configs w.report.log c.record.new.report.log c.record.new.nodes.items c.record.new.links c.args.event.now r.log_is r.stands
+    kept_more w.configs w.report.log c.record.new.report.log c.record.new.nodes.items c.record.new.links c.args.event.now (c.self.invariant c.if-self.false).lawful r.log_is r.stands
 
 pub returns-clause-ok : goal.returns-clause-ok
 returns-clause-ok c =

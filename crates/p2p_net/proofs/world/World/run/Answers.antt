@@ -1,7 +1,7 @@
 use Rattle.std.proofs.Common.{rules}
 use Rattle.p2p_net.specs.Refusals.{RunRefused}
 use Rattle.p2p_net.proofs.Nodes.{found}
-use Rattle.p2p_net.proofs.Running.{RanFirst-none, RanFirst-step, lawful_run, only_run, stands_run, no_fault, refused_run}
+use Rattle.p2p_net.proofs.Running.{RanFirst-none, RanFirst-step, lawful_run, only_run, grants_run, stands_run, no_fault, refused_run}
 use Rattle.p2p_net.proofs.world.World.run.Goals as goal
 
 pub returns-in_err-apply-clause-err : goal.returns-in_err-apply-clause-err
@@ -33,3 +33,7 @@ returns-clause-stands c = stands_run c.args.configs.now c.args.script.now c.loop
 
 pub returns-clause-allowed : goal.returns-clause-allowed
 returns-clause-allowed c = no_fault c.args.configs.now c.args.script.now c.loop-event.event-index c.loop-event.world c.loop-event.invariant c.loop-event-test.false
+
+pub returns-clause-grants : goal.returns-clause-grants
+returns-clause-grants c = λ n key.
+    grants_run c.args.configs.now c.args.script.now c.loop-event.event-index c.loop-event.world c.loop-event.invariant c.loop-event-test.false n key

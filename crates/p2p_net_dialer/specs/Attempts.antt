@@ -1,0 +1,126 @@
+-- The attempts of a node's dialer as values: what they are told, and what a step of one comes to.
+use Rattle.std.specs.Prelude.{◌≡◌, ℕ, ◌==◌, Bool, true, false, not, cond, is_some, drop, take, List, [], ◌∷◌, ◌++◌, Option, Some, None}
+use Rattle.std.specs.BTreeMap.{insert_entry}
+use Rattle.std.specs.Ordering.{nat_cmp}
+use Rattle.p2p_base.specs.declared.key.Key.{Key}
+use Rattle.p2p_address.specs.declared.ip.SocketAddr.{SocketAddr}
+use Rattle.p2p_address.specs.declared.peer.Ingress.{Ingress}
+use Rattle.p2p_address.specs.declared.peer.Ingress.TheVariants as ingress
+use Rattle.p2p_tracker_directory.specs.Reserved.{peer_of}
+use Rattle.p2p_tracker_mailbox.specs.declared.mailbox.Mailbox.{Mailbox}
+use Rattle.p2p_gates.specs.AttemptTurns.{with_item, attempt_turn}
+use Rattle.p2p_gates.specs.Attempting.{Attempting}
+use Rattle.p2p_gates.specs.Stepping.{Turn}
+use Rattle.p2p_gates.specs.declared.attempt.item.AttemptItem.{AttemptItem}
+use Rattle.p2p_gates.specs.declared.attempt.item.AttemptItem.TheVariants as told
+use Rattle.p2p_gates.specs.declared.stepped.Input.{Input}
+use Rattle.p2p_gates.specs.declared.stepped.Input.TheVariants as input
+use Rattle.p2p_gates.specs.declared.stepped.Put.{Put}
+use Rattle.p2p_gates.specs.declared.stepped.Put.TheVariants as put
+use Rattle.p2p_gates.specs.declared.stepped.Stepped.{Stepped}
+use Rattle.p2p_gates.specs.declared.stepped.Stepped.TheVariants as stepped
+use Rattle.p2p_log.specs.declared.end.End.{End}
+use Rattle.p2p_log.specs.declared.entry.Reply.TheVariants as reply
+use Rattle.p2p_log_rules.specs.declared.row.Row.{Row}
+use Rattle.p2p_log_rules.specs.Attempting.{resolve_by, refuse_by}
+use Rattle.p2p_log_rules.specs.Rows.{only}
+use Rattle.p2p_net_queues.specs.Rows.{item_ends}
+use Rattle.p2p_net_queues.specs.Tables as table
+use Rattle.p2p_net_dialer.specs.declared.attempt.RunningAttempt.{RunningAttempt}
+use Rattle.p2p_net_dialer.specs.declared.attempt.Tried.{Tried}
+
+abbrev pub is_item : Input → Bool
+is_item input.Item = true
+is_item _ = false
+
+abbrev pub is_name : Ingress → Bool
+is_name (ingress.Socket s) = false
+is_name (ingress.Dns host port) = true
+
+-- one that has begun
+abbrev pub running : Attempting Key → RunningAttempt
+running a = record { actor = a; names = []; is_resolved = false; is_refused = false }
+
+-- ---- what it is told
+
+-- it was told this under the name of the entry k
+abbrev pub with_told : ℕ → AttemptItem → RunningAttempt → RunningAttempt
+with_told k i a = record a { actor = with_item a.actor i; names = a.names ++ (k, 0) ∷ [] }
+
+-- once it may have been told addresses: a name is looked up once
+abbrev pub resolved : Ingress → Bool → ℕ → List SocketAddr → RunningAttempt → RunningAttempt
+resolved (ingress.Dns host port) false k addresses a = record (with_told k (told.Addresses addresses) a) { is_resolved = true }
+resolved _ _ k addresses a = a
+
+-- once a link may have been refused to it: it has an address, and that comes once
+abbrev pub refused : Option SocketAddr → Bool → ℕ → RunningAttempt → RunningAttempt
+refused (Some s) false k a = record (with_told k told.Refused a) { is_refused = true }
+refused _ _ k a = a
+
+-- ---- its step
+
+-- the names that a step takes of these, and those that it leaves
+abbrev pub took_names : Input → List (ℕ × ℕ) → List (ℕ × ℕ) × List (ℕ × ℕ)
+took_names input.Item names = (take 1 names, drop 1 names)
+took_names _ names = ([], names)
+
+abbrev pub has_ended : Attempting Key → Bool
+has_ended a = not (is_some a.reserved)
+
+-- the ends of these names, where it has ended, and the names that are left
+abbrev pub ended : Attempting Key → List (ℕ × ℕ) → List End × List (ℕ × ℕ)
+ended a names = cond (has_ended a) (item_ends names, []) ([], names)
+
+-- whose reservation it gave back
+abbrev pub released_key : Option (Put Key) → Option Key
+released_key (Some (put.Release m)) = Some (peer_of m)
+released_key _ = None
+
+-- what it did, by what its actor did
+abbrev pub tried_by : Stepped Key → Attempting Key → List (ℕ × ℕ) → Tried
+tried_by stepped.Idle a names = record { row = only reply.Idle; released = None }
+tried_by (stepped.Served took p left o) a names = record {
+  row = record { reply = reply.Ok; takes = (took_names took names).0; puts = []; ends = (ended a (took_names took names).1).0 };
+  released = released_key p;
+}
+
+abbrev pub tried : Turn (Attempting Key) Key → List (ℕ × ℕ) → Tried
+tried turn names = tried_by turn.stepped turn.actor names
+
+abbrev pub names_by : Stepped Key → Attempting Key → List (ℕ × ℕ) → List (ℕ × ℕ)
+names_by stepped.Idle a names = names
+names_by (stepped.Served took p left o) a names = (ended a (took_names took names).1).1
+
+-- what it is then
+abbrev pub after_turn : Turn (Attempting Key) Key → RunningAttempt → RunningAttempt
+after_turn turn a = record a { actor = turn.actor; names = names_by turn.stepped turn.actor a.names }
+
+-- ---- among the others
+
+-- one that has ended is forgotten
+abbrev pub unless_ended : RunningAttempt → Option RunningAttempt
+unless_ended a = cond (has_ended a.actor) None (Some a)
+
+abbrev pub kept_with : RunningAttempt → ℕ → List (ℕ × RunningAttempt) → List (ℕ × RunningAttempt)
+kept_with a name attempts = cond (has_ended a.actor) attempts (insert_entry nat_cmp attempts name a)
+
+-- the attempts are these, but for what this one is now
+abbrev pub AreBut : ℕ → Option RunningAttempt → List (ℕ × RunningAttempt) → List (ℕ × RunningAttempt) → Type 0
+AreBut name now old new = (k : ℕ) → table.at new k ≡ cond (k == name) now (table.at old k)
+
+-- what a step of the attempt of this name comes to
+abbrev pub Tries : Option RunningAttempt → ℕ → ℕ → ℕ → List (ℕ × RunningAttempt) → List (ℕ × RunningAttempt) → Mailbox Key → Mailbox Key → Tried → Type 0
+Tries None name at seed old new way after t = (t ≡ record { row = only reply.Gone; released = None }) × (AreBut name None old new × (after ≡ way))
+Tries (Some a) name at seed old new way after t =
+    let turn = attempt_turn a.actor way at seed in
+    (t ≡ tried turn a.names) × (AreBut name (unless_ended (after_turn turn a)) old new × (after ≡ turn.way))
+
+-- what it is told comes to
+abbrev pub Resolves : Option RunningAttempt → ℕ → ℕ → ℕ → List SocketAddr → List (ℕ × RunningAttempt) → List (ℕ × RunningAttempt) → Row → Type 0
+Resolves None k n name addresses old new r = (r ≡ only reply.Gone) × AreBut name None old new
+Resolves (Some a) k n name addresses old new r =
+    (r ≡ resolve_by a.actor.ingress a.is_resolved name n addresses) × AreBut name (Some (resolved a.actor.ingress a.is_resolved k addresses a)) old new
+
+abbrev pub Refuses : Option RunningAttempt → ℕ → ℕ → ℕ → List (ℕ × RunningAttempt) → List (ℕ × RunningAttempt) → Row → Type 0
+Refuses None k n name old new r = (r ≡ only reply.Gone) × AreBut name None old new
+Refuses (Some a) k n name old new r = (r ≡ refuse_by a.actor.address a.is_refused name n) × AreBut name (Some (refused a.actor.address a.is_refused k a)) old new

@@ -1,0 +1,198 @@
+//! `RunningAttempt`, an attempt of a node's dialer.
+ghost use Rattle.std.specs.Prelude.{◌≡◌, ◌++◌, ◌∷◌, [], not, is_some, IfOk, OnOk};
+ghost use Rattle.p2p_log.specs.declared.queue.Queue.TheVariants as queue;
+ghost use Rattle.p2p_log.specs.declared.entry.Reply.TheVariants as reply;
+ghost use Rattle.p2p_log_rules.specs.Attempting.{resolve_by, refuse_by};
+ghost use Rattle.p2p_gates.specs.AttemptTurns.{attempt_turn};
+ghost use Rattle.p2p_net_dialer.specs.Attempts.{is_item as item_test, is_name, running, took_names, with_told, resolved, refused, released_key, ended, tried, after_turn};
+
+use p2p_address::{Ingress, SocketAddr};
+use p2p_base::{Key, List};
+use p2p_gates::{Attempt, AttemptItem, Input, Put, Stepped};
+use p2p_log::{Item, Queue, Reply};
+use p2p_log_rules::Row;
+use p2p_net_queues::{Deque, Turn, end_items, only};
+use p2p_tracker_mailbox::Mailbox;
+use std::alloc::{AllocError, Global};
+
+/// An attempt of a node's dialer that has not ended.
+#[derive(Drop)]
+pub struct RunningAttempt {
+    /// The attempt.
+    pub actor: Attempt<Key>,
+    /// The names of what waits for it, the oldest first.
+    pub names: Deque<(u64, u64)>,
+    /// Whether it was told the addresses of its peer.
+    pub is_resolved: bool,
+    /// Whether it was told that there is no link to its peer.
+    pub is_refused: bool,
+}
+
+/// What an attempt did in a step.
+#[derive(Drop)]
+pub struct Tried {
+    /// What it took, and what ended with it.
+    pub row: Row,
+    /// The key whose reservation it gave back.
+    pub released: Option<Key>,
+}
+
+/// Whether a step took an item.
+fn is_item(took: Input) -> bool
+    ensures { result ≡ item_test took }
+{
+    match took {
+        Input::Item => true,
+        _ => false,
+    }
+}
+
+/// Whether an ingress is a name.
+fn is_named(ingress: &Ingress) -> bool
+    ensures { result ≡ is_name ingress.now }
+{
+    match ingress {
+        Ingress::Socket(_) => false,
+        Ingress::Dns { .. } => true,
+    }
+}
+
+/// Whose reservation was given back.
+fn released(put: Option<Put<Key>>) -> Option<Key>
+    ensures { result ≡ released_key put }
+{
+    match put {
+        Some(Put::Release { metadata }) => Some(*metadata.public_key()),
+        _ => None,
+    }
+}
+
+impl RunningAttempt {
+    /// An attempt that has begun.
+    pub fn new(alloc: Global, actor: Attempt<Key>) -> RunningAttempt
+        ensures { result ≡ running actor }
+    {
+        RunningAttempt {
+            actor,
+            names: Deque::new(alloc),
+            is_resolved: false,
+            is_refused: false,
+        }
+    }
+
+    /// Takes the name of the oldest item, where a step took one.
+    fn take_name(&mut self, took: Input, row: &mut Row) -> Result<(), AllocError>
+        ensures row { OnOk result (row.new ≡ record row.old { takes = row.old.takes ++ (took_names took self.old.names).0 }) }
+        ensures names { OnOk result (self.new ≡ record self.old { names = (took_names took self.old.names).1 }) }
+    {
+        if is_item(took) {
+            if let Some(name) = self.names.pop() {
+                row.takes.push(name)?;
+            }
+        }
+        Ok(())
+    }
+
+    /// Ends what waits for it, where it has ended.
+    fn end_names(&mut self, alloc: Global, row: &mut Row) -> Result<(), AllocError>
+        ensures row { OnOk result (row.new ≡ record row.old { ends = row.old.ends ++ (ended self.old.actor self.old.names).0 }) }
+        ensures names { OnOk result (self.new ≡ record self.old { names = (ended self.old.actor self.old.names).1 }) }
+    {
+        if self.actor.has_ended() {
+            end_items(row, self.names.take_all(alloc))?;
+        }
+        Ok(())
+    }
+
+    /// One step at the moment `at`: the oldest item, or else its deadline. What it gives back stands in the mailbox of the
+    /// tracker then.
+    ///
+    /// `Err` only where there is no memory. Each later step then answers so.
+    pub fn step(
+        &mut self,
+        alloc: Global,
+        way: &mut Mailbox<Key>,
+        at: u64,
+        seed: u64,
+    ) -> Result<Tried, AllocError>
+        ensures tried { IfOk result (λ t. t ≡ tried (attempt_turn self.old.actor way.old at seed) self.old.names) }
+        ensures after { OnOk result (self.new ≡ after_turn (attempt_turn self.old.actor way.old at seed) self.old) }
+        ensures way { OnOk result (way.new ≡ (attempt_turn self.old.actor way.old at seed).way) }
+    {
+        match self.actor.step(way, at, seed)? {
+            Stepped::Idle => Ok(Tried {
+                row: only(alloc, Reply::Idle),
+                released: None,
+            }),
+            Stepped::Served { took, put, .. } => {
+                let mut row = only(alloc, Reply::Ok);
+                self.take_name(took, &mut row)?;
+                self.end_names(alloc, &mut row)?;
+                Ok(Tried {
+                    row,
+                    released: released(put),
+                })
+            }
+        }
+    }
+
+    /// It is told this, which waits for it under the name of this entry.
+    fn tell(
+        &mut self,
+        turn: Turn,
+        attempt: u64,
+        told: AttemptItem,
+        item: Item,
+    ) -> Result<Row, AllocError>
+        ensures row { IfOk result (λ r. r ≡ record { reply = reply.Ok; takes = []; puts = (queue.Attempt turn.node attempt, item) ∷ []; ends = [] }) }
+        ensures after { OnOk result (self.new ≡ with_told turn.entry told self.old) }
+    {
+        self.actor.put(told)?;
+        self.names.push((turn.entry, 0))?;
+        let mut row = only(turn.alloc, Reply::Ok);
+        let queue = Queue::Attempt {
+            node: turn.node,
+            attempt,
+        };
+        row.puts.push((queue, item))?;
+        Ok(row)
+    }
+
+    /// It is told the addresses that its peer's name stands for, once.
+    ///
+    /// `Err` only where there is no memory. Some of it may then be told, and its node goes no further.
+    pub fn resolve(
+        &mut self,
+        turn: Turn,
+        attempt: u64,
+        addresses: &List<SocketAddr>,
+    ) -> Result<Row, AllocError>
+        ensures row { IfOk result (λ r. r ≡ resolve_by self.old.actor.ingress self.old.is_resolved attempt turn.node addresses.now) }
+        ensures after { OnOk result (self.new ≡ resolved self.old.actor.ingress self.old.is_resolved turn.entry addresses.now self.old) }
+    {
+        if self.is_resolved || !is_named(self.actor.ingress()) {
+            return Ok(only(turn.alloc, Reply::Gone));
+        }
+        self.is_resolved = true;
+        let told = AttemptItem::Addresses(addresses.try_clone(turn.alloc)?);
+        let item = Item::Resolved(addresses.try_clone(turn.alloc)?);
+        Ok(self.tell(turn, attempt, told, item)?)
+    }
+
+    /// It is told that there is no link to its peer, once it has an address to dial, and once.
+    ///
+    /// `Err` only where there is no memory. Some of it may then be told, and its node goes no further.
+    pub fn refuse(&mut self, turn: Turn, attempt: u64) -> Result<Row, AllocError>
+        ensures row { IfOk result (λ r. r ≡ refuse_by self.old.actor.address self.old.is_refused attempt turn.node) }
+        ensures after { OnOk result (self.new ≡ refused self.old.actor.address self.old.is_refused turn.entry self.old) }
+    {
+        if self.actor.address().is_none() {
+            return Ok(only(turn.alloc, Reply::Pending));
+        }
+        if self.is_refused {
+            return Ok(only(turn.alloc, Reply::Gone));
+        }
+        self.is_refused = true;
+        Ok(self.tell(turn, attempt, AttemptItem::Refused, Item::Refused)?)
+    }
+}
