@@ -6,6 +6,9 @@ use Rattle.p2p_log.specs.declared.event.Event.{Event}
 use Rattle.p2p_log.specs.declared.entry.Entry.{Entry}
 use Rattle.p2p_log_rules.specs.Valid.{config_fault, event_fault}
 use Rattle.p2p_log_rules.specs.Lawful.{IsLawful}
+use Rattle.p2p_base.specs.declared.key.Key.{Key}
+use Rattle.p2p_log_laws.specs.Grants.{GrantsAlternate, HasOneHolder, EachIsReleased}
+use Rattle.p2p_log_laws.specs.NodeGrants.{granting}
 use Rattle.p2p_log_laws.specs.OneEnd.{EachHasOneEnd, NothingElseEnds}
 use Rattle.p2p_log_laws.specs.Delivered.{EachIsDelivery, EachDeliveredIsRead}
 use Rattle.p2p_log_laws.specs.Order.{AreDeliveredInOrder, AreDeliveredInOrderOverOne, AreDeliveredInOrderOfLinks, EachWentOver}
@@ -44,8 +47,8 @@ pub record HasRunScript (configs : List Config) (script : List Event) (world : W
   pub stands : WorldStands configs world.log world.nodes world.links
 
 -- in the log, each copy of each accepted send has exactly one end: delivered once, or waiting in a queue, or dropped;
--- what is delivered was sent, is read, and in order; each drop shows its cause; and the fate of each copy, which the
--- report tells, is true
+-- what is delivered was sent, is read, and in order; each drop shows its cause; the fate of each copy, which the report
+-- tells, is true; and each key that is reserved at a node is held by one thing there, or its one release waits
 pub record IsAccounted (configs : List Config) (log : List Entry) : Type 0 where
   pub one_end : EachHasOneEnd log
   pub nothing_else : NothingElseEnds log
@@ -60,6 +63,9 @@ pub record IsAccounted (configs : List Config) (log : List Entry) : Type 0 where
   pub waiting : WaitingIsTrue log
   pub dropped : DroppedIsTrue log
   pub delivered : DeliveredIsTrue log
+  pub alternate : (n : ℕ) (key : Key) → GrantsAlternate (granting configs n key) log
+  pub holder : (n : ℕ) (key : Key) → HasOneHolder (granting configs n key) log
+  pub released : (n : ℕ) (key : Key) → EachIsReleased (granting configs n key) log
 
 -- the tree says a script, the world ran it, and the text is the report of the world's log, in which each copy has its end
 pub record RunsTree (tree : Data) (world : WorldView) (text : List ℕ) : Type 0 where

@@ -1,9 +1,10 @@
--- The text of what a node's tracker is asked, and of what it answers.
+-- The text of what a node's tracker is asked, of what it answers, and of what attempts are told.
 use Rattle.std.specs.Prelude.{ℕ, List, ◌++◌, codes, Option, Some, None}
 use Rattle.p2p_base.specs.declared.key.Key.{Key}
+use Rattle.p2p_address.specs.declared.ip.SocketAddr.{SocketAddr}
 use Rattle.p2p_address.specs.declared.peer.Ingress.{Ingress}
 use Rattle.p2p_sim_report.specs.Text.{number_onto, key_onto, list_onto}
-use Rattle.p2p_sim_report.specs.AddressText.{ingress_onto}
+use Rattle.p2p_sim_report.specs.AddressText.{socket_onto, ingress_onto}
 
 -- ---- what it is asked
 
@@ -39,3 +40,8 @@ granted_onto out k i = key_onto (ingress_onto (out ++ codes "{\"dial\":{\"ingres
 abbrev pub dial_onto : List ℕ → Option (Key × Ingress) → List ℕ
 dial_onto out None = out ++ codes "{\"dial\":null}"
 dial_onto out (Some grant) = granted_onto out grant.0 grant.1
+
+-- ---- what an attempt is told
+
+abbrev pub resolved_onto : List ℕ → List SocketAddr → List ℕ
+resolved_onto out addresses = list_onto socket_onto (out ++ codes "{\"addresses\":") addresses ++ codes "}"

@@ -1,7 +1,7 @@
 //! The text of addresses, and of where a peer is dialed.
 ghost use Rattle.std.specs.Prelude.{◌≡◌, OnOk};
 ghost use Rattle.std.specs.String.{string_bytes};
-ghost use Rattle.p2p_sim_report.specs.AddressText.{text_onto, socket_onto, dns_onto, ingress_onto};
+ghost use Rattle.p2p_sim_report.specs.AddressText.{text_onto, dns_onto, ingress_onto};
 
 use crate::text::{ToText, put, put_list, put_number};
 use p2p_address::{Ingress, IpAddr, SocketAddr};
@@ -40,14 +40,18 @@ impl ToText for IpAddr {
     }
 }
 
-fn put_socket(out: &mut String, socket: SocketAddr) -> Result<(), AllocError>
-    ensures { OnOk result (string_bytes out.new ≡ socket_onto (string_bytes out.old) socket) }
-{
-    put(out, "{\"ip\":")?;
-    socket.ip.write_onto(out)?;
-    put(out, ",\"port\":")?;
-    put_number(out, socket.port as u64)?;
-    put(out, "}")
+impl ToText for SocketAddr {
+    ghost use Rattle.p2p_sim_report.specs.AddressText.{socket_onto};
+
+    ghost onto = { socket_onto };
+
+    fn write_onto(&self, out: &mut String) -> Result<(), AllocError> {
+        put(out, "{\"ip\":")?;
+        self.ip.write_onto(out)?;
+        put(out, ",\"port\":")?;
+        put_number(out, self.port as u64)?;
+        put(out, "}")
+    }
 }
 
 fn put_dns(out: &mut String, host: &str, port: u16) -> Result<(), AllocError>
@@ -64,7 +68,7 @@ pub fn put_ingress(out: &mut String, ingress: &Ingress) -> Result<(), AllocError
     ensures { OnOk result (string_bytes out.new ≡ ingress_onto (string_bytes out.old) ingress.now) }
 {
     match ingress {
-        Ingress::Socket(socket) => put_socket(out, *socket),
+        Ingress::Socket(socket) => socket.write_onto(out),
         Ingress::Dns { host, port } => put_dns(out, host.as_str(), *port),
     }
 }

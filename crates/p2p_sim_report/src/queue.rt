@@ -67,6 +67,7 @@ impl ToText for Queue {
             Queue::Answer { question, .. } => put_one(out, "\"answer:", question),
             Queue::Updates { question, .. } => put_one(out, "\"updates:", question),
             Queue::Blocked { question, .. } => put_one(out, "\"blocked:", question),
+            Queue::Attempt { node, attempt } => put_numbers(out, "\"attempt:", node, attempt),
         }
     }
 }

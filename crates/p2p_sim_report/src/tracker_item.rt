@@ -1,11 +1,11 @@
-//! The text of what a node's tracker is asked, and of what it answers.
+//! The text of what a node's tracker is asked, of what it answers, and of what attempts are told.
 ghost use Rattle.std.specs.Prelude.{◌≡◌, OnOk};
 ghost use Rattle.std.specs.String.{string_bytes};
-ghost use Rattle.p2p_sim_report.specs.TrackerItemText.{call_onto, connect_onto, ask_dial_onto, release_onto, digits_onto, next_onto, dialable_onto, granted_onto, dial_onto};
+ghost use Rattle.p2p_sim_report.specs.TrackerItemText.{call_onto, connect_onto, ask_dial_onto, release_onto, digits_onto, next_onto, dialable_onto, granted_onto, dial_onto, resolved_onto};
 
 use crate::address::put_ingress;
 use crate::text::{ToText, put, put_count, put_list, put_number};
-use p2p_address::Ingress;
+use p2p_address::{Ingress, SocketAddr};
 use p2p_base::Key;
 use std::alloc::AllocError;
 
@@ -87,4 +87,12 @@ pub fn put_dial(out: &mut String, grant: &Option<(Key, Ingress)>) -> Result<(), 
         Some((key, ingress)) => put_granted(out, *key, ingress),
         None => put(out, "{\"dial\":null}"),
     }
+}
+
+pub fn put_resolved(out: &mut String, addresses: &[SocketAddr]) -> Result<(), AllocError>
+    ensures { OnOk result (string_bytes out.new ≡ resolved_onto (string_bytes out.old) addresses.now) }
+{
+    put(out, "{\"addresses\":")?;
+    put_list(out, addresses)?;
+    put(out, "}")
 }

@@ -1,6 +1,7 @@
 -- The scripts of the first form: no more messages than the least burst, each to one key, without priority, no longer than
--- any node takes and on a channel that each node registers; and every event is earlier than five seconds.
-use Rattle.std.specs.Prelude.{ℕ, Bool, true, false, not, ◌==◌, ◌&&◌, nat_lt, nat_le, List, length, count_by}
+-- any node takes and on a channel that each node registers; and where nodes are joined, every event is earlier than five
+-- seconds.
+use Rattle.std.specs.Prelude.{ℕ, Bool, true, false, not, ◌==◌, ◌&&◌, ◌||◌, nat_lt, nat_le, List, length, count_by}
 use Rattle.std.specs.List.{list_any, list_all, range_with_len}
 use Rattle.p2p_log.specs.declared.config.Config.{Config}
 use Rattle.p2p_log.specs.declared.event.Event.{Event}
@@ -27,6 +28,14 @@ registers channel node _ = false
 abbrev pub is_registered : List Event → ℕ → ℕ → Bool
 is_registered script channel node = list_any (λ e. registers channel node e.act) script
 
+abbrev pub joins : Act → Bool
+joins (act.Join a b) = true
+joins _ = false
+
+-- whether the script joins nodes
+abbrev pub has_joins : List Event → Bool
+has_joins script = list_any (λ e. joins e.act) script
+
 -- ---- an act, of a script with this count of messages and these channels registered at nodes
 
 abbrev pub is_one : Recipients → Bool
@@ -49,9 +58,12 @@ act_fits configs count registered _ = true
 
 -- ---- all of it
 
--- earlier than five seconds, with an act that fits
-abbrev pub event_fits : List Config → ℕ → (ℕ → ℕ → Bool) → Event → Bool
-event_fits configs count registered e = nat_lt e.at 5000000000 && act_fits configs count registered e.act
+-- before a connection could send a ping, where there may be one
+abbrev pub is_early : Bool → ℕ → Bool
+is_early joined at = not joined || nat_lt at 5000000000
+
+abbrev pub event_fits : List Config → Bool → ℕ → (ℕ → ℕ → Bool) → Event → Bool
+event_fits configs joined count registered e = is_early joined e.at && act_fits configs count registered e.act
 
 abbrev pub is_first_form : List Config → List Event → Bool
-is_first_form configs script = list_all (event_fits configs (send_count script) (is_registered script)) script
+is_first_form configs script = list_all (event_fits configs (has_joins script) (send_count script) (is_registered script)) script

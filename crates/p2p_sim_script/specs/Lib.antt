@@ -1,6 +1,7 @@
 pub mod ActForm
 pub mod AddressForm
 pub mod ConfigForm
+pub mod DialerActForm
 pub mod FirstForm
 pub mod Form
 pub mod Gives

@@ -1,12 +1,13 @@
--- The form of each act about a node's tracker and its dialer.
-use Rattle.std.specs.Prelude.{ℕ, List, [], ◌∷◌, codes, bytes_eq, Option, Some, None, if◌then◌else◌}
+-- The form of each act about a node's tracker.
+use Rattle.std.specs.Prelude.{ℕ, List, [], ◌∷◌, codes, bytes_eq, Option, Some, if◌then◌else◌}
 use Rattle.serde_json.specs.Data.{Data}
 use Rattle.p2p_log.specs.declared.asked.Asked.TheVariants as ask
 use Rattle.p2p_log.specs.declared.event.Act.{Act}
 use Rattle.p2p_log.specs.declared.event.Act.TheVariants as act
-use Rattle.p2p_sim_script.specs.Tree.{◌>>=◌, ◌>>◌, absent_or, field, whole}
+use Rattle.p2p_sim_script.specs.Tree.{absent_or, field, whole}
 use Rattle.p2p_sim_script.specs.Parts.{has, node_of, key_of}
 use Rattle.p2p_sim_script.specs.AddressForm.{peers_of}
+use Rattle.p2p_sim_script.specs.DialerActForm.{dialer_act_named}
 
 -- without `secondary` there is no secondary peer
 abbrev pub track_of : Data → Option Act
@@ -54,11 +55,6 @@ tracker_of d = do
   node ← node_of d
   Some (act.Tracker node)
 
-abbrev pub dialer_of : Data → Option Act
-dialer_of d = do
-  node ← node_of d
-  Some (act.Dialer node)
-
 -- the event that asked
 abbrev pub question_of : Data → Option ℕ
 question_of d = do
@@ -75,7 +71,7 @@ next_of d = do
   question ← question_of d
   Some (act.Next question)
 
--- the act about a tracker or a dialer that this word asks for
+-- the act about a tracker that this word asks for, or else the one of a dialer
 abbrev pub tracker_act_named : List ℕ → Data → Option Act
 tracker_act_named word d =
     if bytes_eq word (codes "track") then track_of d
@@ -87,5 +83,4 @@ tracker_act_named word d =
     else if bytes_eq word (codes "answer") then answer_of d
     else if bytes_eq word (codes "next") then next_of d
     else if bytes_eq word (codes "tracker") then tracker_of d
-    else if bytes_eq word (codes "dialer") then dialer_of d
-    else None
+    else dialer_act_named word d

@@ -12,7 +12,7 @@ use std::collections::BTreeSet;
 
 /// Whether the script is one of the first form: it sends no more messages than the least burst that it registers, each
 /// to one key, without priority, no longer than any node takes and on a channel that each node registers, before or
-/// after; and every event is earlier than five seconds.
+/// after; and where it joins nodes, every event is earlier than five seconds, so that no connection sends a ping.
 ///
 /// Takes time in proportion to the length of the script, and for each message to the count of nodes, but for the
 /// logarithm of the count of registered channels. `AllocError` comes where there was no memory for those.
@@ -24,7 +24,9 @@ pub fn is_first_form(
     ensures { IfOk result (λ b. b ≡ form.is_first_form configs.now script.now) }
 {
     let registered = registered_pairs(alloc, script)?;
-    Ok(all_fit(configs, send_count(script), &registered, script))
+    let joined = has_joins(script);
+    let count = send_count(script);
+    Ok(all_fit(configs, joined, count, &registered, script))
 }
 
 fn send_count(script: &[Event]) -> usize
@@ -37,6 +39,18 @@ fn sends(act: &Act) -> bool
     ensures { result ≡ form.sends act.now }
 {
     matches!(act, Act::Send { .. })
+}
+
+fn has_joins(script: &[Event]) -> bool
+    ensures { result ≡ form.has_joins script.now }
+{
+    script.iter().any(|event| joins(&event.act))
+}
+
+fn joins(act: &Act) -> bool
+    ensures { result ≡ form.joins act.now }
+{
+    matches!(act, Act::Join { .. })
 }
 
 // Each channel with each node at which the script registers it.
@@ -61,26 +75,32 @@ fn note_register(pairs: &mut BTreeSet<(u64, u64)>, act: &Act) -> Result<(), Allo
 
 fn all_fit(
     configs: &[Config],
+    joined: bool,
     count: usize,
     registered: &BTreeSet<(u64, u64)>,
     script: &[Event],
 ) -> bool
-    ensures { result ≡ list_all (form.event_fits configs.now count (has registered.now)) script.now }
+    ensures { result ≡ list_all (form.event_fits configs.now joined count (has registered.now)) script.now }
 {
-    script
-        .iter()
-        .all(|event| event_fits(configs, count, registered, event))
+    script.iter().all(|event| event_fits(configs, joined, count, registered, event))
+}
+
+fn is_early(joined: bool, at: u64) -> bool
+    ensures { result ≡ form.is_early joined at }
+{
+    !joined || at < 5_000_000_000
 }
 
 fn event_fits(
     configs: &[Config],
+    joined: bool,
     count: usize,
     registered: &BTreeSet<(u64, u64)>,
     event: &Event,
 ) -> bool
-    ensures { result ≡ form.event_fits configs.now count (has registered.now) event.now }
+    ensures { result ≡ form.event_fits configs.now joined count (has registered.now) event.now }
 {
-    event.at < 5_000_000_000 && act_fits(configs, count, registered, &event.act)
+    is_early(joined, event.at) && act_fits(configs, count, registered, &event.act)
 }
 
 fn act_fits(configs: &[Config], count: usize, registered: &BTreeSet<(u64, u64)>, act: &Act) -> bool

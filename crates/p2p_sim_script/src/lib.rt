@@ -4,6 +4,7 @@
 mod act;
 mod address;
 mod config;
+mod dialer_act;
 mod error;
 mod event;
 mod first_form;

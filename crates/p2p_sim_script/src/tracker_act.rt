@@ -1,10 +1,11 @@
-//! The acts about a node's tracker and its dialer, each by its own names.
+//! The acts about a node's tracker, each by its own names.
 ghost use Rattle.std.specs.Prelude.{◌≡◌};
 ghost use Rattle.serde_json.specs.View.{view};
 ghost use Rattle.p2p_sim_script.specs.Gives.{Gives};
-ghost use Rattle.p2p_sim_script.specs.TrackerActForm.{answer_of, block_of, blocked_of, dialer_of, next_of, overwrite_of, peer_set_of, question_of, subscribe_of, track_of, tracker_act_named, tracker_of};
+ghost use Rattle.p2p_sim_script.specs.TrackerActForm.{answer_of, block_of, blocked_of, next_of, overwrite_of, peer_set_of, question_of, subscribe_of, track_of, tracker_act_named, tracker_of};
 
 use crate::address::peers_or_none;
+use crate::dialer_act::read_dialer_named;
 use crate::error::ScriptError;
 use crate::parts::read_node;
 use crate::tree::{field, only, whole};
@@ -103,13 +104,6 @@ fn read_tracker(tree: &Value) -> Option<Act>
     Some(Act::Tracker { node })
 }
 
-fn read_dialer(tree: &Value) -> Option<Act>
-    ensures { result ≡ dialer_of (view tree.now) }
-{
-    let node = read_node(tree)?;
-    Some(Act::Dialer { node })
-}
-
 fn read_question(tree: &Value) -> Option<u64>
     ensures { result ≡ question_of (view tree.now) }
 {
@@ -133,7 +127,7 @@ fn read_next(tree: &Value) -> Option<Act>
     Some(Act::Next { question })
 }
 
-/// The act about a tracker or a dialer that `word` asks for.
+/// The act about a tracker that `word` asks for, or else the one of a dialer.
 pub(crate) fn read_tracker_named(
     alloc: Global,
     word: &str,
@@ -151,8 +145,7 @@ pub(crate) fn read_tracker_named(
         "answer" => read_answer(tree),
         "next" => read_next(tree),
         "tracker" => read_tracker(tree),
-        "dialer" => read_dialer(tree),
-        _ => None,
+        _ => return read_dialer_named(alloc, word, tree),
     };
     act.ok_or(ScriptError::NotScript)
 }

@@ -16,4 +16,7 @@ returns c = λ configs script log lawful.
       dropped = c.fates_are_true.ensures.dropped configs script log lawful;
       delivered = c.fates_are_true.ensures.delivered configs script log lawful;
       causes = c.each_drop_shows_its_cause.ensures configs script log lawful;
+      alternate = λ n key. c.node_grants.ensures.alternate configs script log n key lawful;
+      holder = λ n key. c.node_grants.ensures.holder configs script log n key lawful;
+      released = λ n key. c.node_grants.ensures.released configs script log n key lawful;
     }

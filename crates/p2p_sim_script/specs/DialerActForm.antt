@@ -1,0 +1,48 @@
+-- The form of each act of a node's dialer and of its attempts.
+use Rattle.std.specs.Prelude.{ℕ, List, [], ◌∷◌, codes, bytes_eq, Option, Some, None, if◌then◌else◌}
+use Rattle.serde_json.specs.Data.{Data}
+use Rattle.p2p_log.specs.declared.event.Act.{Act}
+use Rattle.p2p_log.specs.declared.event.Act.TheVariants as act
+use Rattle.p2p_sim_script.specs.AddressForm.{socket_of}
+use Rattle.p2p_sim_script.specs.Parts.{has, node_of}
+use Rattle.p2p_sim_script.specs.Tree.{field, whole, list_of}
+
+abbrev pub dialer_of : Data → Option Act
+dialer_of d = do
+  node ← node_of d
+  Some (act.Dialer node)
+
+-- the attempt, and the node
+abbrev pub attempt_named_of : Data → Option (ℕ × ℕ)
+attempt_named_of d = do
+  has ("attempt" ∷ "node" ∷ []) d
+  attempt ← field "attempt" whole d
+  node ← field "node" whole d
+  Some (attempt, node)
+
+abbrev pub attempt_of : Data → Option Act
+attempt_of d = do
+  named ← attempt_named_of d
+  Some (act.Attempt named.0 named.1)
+
+abbrev pub refuse_of : Data → Option Act
+refuse_of d = do
+  named ← attempt_named_of d
+  Some (act.Refuse named.0 named.1)
+
+abbrev pub resolve_of : Data → Option Act
+resolve_of d = do
+  has ("addresses" ∷ "attempt" ∷ "node" ∷ []) d
+  addresses ← field "addresses" (list_of socket_of) d
+  attempt ← field "attempt" whole d
+  node ← field "node" whole d
+  Some (act.Resolve addresses attempt node)
+
+-- the act of a dialer or an attempt that this word asks for
+abbrev pub dialer_act_named : List ℕ → Data → Option Act
+dialer_act_named word d =
+    if bytes_eq word (codes "dialer") then dialer_of d
+    else if bytes_eq word (codes "attempt") then attempt_of d
+    else if bytes_eq word (codes "resolve") then resolve_of d
+    else if bytes_eq word (codes "refuse") then refuse_of d
+    else None

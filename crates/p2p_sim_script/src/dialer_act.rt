@@ -1,0 +1,75 @@
+//! The acts of a node's dialer and of its attempts, each by its own names.
+ghost use Rattle.std.specs.Prelude.{◌≡◌};
+ghost use Rattle.serde_json.specs.View.{view};
+ghost use Rattle.p2p_sim_script.specs.DialerActForm.{attempt_named_of, attempt_of, dialer_act_named, dialer_of, refuse_of, resolve_of};
+ghost use Rattle.p2p_sim_script.specs.Gives.{Gives};
+
+use crate::error::ScriptError;
+use crate::parts::read_node;
+use crate::tree::{field, only, whole};
+use p2p_log::Act;
+use serde_json::Value;
+use std::alloc::Global;
+
+fn read_dialer(tree: &Value) -> Option<Act>
+    ensures { result ≡ dialer_of (view tree.now) }
+{
+    let node = read_node(tree)?;
+    Some(Act::Dialer { node })
+}
+
+// The attempt, and the node, of an act that names nothing else.
+fn read_attempt_named(tree: &Value) -> Option<(u64, u64)>
+    ensures { result ≡ attempt_named_of (view tree.now) }
+{
+    if !only(tree, &["at", "seed", "do", "attempt", "node"]) {
+        return None;
+    }
+    let attempt = whole(tree, "attempt")?;
+    let node = whole(tree, "node")?;
+    Some((attempt, node))
+}
+
+fn read_attempt(tree: &Value) -> Option<Act>
+    ensures { result ≡ attempt_of (view tree.now) }
+{
+    let (attempt, node) = read_attempt_named(tree)?;
+    Some(Act::Attempt { attempt, node })
+}
+
+fn read_refuse(tree: &Value) -> Option<Act>
+    ensures { result ≡ refuse_of (view tree.now) }
+{
+    let (attempt, node) = read_attempt_named(tree)?;
+    Some(Act::Refuse { attempt, node })
+}
+
+fn read_resolve(alloc: Global, tree: &Value) -> Result<Act, ScriptError>
+    ensures { Gives result (resolve_of (view tree.now)) }
+{
+    if !only(tree, &["at", "seed", "do", "addresses", "attempt", "node"]) {
+        return Err(ScriptError::NotScript);
+    }
+    let addresses = field(alloc, tree, "addresses")?;
+    let attempt = field(alloc, tree, "attempt")?;
+    let node = field(alloc, tree, "node")?;
+    Ok(Act::Resolve {
+        addresses,
+        attempt,
+        node,
+    })
+}
+
+/// The act of a dialer or an attempt that `word` asks for.
+pub(crate) fn read_dialer_named(alloc: Global, word: &str, tree: &Value) -> Result<Act, ScriptError>
+    ensures { Gives result (dialer_act_named word.now (view tree.now)) }
+{
+    let act = match word {
+        "dialer" => read_dialer(tree),
+        "attempt" => read_attempt(tree),
+        "resolve" => return read_resolve(alloc, tree),
+        "refuse" => read_refuse(tree),
+        _ => None,
+    };
+    act.ok_or(ScriptError::NotScript)
+}
