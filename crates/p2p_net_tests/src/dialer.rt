@@ -26,7 +26,7 @@ fn meaning(item: &Item) -> Put {
     }
 }
 
-// How many items the newest entry took, and what it put first.
+// How many items the newest entry took, and what it put last.
 fn newest(world: &World) -> (usize, Put) {
     match world.report().log.as_slice().last() {
         Some(entry) => match entry.puts.as_slice().last() {

@@ -2,10 +2,12 @@
 //! that the gate proves each of those crates once.
 //!
 //! Of `p2p_router` is `router`, of `p2p_net_queues` is `queues`, of `p2p_net_router` is `routers`, of `p2p_net_channels` and
-//! `p2p_net_links` is `parts`, and of `p2p_net` are `world` and, with the parts of these names, `tracker` and
-//! `dialer`.
+//! `p2p_net_links` is `parts`, and of `p2p_net` are `world` and, with the parts of these names, `tracker`, `dialer` and
+//! `attempts`.
 #![tactic(auto)]
 
+#[cfg(test)]
+mod attempts;
 #[cfg(test)]
 mod dialer;
 #[cfg(test)]

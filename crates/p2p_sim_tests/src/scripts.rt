@@ -218,6 +218,13 @@ const CHANGES_OF_FORM: &[(&str, &str, &str, &str, &str)] = &[
         "another form",
     ),
     (
+        r#""at":4999999999"#,
+        r#""at":5000000000"#,
+        r#"{"a":0,"at":0,"b":1,"do":"join"},"#,
+        "",
+        "first form",
+    ),
+    (
         r#"{"a":0,"at":0,"b":1,"do":"join"},"#,
         "",
         "",

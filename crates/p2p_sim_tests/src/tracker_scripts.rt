@@ -1,4 +1,4 @@
-//! Which texts about a node's tracker and its dialer are scripts, and what they say.
+//! Which texts about a node's tracker, its dialer and its attempts are scripts, and what they say.
 use p2p_address::{Address, Ingress, IpAddr, SocketAddr};
 use p2p_base::{Key, Map, Text};
 use p2p_flow::AddressableTrackedPeers;
@@ -8,7 +8,7 @@ use serde_json::Value;
 use std::alloc::Global;
 use std::test::Fail;
 
-// Each act about a tracker or a dialer, and each form of an address.
+// Each act about a tracker, a dialer or an attempt, and each form of an address.
 const TRACKING: &str = r#"{"configs":[
     {"key":1,"preset":"local","max_peers_per_set":2,"max_message_size":9,"mailbox_size":4},
     {"key":2,"preset":"recommended","max_peers_per_set":2,"max_message_size":9,"mailbox_size":4},
@@ -33,7 +33,10 @@ const TRACKING: &str = r#"{"configs":[
     {"at":0,"do":"answer","question":4},
     {"at":0,"do":"next","question":6},
     {"at":0,"do":"tracker","node":3},
-    {"at":0,"do":"dialer","node":4}]}"#;
+    {"at":0,"do":"dialer","node":4},
+    {"at":0,"do":"attempt","attempt":10,"node":5},
+    {"at":0,"do":"refuse","attempt":11,"node":6},
+    {"at":0,"do":"resolve","addresses":[{"ip":[10,0,0,5],"port":3001}],"attempt":12,"node":7}]}"#;
 
 // ---- what is a script
 
@@ -114,6 +117,17 @@ const CHANGES_OF_NAMES: &[(&str, &str, &str)] = &[
     (r#""node":4"#, r#""node":4,"index":0"#, "none"),
     (r#""node":4"#, r#""key":4"#, "none"),
     (r#""do":"dialer""#, r#""do":"dial""#, "none"),
+    (r#""attempt":10,"#, "", "none"),
+    (r#""attempt":10"#, r#""attempt":10,"ok":true"#, "none"),
+    (r#""attempt":11"#, r#""dialer":11"#, "none"),
+    (r#"[{"ip":[10,0,0,5],"port":3001}]"#, "[]", "a script"),
+    (
+        r#"[{"ip":[10,0,0,5],"port":3001}]"#,
+        r#"[{"host":"a.example","port":3001}]"#,
+        "none",
+    ),
+    (r#""addresses":["#, r#""addresses":[null,"#, "none"),
+    (r#""do":"resolve""#, r#""do":"resolved""#, "none"),
     (r#""do":"peer_set""#, r#""do":"peer_sets""#, "none"),
     (r#""preset":"recommended""#, r#""preset":"remote""#, "none"),
     (
@@ -195,7 +209,8 @@ fn acts_and_configurations_have_their_names_alone(rt: HostRuntime) -> Result<(),
 
 // ---- what it says
 
-// The word of an act about a tracker or a dialer, and its numbers: its node, and its index, its key or its question.
+// The word of an act about a tracker, a dialer or an attempt, and its numbers: its node, and its index, its key, its question or
+// its attempt.
 fn numbers_of(act: &Act) -> (&'static str, u64, u64) {
     match act {
         Act::Ask { asked, node } => match asked {
@@ -210,6 +225,13 @@ fn numbers_of(act: &Act) -> (&'static str, u64, u64) {
         Act::Next { question } => ("next", 0, *question),
         Act::Tracker { node } => ("tracker", *node, 0),
         Act::Dialer { node } => ("dialer", *node, 0),
+        Act::Attempt { attempt, node } => ("attempt", *node, *attempt),
+        Act::Refuse { attempt, node } => ("refuse", *node, *attempt),
+        Act::Resolve {
+            addresses,
+            attempt,
+            node,
+        } if addresses.as_slice() == [socket([10, 0, 0, 5], 3001)] => ("resolve", *node, *attempt),
         _ => ("another", 0, 0),
     }
 }
@@ -226,6 +248,9 @@ const NUMBERS: &[(&str, u64, u64)] = &[
     ("next", 0, 6),
     ("tracker", 3, 0),
     ("dialer", 4, 0),
+    ("attempt", 5, 10),
+    ("refuse", 6, 11),
+    ("resolve", 7, 12),
 ];
 
 fn have_numbers(script: &[Event]) -> bool {
