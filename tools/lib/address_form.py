@@ -20,6 +20,11 @@ def a_socket(field):
     a_port(field.at_name('port'))
 
 
+def some_sockets(field):
+    for item in an_array(field):
+        a_socket(item)
+
+
 def an_ingress(field):
     """Where a peer is dialed: an address, or a name that is looked up."""
     an_object(field, ['ip', 'host', 'port'])

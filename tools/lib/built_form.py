@@ -28,11 +28,13 @@ def built_faults(script):
     """What of a valid script goes beyond the form that is built."""
     sends = sum(event.act == 'send' for event in script.events)
     least = min((one.said['max_message_size'] for one in script.configurations), default=0)
+    joins = any(event.act == 'join' for event in script.events)
     registered = {(event.said['channel'], event.said['node']) for event in script.events if event.act == 'register'}
     faults = []
     for event in script.events:
-        if event.said['at'] >= END_OF_TIME:
-            faults.append(event.fault('at', 'moments of %d nanoseconds and later are not built yet' % END_OF_TIME))
+        if joins and event.said['at'] >= END_OF_TIME:
+            faults.append(event.fault('at', 'moments of %d nanoseconds and later are not built yet in a script with a join'
+                                      % END_OF_TIME))
         if event.act == 'register':
             faults.extend(register_faults(event, sends))
         if event.act == 'send':

@@ -38,7 +38,15 @@ def event_text(event):
     if 'question' in event:
         return '%s of event %s: ' % (event['do'], event['question'])
     names = [str(event[name]) for name in ('node', 'a', 'b') if name in event]
-    return '%s%s %s: ' % ('node ' if len(names) == 1 else 'nodes ' if names else '', ', '.join(names), event['do'])
+    act = '%s of event %s' % (event['do'], event['attempt']) if 'attempt' in event else event['do']
+    return '%s%s %s: ' % ('node ' if len(names) == 1 else 'nodes ' if names else '', ', '.join(names), act)
+
+
+def end_text(queue, item):
+    """What a put says of the end of a connection or an attempt; nothing, if it is another one."""
+    if item in ('kill', 'refused'):
+        return '%s: %s' % (item, queue)
+    return 'release of key %s: %s' % (item['release'], queue) if isinstance(item, dict) and 'release' in item else ''
 
 
 class Chart:
@@ -111,13 +119,14 @@ class Chart:
                 self.picture.line(self.x(first), y, self.x(second), y, '#777', 1.4, '5,4')
                 self.picture.text((self.x(first) + self.x(second)) / 2, y - 4, 'connection %s' % connection, anchor='middle')
         for entry in self.report.entries[self.first:self.last + 1]:
-            self.draw_kills(entry)
+            self.draw_ends(entry)
 
-    def draw_kills(self, entry):
-        """What ends connections: a kill that is put, and an answer that tells of an end."""
+    def draw_ends(self, entry):
+        """What ends connections and attempts: what is put for that, and an answer that tells of an end."""
         for queue, item in entry.puts:
-            if item == 'kill' and node_of(queue) in self.nodes:
-                self.note(self.x(node_of(queue)) + 10, self.y(entry.number), 'kill: %s' % queue, DROPPED)
+            words = end_text(queue, item)
+            if words and node_of(queue) in self.nodes:
+                self.note(self.x(node_of(queue)) + 10, self.y(entry.number), words, DROPPED)
         if isinstance(entry.reply, dict) and 'ended' in entry.reply:
             for node in nodes_at(self.report, entry):
                 self.picture.cross(self.x(node), self.y(entry.number), 5, DROPPED)

@@ -1,6 +1,6 @@
 """The form of a script: its tree as configurations and events, with what is not built yet told apart."""
 import later
-from address_form import some_peers
+from address_form import some_peers, some_sockets
 from faults import Fault, perhaps
 from words import U32, Field, a_flag, a_text, an_array, an_object, some_bytes, whole
 
@@ -78,6 +78,9 @@ ACT_FORMS = {
     'next': {'question': whole},
     'tracker': {'node': whole},
     'dialer': {'node': whole},
+    'attempt': {'attempt': whole, 'node': whole},
+    'resolve': {'addresses': some_sockets, 'attempt': whole, 'node': whole},
+    'refuse': {'attempt': whole, 'node': whole},
 }
 
 # The names of an act that may be left out.

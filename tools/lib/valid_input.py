@@ -7,6 +7,10 @@ MOST_BYTES = 16_777_200
 ASKED_BY = {'answer': ('peer_set',), 'next': ('subscribe', 'blocked')}
 
 
+def with_article(word):
+    return '%s %s' % ('an' if word[0] in 'aeiou' else 'a', word)
+
+
 def configuration_fault(configurations):
     """The first configuration that is not valid: sizes that a link and a count take, and a key of its own."""
     numbers = {}
@@ -62,26 +66,38 @@ class Past:
         self.started[node] = event.number
         return None
 
-    def connection_fault(self, event):
-        node, number = event.said['node'], event.said['conn']
+    def naming_fault(self, event, name, due):
+        """Why the event that this one names may not be named: it does not come before, or it is none of these acts."""
+        number = event.said[name]
         if number >= event.number:
-            return event.fault('conn', 'event %d does not come before this one' % number)
-        named = self.events[number]
-        if named.act != 'join':
-            return event.fault('conn', 'event %d is a %s, not a join' % (number, named.act))
-        if node not in (named.said['a'], named.said['b']):
-            return event.fault('conn', 'event %d joins nodes %d and %d, not node %d'
-                               % (number, named.said['a'], named.said['b'], node))
+            return event.fault(name, 'event %d does not come before this one' % number)
+        act = self.events[number].act
+        if act not in due:
+            return event.fault(name, 'event %d is %s, not %s' % (number, with_article(act), ' or '.join(map(with_article, due))))
+        return None
+
+    def connection_fault(self, event):
+        fault = self.naming_fault(event, 'conn', ['join'])
+        if fault:
+            return fault
+        node, number = event.said['node'], event.said['conn']
+        joined = self.events[number].said
+        if node not in (joined['a'], joined['b']):
+            return event.fault('conn', 'event %d joins nodes %d and %d, not node %d' % (number, joined['a'], joined['b'], node))
+        return None
+
+    def attempt_fault(self, event):
+        fault = self.naming_fault(event, 'attempt', ['dialer'])
+        if fault:
+            return fault
+        node, number = event.said['node'], event.said['attempt']
+        dials = self.events[number].said['node']
+        if node != dials:
+            return event.fault('attempt', 'event %d is a step of the dialer of node %d, not node %d' % (number, dials, node))
         return None
 
     def question_fault(self, event):
-        number, due = event.said['question'], ASKED_BY[event.act]
-        if number >= event.number:
-            return event.fault('question', 'event %d does not come before this one' % number)
-        named = self.events[number].act
-        if named not in due:
-            return event.fault('question', 'event %d is a %s, not a %s' % (number, named, ' or a '.join(due)))
-        return None
+        return self.naming_fault(event, 'question', ASKED_BY[event.act])
 
     def fault_of(self, event):
         """Why this event may not be asked for, if it may not; else it is noted."""
@@ -93,7 +109,8 @@ class Past:
             if fault:
                 return fault
         judge = {'register': self.register_fault, 'start': self.start_fault, 'send_step': self.connection_fault,
-                 'recv_step': self.connection_fault, 'answer': self.question_fault, 'next': self.question_fault}.get(event.act)
+                 'recv_step': self.connection_fault, 'answer': self.question_fault, 'next': self.question_fault,
+                 'attempt': self.attempt_fault, 'resolve': self.attempt_fault, 'refuse': self.attempt_fault}.get(event.act)
         return judge(event) if judge else None
 
 

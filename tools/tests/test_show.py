@@ -26,6 +26,26 @@ TRACKER_SCRIPT = r'''{"configs":[],"script":[
 {"at":0,"do":"answer","question":3},
 {"at":0,"do":"answer","question":3}]}
 '''
+ATTEMPT = r'''{"end":[],"n":0,"put":[["tracker:0",{"dial":2}]],"reply":"ok","take":[]}
+{"end":[],"n":1,"put":[["dialer:0",{"dial":{"ingress":{"host":"a","port":1},"key":2}}]],"reply":"ok","take":[[0,0]]}
+{"end":[],"n":2,"put":[],"reply":"ok","take":[[1,0]]}
+{"end":[],"n":3,"put":[["attempt:0:2",{"addresses":[{"ip":[10,0,0,2],"port":1}]}]],"reply":"ok","take":[]}
+{"end":[],"n":4,"put":[],"reply":"ok","take":[[3,0]]}
+{"end":[],"n":5,"put":[["attempt:0:2","refused"]],"reply":"ok","take":[]}
+{"end":[],"n":6,"put":[["tracker:0",{"release":2}]],"reply":"ok","take":[[5,0]]}
+{"end":[],"n":7,"put":[],"reply":"gone","take":[]}
+{"copies":0,"entries":8}
+'''
+ATTEMPT_SCRIPT = r'''{"configs":[],"script":[
+{"at":0,"do":"dialer","node":0},
+{"at":0,"do":"tracker","node":0},
+{"at":0,"do":"dialer","node":0},
+{"at":0,"do":"resolve","addresses":[{"ip":[10,0,0,2],"port":1}],"attempt":2,"node":0},
+{"at":0,"do":"attempt","attempt":2,"node":0},
+{"at":0,"do":"refuse","attempt":2,"node":0},
+{"at":0,"do":"attempt","attempt":2,"node":0},
+{"at":0,"do":"refuse","attempt":2,"node":0}]}
+'''
 BAD = {
     '': 'the last line, with the counts, is missing',
     '{"copies":0,"entries":0}': 'line 1: the line has no end, so the report was cut off',
@@ -66,19 +86,30 @@ class Show(unittest.TestCase):
             run_tool('show', HELLO, '--script', beside(HELLO, '.json'), '--svg', picture)
             self.assertEqual(read_text(picture), read_text(os.path.join(TOP, 'docs', 'hello.svg')))
 
-    def test_a_report_of_a_tracker_is_drawn_by_its_replies(self):
+    def drawn(self, said, script_said):
+        """The picture of a report with its script."""
         with tempfile.TemporaryDirectory() as folder:
             report, script, picture = (os.path.join(folder, name) for name in ('report', 'script', 'picture.svg'))
-            for path, text in ((report, TRACKER), (script, TRACKER_SCRIPT)):
+            for path, text in ((report, said), (script, script_said)):
                 with open(path, 'w', encoding='utf-8') as out:
                     out.write(text)
             told = run_tool('show', report, '--script', script, '--svg', picture)
             self.assertEqual((told.returncode, told.stderr), (0, b''))
-            drawn = read_text(picture)
-            for words in ('node 0 subscribe: feedback ok', 'node 0 tracker: ok', 'next of event 0: update 6', 'kill: control:0:4',
-                          'answer of event 3: peer set none', 'answer of event 3: peer set [1], []', 'node 0, key'):
-                with self.subTest(words):
-                    self.assertEqual(words in drawn, words != 'node 0, key')
+            return read_text(picture)
+
+    def test_a_report_of_a_tracker_is_drawn_by_its_replies(self):
+        drawn = self.drawn(TRACKER, TRACKER_SCRIPT)
+        for words in ('node 0 subscribe: feedback ok', 'node 0 tracker: ok', 'next of event 0: update 6', 'kill: control:0:4',
+                      'answer of event 3: peer set none', 'answer of event 3: peer set [1], []', 'node 0, key'):
+            with self.subTest(words):
+                self.assertEqual(words in drawn, words != 'node 0, key')
+
+    def test_a_report_of_an_attempt_is_drawn_with_its_end(self):
+        drawn = self.drawn(ATTEMPT, ATTEMPT_SCRIPT)
+        for words in ('node 0 dialer: ok', 'node 0 resolve of event 2: ok', 'node 0 attempt of event 2: ok', 'refused: attempt:0:2',
+                      'release of key 2: tracker:0', 'node 0 refuse of event 2: gone'):
+            with self.subTest(words):
+                self.assertIn(words, drawn)
 
     def test_a_part_of_a_report_can_be_drawn(self):
         with tempfile.TemporaryDirectory() as folder:
