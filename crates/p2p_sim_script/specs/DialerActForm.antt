@@ -5,7 +5,7 @@ use Rattle.p2p_log.specs.declared.event.Act.{Act}
 use Rattle.p2p_log.specs.declared.event.Act.TheVariants as act
 use Rattle.p2p_sim_script.specs.AddressForm.{socket_of}
 use Rattle.p2p_sim_script.specs.Parts.{has, node_of}
-use Rattle.p2p_sim_script.specs.Tree.{field, whole, list_of}
+use Rattle.p2p_sim_script.specs.Tree.{◌>>=◌, ◌>>◌, field, whole, list_of}
 
 abbrev pub dialer_of : Data → Option Act
 dialer_of d = do

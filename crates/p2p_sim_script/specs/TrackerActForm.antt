@@ -4,7 +4,7 @@ use Rattle.serde_json.specs.Data.{Data}
 use Rattle.p2p_log.specs.declared.asked.Asked.TheVariants as ask
 use Rattle.p2p_log.specs.declared.event.Act.{Act}
 use Rattle.p2p_log.specs.declared.event.Act.TheVariants as act
-use Rattle.p2p_sim_script.specs.Tree.{absent_or, field, whole}
+use Rattle.p2p_sim_script.specs.Tree.{◌>>=◌, ◌>>◌, absent_or, field, whole}
 use Rattle.p2p_sim_script.specs.Parts.{has, node_of, key_of}
 use Rattle.p2p_sim_script.specs.AddressForm.{peers_of}
 use Rattle.p2p_sim_script.specs.DialerActForm.{dialer_act_named}
