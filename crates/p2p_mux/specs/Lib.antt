@@ -1,0 +1,7 @@
+pub mod Built
+pub mod Muxed
+pub mod MuxerTurns
+pub mod Prefixed
+pub mod Provided
+pub mod Received
+pub mod Requests
