@@ -1,7 +1,8 @@
 //! `Muxer`, which puts each message of a receiver into the queue of its subchannel.
-ghost use Rattle.std.specs.Prelude.{◌≡◌, true, IfOk, OnOk, OnErr, IsErr};
+ghost use Rattle.std.specs.Prelude.{◌≡◌, ℕ, List as Seq, true, IfOk, OnOk, OnErr, IsErr};
 ghost use Rattle.p2p_mux.specs.Built.{new_muxer};
 ghost use Rattle.p2p_mux.specs.MuxerTurns.{mux_turn, received_turn};
+ghost use Rattle.p2p_mux.specs.Passing.{TakesMessage, IsPassed};
 
 use crate::{MuxQueues, MuxStepped};
 use p2p_flow::Polled;
@@ -66,6 +67,10 @@ where
             (R.received self.old.receiver way.old) (R.after_recv self.old.receiver way.old)).queues) }
         ensures way { OnOk result (way.new ≡ (mux_turn (R.places self.old.receiver) queues.old way.old
             (R.received self.old.receiver way.old) (R.after_recv self.old.receiver way.old)).way) }
+        // What the turn makes of a message, told of each queue apart.
+        ensures passed { (m : R.PublicKey × Seq ℕ) →
+            TakesMessage queues.old (R.received self.old.receiver way.old) m →
+            IfOk result (λ s. IsPassed s m queues.old queues.new) }
         ensures same { OnOk result (self.new ≡ self.old) }
         ensures memory { OnErr result (self.new ≡ record self.old { has_failed = true }) }
         ensures failed { self.old.has_failed ≡ true → IsErr result }
