@@ -181,11 +181,11 @@ module _ {P W E : Type 0} where
       → TakesMessage q received m → Passes m q (mux_turn places q w received after)
   turn-passes places q w received after m h =
       let opened : turn_by q.ended places q w received after ≡ open_turn (slice_get q.control 0) places q w received after =
-          ap (λ (b : Bool). turn_by b places q w received after) h.0 in
+      ap (λ (b : Bool). turn_by b places q w received after) h.0 in
       let asked : open_turn (slice_get q.control 0) places q w received after ≡ on_way after (received_turn received q) =
-          ap (λ (o : Option Control). open_turn o places q w received after) h.1 in
+      ap (λ (o : Option Control). open_turn o places q w received after) h.1 in
       let taken : on_way after (received_turn received q) ≡ on_way after (message_turn m q) =
-          ap (λ (r : Result (Polled (P × List ℕ)) E). on_way after (received_turn r q)) h.2 in
+      ap (λ (r : Result (Polled (P × List ℕ)) E). on_way after (received_turn r q)) h.2 in
       subst (Passes m q) (sym (opened ∙ (asked ∙ taken))) (message_turn-passes m q)
 
   -- what is answered and left by a turn that takes a message

@@ -104,10 +104,9 @@ impl<P, S, R> Model for MuxerBuilderAllOpts<P, S, R> {
     ghost view = { λ b. b.parts };
 }
 
-impl<S: LimitedSender, R: Receiver> Muxer<S, R>
+impl<S: LimitedSender, R: Receiver<PublicKey = S::PublicKey>> Muxer<S, R>
 where
     R: Drop,
-    R::PublicKey: Drop,
 {
     /// A muxer over a sender and a receiver, with its handle and its queues.
     ///
@@ -118,7 +117,7 @@ where
         alloc: Global,
         sender: S,
         receiver: R,
-    ) -> Result<(Muxer<S, R>, MuxHandle<S>, MuxQueues<R::PublicKey>), NoRoom<(S, R)>>
+    ) -> Result<(Muxer<S, R>, MuxHandle<S>, MuxQueues<S::PublicKey>), NoRoom<(S, R)>>
         ensures built { IfOk result (λ b. record { muxer = b.0; handle = b.1; queues = b.2 }
             ≡ plain_building sender receiver (R.places receiver)) }
         ensures no_room { IfErr result (λ e. e.0 ≡ (sender, receiver)) }
@@ -138,7 +137,7 @@ where
         alloc: Global,
         sender: S,
         receiver: R,
-    ) -> Result<MuxerBuilder<R::PublicKey, S, R>, NoRoom<(S, R)>>
+    ) -> Result<MuxerBuilder<S::PublicKey, S, R>, NoRoom<(S, R)>>
         ensures builder { IfOk result (λ b. b ≡ plain_building sender receiver (R.places receiver)) }
         ensures no_room { IfErr result (λ e. e.0 ≡ (sender, receiver)) }
     {

@@ -60,9 +60,9 @@ impl<S: LimitedSender> MuxHandle<S> {
     /// `Closed` comes exactly where the muxer has ended, and `Memory` where memory runs out; nothing has changed then.
     ///
     /// Ports `MuxHandle::register` of commonware-p2p, together with `poll_register`.
-    pub fn register<P: Drop>(
+    pub fn register(
         &self,
-        queues: &mut MuxQueues<P>,
+        queues: &mut MuxQueues<S::PublicKey>,
         subchannel: Channel,
     ) -> Result<u64, Error>
         ensures number { IfOk result (λ n. n ≡ length queues.old.requests) }
@@ -80,11 +80,11 @@ impl<S: LimitedSender> MuxHandle<S> {
     /// where the muxer ended before it took it. An answer is taken once.
     ///
     /// Ports what `MuxHandle::register` of commonware-p2p waits for.
-    pub fn poll_register<P: Drop>(
+    pub fn poll_register(
         &self,
-        queues: &mut MuxQueues<P>,
+        queues: &mut MuxQueues<S::PublicKey>,
         ticket: u64,
-    ) -> Result<Polled<(SubSender<S>, SubReceiver<P>)>, Error>
+    ) -> Result<Polled<(SubSender<S>, SubReceiver<S::PublicKey>)>, Error>
         requires open { IsTrue (is_open (answer_at queues.old ticket)) }
         ensures value { result ≡ registered_as self.now
             (given_answer queues.old.ended (slice_get queues.old.requests ticket)) }
@@ -105,7 +105,11 @@ impl<S: LimitedSender> MuxHandle<S> {
     /// `Err` only where memory runs out; nothing has changed then.
     ///
     /// In commonware-p2p the future of `register` is dropped, which leaves a route.
-    pub fn give_up<P: Drop>(&self, queues: &mut MuxQueues<P>, ticket: u64) -> Result<(), AllocError>
+    pub fn give_up(
+        &self,
+        queues: &mut MuxQueues<S::PublicKey>,
+        ticket: u64,
+    ) -> Result<(), AllocError>
         requires open { IsTrue (is_open (answer_at queues.old ticket)) }
         ensures after { OnOk result (queues.new ≡ given_up queues.old ticket) }
         ensures memory { OnErr result (queues.new ≡ queues.old) }
@@ -114,7 +118,7 @@ impl<S: LimitedSender> MuxHandle<S> {
     }
 
     // The sender and the receiver of a subchannel.
-    fn halves<P: Drop>(&self, subchannel: Channel) -> (SubSender<S>, SubReceiver<P>)
+    fn halves(&self, subchannel: Channel) -> (SubSender<S>, SubReceiver<S::PublicKey>)
         ensures { result ≡ halves self.now subchannel }
     {
         let sender = SubSender::new(self.sender, subchannel);

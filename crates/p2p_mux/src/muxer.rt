@@ -6,7 +6,7 @@ ghost use Rattle.p2p_mux.specs.Passing.{TakesMessage, IsPassed};
 
 use crate::{MuxQueues, MuxStepped};
 use p2p_flow::Polled;
-use p2p_flow_senders::Receiver;
+use p2p_flow_senders::{LimitedSender, Receiver};
 use std::alloc::AllocError;
 use std::marker::Model;
 
@@ -41,9 +41,8 @@ pub(crate) fn muxer_of<S, R>(sender: S, receiver: R) -> Muxer<S, R>
     }
 }
 
-impl<S, R: Receiver> Muxer<S, R>
+impl<S: LimitedSender, R: Receiver<PublicKey = S::PublicKey>> Muxer<S, R>
 where
-    R::PublicKey: Drop,
     R::Error: Drop,
 {
     /// Takes the oldest that it was asked, and does it; where it was asked nothing, it takes the oldest message of its receiver, and puts
@@ -57,7 +56,7 @@ where
     /// Ports a turn of `Muxer::run` of commonware-p2p.
     pub fn step(
         &mut self,
-        queues: &mut MuxQueues<R::PublicKey>,
+        queues: &mut MuxQueues<S::PublicKey>,
         way: &mut R::Way,
     ) -> Result<MuxStepped, AllocError>
         requires { R.serves self.old.receiver way.old }
@@ -68,7 +67,7 @@ where
         ensures way { OnOk result (way.new ≡ (mux_turn (R.places self.old.receiver) queues.old way.old
             (R.received self.old.receiver way.old) (R.after_recv self.old.receiver way.old)).way) }
         // What the turn makes of a message, told of each queue apart.
-        ensures passed { (m : R.PublicKey × Seq ℕ) →
+        ensures passed { (m : S.PublicKey × Seq ℕ) →
             TakesMessage queues.old (R.received self.old.receiver way.old) m →
             IfOk result (λ s. IsPassed s m queues.old queues.new) }
         ensures same { OnOk result (self.new ≡ self.old) }
