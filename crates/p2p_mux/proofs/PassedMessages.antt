@@ -16,11 +16,10 @@ use Rattle.p2p_base.specs.declared.outcome.Sent.{Sent}
 use Rattle.p2p_base.specs.declared.outcome.Sent.TheVariants as sent
 use Rattle.p2p_base.specs.declared.policy.Keep.TheVariants.{Refuse}
 use Rattle.p2p_flow.specs.declared.plain.Polled.{Polled}
-use Rattle.p2p_flow.specs.declared.plain.Polled.TheVariants as polled
 use Rattle.p2p_wire.specs.Varint.{u64_at}
 use Rattle.p2p_wire.specs.declared.error.CodecError.{CodecError}
 use Rattle.p2p_mux.specs.Muxed.{Muxed, route_in, with_messages}
-use Rattle.p2p_mux.specs.MuxerTurns.{routed_as, backed_up_as, backs_up, routes_on, route_turn, parsed_turn, message_turn, received_turn, on_way, open_turn, turn_by, mux_turn, WholeTurn}
+use Rattle.p2p_mux.specs.MuxerTurns.{routed_as, backed_up_as, backs_up, route_turn, parsed_turn, message_turn, received_turn, on_way, open_turn, turn_by, mux_turn, WholeTurn}
 use Rattle.p2p_mux.specs.Passing.{messages_of, items_of, payload_of, without_prefix, TakesMessage, IsPassed}
 use Rattle.p2p_mux.specs.declared.request.Control.{Control}
 use Rattle.p2p_mux.specs.declared.routes.Route.{Route}
@@ -104,13 +103,20 @@ module _ {P : Type 0} where
         messages-set q.routes s t r (with_messages r after) [] e (h ∙ sym (append-nil r.messages.items))
         ∙ same_cond (is_at (nat_cmp s) t) (messages_of (route_in q.routes t))
 
+    same_backup : items_of q.backup ≡ items_of q.backup ++ []
+    same_backup = sym (append-nil (items_of q.backup))
+
     by_route : (r : Route P) (a : Sent (P × List ℕ)) (after : Queue (P × List ℕ)) → route_in q.routes s ≡ Some r
         → IsAppended a r.messages.items after.items (m.0, payload)
         → IsPassed (routed_as r.request s a) m q (on_route r after)
-    by_route r sent.Ok after e h = record { place = tt; routes = one_more r after e h; backup = sym (append-nil (items_of q.backup)) }
-    by_route r sent.Backoff after e h = record { place = tt; routes = one_more r after e h; backup = sym (append-nil (items_of q.backup)) }
-    by_route r (sent.Rejected y) after e h = record { place = tt; routes = no_more r after e h; backup = sym (append-nil (items_of q.backup)) }
-    by_route r (sent.Closed y) after e h = record { place = tt; routes = no_more r after e h; backup = sym (append-nil (items_of q.backup)) }
+    by_route r sent.Ok after e h =
+        record { place = tt; routes = one_more r after e h; backup = same_backup }
+    by_route r sent.Backoff after e h =
+        record { place = tt; routes = one_more r after e h; backup = same_backup }
+    by_route r (sent.Rejected y) after e h =
+        record { place = tt; routes = no_more r after e h; backup = same_backup }
+    by_route r (sent.Closed y) after e h =
+        record { place = tt; routes = no_more r after e h; backup = same_backup }
 
     abbrev with_backup : Queue (ℕ × (P × List ℕ)) → Muxed P
     with_backup after = record {
@@ -145,7 +151,7 @@ module _ {P : Type 0} where
 
     without_route : (o : Option (Queue (ℕ × (P × List ℕ)))) → q.backup ≡ o
         → IsPassed (backs_up o s (m.0, payload) q).stepped m q (backs_up o s (m.0, payload) q).queues
-    without_route None e = record { place = tt; routes = kept; backup = sym (append-nil (items_of q.backup)) }
+    without_route None e = record { place = tt; routes = kept; backup = same_backup }
     without_route (Some b) e =
         by_backup b (enqueue_answer Refuse b (s, (m.0, payload))) (enqueued Refuse b (s, (m.0, payload))) e
         (enqueued-appends b (s, (m.0, payload)))

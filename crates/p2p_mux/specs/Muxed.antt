@@ -1,7 +1,7 @@
 -- The queues of a muxer as contracts see them, and what its handle and its receivers leave of them.
-use Rattle.std.specs.Prelude.{ℕ, Bool, true, false, ◌&&◌, not, cond, is_some, List, [], ◌∷◌, ◌++◌, length, drop, Option, Some, None, slice_get}
-use Rattle.std.specs.BTreeMap.{is_at, insert_entry}
-use Rattle.std.specs.Map.{lookup, set_value, remove_entry}
+use Rattle.std.specs.Prelude.{ℕ, Bool, true, false, ◌&&◌, not, cond, is_some, List, [], ◌∷◌, ◌++◌, length, Option, Some, None, slice_get}
+use Rattle.std.specs.BTreeMap.{is_at}
+use Rattle.std.specs.Map.{lookup, set_value}
 use Rattle.std.specs.Ordering.{nat_cmp}
 use Rattle.p2p_base.specs.Queue.{Queue, empty_queue, oldest, without_oldest, closed_queue}
 use Rattle.p2p_mux.specs.Requests.{answer_of, with_answer, answer_left, route_made}
@@ -12,9 +12,9 @@ use Rattle.p2p_mux.specs.declared.request.Control.TheVariants as control
 use Rattle.p2p_mux.specs.declared.request.Request.{Request}
 use Rattle.p2p_mux.specs.declared.routes.Route.{Route}
 
--- what waits for the muxer, the oldest first; the requests, each at its number; the routes, by their subchannels, which keep what
--- waits on them when the muxer ends; the backup's queue, if there is one, with the subchannels of its messages; and whether the muxer
--- has ended
+-- what waits for the muxer, the oldest first; the requests, each at its number; the routes, by their subchannels, which
+-- keep what waits on them when the muxer ends; the backup's queue, if there is one, with the subchannels of its
+-- messages; and whether the muxer has ended
 pub record Muxed (P : Type 0) : Type 0 where
   pub control : List Control
   pub requests : List Request
@@ -38,7 +38,8 @@ module _ {P : Type 0} where
   abbrev pub with_messages : Route P → Queue (P × List ℕ) → Route P
   with_messages r messages = record { request = r.request; messages = messages }
 
-  abbrev pub changed : (Queue (P × List ℕ) → Queue (P × List ℕ)) → Option (Route P) → List (ℕ × Route P) → ℕ → List (ℕ × Route P)
+  abbrev pub changed : (Queue (P × List ℕ) → Queue (P × List ℕ)) → Option (Route P) → List (ℕ × Route P) → ℕ
+      → List (ℕ × Route P)
   changed f None routes s = routes
   changed f (Some r) routes s = set_value (is_at (nat_cmp s)) routes (with_messages r (f r.messages))
 
@@ -113,7 +114,8 @@ module _ {P : Type 0} where
 
   -- once a request was given up: it has no answer to give, and where it had made a route, the receiver is gone
   abbrev pub given_up : Muxed P → ℕ → Muxed P
-  given_up q n = given_up_as (route_made (slice_get q.requests n)) (with_requests q (with_answer q.requests n answer.Taken))
+  given_up q n =
+      given_up_as (route_made (slice_get q.requests n)) (with_requests q (with_answer q.requests n answer.Taken))
 
   -- ---- the end
 

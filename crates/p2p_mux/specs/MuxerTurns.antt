@@ -1,5 +1,6 @@
--- The turns of a muxer: what it was asked goes before messages, and each message goes to one queue or is dropped for one cause.
-use Rattle.std.specs.Prelude.{ℕ, Bool, true, false, List, [], ◌∷◌, drop, Option, Some, None, Result, Ok, Err, slice_get}
+-- The turns of a muxer: what it was asked goes before messages, and each message goes to one queue or is dropped for
+-- one cause.
+use Rattle.std.specs.Prelude.{ℕ, Bool, true, false, List, drop, Option, Some, None, Result, Ok, Err, slice_get}
 use Rattle.std.specs.BTreeMap.{is_at, insert_entry}
 use Rattle.std.specs.Map.{set_value, remove_entry}
 use Rattle.std.specs.Ordering.{nat_cmp}
@@ -160,7 +161,8 @@ module _ {P W : Type 0} where
   on_way w t = record { stepped = t.stepped; queues = t.queues; way = w }
 
   -- the oldest that the muxer was asked, or else what its receiver gives, which leaves its way so
-  abbrev pub open_turn : {E : Type 0} → Option Control → ℕ → Muxed P → W → Result (Polled (P × List ℕ)) E → W → WholeTurn P W
+  abbrev pub open_turn : {E : Type 0} → Option Control → ℕ → Muxed P → W → Result (Polled (P × List ℕ)) E → W
+      → WholeTurn P W
   open_turn (Some c) places q w received after = on_way w (control_turn c places (without_control q))
   open_turn None places q w received after = on_way after (received_turn received q)
 
@@ -168,7 +170,7 @@ module _ {P W : Type 0} where
   turn_by true places q w received after = record { stepped = stepped.Ended; queues = q; way = w }
   turn_by false places q w received after = open_turn (slice_get q.control 0) places q w received after
 
-  -- the turn of a muxer whose routes have so many places, where its receiver would give `received` and leave its way `after`: one
-  -- that has ended takes nothing
+  -- the turn of a muxer whose routes have so many places, where its receiver would give `received` and leave its way
+  -- `after`: one that has ended takes nothing
   abbrev pub mux_turn : {E : Type 0} → ℕ → Muxed P → W → Result (Polled (P × List ℕ)) E → W → WholeTurn P W
   mux_turn places q w received after = turn_by q.ended places q w received after

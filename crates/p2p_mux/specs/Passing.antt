@@ -9,7 +9,6 @@ use Rattle.p2p_wire.specs.Varint.{u64_at}
 use Rattle.p2p_wire.specs.declared.error.CodecError.{CodecError}
 use Rattle.p2p_mux.specs.Muxed.{Muxed, route_in}
 use Rattle.p2p_mux.specs.declared.routes.Route.{Route}
-use Rattle.p2p_mux.specs.declared.stepped.DropCause.{DropCause}
 use Rattle.p2p_mux.specs.declared.stepped.MuxStepped.{MuxStepped}
 use Rattle.p2p_mux.specs.declared.stepped.MuxStepped.TheVariants as stepped
 

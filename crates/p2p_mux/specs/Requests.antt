@@ -39,8 +39,8 @@ answered (Some r) requests n a = slice_set requests n (record { subchannel = r.s
 abbrev pub with_answer : List Request → ℕ → Answer → List Request
 with_answer requests n a = answered (slice_get requests n) requests n a
 
--- what asking for the answer gives: the subchannel, if it was registered; whether the muxer has ended decides of a request that it
--- didn't take
+-- what asking for the answer gives: the subchannel, if it was registered; whether the muxer has ended decides of a
+-- request that it didn't take
 abbrev pub answer_given : Bool → Answer → ℕ → Result (Polled ℕ) Error
 answer_given has_ended answer.Registered subchannel = Ok (polled.Ready subchannel)
 answer_given has_ended answer.Refused subchannel = Err (error.AlreadyRegistered subchannel)

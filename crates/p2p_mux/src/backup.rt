@@ -6,7 +6,8 @@ use crate::{Error, MuxQueues};
 use p2p_flow::{Channel, Message, Polled};
 use std::marker::PhantomData;
 
-/// Receives the messages whose subchannel has no route, each with its subchannel, from the queues of its muxer, which it is lent.
+/// Receives the messages whose subchannel has no route, each with its subchannel, from the queues of its muxer, which
+/// it is lent.
 ///
 /// In commonware-p2p this is the receiver of a channel.
 #[derive(Drop)]
@@ -20,7 +21,8 @@ impl<P: Drop> BackupReceiver<P> {
         BackupReceiver { of: PhantomData }
     }
 
-    /// Takes the oldest message, without its prefix, with its subchannel and the key of its sender. `Pending` where none waits yet.
+    /// Takes the oldest message, without its prefix, with its subchannel and the key of its sender. `Pending` where
+    /// none waits yet.
     ///
     /// `Closed` comes exactly where the muxer has ended and none waits.
     pub fn poll_recv(

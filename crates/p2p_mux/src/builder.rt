@@ -128,7 +128,8 @@ where
         }
     }
 
-    /// The builder of a muxer over a sender and a receiver. The queues of its subchannels hold as many messages as the receiver does.
+    /// The builder of a muxer over a sender and a receiver. The queues of its subchannels hold as many messages as the
+    /// receiver does.
     ///
     /// `NoRoom` hands both back where memory runs out.
     ///

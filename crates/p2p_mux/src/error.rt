@@ -14,8 +14,8 @@ pub enum Error {
     /// A route of this subchannel stood when the muxer took the request.
     #[error("subchannel already registered: {0}")]
     AlreadyRegistered(Channel),
-    /// The muxer has ended: before a registration was asked for, before the muxer took the request, or, of the backup's receiver, with
-    /// nothing left in its queue.
+    /// The muxer has ended: before a registration was asked for, before the muxer took the request, or, of the backup's
+    /// receiver, with nothing left in its queue.
     #[error("muxer is closed")]
     Closed,
     /// The route of the subchannel is gone, and nothing is left in its queue.

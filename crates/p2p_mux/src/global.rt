@@ -13,8 +13,8 @@ use p2p_wire::prefix;
 use std::alloc::{AllocError, Global};
 use std::marker::Model;
 
-/// What a check of a `GlobalSender` or a `SubSender` gave: the recipients that were admitted, and the subchannel that a message for
-/// these goes on, once it is set.
+/// What a check of a `GlobalSender` or a `SubSender` gave: the recipients that were admitted, and the subchannel that a
+/// message for these goes on, once it is set.
 ///
 /// Ports `CheckedGlobalSender` of commonware-p2p.
 #[derive(Drop)]
@@ -84,11 +84,12 @@ impl<S: LimitedSender> GlobalSender<S> {
         GlobalSender { sender }
     }
 
-    /// Checks the recipients at the moment `now`, in nanoseconds, and sends the payload on a subchannel to those that are admitted. A
-    /// check that is refused answers `Rejected`.
+    /// Checks the recipients at the moment `now`, in nanoseconds, and sends the payload on a subchannel to those that
+    /// are admitted. A check that is refused answers `Rejected`.
     ///
-    /// `MessageTooLarge` comes exactly where the check passed and the payload with its prefix is longer than the sender's limit, and
-    /// `Memory` where memory runs out. The cells of a check that passed stay taken, whatever becomes of the payload.
+    /// `MessageTooLarge` comes exactly where the check passed and the payload with its prefix is longer than the
+    /// sender's limit, and `Memory` where memory runs out. The cells of a check that passed stay taken, whatever
+    /// becomes of the payload.
     ///
     /// Ports `GlobalSender::send` of commonware-p2p.
     pub fn send(

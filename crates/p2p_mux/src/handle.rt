@@ -13,8 +13,8 @@ use std::marker::Model;
 
 /// Registers subchannels at a muxer, at any time.
 ///
-/// It is a small name: what is asked through it stands in the muxer's queues, which it is lent. A request goes by its number, and means
-/// something only in the queues in which it was made.
+/// It is a small name: what is asked through it stands in the muxer's queues, which it is lent. A request goes by its
+/// number, and means something only in the queues in which it was made.
 ///
 /// Ports `MuxHandle` of commonware-p2p, whose `register` is a future.
 #[derive(Clone, Copy, PartialEq, Eq, Debug)]
@@ -73,11 +73,11 @@ impl<S: LimitedSender> MuxHandle<S> {
         queues.request(subchannel)
     }
 
-    /// Takes the answer to a request: the sender and the receiver of the subchannel, where it is registered. `Pending` where the muxer
-    /// hasn't taken the request yet, and hasn't ended.
+    /// Takes the answer to a request: the sender and the receiver of the subchannel, where it is registered. `Pending`
+    /// where the muxer hasn't taken the request yet, and hasn't ended.
     ///
-    /// `AlreadyRegistered` comes exactly where a route of the subchannel stood when the muxer took the request, and `Closed` exactly
-    /// where the muxer ended before it took it. An answer is taken once.
+    /// `AlreadyRegistered` comes exactly where a route of the subchannel stood when the muxer took the request, and
+    /// `Closed` exactly where the muxer ended before it took it. An answer is taken once.
     ///
     /// Ports what `MuxHandle::register` of commonware-p2p waits for.
     pub fn poll_register(
@@ -99,8 +99,9 @@ impl<S: LimitedSender> MuxHandle<S> {
         }
     }
 
-    /// Gives a request up, whose answer wasn't taken. One that the muxer hasn't taken yet makes no route. One that made a route is as a
-    /// receiver that is closed: what waits for the subchannel is dropped, and the muxer is told, unless it has ended.
+    /// Gives a request up, whose answer wasn't taken. One that the muxer hasn't taken yet makes no route. One that made
+    /// a route is as a receiver that is closed: what waits for the subchannel is dropped, and the muxer is told, unless
+    /// it has ended.
     ///
     /// `Err` only where memory runs out; nothing has changed then.
     ///

@@ -1,5 +1,5 @@
-//! Subchannels of one channel: a muxer that puts each message that a receiver gives into the queue of its subchannel, and the senders
-//! and receivers of subchannels.
+//! Subchannels of one channel: a muxer that puts each message that a receiver gives into the queue of its subchannel,
+//! and the senders and receivers of subchannels.
 //!
 //! A message of a subchannel is its prefix, the spelling of its number in at most 10 bytes, and then the payload.
 #![tactic(auto)]

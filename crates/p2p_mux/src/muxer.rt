@@ -45,11 +45,13 @@ impl<S: LimitedSender, R: Receiver<PublicKey = S::PublicKey>> Muxer<S, R>
 where
     R::Error: Drop,
 {
-    /// Takes the oldest that it was asked, and does it; where it was asked nothing, it takes the oldest message of its receiver, and puts
-    /// it into one queue or drops it for one cause. What it took and what became of it is answered: `Idle` where neither is there, and
-    /// `Ended` where the receiver had no more to give, in this call or before, or `MuxQueues::end` was called before.
+    /// Takes the oldest that it was asked, and does it; where it was asked nothing, it takes the oldest message of its
+    /// receiver, and puts it into one queue or drops it for one cause. What it took and what became of it is answered:
+    /// `Idle` where neither is there, and `Ended` where the receiver had no more to give, in this call or before, or
+    /// `MuxQueues::end` was called before.
     ///
-    /// A route is made for a request where none of its subchannel stands, and it holds as many messages as the receiver does.
+    /// A route is made for a request where none of its subchannel stands, and it holds as many messages as the receiver
+    /// does.
     ///
     /// `Err` only where memory runs out: what was taken is lost then. Each later step answers so.
     ///

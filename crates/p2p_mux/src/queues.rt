@@ -19,7 +19,8 @@ use std::marker::Model;
 /// How many places for what a muxer is asked `MuxQueues::new` makes at once.
 const FIRST_PLACES: usize = 4;
 
-/// What waits for a muxer, what became of requests, and the messages that wait for the receivers of subchannels and of the backup.
+/// What waits for a muxer, what became of requests, and the messages that wait for the receivers of subchannels and of
+/// the backup.
 ///
 /// A handle, the receivers and the muxer are lent this value. For each request it keeps a small entry for good.
 ///
@@ -67,8 +68,9 @@ impl<P: Drop> MuxQueues<P> {
         })
     }
 
-    /// Ends the muxer. What it was asked and hasn't taken is dropped: these requests are answered `Closed`, as each later one is. Other
-    /// answers, and the messages that wait for the receivers of subchannels and of the backup, can still be taken.
+    /// Ends the muxer. What it was asked and hasn't taken is dropped: these requests are answered `Closed`, as each
+    /// later one is. Other answers, and the messages that wait for the receivers of subchannels and of the backup, can
+    /// still be taken.
     ///
     /// In commonware-p2p the muxer ends when its task does.
     pub fn end(&mut self)
@@ -85,7 +87,8 @@ impl<P: Drop> MuxQueues<P> {
         self.ended
     }
 
-    /// Whether a request has an answer to give, now or later: it was made here, and its answer was neither taken nor given up.
+    /// Whether a request has an answer to give, now or later: it was made here, and its answer was neither taken nor
+    /// given up.
     pub fn is_open(&self, ticket: u64) -> bool
         ensures { result ≡ is_open (answer_at self.now ticket) }
     {

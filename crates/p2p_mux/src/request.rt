@@ -65,8 +65,8 @@ pub(crate) fn note_answer(requests: &mut [Request], request: u64, answer: Answer
     }
 }
 
-// Takes the answer to a request: the subchannel, where it is registered. Where the muxer has ended, a request that it didn't take is
-// answered that it is closed.
+// Takes the answer to a request: the subchannel, where it is registered. Where the muxer has ended, a request that it
+// didn't take is answered that it is closed.
 fn give(request: &mut Request, has_ended: bool) -> Result<Polled<Channel>, Error>
     ensures value { result ≡ answer_given has_ended request.old.answer request.old.subchannel }
     ensures after { request.new ≡ record {

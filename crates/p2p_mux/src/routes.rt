@@ -85,7 +85,8 @@ pub(crate) fn put_on<P: Drop>(
 ) -> Result<MuxStepped, AllocError>
     ensures answer { IfOk result (λ s. s
         ≡ routed_as route.old.request subchannel (enqueue_answer keep.Refuse route.old.messages message)) }
-    ensures after { OnOk result (route.new ≡ with_messages route.old (enqueued keep.Refuse route.old.messages message)) }
+    ensures after { OnOk result (route.new
+        ≡ with_messages route.old (enqueued keep.Refuse route.old.messages message)) }
 {
     let request = route.request;
     match refusing::put(&mut route.messages, message) {

@@ -44,8 +44,8 @@ impl<P: Drop> SubReceiver<P> {
         }
     }
 
-    /// Drops the messages that wait for the subchannel, and tells the muxer that the receiver is gone: it removes the route once it has
-    /// taken what it was asked before. A muxer that has ended is told nothing.
+    /// Drops the messages that wait for the subchannel, and tells the muxer that the receiver is gone: it removes the
+    /// route once it has taken what it was asked before. A muxer that has ended is told nothing.
     ///
     /// `NoRoom` hands the receiver back where there is no memory to tell the muxer; nothing has changed then.
     ///

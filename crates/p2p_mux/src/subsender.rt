@@ -133,7 +133,8 @@ impl<S: LimitedSender> LimitedSender for SubSender<S> {
         requires gave { S.gave self.now.sender checked.checked }
         ensures answer { IfOk result (λ u. u ≡ S.told self.now.sender way.old (S.Checked.checked checked.checked)
             (content_on checked.subchannel (S.content self.now.sender checked.checked) message) priority) }
-        ensures fits { OnOk result (refusal_on checked.subchannel (S.refusal self.now.sender checked.checked) message ≡ None) }
+        ensures fits { OnOk result
+            (refusal_on checked.subchannel (S.refusal self.now.sender checked.checked) message ≡ None) }
         ensures refused { IfErr result
             (λ e. IsCause (refusal_on checked.subchannel (S.refusal self.now.sender checked.checked) message) e) }
         ensures handed { OnOk result (S.handed self.now.sender way.old (S.Checked.checked checked.checked)

@@ -1,7 +1,7 @@
--- A background receiver, and its turns: a message whose bytes are a value is forwarded, or dropped where the queue is full; one whose
--- bytes are none has its sender blocked.
-use Rattle.std.specs.Prelude.{ℕ, Bool, true, false, List, Option, Some, None, Result, Ok, Err}
-use Rattle.p2p_base.specs.Queue.{Queue, empty_queue, enqueue_answer, enqueued, oldest, without_oldest}
+-- A background receiver, and its turns: a message whose bytes are a value is forwarded, or dropped where the queue is
+-- full; one whose bytes are none has its sender blocked.
+use Rattle.std.specs.Prelude.{ℕ, Bool, true, false, List, Result, Ok, Err}
+use Rattle.p2p_base.specs.Queue.{Queue, empty_queue, enqueue_answer, enqueued, without_oldest}
 use Rattle.p2p_base.specs.declared.outcome.Feedback.{Feedback}
 use Rattle.p2p_base.specs.declared.outcome.Sent.{Sent}
 use Rattle.p2p_base.specs.declared.outcome.Sent.TheVariants as sent
@@ -17,7 +17,8 @@ pub record Forwarded (P V : Type 0) : Type 0 where
   pub messages : Queue (P × V)
   pub ended : Bool
 
--- a background receiver: what it receives from, how it reads bytes, whom it asks to block, and whether a step of it found no memory
+-- a background receiver: what it receives from, how it reads bytes, whom it asks to block, and whether a step of it
+-- found no memory
 pub record Decoding (B R C : Type 0) : Type 0 where
   pub receiver : R
   pub config : C
@@ -58,7 +59,8 @@ pub record Turn (P V W U : Type 0) : Type 0 where
   pub blocker_way : U
 
 module _ {P V U : Type 0} where
-  -- a value is forwarded; of bytes that are none the sender is blocked, where the blocker tells `told` and leaves its way `block peer`
+  -- a value is forwarded; of bytes that are none the sender is blocked, where the blocker tells `told` and leaves its
+  -- way `block peer`
   abbrev pub decoded_as : P → Result V CodecError → Feedback → (P → U) → Forwarded P V → U → Decoded P V U
   decoded_as peer (Ok v) told block out blocker_way = record {
     stepped = forwarded_as peer (enqueue_answer Refuse out.messages (peer, v));
@@ -75,7 +77,8 @@ module _ {P V W U : Type 0} where
   abbrev pub on_way : W → Decoded P V U → Turn P V W U
   on_way way d = record { stepped = d.stepped; out = d.out; way = way; blocker_way = d.blocker_way }
 
-  abbrev pub received_turn : {E : Type 0} → (List ℕ → Result V CodecError) → Result (Polled (P × List ℕ)) E → Feedback → (P → U) → Forwarded P V → W → U → Turn P V W U
+  abbrev pub received_turn : {E : Type 0} → (List ℕ → Result V CodecError) → Result (Polled (P × List ℕ)) E → Feedback
+      → (P → U) → Forwarded P V → W → U → Turn P V W U
   received_turn decoding (Ok (polled.Ready m)) told block out way blocker_way =
       on_way way (decoded_as m.0 (decoding m.1) told block out blocker_way)
   received_turn decoding (Ok polled.Pending) told block out way blocker_way = record {
@@ -91,7 +94,8 @@ module _ {P V W U : Type 0} where
     blocker_way = blocker_way;
   }
 
-  abbrev pub turn_by : {E : Type 0} → Bool → (List ℕ → Result V CodecError) → Result (Polled (P × List ℕ)) E → Feedback → (P → U) → Forwarded P V → W → W → U → Turn P V W U
+  abbrev pub turn_by : {E : Type 0} → Bool → (List ℕ → Result V CodecError) → Result (Polled (P × List ℕ)) E → Feedback
+      → (P → U) → Forwarded P V → W → W → U → Turn P V W U
   turn_by true decoding received told block out way after blocker_way = record {
     stepped = stepped.Ended;
     out = out;
@@ -101,8 +105,9 @@ module _ {P V W U : Type 0} where
   turn_by false decoding received told block out way after blocker_way =
       received_turn decoding received told block out after blocker_way
 
-  -- the turn of a background receiver, whose receiver would give `received` and leave its way `after`, and whose blocker would tell
-  -- `told` and leave its way `block peer`: one that has ended takes nothing
-  abbrev pub background_turn : {E : Type 0} → (List ℕ → Result V CodecError) → Result (Polled (P × List ℕ)) E → Feedback → (P → U) → Forwarded P V → W → W → U → Turn P V W U
+  -- the turn of a background receiver, whose receiver would give `received` and leave its way `after`, and whose
+  -- blocker would tell `told` and leave its way `block peer`: one that has ended takes nothing
+  abbrev pub background_turn : {E : Type 0} → (List ℕ → Result V CodecError) → Result (Polled (P × List ℕ)) E → Feedback
+      → (P → U) → Forwarded P V → W → W → U → Turn P V W U
   background_turn decoding received told block out way after blocker_way =
       turn_by out.ended decoding received told block out way after blocker_way

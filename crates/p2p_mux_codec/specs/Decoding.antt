@@ -22,7 +22,8 @@ pub record Reading (R C : Type 0) : Type 0 where
 
 module _ {P V E : Type 0} where
   -- what is received, where the wrapped receiver gives `received`: a message is its sender with what the bytes mean
-  abbrev pub IsReceived : (List ℕ → Result V CodecError) → Result (Polled (P × List ℕ)) E → Result (Polled (P × Result V CodecError)) E → Type 0
+  abbrev pub IsReceived : (List ℕ → Result V CodecError) → Result (Polled (P × List ℕ)) E
+      → Result (Polled (P × Result V CodecError)) E → Type 0
   IsReceived decoding (Err e) result = result ≡ Err e
   IsReceived decoding (Ok polled.Pending) result = result ≡ Ok polled.Pending
   IsReceived decoding (Ok (polled.Ready m)) result =

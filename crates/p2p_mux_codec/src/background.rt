@@ -10,8 +10,8 @@ use p2p_wire::CodecError;
 use std::alloc::{AllocError, Global};
 use std::marker::Model;
 
-/// Decodes the messages of a receiver and forwards them to a `BackgroundReceiver`. It asks that the sender of a message that is no value
-/// be blocked.
+/// Decodes the messages of a receiver and forwards them to a `BackgroundReceiver`. It asks that the sender of a message
+/// that is no value be blocked.
 ///
 /// Ports `WrappedBackgroundReceiver` of commonware-p2p, whose `run` decodes in other tasks.
 #[derive(Drop)]
@@ -42,8 +42,8 @@ where
     V: Codec,
     R::Error: Drop,
 {
-    /// Decodes the messages of a receiver by this configuration. The queue of the `BackgroundReceiver` holds as many messages as the
-    /// receiver does.
+    /// Decodes the messages of a receiver by this configuration. The queue of the `BackgroundReceiver` holds as many
+    /// messages as the receiver does.
     ///
     /// `NoRoom` hands all three back where memory runs out.
     ///
@@ -79,11 +79,12 @@ where
         }
     }
 
-    /// Takes the oldest message of the receiver and decodes it. A value is forwarded, or dropped where the queue is full; of a message
-    /// that is none it is asked that the sender be blocked. What became of it is answered: `Idle` where none waits, and `Ended` where the
-    /// receiver had no more to give, in this call or before.
+    /// Takes the oldest message of the receiver and decodes it. A value is forwarded, or dropped where the queue is
+    /// full; of a message that is none it is asked that the sender be blocked. What became of it is answered: `Idle`
+    /// where none waits, and `Ended` where the receiver had no more to give, in this call or before.
     ///
-    /// `Err` only where memory runs out: what was taken is lost then, and nobody is blocked for it. Each later step answers so.
+    /// `Err` only where memory runs out: what was taken is lost then, and nobody is blocked for it. Each later step
+    /// answers so.
     ///
     /// Ports a turn of `WrappedBackgroundReceiver::run` of commonware-p2p.
     pub fn step(
@@ -193,11 +194,14 @@ fn decode<B: Blocker, V: Codec>(
 ) -> Result<Stepped<B::PublicKey>, AllocError>
     requires { B.serves blocker.old blocker_way.old }
     ensures answer { IfOk result (λ s. s ≡ (decoded_as message.0 (V.decoding config.now message.1)
-        (B.told blocker.old blocker_way.old) (B.after_block blocker.old blocker_way.old) out.old blocker_way.old).stepped) }
+        (B.told blocker.old blocker_way.old) (B.after_block blocker.old blocker_way.old)
+        out.old blocker_way.old).stepped) }
     ensures out { OnOk result (out.new ≡ (decoded_as message.0 (V.decoding config.now message.1)
-        (B.told blocker.old blocker_way.old) (B.after_block blocker.old blocker_way.old) out.old blocker_way.old).out) }
+        (B.told blocker.old blocker_way.old) (B.after_block blocker.old blocker_way.old)
+        out.old blocker_way.old).out) }
     ensures blocker_way { OnOk result (blocker_way.new ≡ (decoded_as message.0 (V.decoding config.now message.1)
-        (B.told blocker.old blocker_way.old) (B.after_block blocker.old blocker_way.old) out.old blocker_way.old).blocker_way) }
+        (B.told blocker.old blocker_way.old) (B.after_block blocker.old blocker_way.old)
+        out.old blocker_way.old).blocker_way) }
     ensures same { blocker.new ≡ blocker.old }
     ensures serves { B.serves blocker.new blocker_way.new }
 {

@@ -8,8 +8,8 @@ use bytes::Bytes;
 use p2p_wire::CodecError;
 use std::alloc::{AllocError, Global};
 
-/// A value that has bytes. Each value has one list of bytes, and bytes and a configuration have one meaning: a value, or why they are no
-/// value's.
+/// A value that has bytes. Each value has one list of bytes, and bytes and a configuration have one meaning: a value,
+/// or why they are no value's.
 ///
 /// Ports `Codec` of commonware-p2p's `commonware-codec`.
 pub trait Codec: Drop {

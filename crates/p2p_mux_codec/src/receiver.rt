@@ -41,8 +41,8 @@ impl<R: Receiver, V: Codec> WrappedReceiver<R, V> {
         WrappedReceiver { config, receiver }
     }
 
-    /// Takes the oldest message, with the key of its sender: a value, or why its bytes are none. `Pending` where none waits yet, and the
-    /// receiver's error where it has no more.
+    /// Takes the oldest message, with the key of its sender: a value, or why its bytes are none. `Pending` where none
+    /// waits yet, and the receiver's error where it has no more.
     ///
     /// Where memory runs out the message is taken, and what it means is answered by `Memory`.
     ///

@@ -58,11 +58,11 @@ impl<S: LimitedSender, V: Codec> WrappedSender<S, V> {
 }
 
 impl<S: Sender, V: Codec> WrappedSender<S, V> {
-    /// Checks the recipients at the moment `now`, in nanoseconds, and sends the bytes of the value to those that are admitted. Gives them
-    /// in order, as `Sender::send` does.
+    /// Checks the recipients at the moment `now`, in nanoseconds, and sends the bytes of the value to those that are
+    /// admitted. Gives them in order, as `Sender::send` does.
     ///
-    /// `MessageTooLarge` and `NoSubchannel` come as in `Sender::send`, and `Memory` where memory runs out. The cells of a check that
-    /// passed stay taken.
+    /// `MessageTooLarge` and `NoSubchannel` come as in `Sender::send`, and `Memory` where memory runs out. The cells of
+    /// a check that passed stay taken.
     ///
     /// Ports `WrappedSender::send` of commonware-p2p.
     pub fn send(
@@ -223,8 +223,8 @@ impl<S: LimitedSender, V: Codec> CheckedWrappedSender<S, V> {
         self.checked.recipients()
     }
 
-    /// Sends the bytes of a value to the recipients that were admitted, as `LimitedSender::send_checked` does; their cells stay taken.
-    /// Where it is refused, or there is no memory, nothing is handed in.
+    /// Sends the bytes of a value to the recipients that were admitted, as `LimitedSender::send_checked` does; their
+    /// cells stay taken. Where it is refused, or there is no memory, nothing is handed in.
     ///
     /// Ports `CheckedWrappedSender::send` of commonware-p2p.
     pub fn send(

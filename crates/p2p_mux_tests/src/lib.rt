@@ -1,0 +1,17 @@
+//! The tests of `p2p_mux`, `p2p_mux_codec` and `p2p_labels`, through their public names alone.
+//!
+//! `stand` is a muxer over one channel of a node, with what it is lent.
+#![tactic(auto)]
+
+#[cfg(test)]
+mod backups;
+#[cfg(test)]
+mod codecs;
+#[cfg(test)]
+mod requests;
+#[cfg(test)]
+mod senders;
+#[cfg(test)]
+mod stand;
+#[cfg(test)]
+mod texts;
