@@ -1,12 +1,13 @@
 //! The tests of `p2p_mux`, `p2p_mux_codec` and `p2p_labels`, through their public names alone.
 //!
-//! `stand` is a muxer over one channel of a node, with what it is lent.
+//! `number` is a value with a codec, and `stand` a muxer over one channel of a node, with what it is lent.
 #![tactic(auto)]
 
 #[cfg(test)]
 mod backups;
 #[cfg(test)]
 mod codecs;
+pub mod number;
 #[cfg(test)]
 mod requests;
 #[cfg(test)]
