@@ -240,6 +240,10 @@ impl<P: PublicKey, M: Carrier<P>> crate::LimitedSender for LimitedSender<P, M> {
 
     ghost due = { λ s message. size_refusal s.max_size message };
 
+    ghost content = { λ _ _ message. message };
+
+    ghost content_due = { λ _ message. message };
+
     ghost told = { λ s w keys message priority. M.content_answer w.messenger
         (to.Some keys) s.channel message priority };
 
@@ -279,6 +283,7 @@ impl<P: PublicKey, M: Carrier<P>> crate::LimitedSender for LimitedSender<P, M> {
         ensures due { IfOk result (λ r. IfOk r
             (λ _. (message : Seq ℕ) → size_refusal self.now.max_size message
             ≡ size_refusal self.now.max_size message)) }
+        ensures content { IfOk result (λ r. IfOk r (λ _. (message : Seq ℕ) → message ≡ message)) }
         ensures told { (keys : Seq P) (message : Seq ℕ) (priority : Bool) →
             M.content_answer way.new.messenger (to.Some keys) self.now.channel message priority
             ≡ M.content_answer (messenger_in M.after_try_peers way.old.messenger

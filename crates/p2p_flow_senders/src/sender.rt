@@ -106,6 +106,12 @@ pub trait LimitedSender: Copy {
     // The same of what a check gives.
     ghost due: { Self → Seq ℕ → Option Refusal };
 
+    // What is handed in of a message for these: the message itself, or with a prefix.
+    ghost content: { Self → Self.Checked → Seq ℕ → Seq ℕ };
+
+    // The same of what a check gives.
+    ghost content_due: { Self → Seq ℕ → Seq ℕ };
+
     // What is told of content for these keys.
     ghost told: { Self → Self.Way → Seq Self.PublicKey → Seq ℕ → Bool → Answer };
 
@@ -146,6 +152,8 @@ pub trait LimitedSender: Copy {
         ensures gave { IfOk result (λ r. IfOk r (λ c. gave self.now c)) }
         ensures due { IfOk result (λ r. IfOk r
             (λ c. (message : Seq ℕ) → refusal self.now c message ≡ due self.now message)) }
+        ensures content { IfOk result (λ r. IfOk r
+            (λ c. (message : Seq ℕ) → content self.now c message ≡ content_due self.now message)) }
         ensures told { (keys : Seq Self.PublicKey) (message : Seq ℕ) (priority : Bool) →
             told self.now way.new keys message priority ≡ told_after self.now way.old recipients keys message priority }
         ensures rate { rate self.now way.new ≡ rate self.now way.old }
@@ -164,10 +172,12 @@ pub trait LimitedSender: Copy {
     ) -> Result<Unreliable, SendError>
         requires serves { serves self.now way.old }
         requires gave { gave self.now checked }
-        ensures answer { IfOk result (λ u. u ≡ told self.now way.old (Self.Checked.checked checked) message priority) }
+        ensures answer { IfOk result (λ u. u ≡ told self.now way.old (Self.Checked.checked checked)
+            (content self.now checked message) priority) }
         ensures fits { OnOk result (refusal self.now checked message ≡ None) }
         ensures refused { IfErr result (λ e. IsCause (refusal self.now checked message) e) }
-        ensures handed { OnOk result (handed self.now way.old (Self.Checked.checked checked) message priority way.new) }
+        ensures handed { OnOk result (handed self.now way.old (Self.Checked.checked checked)
+            (content self.now checked message) priority way.new) }
         ensures unchanged { OnErr result (way.new ≡ way.old) }
         ensures stands { (past : Self.PublicKey → Seq ℕ) (latest : ℕ) → stands self.now way.old past latest →
             stands self.now way.new past latest }

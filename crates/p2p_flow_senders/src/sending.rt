@@ -30,7 +30,8 @@ pub trait Sender: LimitedSender {
         requires { Self.serves self.now way.old }
         ensures sent { (past : Self.PublicKey → Seq ℕ) (latest : ℕ) → Self.stands self.now way.old past latest →
             IfOk result (λ r. r.items
-            ≡ sent_to (λ keys. Self.told_after self.now way.old recipients keys message priority)
+            ≡ sent_to (λ keys. Self.told_after self.now way.old recipients keys
+            (Self.content_due self.now message) priority)
             (check_by_law Self.PublicKey.cmp (Self.rate self.now way.old) past (max latest now)
             (Self.offered self.now way.old recipients))) }
         ensures fits { (past : Self.PublicKey → Seq ℕ) (latest : ℕ) → Self.stands self.now way.old past latest →
@@ -50,7 +51,7 @@ pub trait Sender: LimitedSender {
             (moment_after (Self.offered self.now way.old recipients) latest now)) }
         ensures left { (past : Self.PublicKey → Seq ℕ) (latest : ℕ) → Self.stands self.now way.old past latest →
             IsLeft (Self.asked self.now way.old recipients)
-            (λ keys mid new. Self.handed self.now mid keys message priority new)
+            (λ keys mid new. Self.handed self.now mid keys (Self.content_due self.now message) priority new)
             (check_by_law Self.PublicKey.cmp (Self.rate self.now way.old) past (max latest now)
             (Self.offered self.now way.old recipients)) result way.new }
         ensures serves { Self.serves self.now way.new }
@@ -74,11 +75,13 @@ fn send_to<S: LimitedSender>(
     requires serves { S.serves sender.now way.old }
     requires gave { S.gave sender.now checked }
     ensures sent { IfOk result (λ r. r.items ≡ cond
-        (is_accepted (S.told sender.now way.old (S.Checked.checked checked) message priority))
+        (is_accepted (S.told sender.now way.old (S.Checked.checked checked)
+        (S.content sender.now checked message) priority))
         (S.Checked.checked checked) []) }
     ensures fits { OnOk result (S.refusal sender.now checked message ≡ None) }
     ensures refused { IfErr result (λ e. IsCause (S.refusal sender.now checked message) e) }
-    ensures handed { OnOk result (S.handed sender.now way.old (S.Checked.checked checked) message priority way.new) }
+    ensures handed { OnOk result (S.handed sender.now way.old (S.Checked.checked checked)
+        (S.content sender.now checked message) priority way.new) }
     ensures unchanged { OnErr result (way.new ≡ way.old) }
     ensures stands { (past : S.PublicKey → Seq ℕ) (latest : ℕ) → S.stands sender.now way.old past latest →
         S.stands sender.now way.new past latest }

@@ -1,0 +1,16 @@
+//! Senders and receivers of values: a codec writes each value as bytes, and reads it from them.
+#![tactic(auto)]
+
+pub mod background;
+pub mod codec;
+pub mod decoded;
+pub mod receiver;
+pub mod sender;
+pub mod stepped;
+
+pub use background::WrappedBackgroundReceiver;
+pub use codec::Codec;
+pub use decoded::BackgroundReceiver;
+pub use receiver::{WrappedMessage, WrappedReceiver, wrap};
+pub use sender::{CheckedWrappedSender, WrappedSender};
+pub use stepped::Stepped;
