@@ -231,7 +231,9 @@ fn numbers_of(act: &Act) -> (&'static str, u64, u64) {
             addresses,
             attempt,
             node,
-        } if addresses.as_slice() == [socket([10, 0, 0, 5], 3001)] => ("resolve", *node, *attempt),
+        } if addresses.as_slice() == [socket([10, 0, 0, 5], 3001)].as_slice() => (
+            "resolve", *node, *attempt,
+        ),
         _ => ("another", 0, 0),
     }
 }
