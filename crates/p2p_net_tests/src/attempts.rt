@@ -39,7 +39,7 @@ fn dialing(alloc: Global) -> Result<(World, u64), RunError> {
         };
         ask(&mut world, 0, act)?;
     }
-    let attempt = world.report().log.len() as u64 - 1;
+    let attempt = world.report().log.len().saturating_sub(1) as u64;
     Ok((world, attempt))
 }
 
