@@ -1,12 +1,15 @@
 //! The tests of `p2p_mux`, `p2p_mux_codec` and `p2p_labels`, through their public names alone.
 //!
-//! `number` is a value with a codec, and `stand` a muxer over one channel of a node, with what it is lent.
+//! `number` is a value with a codec, `node` the sender and the receiver of one channel, and `stand` a muxer over them, with scripts of what is
+//! done with it.
 #![tactic(auto)]
 
 #[cfg(test)]
 mod backups;
 #[cfg(test)]
 mod codecs;
+#[cfg(test)]
+mod node;
 pub mod number;
 #[cfg(test)]
 mod requests;

@@ -1,166 +1,128 @@
 //! Registrations of subchannels, and the messages that then come.
-use crate::stand::{Answer, with_backup};
-use bytes::Bytes;
-use p2p_base::Key;
-use p2p_mux::{DropCause, Error, MuxStepped};
-use std::alloc::{AllocError, Global};
-use std::test::Fail;
+use crate::stand::{Do, Seen, first_other};
+use p2p_mux::Error;
 
-fn bytes(alloc: Global, items: &[u8]) -> Result<Bytes, AllocError> {
-    Bytes::copy_from_slice(alloc, items)
-}
-
-#[test]
-fn what_is_asked_goes_before_messages(rt: HostRuntime) -> Result<(), Fail> {
-    let alloc = rt.alloc();
-    let mut s = with_backup(alloc, 8)?;
-    s.put(alloc, 2, 5, b"hi")?;
-    s.put(alloc, 2, 6, b"ho")?;
-    let ticket = s.register(5)?;
-    assert!(rt; matches!(s.answer(ticket)?, Answer::Pending));
-    let made = MuxStepped::Registered {
-        request: 0,
-        subchannel: 5,
-    };
-    assert_eq!(rt; s.step()?, made);
-    let routed = MuxStepped::Routed {
-        request: 0,
-        subchannel: 5,
-    };
-    assert_eq!(rt; s.step()?, routed);
-    assert_eq!(rt; s.step()?, MuxStepped::BackedUp { subchannel: 6 });
-    assert_eq!(rt; s.step()?, MuxStepped::Idle);
-    let Answer::Registered(mut receiver) = s.answer(ticket)? else {
-        return Err(Fail::new("a registration"));
-    };
-    let hi = Some((Key(2), bytes(alloc, b"hi")?));
-    assert_eq!(rt; s.receive(&mut receiver), Ok(hi));
-    assert_eq!(rt; s.receive(&mut receiver), Ok(None));
-    Ok(())
-}
+const ASKED_FIRST: &[(Do, Seen)] = &[
+    (Do::Put(2, 5, 1), Seen::Done),
+    (Do::Put(2, 6, 2), Seen::Done),
+    (Do::Register(5), Seen::Asked(0)),
+    (Do::Answer(0), Seen::Pending),
+    (Do::Step, Seen::Registered(0, 5)),
+    (Do::Step, Seen::Routed(0, 5)),
+    (Do::Step, Seen::BackedUp(6)),
+    (Do::Step, Seen::Idle),
+    (Do::Answer(0), Seen::Done),
+    (Do::Receive, Seen::Message(2, 1)),
+    (Do::Receive, Seen::Pending),
+];
 
 #[test]
-fn a_subchannel_is_registered_once_until_its_receiver_is_closed(
-    rt: HostRuntime,
-) -> Result<(), Fail> {
-    let alloc = rt.alloc();
-    let mut s = with_backup(alloc, 8)?;
-    let receiver = s.registered(5)?;
-    let again = s.register(5)?;
-    let refused = MuxStepped::Refused {
-        request: 1,
-        subchannel: 5,
-    };
-    assert_eq!(rt; s.step()?, refused);
-    match s.answer(again)? {
-        Answer::Refused(error) => assert_eq!(rt; error, Error::AlreadyRegistered(5)),
-        Answer::Pending | Answer::Registered(_) => return Err(Fail::new("a refusal")),
-    }
-    assert!(rt; receiver.close(&mut s.queues).is_ok());
-    let third = s.register(5)?;
-    assert_eq!(rt; s.step()?, MuxStepped::Deregistered { subchannel: 5 });
-    let made = MuxStepped::Registered {
-        request: 2,
-        subchannel: 5,
-    };
-    assert_eq!(rt; s.step()?, made);
-    assert!(rt; matches!(s.answer(third)?, Answer::Registered(_)));
-    Ok(())
+fn what_is_asked_goes_before_messages(rt: HostRuntime) {
+    assert_eq!(rt; first_other(rt.alloc(), 8, ASKED_FIRST), Ok(None));
 }
 
-#[test]
-fn a_request_that_is_given_up_leaves_no_route(rt: HostRuntime) -> Result<(), Fail> {
-    let alloc = rt.alloc();
-    let mut s = with_backup(alloc, 8)?;
-    let early = s.register(5)?;
-    s.give_up(early)?;
-    let given_up = MuxStepped::GivenUp {
-        request: 0,
-        subchannel: 5,
-    };
-    assert_eq!(rt; s.step()?, given_up);
-    let late = s.register(5)?;
-    let _ = s.step()?;
-    s.put(alloc, 2, 5, b"hi")?;
-    let routed = MuxStepped::Routed {
-        request: 1,
-        subchannel: 5,
-    };
-    assert_eq!(rt; s.step()?, routed);
-    s.give_up(late)?;
-    s.put(alloc, 2, 5, b"ho")?;
-    assert_eq!(rt; s.step()?, MuxStepped::Deregistered { subchannel: 5 });
-    assert_eq!(rt; s.step()?, MuxStepped::BackedUp { subchannel: 5 });
-    Ok(())
-}
+const REGISTERED_ONCE: &[(Do, Seen)] = &[
+    (Do::Register(5), Seen::Asked(0)),
+    (Do::Step, Seen::Registered(0, 5)),
+    (Do::Answer(0), Seen::Done),
+    (Do::Register(5), Seen::Asked(1)),
+    (Do::Step, Seen::Refused(1, 5)),
+    (Do::Answer(1), Seen::Failed(Error::AlreadyRegistered(5))),
+    (Do::Close, Seen::Done),
+    (Do::Register(5), Seen::Asked(2)),
+    (Do::Step, Seen::Deregistered(5)),
+    (Do::Step, Seen::Registered(2, 5)),
+    (Do::Answer(2), Seen::Done),
+];
 
 #[test]
-fn a_full_queue_drops_the_ninth_message(rt: HostRuntime) -> Result<(), Fail> {
-    let alloc = rt.alloc();
-    let mut s = with_backup(alloc, 8)?;
-    let mut receiver = s.registered(5)?;
-    let routed = MuxStepped::Routed {
-        request: 0,
-        subchannel: 5,
-    };
-    for n in 0..8u8 {
-        s.put(alloc, 2, 5, &[n])?;
-        assert_eq!(rt; s.step()?, routed);
-    }
-    s.put(alloc, 2, 5, &[8])?;
-    let cause = DropCause::SubchannelFull { subchannel: 5 };
-    assert_eq!(rt; s.step()?, MuxStepped::Dropped { cause });
-    let first = Some((Key(2), bytes(alloc, &[0])?));
-    assert_eq!(rt; s.receive(&mut receiver), Ok(first));
-    s.put(alloc, 2, 5, &[9])?;
-    assert_eq!(rt; s.step()?, routed);
-    Ok(())
+fn a_subchannel_is_registered_once_until_its_receiver_is_closed(rt: HostRuntime) {
+    assert_eq!(rt; first_other(rt.alloc(), 8, REGISTERED_ONCE), Ok(None));
 }
 
-#[test]
-fn a_message_without_a_prefix_is_dropped(rt: HostRuntime) -> Result<(), Fail> {
-    let alloc = rt.alloc();
-    let mut s = with_backup(alloc, 8)?;
-    let dropped = MuxStepped::Dropped {
-        cause: DropCause::PrefixBad,
-    };
-    s.put_raw(2, Vec::new(alloc))?;
-    assert_eq!(rt; s.step()?, dropped);
-    s.put_raw(2, Vec::from_slice(alloc, &[0x80, 0x00])?)?;
-    assert_eq!(rt; s.step()?, dropped);
-    Ok(())
-}
+const GIVEN_UP: &[(Do, Seen)] = &[
+    (Do::Register(5), Seen::Asked(0)),
+    (Do::GiveUp(0), Seen::Done),
+    (Do::Step, Seen::GivenUp(0, 5)),
+    (Do::Register(5), Seen::Asked(1)),
+    (Do::Step, Seen::Registered(1, 5)),
+    (Do::Pass(2, 5, 1), Seen::Routed(1, 5)),
+    (Do::GiveUp(1), Seen::Done),
+    (Do::Pass(2, 5, 2), Seen::Deregistered(5)),
+    (Do::Step, Seen::BackedUp(5)),
+];
 
 #[test]
-fn an_ended_muxer_answers_what_waits_and_takes_no_more(rt: HostRuntime) -> Result<(), Fail> {
-    let alloc = rt.alloc();
-    let mut s = with_backup(alloc, 8)?;
-    let mut receiver = s.registered(5)?;
-    s.put(alloc, 3, 5, b"hi")?;
-    let _ = s.step()?;
-    let waiting = s.register(6)?;
-    s.queues.end();
-    assert_eq!(rt; s.step()?, MuxStepped::Ended);
-    match s.answer(waiting)? {
-        Answer::Refused(error) => assert_eq!(rt; error, Error::Closed),
-        Answer::Pending | Answer::Registered(_) => return Err(Fail::new("an end")),
-    }
-    assert_eq!(rt; s.register(7).err(), Some(Error::Closed));
-    let hi = Some((Key(3), bytes(alloc, b"hi")?));
-    assert_eq!(rt; s.receive(&mut receiver), Ok(hi));
-    assert_eq!(rt; s.receive(&mut receiver), Err(Error::RecvFailed));
-    Ok(())
+fn a_request_that_is_given_up_leaves_no_route(rt: HostRuntime) {
+    assert_eq!(rt; first_other(rt.alloc(), 8, GIVEN_UP), Ok(None));
 }
 
+const NINE_MESSAGES: &[(Do, Seen)] = &[
+    (Do::Register(5), Seen::Asked(0)),
+    (Do::Step, Seen::Registered(0, 5)),
+    (Do::Answer(0), Seen::Done),
+    (Do::Pass(2, 5, 0), Seen::Routed(0, 5)),
+    (Do::Pass(2, 5, 1), Seen::Routed(0, 5)),
+    (Do::Pass(2, 5, 2), Seen::Routed(0, 5)),
+    (Do::Pass(2, 5, 3), Seen::Routed(0, 5)),
+    (Do::Pass(2, 5, 4), Seen::Routed(0, 5)),
+    (Do::Pass(2, 5, 5), Seen::Routed(0, 5)),
+    (Do::Pass(2, 5, 6), Seen::Routed(0, 5)),
+    (Do::Pass(2, 5, 7), Seen::Routed(0, 5)),
+    (Do::Pass(2, 5, 8), Seen::SubchannelFull(5)),
+    (Do::Receive, Seen::Message(2, 0)),
+    (Do::Pass(2, 5, 9), Seen::Routed(0, 5)),
+];
+
 #[test]
-fn a_muxer_ends_with_its_receiver(rt: HostRuntime) -> Result<(), Fail> {
-    let alloc = rt.alloc();
-    let mut s = with_backup(alloc, 8)?;
-    let mut receiver = s.registered(5)?;
-    s.inbounds.end();
-    assert_eq!(rt; s.receive(&mut receiver), Ok(None));
-    assert_eq!(rt; s.step()?, MuxStepped::Ended);
-    assert!(rt; s.queues.has_ended());
-    assert_eq!(rt; s.receive(&mut receiver), Err(Error::RecvFailed));
-    Ok(())
+fn a_full_queue_drops_the_ninth_message(rt: HostRuntime) {
+    assert_eq!(rt; first_other(rt.alloc(), 8, NINE_MESSAGES), Ok(None));
+}
+
+// The bytes 0x80 and 0x00 are no spelling of a subchannel.
+const NO_PREFIX: &[(Do, Seen)] = &[
+    (Do::PutNothing(2), Seen::Done),
+    (Do::Step, Seen::PrefixBad),
+    (Do::PutBare(2, 0x8000), Seen::Done),
+    (Do::Step, Seen::PrefixBad),
+];
+
+#[test]
+fn a_message_without_a_prefix_is_dropped(rt: HostRuntime) {
+    assert_eq!(rt; first_other(rt.alloc(), 8, NO_PREFIX), Ok(None));
+}
+
+const ENDED_MUXER: &[(Do, Seen)] = &[
+    (Do::Register(5), Seen::Asked(0)),
+    (Do::Step, Seen::Registered(0, 5)),
+    (Do::Answer(0), Seen::Done),
+    (Do::Pass(3, 5, 1), Seen::Routed(0, 5)),
+    (Do::Register(6), Seen::Asked(1)),
+    (Do::End, Seen::Done),
+    (Do::Step, Seen::Ended),
+    (Do::Answer(1), Seen::Failed(Error::Closed)),
+    (Do::Register(7), Seen::Failed(Error::Closed)),
+    (Do::Receive, Seen::Message(3, 1)),
+    (Do::Receive, Seen::Failed(Error::RecvFailed)),
+];
+
+#[test]
+fn an_ended_muxer_answers_what_waits_and_takes_no_more(rt: HostRuntime) {
+    assert_eq!(rt; first_other(rt.alloc(), 8, ENDED_MUXER), Ok(None));
+}
+
+const ENDED_RECEIVER: &[(Do, Seen)] = &[
+    (Do::Register(5), Seen::Asked(0)),
+    (Do::Step, Seen::Registered(0, 5)),
+    (Do::Answer(0), Seen::Done),
+    (Do::EndNode, Seen::Done),
+    (Do::Receive, Seen::Pending),
+    (Do::Step, Seen::Ended),
+    (Do::AskEnd, Seen::HasEnded(true)),
+    (Do::Receive, Seen::Failed(Error::RecvFailed)),
+];
+
+#[test]
+fn a_muxer_ends_with_its_receiver(rt: HostRuntime) {
+    assert_eq!(rt; first_other(rt.alloc(), 8, ENDED_RECEIVER), Ok(None));
 }
