@@ -117,7 +117,7 @@ impl Node {
         let tried = self.dialing.attempt(turn.alloc, attempt, way, at, seed)?;
         let Tried { mut row, released } = tried;
         self.tracker
-            .put_question(turn, release_of(released), &mut row)?;
+            .put_message(turn, release_of(released), &mut row)?;
         Ok(row)
     }
 

@@ -26,7 +26,7 @@ impl Tracker {
     {
         let mut row = only(turn.alloc, Reply::Ok);
         self.take_answer(turn.node, took, &mut row)?;
-        self.put_question(turn, asked, &mut row)?;
+        self.put_message(turn, asked, &mut row)?;
         Ok(row)
     }
 
@@ -49,7 +49,7 @@ impl Tracker {
     /// there already.
     ///
     /// `Err` only where there is no memory.
-    pub fn put_question(
+    pub fn put_message(
         &mut self,
         turn: Turn,
         asked: Option<Item>,
