@@ -1,6 +1,6 @@
 """The form of a script: its tree as configurations and events, with what is not built yet told apart."""
 import later
-from address_form import some_peers, some_sockets
+from address_form import a_socket, some_peers, some_sockets
 from faults import Fault, perhaps
 from words import U32, Field, a_flag, a_text, an_array, an_object, some_bytes, whole
 
@@ -80,6 +80,7 @@ ACT_FORMS = {
     'dialer': {'node': whole},
     'attempt': {'attempt': whole, 'node': whole},
     'resolve': {'addresses': some_sockets, 'attempt': whole, 'node': whole},
+    'connect': {'attempt': whole, 'from': a_socket, 'node': whole, 'to': whole},
     'refuse': {'attempt': whole, 'node': whole},
 }
 

@@ -6,6 +6,9 @@ MOST_BYTES = 16_777_200
 # Which acts ask what these two take.
 ASKED_BY = {'answer': ('peer_set',), 'next': ('subscribe', 'blocked')}
 
+# How acts of two nodes name them.
+TWO_NODES = {'join': ('a', 'b'), 'connect': ('node', 'to')}
+
 
 def with_article(word):
     return '%s %s' % ('an' if word[0] in 'aeiou' else 'a', word)
@@ -104,13 +107,14 @@ class Past:
         if event.said['at'] < self.moment:
             return event.fault('at', 'the moment %d is before that of the event before, %d' % (event.said['at'], self.moment))
         self.moment = event.said['at']
-        for name in ('node', 'a', 'b'):
+        for name in TWO_NODES.get(event.act, ('node',)):
             fault = self.node_fault(event, name) if name in event.said else None
             if fault:
                 return fault
         judge = {'register': self.register_fault, 'start': self.start_fault, 'send_step': self.connection_fault,
                  'recv_step': self.connection_fault, 'answer': self.question_fault, 'next': self.question_fault,
-                 'attempt': self.attempt_fault, 'resolve': self.attempt_fault, 'refuse': self.attempt_fault}.get(event.act)
+                 'attempt': self.attempt_fault, 'resolve': self.attempt_fault, 'connect': self.attempt_fault,
+                 'refuse': self.attempt_fault}.get(event.act)
         return judge(event) if judge else None
 
 

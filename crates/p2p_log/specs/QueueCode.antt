@@ -22,6 +22,7 @@ kind_of (queue.Answer n e) = 12
 kind_of (queue.Updates n e) = 13
 kind_of (queue.Blocked n e) = 14
 kind_of (queue.Attempt n e) = 15
+kind_of (queue.Arrivals n) = 16
 
 -- the node, or the link, that it belongs to
 abbrev pub owner_of : Queue → ℕ
@@ -40,6 +41,7 @@ owner_of (queue.Answer n e) = n
 owner_of (queue.Updates n e) = n
 owner_of (queue.Blocked n e) = n
 owner_of (queue.Attempt n e) = n
+owner_of (queue.Arrivals n) = n
 
 -- its channel, connection, question or attempt, or 0 where it has none
 abbrev pub detail_of : Queue → ℕ
@@ -58,6 +60,7 @@ detail_of (queue.Answer n e) = e
 detail_of (queue.Updates n e) = e
 detail_of (queue.Blocked n e) = e
 detail_of (queue.Attempt n e) = e
+detail_of (queue.Arrivals n) = 0
 
 -- whether two names are of one queue
 abbrev pub same_queue : Queue → Queue → Bool

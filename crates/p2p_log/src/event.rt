@@ -100,6 +100,14 @@ pub enum Act {
         attempt: u64,
         node: u64,
     },
+    /// Links an attempt to the listener of another node, at which it arrives from this address. Where that node doesn't run,
+    /// the attempt is told that there is no link.
+    Connect {
+        attempt: u64,
+        from: SocketAddr,
+        node: u64,
+        to: u64,
+    },
     /// Tells an attempt that there is no link to its peer.
     Refuse {
         attempt: u64,
@@ -206,6 +214,17 @@ impl Act {
                 addresses: addresses.try_clone(alloc)?,
                 attempt: *attempt,
                 node: *node,
+            }),
+            Act::Connect {
+                attempt,
+                from,
+                node,
+                to,
+            } => Ok(Act::Connect {
+                attempt: *attempt,
+                from: *from,
+                node: *node,
+                to: *to,
             }),
             Act::Refuse { attempt, node } => Ok(Act::Refuse {
                 attempt: *attempt,

@@ -65,8 +65,16 @@ pub enum Item {
     Dial(Option<(Key, Ingress)>),
     /// To an attempt: the addresses that its peer's name stands for.
     Resolved(List<SocketAddr>),
+    /// To an attempt: it has a link to its peer.
+    Linked,
     /// To an attempt: there is no link to its peer.
     Refused,
+    /// To a listener: a peer with this key has come from this address, over the link of this event.
+    Arrival {
+        from: SocketAddr,
+        key: Key,
+        link: u64,
+    },
     /// A connection is to end.
     Kill,
     /// The peers of the set that was asked for, or none where no set of that index is kept.
@@ -136,7 +144,13 @@ impl Item {
             }),
             Item::Dial(grant) => Ok(Item::Dial(clone_grant(alloc, grant)?)),
             Item::Resolved(addresses) => Ok(Item::Resolved(addresses.try_clone(alloc)?)),
+            Item::Linked => Ok(Item::Linked),
             Item::Refused => Ok(Item::Refused),
+            Item::Arrival { from, key, link } => Ok(Item::Arrival {
+                from: *from,
+                key: *key,
+                link: *link,
+            }),
             Item::Kill => Ok(Item::Kill),
             Item::PeerSet(peers) => Ok(Item::PeerSet(clone_peers(peers)?)),
             Item::Update(update) => Ok(Item::Update(update.try_clone()?)),

@@ -38,6 +38,8 @@ pub enum Queue {
     Dialer(u64),
     /// What an attempt of a node's dialer is told.
     Attempt { node: u64, attempt: u64 },
+    /// The peers that a node's listener has yet to take.
+    Arrivals(u64),
     /// What a connection of a node is told to do.
     Control { node: u64, conn: u64 },
     /// The answer to the question for a peer set that an event asked of a node.
@@ -73,6 +75,7 @@ impl Queue {
             Queue::Updates { .. } => 13,
             Queue::Blocked { .. } => 14,
             Queue::Attempt { .. } => 15,
+            Queue::Arrivals(_) => 16,
         }
     }
 
@@ -96,6 +99,7 @@ impl Queue {
             Queue::Updates { node, .. } => node,
             Queue::Blocked { node, .. } => node,
             Queue::Attempt { node, .. } => node,
+            Queue::Arrivals(node) => node,
         }
     }
 
@@ -119,6 +123,7 @@ impl Queue {
             Queue::Updates { question, .. } => question,
             Queue::Blocked { question, .. } => question,
             Queue::Attempt { attempt, .. } => attempt,
+            Queue::Arrivals(_) => 0,
         }
     }
 }

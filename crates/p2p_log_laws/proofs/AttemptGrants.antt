@@ -17,7 +17,7 @@ use Rattle.p2p_log.specs.Taken.{AreTaken}
 use Rattle.p2p_log.proofs.Each.{Each-weaker}
 use Rattle.p2p_log.proofs.Queues.{same_queue-refl}
 use Rattle.p2p_log_rules.specs.declared.row.Row.{Row}
-use Rattle.p2p_log_rules.specs.Attempting.{Attempt, drawn_address, dialing, resolved, stepped_attempt, given_up_row, resolved_row, took_row, attempt_turn}
+use Rattle.p2p_log_rules.specs.Attempting.{Attempt, DialRules, drawn_address, dialing, resolved, linked, stepped_attempt, given_up_row, resolved_row, took_row, attempt_turn}
 use Rattle.p2p_log_rules.specs.Moves.{Moves}
 use Rattle.p2p_log_rules.specs.Rows.{only}
 use Rattle.p2p_log_rules.proofs.Moves.{stands_first}
@@ -37,7 +37,7 @@ resolved_key : (o : Option SocketAddr) (private : Bool) (addresses : List Socket
 resolved_key (Some s) private addresses seed a b h = ap (λ (c : Attempt). c.key) (sym (same_Some a b h))
 resolved_key None private addresses seed a b h = dialing_key (drawn_address private addresses seed) a b h
 
-module _ (n : ℕ) (key : Key) (log : List Entry) (e : ℕ) (private : Bool) (seed : ℕ) (a : Attempt) where
+module _ (n : ℕ) (key : Key) (log : List Entry) (e : ℕ) (rules : DialRules) (at seed : ℕ) (a : Attempt) where
   abbrev q : Queue
   q = queue.Attempt n e
 
@@ -47,7 +47,7 @@ module _ (n : ℕ) (key : Key) (log : List Entry) (e : ℕ) (private : Bool) (se
     pub taken : Each (StandsPlain n key) moves.taken
     pub ended : Each (StandsPlain n key) moves.ended
     pub grants_put : count_by (puts_grant n key) r.puts ≡ 0
-    pub kept : one (a.key.0 == key.0) ≡ one (is_attempt_of key (stepped_attempt private seed r.reply (map (λ x. x.item) moves.taken) a)) + count_by (puts_release n key) r.puts
+    pub kept : one (a.key.0 == key.0) ≡ one (is_attempt_of key (stepped_attempt rules at seed r.reply (map (λ x. x.item) moves.taken) a)) + count_by (puts_release n key) r.puts
 
   -- what stands in its queue
   aside : (xs ys : List Envelope) → line log q ≡ xs ++ ys → Each (StandsPlain n key) xs × Each (StandsPlain n key) ys
@@ -57,14 +57,14 @@ module _ (n : ℕ) (key : Key) (log : List Entry) (e : ℕ) (private : Bool) (se
       (stand_aside n key (xs ++ ys) (Each-weaker (λ x. x.queue ≡ q) (λ x. IsAside n x.queue) (λ x is. subst (IsAside n) (sym is) (refl, refl)) (xs ++ ys) here))
 
   -- it ends
-  gives_up : (took left : List Envelope) → line log q ≡ took ++ left → stepped_attempt private seed reply.Ok (map (λ x. x.item) took) a ≡ None
+  gives_up : (took left : List Envelope) → line log q ≡ took ++ left → stepped_attempt rules at seed reply.Ok (map (λ x. x.item) took) a ≡ None
       → Ends (given_up_row n a.key (map name_of took) left)
   gives_up took left first ends =
       let r : Row = given_up_row n a.key (map name_of took) left in
       let both = aside took left first in
       let released : puts_release n key (queue.Tracker n, item.Release a.key) ≡ (a.key.0 == key.0) = ap (λ b. b && (a.key.0 == key.0)) (same_queue-refl (queue.Tracker n)) in
       let put : count_by (puts_release n key) r.puts ≡ one (a.key.0 == key.0) = count_by-one (puts_release n key) (queue.Tracker n, item.Release a.key) ∙ ap one released in
-      let gone : one (is_attempt_of key (stepped_attempt private seed reply.Ok (map (λ x. x.item) took) a)) ≡ 0 = ap (λ o. one (is_attempt_of key o)) ends in
+      let gone : one (is_attempt_of key (stepped_attempt rules at seed reply.Ok (map (λ x. x.item) took) a)) ≡ 0 = ap (λ o. one (is_attempt_of key o)) ends in
       record {
         moves = record { taken = took; ended = left; names = refl; gone = left_gone left; stood = subst (AreTaken (live log)) first (whole_taken log q) };
         taken = both.0;
@@ -74,11 +74,11 @@ module _ (n : ℕ) (key : Key) (log : List Entry) (e : ℕ) (private : Bool) (se
       }
 
   -- it goes on, with nothing taken or with this
-  goes_on : (took left : List Envelope) → line log q ≡ took ++ left → (b : Attempt) → stepped_attempt private seed reply.Ok (map (λ x. x.item) took) a ≡ Some b → b.key ≡ a.key
+  goes_on : (took left : List Envelope) → line log q ≡ took ++ left → (b : Attempt) → stepped_attempt rules at seed reply.Ok (map (λ x. x.item) took) a ≡ Some b → b.key ≡ a.key
       → AreTaken (live log) (took ++ []) → Ends (record { reply = reply.Ok; takes = map name_of took; puts = []; ends = [] })
   goes_on took left first b on key_kept stood =
       let both = aside took left first in
-      let same : one (is_attempt_of key (stepped_attempt private seed reply.Ok (map (λ x. x.item) took) a)) ≡ one (a.key.0 == key.0) =
+      let same : one (is_attempt_of key (stepped_attempt rules at seed reply.Ok (map (λ x. x.item) took) a)) ≡ one (a.key.0 == key.0) =
       ap (λ o. one (is_attempt_of key o)) on ∙ ap (λ (k : Key). one (k.0 == key.0)) key_kept
       in
       record {
@@ -96,20 +96,22 @@ module _ (n : ℕ) (key : Key) (log : List Entry) (e : ℕ) (private : Bool) (se
   waits = record { moves = no_moves log (only reply.Idle) refl refl; taken = tt; ended = tt; grants_put = refl; kept = omega arith }
 
   module _ (x : Envelope) (rest : List Envelope) (first : line log q ≡ x ∷ rest) where
-    by_resolved : (addresses : List SocketAddr) → x.item ≡ item.Resolved addresses → (o : Option Attempt) → resolved a.address private addresses seed a ≡ o → Ends (resolved_row o n a.key (name_of x) rest)
-    by_resolved addresses is None none = gives_up (x ∷ []) rest first (ap (λ i. stepped_attempt private seed reply.Ok (i ∷ []) a) is ∙ none)
+    by_resolved : (addresses : List SocketAddr) → x.item ≡ item.Resolved addresses → (o : Option Attempt) → resolved a.address rules.private addresses seed a ≡ o → Ends (resolved_row o n a.key (name_of x) rest)
+    by_resolved addresses is None none = gives_up (x ∷ []) rest first (ap (λ i. stepped_attempt rules at seed reply.Ok (i ∷ []) a) is ∙ none)
     by_resolved addresses is (Some b) on =
-        goes_on (x ∷ []) rest first b (ap (λ i. stepped_attempt private seed reply.Ok (i ∷ []) a) is ∙ on) (resolved_key a.address private addresses seed a b on)
+        goes_on (x ∷ []) rest first b (ap (λ i. stepped_attempt rules at seed reply.Ok (i ∷ []) a) is ∙ on) (resolved_key a.address rules.private addresses seed a b on)
         (stands_first log q x rest first)
 
-    by_item : (i : Item) → x.item ≡ i → Ends (took_row n private seed a (name_of x) i rest)
-    by_item (item.Resolved addresses) is = by_resolved addresses is (resolved a.address private addresses seed a) refl
-    by_item _ is = gives_up (x ∷ []) rest first (ap (λ i. stepped_attempt private seed reply.Ok (i ∷ []) a) is)
+    by_item : (i : Item) → x.item ≡ i → Ends (took_row n rules.private seed a (name_of x) i rest)
+    by_item (item.Resolved addresses) is = by_resolved addresses is (resolved a.address rules.private addresses seed a) refl
+    by_item item.Linked is =
+        goes_on (x ∷ []) rest first (linked (at + rules.handshake_timeout) a) (ap (λ i. stepped_attempt rules at seed reply.Ok (i ∷ []) a) is) refl (stands_first log q x rest first)
+    by_item _ is = gives_up (x ∷ []) rest first (ap (λ i. stepped_attempt rules at seed reply.Ok (i ∷ []) a) is)
 
-  pub attempt_ends : (at : ℕ) (xs : List Envelope) → line log q ≡ xs → Ends (attempt_turn n at seed private a xs)
-  attempt_ends at [] none = by_due (nat_le a.deadline at)
+  pub attempt_ends : (xs : List Envelope) → line log q ≡ xs → Ends (attempt_turn n at seed rules.private a xs)
+  attempt_ends [] none = by_due (nat_le a.deadline at)
     where
       by_due : (b : Bool) → Ends (cond b (given_up_row n a.key [] []) (only reply.Idle))
       by_due true = gives_up [] [] none refl
       by_due false = waits
-  attempt_ends at (x ∷ rest) first = by_item x rest first x.item refl
+  attempt_ends (x ∷ rest) first = by_item x rest first x.item refl

@@ -7,7 +7,7 @@ use Rattle.p2p_log.specs.declared.config.Config.{Config}
 use Rattle.p2p_log.specs.declared.entry.Entry.{Entry}
 use Rattle.p2p_log.specs.declared.entry.Reply.{Reply}
 use Rattle.p2p_log.specs.declared.entry.Reply.TheVariants as reply
-use Rattle.p2p_log_rules.specs.Attempting.{Attempt, told_addresses, told_refused, with_attempt, with_begun, and_then, attempts_by, attempts_of}
+use Rattle.p2p_log_rules.specs.Attempting.{Attempt, told_addresses, told_answer, with_attempt, with_begun, and_then, attempts_by, attempts_of}
 use Rattle.p2p_log_rules.proofs.Attempts.{attempts_of-append, attempts_of-late}
 use Rattle.p2p_log_laws.specs.Grants.{one}
 use Rattle.p2p_log_laws.specs.NodeGrants.{count_below, is_attempt_of}
@@ -57,9 +57,9 @@ module _ (key : Key) where
   addresses_kept reply.Ok a = refl
   addresses_kept _ a = refl
 
-  pub refused_kept : (r : Reply) (a : Attempt) → holds (Some (told_refused r a)) ≡ holds (Some a)
-  refused_kept reply.Ok a = refl
-  refused_kept _ a = refl
+  pub answer_kept : (r : Reply) (a : Attempt) → holds (Some (told_answer r a)) ≡ holds (Some a)
+  answer_kept reply.Ok a = refl
+  answer_kept _ a = refl
 
   -- another node's attempts
   pub others_kept : (t : Bool) (o u : Option Attempt) → t ≡ false → holds (cond t o u) ≡ holds u

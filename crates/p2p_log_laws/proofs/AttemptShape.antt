@@ -1,5 +1,5 @@
 -- The shapes of what attempts are told, and of their steps: none moves a copy.
-use Rattle.std.proofs.Common.{◌≡◌, ℕ, Bool, true, false, cond, List, [], ◌∷◌, ◌++◌, map, Option, Some, None, refl, ap, subst, ◌∙◌}
+use Rattle.std.proofs.Common.{◌≡◌, ℕ, Bool, true, false, cond, List, [], ◌∷◌, ◌++◌, map, length, Option, Some, None, refl, ap, subst, ◌∙◌}
 use Rattle.std.specs.Prelude.{◌||◌, nat_le, flat_map}
 use Rattle.std.specs.List.{AllByRecursion as Each}
 use Rattle.p2p_base.specs.declared.key.Key.{Key}
@@ -27,9 +27,10 @@ use Rattle.p2p_log.proofs.QueueNames.{Each-in_queue}
 use Rattle.p2p_log.proofs.Queues.{same_queue-refl}
 use Rattle.p2p_log.proofs.Taken.{line_taken}
 use Rattle.p2p_log_rules.specs.declared.row.Row.{Row}
+use Rattle.p2p_log_rules.specs.Facts.{is_up, key_at}
 use Rattle.p2p_log_rules.specs.Moves.{Moves}
 use Rattle.p2p_log_rules.specs.Rows.{only}
-use Rattle.p2p_log_rules.specs.Attempting.{Attempt, dial_rules_at, attempts_of, resolved, left_ends, given_up_row, resolved_row, took_row, attempt_turn, attempt_by, attempt_row, told_row, resolve_by, resolve_row, refuse_by, refuse_row}
+use Rattle.p2p_log_rules.specs.Attempting.{Attempt, dial_rules_at, attempts_of, resolved, left_ends, given_up_row, gone_on_row, resolved_row, took_row, attempt_turn, attempt_by, attempt_row, told_row, resolve_by, resolve_row, link_item, answered_row, refuse_row, connected_row, connect_row}
 use Rattle.p2p_log_rules.proofs.Touches.{reads, writes}
 use Rattle.p2p_log_laws.proofs.Fitting.{StandsFit, fits, is_bare, holds_bare, is_item_end, bare_there}
 use Rattle.p2p_log_laws.proofs.Shape.{Shape, IsQuiet, quiet_laws, still, no_moves, one_move, first_in}
@@ -102,9 +103,9 @@ module _ (configs : List Config) (log : List Entry) (e n : ℕ) where
       }
 
   -- it takes this, and goes on
-  taken_shape : (x : Envelope) (rest : List Envelope) → line log q ≡ x ∷ rest → Shape configs log a (record { reply = reply.Ok; takes = name_of x ∷ []; puts = []; ends = [] })
+  taken_shape : (x : Envelope) (rest : List Envelope) → line log q ≡ x ∷ rest → Shape configs log a (gone_on_row (name_of x))
   taken_shape x rest first =
-      let r : Row = record { reply = reply.Ok; takes = name_of x ∷ []; puts = []; ends = [] } in
+      let r : Row = gone_on_row (name_of x) in
       record {
         moves = one_move log q x rest first r refl refl;
         reach = record { taken = (first_in (reads configs log a) log q x rest first (same_queue-refl q), tt); ended = tt; puts = tt };
@@ -119,6 +120,7 @@ module _ (configs : List Config) (log : List Entry) (e n : ℕ) where
 
   took_shape : (private : Bool) (seed : ℕ) (b : Attempt) (x : Envelope) (rest : List Envelope) → line log q ≡ x ∷ rest → (i : Item) → Shape configs log a (took_row n private seed b (name_of x) i rest)
   took_shape private seed b x rest first (item.Resolved addresses) = resolved_shape (resolved b.address private addresses seed b) b.key x rest first
+  took_shape private seed b x rest first item.Linked = taken_shape x rest first
   took_shape private seed b x rest first _ = given_up_shape (x ∷ []) rest first b.key
 
   turn_shape : (at seed : ℕ) (private : Bool) (b : Attempt) (xs : List Envelope) → line log q ≡ xs → Shape configs log a (attempt_turn n at seed private b xs)
@@ -153,10 +155,14 @@ module _ (configs : List Config) (log : List Entry) (a : Act) (e n : ℕ) (none 
   resolve_told (ingress.Dns host port) true addresses = still configs log a reply.Gone (none reply.Gone) refl
   resolve_told (ingress.Socket s) b addresses = still configs log a reply.Gone (none reply.Gone) refl
 
-  refuse_told : (o : Option SocketAddr) (b : Bool) → Shape configs log a (refuse_by o b e n)
-  refuse_told None b = still configs log a reply.Pending (none reply.Pending) refl
-  refuse_told (Some s) true = still configs log a reply.Gone (none reply.Gone) refl
-  refuse_told (Some s) false = told_shape item.Refused (refl, refl)
+  link_quiet : (links : Bool) → IsQuiet (queue.Attempt n e, link_item links)
+  link_quiet true = (refl, refl)
+  link_quiet false = (refl, refl)
+
+  answered_shape : (o : Option SocketAddr) (b links : Bool) → Shape configs log a (answered_row o b links e n)
+  answered_shape None b links = still configs log a reply.Pending (none reply.Pending) refl
+  answered_shape (Some s) true links = still configs log a reply.Gone (none reply.Gone) refl
+  answered_shape (Some s) false links = told_shape (link_item links) (link_quiet links)
 
 pub resolve_shape : (configs : List Config) (log : List Entry) (addresses : List SocketAddr) (e n : ℕ) → Shape configs log (act.Resolve addresses e n) (resolve_row configs log addresses e n)
 resolve_shape configs log addresses e n = by_attempt (attempts_of configs log n e)
@@ -168,6 +174,43 @@ resolve_shape configs log addresses e n = by_attempt (attempts_of configs log n 
 pub refuse_shape : (configs : List Config) (log : List Entry) (e n : ℕ) → Shape configs log (act.Refuse e n) (refuse_row configs log e n)
 refuse_shape configs log e n = by_attempt (attempts_of configs log n e)
   where
-    by_attempt : (o : Option Attempt) → Shape configs log (act.Refuse e n) (elim o [ None ↦ only reply.Gone | Some a ↦ refuse_by a.address a.is_refused e n ])
+    by_attempt : (o : Option Attempt) → Shape configs log (act.Refuse e n) (elim o [ None ↦ only reply.Gone | Some a ↦ answered_row a.address a.is_answered false e n ])
     by_attempt None = still configs log (act.Refuse e n) reply.Gone refl refl
-    by_attempt (Some a) = refuse_told configs log (act.Refuse e n) e n (λ r. refl) (same_queue-refl (queue.Attempt n e)) a.address a.is_refused
+    by_attempt (Some a) = answered_shape configs log (act.Refuse e n) e n (λ r. refl) (same_queue-refl (queue.Attempt n e)) a.address a.is_answered false
+
+-- ---- a link to another node
+
+module _ (configs : List Config) (log : List Entry) (e : ℕ) (from : SocketAddr) (n to : ℕ) where
+  abbrev connects : Act
+  connects = act.Connect e from n to
+
+  abbrev arrival : Item
+  arrival = item.Arrival from (key_at configs n) (length log)
+
+  near : writes configs log connects (queue.Attempt n e) ≡ true
+  near = ap (λ b. b || same_queue (queue.Arrivals to) (queue.Attempt n e)) (same_queue-refl (queue.Attempt n e))
+
+  far : writes configs log connects (queue.Arrivals to) ≡ true
+  far = ap (λ b. same_queue (queue.Attempt n e) (queue.Arrivals to) || b) (same_queue-refl (queue.Arrivals to))
+
+  linked_shape : (s : SocketAddr) → Shape configs log connects (connected_row (Some s) false true e n to arrival)
+  linked_shape s =
+      let r : Row = connected_row (Some s) false true e n to arrival in
+      record {
+        moves = no_moves log r refl refl;
+        reach = record { taken = tt; ended = tt; puts = (near, (far, tt)) };
+        laws = λ stand. quiet_laws configs log connects r (no_moves log r refl refl) refl refl tt tt tt ((refl, refl), ((refl, refl), tt));
+      }
+
+  connected_shape : (o : Option SocketAddr) (answered runs : Bool) → Shape configs log connects (connected_row o answered runs e n to arrival)
+  connected_shape (Some s) false true = linked_shape s
+  connected_shape (Some s) false false = answered_shape configs log connects e n (λ r. refl) near (Some s) false false
+  connected_shape (Some s) true runs = answered_shape configs log connects e n (λ r. refl) near (Some s) true runs
+  connected_shape None answered runs = answered_shape configs log connects e n (λ r. refl) near None answered runs
+
+  pub connect_shape : Shape configs log connects (connect_row configs log e from n to)
+  connect_shape = by_attempt (attempts_of configs log n e)
+    where
+      by_attempt : (o : Option Attempt) → Shape configs log connects (elim o [ None ↦ only reply.Gone | Some a ↦ connected_row a.address a.is_answered (is_up log to) e n to arrival ])
+      by_attempt None = still configs log connects reply.Gone refl refl
+      by_attempt (Some a) = connected_shape a.address a.is_answered (is_up log to)

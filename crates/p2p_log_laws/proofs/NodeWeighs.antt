@@ -21,7 +21,7 @@ use Rattle.p2p_log.specs.declared.event.Act.TheVariants as act
 use Rattle.p2p_log.specs.declared.event.Event.{Event}
 use Rattle.p2p_log.specs.Lines.{ended_item, line}
 use Rattle.p2p_log_rules.specs.declared.row.Row.{Row}
-use Rattle.p2p_log_rules.specs.Attempting.{Attempt, DialRules, dial_rules_at, begun_of, told_addresses, told_refused, with_attempt, with_begun, and_then, stepped_attempt, attempts_by, attempts_of, attempt_turn, attempt_by, attempt_row, resolve_row, refuse_row}
+use Rattle.p2p_log_rules.specs.Attempting.{Attempt, DialRules, dial_rules_at, begun_of, told_addresses, told_answer, with_attempt, with_begun, and_then, stepped_attempt, attempts_by, attempts_of, attempt_turn, attempt_by, attempt_row, resolve_row, refuse_row, connect_row}
 use Rattle.p2p_log_rules.specs.Dialing.{dialer_row}
 use Rattle.p2p_log_rules.specs.Effect.{entry_of, row}
 use Rattle.p2p_log_rules.specs.Facts.{taken}
@@ -33,7 +33,7 @@ use Rattle.p2p_log_rules.proofs.Touches.{reads, writes, is_told_to}
 use Rattle.p2p_log_laws.specs.Grants.{one, Granting, turn_by, held_after}
 use Rattle.p2p_log_laws.specs.NodeGrants.{releases_key, is_attempt_of, puts_grant, puts_release, granting}
 use Rattle.p2p_log_laws.proofs.AttemptGrants.{Ends, attempt_ends}
-use Rattle.p2p_log_laws.proofs.AttemptHolds.{told_kept, none_kept, addresses_kept, refused_kept, others_kept, held_by_attempts, holds_kept, holds_begun, holds_changed}
+use Rattle.p2p_log_laws.proofs.AttemptHolds.{told_kept, none_kept, addresses_kept, answer_kept, others_kept, held_by_attempts, holds_kept, holds_begun, holds_changed}
 use Rattle.p2p_log_laws.proofs.DialerGrants.{Hand, dialer_hands}
 use Rattle.p2p_log_laws.proofs.Plain.{Plain, IsPlain, plain_item, no_grants, no_releases, no_grants_stand, no_releases_stand, plain_out_of_reach}
 use Rattle.p2p_log_laws.proofs.Shape.{Shape, no_moves}
@@ -215,17 +215,17 @@ module _ (configs : List Config) (n : ℕ) (key : Key) (log : List Entry) where
     stands_weighs : (i : ℕ) (a : Attempt) → f i ≡ Some a
         → Weighs (event at seed (act.Attempt i n)) (attempt_turn n at seed (dial_rules_at configs n).private a (line log (queue.Attempt n i)))
     stands_weighs i a stands =
-        let private : Bool = (dial_rules_at configs n).private in
-        let r : Row = attempt_turn n at seed private a (line log (queue.Attempt n i)) in
-        let ends : Ends n key log i private seed a r = attempt_ends n key log i private seed a at (line log (queue.Attempt n i)) refl in
+        let rules : DialRules = dial_rules_at configs n in
+        let r : Row = attempt_turn n at seed rules.private a (line log (queue.Attempt n i)) in
+        let ends : Ends n key log i rules at seed a r = attempt_ends n key log i rules at seed a (line log (queue.Attempt n i)) refl in
         let m : Moves log r = ends.moves in
         let e : Entry = entry_of (event at seed (act.Attempt i n)) r in
         let items : taken log e ≡ map (λ x. x.item) m.taken = taken_items log (event at seed (act.Attempt i n)) r m in
-        let left : Option Attempt = stepped_attempt private seed r.reply (map (λ x. x.item) m.taken) a in
+        let left : Option Attempt = stepped_attempt rules at seed r.reply (map (λ x. x.item) m.taken) a in
         let held = holds_changed configs n key log e i a left stands
-        (λ k. ap (λ b. cond b (with_attempt i (and_then (stepped_attempt private seed r.reply (taken log e)) (f i)) f k) (f k)) here
-        ∙ (ap (λ l. with_attempt i (and_then (stepped_attempt private seed r.reply l) (f i)) f k) items
-        ∙ ap (λ o. with_attempt i (and_then (stepped_attempt private seed r.reply (map (λ x. x.item) m.taken)) o) f k) stands)) in
+        (λ k. ap (λ b. cond b (with_attempt i (and_then (stepped_attempt rules at seed r.reply (taken log e)) (f i)) f k) (f k)) here
+        ∙ (ap (λ l. with_attempt i (and_then (stepped_attempt rules at seed r.reply l) (f i)) f k) items
+        ∙ ap (λ o. with_attempt i (and_then (stepped_attempt rules at seed r.reply (map (λ x. x.item) m.taken)) o) f k) stands)) in
         let kept = ends.kept in
         let taken_here = no_grants_stand n key m.taken ends.taken in
         let ended = no_grants_stand n key m.ended ends.ended in
@@ -238,7 +238,7 @@ module _ (configs : List Config) (n : ℕ) (key : Key) (log : List Entry) where
         by_attempt : (o : Option Attempt) → f i ≡ o → Weighs (event at seed (act.Attempt i n)) (attempt_by o n at seed (dial_rules_at configs n).private (line log (queue.Attempt n i)))
         by_attempt None none =
             asks (act.Attempt i n) (only reply.Gone) refl refl refl tt
-            (λ k. none_kept key (n == n) (stepped_attempt (dial_rules_at configs n).private seed reply.Gone (taken log (entry_of (event at seed (act.Attempt i n)) (only reply.Gone)))) i k f none)
+            (λ k. none_kept key (n == n) (stepped_attempt (dial_rules_at configs n) at seed reply.Gone (taken log (entry_of (event at seed (act.Attempt i n)) (only reply.Gone)))) i k f none)
         by_attempt (Some a) stands = stands_weighs i a stands
 
     -- ---- each act, at this node or at another
@@ -263,7 +263,7 @@ module _ (configs : List Config) (n : ℕ) (key : Key) (log : List Entry) where
     attempt_at i m false differ =
         let r : Row = attempt_row configs log i m at seed in
         other (act.Attempt i m) r (row_shape configs log at seed (act.Attempt i m)) (refl, refl) (refl, ap (λ b. b && true || false) differ) refl
-        (λ k. others_kept key (m == n) (with_attempt i (and_then (stepped_attempt (dial_rules_at configs n).private seed r.reply (taken log (entry_of (event at seed (act.Attempt i m)) r))) (f i)) f k) (f k) differ)
+        (λ k. others_kept key (m == n) (with_attempt i (and_then (stepped_attempt (dial_rules_at configs n) at seed r.reply (taken log (entry_of (event at seed (act.Attempt i m)) r))) (f i)) f k) (f k) differ)
 
     pub each_weighs : (a : Act) → Weighs (event at seed a) (row configs log at seed a)
     unfolding row
@@ -281,8 +281,12 @@ module _ (configs : List Config) (n : ℕ) (key : Key) (log : List Entry) where
         let r : Row = resolve_row configs log addresses i m in
         other (act.Resolve addresses i m) r (row_shape configs log at seed (act.Resolve addresses i m)) (refl, refl) (refl, refl) refl
         (λ k. told_kept key (m == n) (told_addresses r.reply) i k f (addresses_kept key r.reply))
+    each_weighs (act.Connect i from m to) =
+        let r : Row = connect_row configs log i from m to in
+        other (act.Connect i from m to) r (row_shape configs log at seed (act.Connect i from m to)) (refl, refl) (refl, refl) refl
+        (λ k. told_kept key (m == n) (told_answer r.reply) i k f (answer_kept key r.reply))
     each_weighs (act.Refuse i m) =
         let r : Row = refuse_row configs log i m in
         other (act.Refuse i m) r (row_shape configs log at seed (act.Refuse i m)) (refl, refl) (refl, refl) refl
-        (λ k. told_kept key (m == n) (told_refused r.reply) i k f (refused_kept key r.reply))
+        (λ k. told_kept key (m == n) (told_answer r.reply) i k f (answer_kept key r.reply))
     each_weighs a = other a (row configs log at seed a) (row_shape configs log at seed a) (refl, refl) (refl, refl) refl (λ k. refl)

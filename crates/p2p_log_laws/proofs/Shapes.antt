@@ -9,7 +9,7 @@ use Rattle.p2p_log_laws.proofs.CallShapes.{register_shape, start_shape, join_sha
 use Rattle.p2p_log_laws.proofs.ConnShapes.{send_step_shape, recv_step_shape}
 use Rattle.p2p_log_laws.proofs.RouterShape.{router_shape}
 use Rattle.p2p_log_laws.proofs.Shape.{Shape}
-use Rattle.p2p_log_laws.proofs.AttemptShape.{attempt_shape, resolve_shape, refuse_shape}
+use Rattle.p2p_log_laws.proofs.AttemptShape.{attempt_shape, resolve_shape, refuse_shape, connect_shape}
 use Rattle.p2p_log_laws.proofs.DialerShape.{dialer_shape}
 use Rattle.p2p_log_laws.proofs.TrackerShape.{ask_shape, answer_shape, next_shape, tracker_shape}
 
@@ -30,5 +30,6 @@ row_shape configs log at seed (act.Next question) = next_shape configs log quest
 row_shape configs log at seed (act.Dialer n) = dialer_shape configs log n at seed
 row_shape configs log at seed (act.Attempt e n) = attempt_shape configs log e n at seed
 row_shape configs log at seed (act.Resolve addresses e n) = resolve_shape configs log addresses e n
+row_shape configs log at seed (act.Connect e from n to) = connect_shape configs log e from n to
 row_shape configs log at seed (act.Refuse e n) = refuse_shape configs log e n
 row_shape configs log at seed (act.Tracker n) = tracker_shape configs log n at

@@ -9,7 +9,7 @@ use Rattle.p2p_log.specs.declared.entry.Entry.{Entry}
 use Rattle.p2p_log.specs.declared.entry.Reply.{Reply}
 use Rattle.p2p_log.specs.declared.event.Act.{Act}
 use Rattle.p2p_log.specs.declared.event.Act.TheVariants as act
-use Rattle.p2p_log_rules.specs.Attempting.{Attempt, DialRules, dial_rules_at, begun_of, stepped_attempt, told_addresses, told_refused, with_attempt, with_begun, and_then, acted_attempts, attempts_by, attempts_of}
+use Rattle.p2p_log_rules.specs.Attempting.{Attempt, DialRules, dial_rules_at, begun_of, stepped_attempt, told_addresses, told_answer, with_attempt, with_begun, and_then, acted_attempts, attempts_by, attempts_of}
 use Rattle.p2p_log_rules.specs.Facts.{taken, state_from}
 use Rattle.p2p_log_rules.proofs.Facts.{state_from-append}
 
@@ -52,16 +52,20 @@ acted_none rules n m at seed r items (act.Dialer j) attempts none k past =
     either (j == n) (with_begun (begun_of rules.timeout at items) m attempts k) (attempts k) (begun_none (begun_of rules.timeout at items) m k attempts none past) (none k (omega (arith, past)))
 acted_none rules n m at seed r items (act.Attempt e j) attempts none k past =
     let before : attempts k ≡ None = none k (omega (arith, past)) in
-    let next = and_then (stepped_attempt rules.private seed r items) (attempts e) in
-    either (j == n) (with_attempt e next attempts k) (attempts k) (changed_none e k next attempts before (then_none (stepped_attempt rules.private seed r items) (attempts e))) before
+    let next = and_then (stepped_attempt rules at seed r items) (attempts e) in
+    either (j == n) (with_attempt e next attempts k) (attempts k) (changed_none e k next attempts before (then_none (stepped_attempt rules at seed r items) (attempts e))) before
 acted_none rules n m at seed r items (act.Resolve addresses e j) attempts none k past =
     let before : attempts k ≡ None = none k (omega (arith, past)) in
     let next = option_map (told_addresses r) (attempts e) in
     either (j == n) (with_attempt e next attempts k) (attempts k) (changed_none e k next attempts before (map_none (told_addresses r) (attempts e))) before
+acted_none rules n m at seed r items (act.Connect e from j to) attempts none k past =
+    let before : attempts k ≡ None = none k (omega (arith, past)) in
+    let next = option_map (told_answer r) (attempts e) in
+    either (j == n) (with_attempt e next attempts k) (attempts k) (changed_none e k next attempts before (map_none (told_answer r) (attempts e))) before
 acted_none rules n m at seed r items (act.Refuse e j) attempts none k past =
     let before : attempts k ≡ None = none k (omega (arith, past)) in
-    let next = option_map (told_refused r) (attempts e) in
-    either (j == n) (with_attempt e next attempts k) (attempts k) (changed_none e k next attempts before (map_none (told_refused r) (attempts e))) before
+    let next = option_map (told_answer r) (attempts e) in
+    either (j == n) (with_attempt e next attempts k) (attempts k) (changed_none e k next attempts before (map_none (told_answer r) (attempts e))) before
 acted_none rules n m at seed r items _ attempts none k past = none k (omega (arith, past))
 
 late_none : (configs : List Config) (n : ℕ) (before es : List Entry) (attempts : ℕ → Option Attempt) → NoneFrom (length before) attempts → NoneFrom (length (before ++ es)) (state_from (attempts_by configs n) before es attempts)

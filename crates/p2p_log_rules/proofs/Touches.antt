@@ -95,6 +95,7 @@ writes configs log (act.Tracker n) q = in_tracker n q
 writes configs log (act.Dialer n) q = same_queue (queue.Tracker n) q
 writes configs log (act.Attempt e n) q = same_queue (queue.Tracker n) q || same_queue (queue.Attempt n e) q
 writes configs log (act.Resolve addresses e n) q = same_queue (queue.Attempt n e) q
+writes configs log (act.Connect e from n to) q = same_queue (queue.Attempt n e) q || same_queue (queue.Arrivals to) q
 writes configs log (act.Refuse e n) q = same_queue (queue.Attempt n e) q
 writes configs log _ q = false
 

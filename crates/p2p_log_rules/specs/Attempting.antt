@@ -1,5 +1,5 @@
 -- The attempts of a node's dialer, by the log, and the rows of what they are told and of their steps.
-use Rattle.std.specs.Prelude.{ℕ, ◌+◌, ◌-◌, Bool, true, false, ◌==◌, ◌||◌, cond, nat_le, List, [], ◌∷◌, map, filter, length, Option, Some, None, slice_get}
+use Rattle.std.specs.Prelude.{ℕ, ◌+◌, ◌-◌, Bool, true, false, ◌==◌, ◌||◌, cond, nat_le, min, List, [], ◌∷◌, map, filter, length, Option, Some, None, slice_get}
 use Rattle.std.specs.Option.{option_map}
 use Rattle.p2p_base.specs.declared.key.Key.{Key}
 use Rattle.p2p_address.specs.Addresses.{is_global}
@@ -21,29 +21,30 @@ use Rattle.p2p_log.specs.declared.event.Act.{Act}
 use Rattle.p2p_log.specs.declared.event.Act.TheVariants as act
 use Rattle.p2p_log.specs.Lines.{name_of, line}
 use Rattle.p2p_log_rules.specs.declared.row.Row.{Row}
-use Rattle.p2p_log_rules.specs.Facts.{taken, state_from}
+use Rattle.p2p_log_rules.specs.Facts.{is_up, key_at, taken, state_from}
 use Rattle.p2p_log_rules.specs.Rows.{only}
 
--- how long a dial may take, and whether it may reach addresses that aren't global
+-- how long a dial may take, and from its link on; and whether it may reach addresses that aren't global
 pub record DialRules : Type 0 where
   pub timeout : ℕ
+  pub handshake_timeout : ℕ
   pub private : Bool
 
 abbrev pub dial_rules_at : List Config → ℕ → DialRules
 dial_rules_at configs n = elim (slice_get configs n) [
-  | None ↦ record { timeout = 0; private = false }
-  | Some c ↦ record { timeout = c.dial_timeout; private = c.allow_private_ips }
+  | None ↦ record { timeout = 0; handshake_timeout = 0; private = false }
+  | Some c ↦ record { timeout = c.dial_timeout; handshake_timeout = c.handshake_timeout; private = c.allow_private_ips }
 ]
 
 -- an attempt that has not ended: who is reserved for it, and where it dials; the address that it dials, once there is one; the moment at
--- which it gives up; and whether it was told addresses, and whether it was refused a link
+-- which it gives up; and whether it was told addresses, and whether its dial was answered, with a link or a refusal
 pub record Attempt : Type 0 where
   pub key : Key
   pub ingress : Ingress
   pub address : Option SocketAddr
   pub deadline : ℕ
   pub is_resolved : Bool
-  pub is_refused : Bool
+  pub is_answered : Bool
 
 -- the address of an ingress that needs no look-up
 abbrev pub socket_of : Ingress → Option SocketAddr
@@ -66,7 +67,7 @@ begun_of timeout at (item.Dial (Some grant) ∷ items) = Some (record {
   address = socket_of grant.1;
   deadline = at + timeout;
   is_resolved = false;
-  is_refused = false;
+  is_answered = false;
 })
 begun_of timeout at _ = None
 
@@ -80,19 +81,24 @@ abbrev pub resolved : Option SocketAddr → Bool → List SocketAddr → ℕ →
 resolved (Some s) private addresses seed a = Some a
 resolved None private addresses seed a = dialing (drawn_address private addresses seed) a
 
--- after its step of this reply, in which it took these: it ends by all but addresses
-abbrev pub stepped_attempt : Bool → ℕ → Reply → List Item → Attempt → Option Attempt
-stepped_attempt private seed reply.Ok (item.Resolved addresses ∷ items) a = resolved a.address private addresses seed a
-stepped_attempt private seed reply.Ok _ a = None
-stepped_attempt private seed _ items a = Some a
+-- once it is linked, it waits no longer than for the keys to be exchanged
+abbrev pub linked : ℕ → Attempt → Attempt
+linked until a = record a { deadline = min a.deadline until }
+
+-- after its step of this reply at a moment, in which it took these: it ends by all but addresses and a link
+abbrev pub stepped_attempt : DialRules → ℕ → ℕ → Reply → List Item → Attempt → Option Attempt
+stepped_attempt rules at seed reply.Ok (item.Resolved addresses ∷ items) a = resolved a.address rules.private addresses seed a
+stepped_attempt rules at seed reply.Ok (item.Linked ∷ items) a = Some (linked (at + rules.handshake_timeout) a)
+stepped_attempt rules at seed reply.Ok _ a = None
+stepped_attempt rules at seed _ items a = Some a
 
 abbrev pub told_addresses : Reply → Attempt → Attempt
 told_addresses reply.Ok a = record a { is_resolved = true }
 told_addresses _ a = a
 
-abbrev pub told_refused : Reply → Attempt → Attempt
-told_refused reply.Ok a = record a { is_refused = true }
-told_refused _ a = a
+abbrev pub told_answer : Reply → Attempt → Attempt
+told_answer reply.Ok a = record a { is_answered = true }
+told_answer _ a = a
 
 -- the attempts with this one of this name in place of another, or without any
 abbrev pub with_attempt : ℕ → Option Attempt → (ℕ → Option Attempt) → ℕ → Option Attempt
@@ -113,9 +119,10 @@ module _ (rules : DialRules) (n name : ℕ) (at seed : ℕ) (r : Reply) (items :
   abbrev pub acted_attempts : Act → (ℕ → Option Attempt) → ℕ → Option Attempt
   acted_attempts (act.Dialer m) attempts k = cond (m == n) (with_begun (begun_of rules.timeout at items) name attempts k) (attempts k)
   acted_attempts (act.Attempt e m) attempts k =
-      cond (m == n) (with_attempt e (and_then (stepped_attempt rules.private seed r items) (attempts e)) attempts k) (attempts k)
+      cond (m == n) (with_attempt e (and_then (stepped_attempt rules at seed r items) (attempts e)) attempts k) (attempts k)
   acted_attempts (act.Resolve addresses e m) attempts k = cond (m == n) (with_attempt e (option_map (told_addresses r) (attempts e)) attempts k) (attempts k)
-  acted_attempts (act.Refuse e m) attempts k = cond (m == n) (with_attempt e (option_map (told_refused r) (attempts e)) attempts k) (attempts k)
+  acted_attempts (act.Connect e from m to) attempts k = cond (m == n) (with_attempt e (option_map (told_answer r) (attempts e)) attempts k) (attempts k)
+  acted_attempts (act.Refuse e m) attempts k = cond (m == n) (with_attempt e (option_map (told_answer r) (attempts e)) attempts k) (attempts k)
   acted_attempts _ attempts k = attempts k
 
 -- after an entry, given those before it
@@ -137,14 +144,19 @@ left_ends xs = map (λ x. end.Item x.entry x.place) xs
 abbrev pub given_up_row : ℕ → Key → List (ℕ × ℕ) → List Envelope → Row
 given_up_row n key names left = record { reply = reply.Ok; takes = names; puts = (queue.Tracker n, item.Release key) ∷ []; ends = left_ends left }
 
+-- it goes on, once it took this
+abbrev pub gone_on_row : ℕ × ℕ → Row
+gone_on_row name = record { reply = reply.Ok; takes = name ∷ []; puts = []; ends = [] }
+
 -- it goes on if anything is left of it
 abbrev pub resolved_row : Option Attempt → ℕ → Key → ℕ × ℕ → List Envelope → Row
 resolved_row None n key name left = given_up_row n key (name ∷ []) left
-resolved_row (Some a) n key name left = record { reply = reply.Ok; takes = name ∷ []; puts = []; ends = [] }
+resolved_row (Some a) n key name left = gone_on_row name
 
 -- by what it took
 abbrev pub took_row : ℕ → Bool → ℕ → Attempt → ℕ × ℕ → Item → List Envelope → Row
 took_row n private seed a name (item.Resolved addresses) left = resolved_row (resolved a.address private addresses seed a) n a.key name left
+took_row n private seed a name item.Linked left = gone_on_row name
 took_row n private seed a name _ left = given_up_row n a.key (name ∷ []) left
 
 -- the oldest item, or else its deadline
@@ -174,11 +186,29 @@ abbrev pub resolve_row : List Config → List Entry → List SocketAddr → ℕ 
 resolve_row configs log addresses e n =
     elim (attempts_of configs log n e) [ None ↦ only reply.Gone | Some a ↦ resolve_by a.ingress a.is_resolved e n addresses ]
 
--- a link is refused once there is an address, and once
-abbrev pub refuse_by : Option SocketAddr → Bool → ℕ → ℕ → Row
-refuse_by None refused e n = only reply.Pending
-refuse_by (Some s) true e n = only reply.Gone
-refuse_by (Some s) false e n = told_row e n item.Refused
+-- what answers a dial: a link, or none
+abbrev pub link_item : Bool → Item
+link_item true = item.Linked
+link_item false = item.Refused
+
+-- a dial is answered once there is an address, and once
+abbrev pub answered_row : Option SocketAddr → Bool → Bool → ℕ → ℕ → Row
+answered_row None answered links e n = only reply.Pending
+answered_row (Some s) true links e n = only reply.Gone
+answered_row (Some s) false links e n = told_row e n (link_item links)
 
 abbrev pub refuse_row : List Config → List Entry → ℕ → ℕ → Row
-refuse_row configs log e n = elim (attempts_of configs log n e) [ None ↦ only reply.Gone | Some a ↦ refuse_by a.address a.is_refused e n ]
+refuse_row configs log e n = elim (attempts_of configs log n e) [ None ↦ only reply.Gone | Some a ↦ answered_row a.address a.is_answered false e n ]
+
+-- and where the other node runs, its listener is told of this arrival
+abbrev pub connected_row : Option SocketAddr → Bool → Bool → ℕ → ℕ → ℕ → Item → Row
+connected_row (Some s) false true e n to arrival =
+    record { reply = reply.Ok; takes = []; puts = (queue.Attempt n e, item.Linked) ∷ (queue.Arrivals to, arrival) ∷ []; ends = [] }
+connected_row address answered runs e n to arrival = answered_row address answered runs e n
+
+-- a link of this event's name, by which the node's key comes from an address
+abbrev pub connect_row : List Config → List Entry → ℕ → SocketAddr → ℕ → ℕ → Row
+connect_row configs log e from n to = elim (attempts_of configs log n e) [
+  | None ↦ only reply.Gone
+  | Some a ↦ connected_row a.address a.is_answered (is_up log to) e n to (item.Arrival from (key_at configs n) (length log))
+]

@@ -28,7 +28,7 @@ use Rattle.p2p_log.specs.Copies.{keys_of_recipients}
 use Rattle.p2p_log_rules.specs.Facts.{is_up, channels, capacity_in, capacity_for, sum_capacities, subscribers, routes, with_route, keys_in, route_to, key_at, half_at, is_running, is_joined}
 use Rattle.p2p_log_rules.specs.Frames.{frame_of, message_in}
 pub use Rattle.p2p_log_rules.specs.Rows.{only, mailbox_size_at, overwritten, ring_ends}
-use Rattle.p2p_log_rules.specs.Attempting.{attempt_row, resolve_row, refuse_row}
+use Rattle.p2p_log_rules.specs.Attempting.{attempt_row, resolve_row, refuse_row, connect_row}
 use Rattle.p2p_log_rules.specs.Dialing.{dialer_row}
 use Rattle.p2p_log_rules.specs.TrackerRows.{ask_row, answer_row, next_row, tracker_row}
 
@@ -274,6 +274,7 @@ row configs log at seed (act.Next question) = next_row log question
 row configs log at seed (act.Dialer n) = dialer_row configs log n at seed
 row configs log at seed (act.Attempt e n) = attempt_row configs log e n at seed
 row configs log at seed (act.Resolve addresses e n) = resolve_row configs log addresses e n
+row configs log at seed (act.Connect e from n to) = connect_row configs log e from n to
 row configs log at seed (act.Refuse e n) = refuse_row configs log e n
 row configs log at seed (act.Tracker n) = tracker_row configs log n at
 

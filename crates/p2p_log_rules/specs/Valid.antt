@@ -123,6 +123,7 @@ may_act configs events (act.Tracker n) = nat_lt n (length configs)
 may_act configs events (act.Dialer n) = nat_lt n (length configs)
 may_act configs events (act.Attempt e n) = nat_lt n (length configs) && names_dialer events n e
 may_act configs events (act.Resolve addresses e n) = nat_lt n (length configs) && names_dialer events n e
+may_act configs events (act.Connect e from n to) = nat_lt n (length configs) && (nat_lt to (length configs) && names_dialer events n e)
 may_act configs events (act.Refuse e n) = nat_lt n (length configs) && names_dialer events n e
 
 -- moments never go back

@@ -3,6 +3,7 @@ use Rattle.std.proofs.Common.{◌≡◌, ℕ, ◌<◌, Bool, true, false, cond, 
 use Rattle.std.specs.Prelude.{slice_get, slice_set, ◌==◌, ◌&&◌, ◌||◌}
 use Rattle.std.specs.List.{list_any}
 use Rattle.std.proofs.lemmas.Bool.Decides.{nat_tests}
+use Rattle.std.proofs.lemmas.Option.{same_Some}
 use Rattle.std.proofs.lemmas.List.{length-set}
 use Rattle.p2p_base.specs.declared.key.Key.{Key}
 use Rattle.p2p_log.specs.declared.config.Config.{Config}
@@ -20,14 +21,19 @@ use Rattle.p2p_net_links.specs.Stands.{LinksStand}
 use Rattle.p2p_net_links.specs.declared.links.Links.{Links}
 use Rattle.p2p_net.specs.Places.{Part, router, connections, same_part, at, parts_of, parts_named, names_links, places_at, same_place, names, node_of}
 use Rattle.p2p_net.specs.Acts.{NodeDoes}
-use Rattle.p2p_net.specs.Joining.{Welcomes, Connects, JoinsBy, Joins, OneDoes, pair_of, DoesOn, WorldDoes, joined_row}
+use Rattle.p2p_net.specs.Joining.{Welcomes, Connects, JoinsBy, Joins, OneDoes, Meets, DoesOn, WorldDoes, joined_row}
+use Rattle.p2p_net.specs.Meetings.{meeting_of}
+use Rattle.p2p_net.specs.declared.meeting.Meeting.{Meeting}
+use Rattle.p2p_net.specs.declared.meeting.Meeting.TheVariants as meeting
 use Rattle.p2p_net.specs.Joining as joining
-use Rattle.p2p_net.specs.Stands.{OwnStands, NodeStands, WorldStands}
+use Rattle.p2p_net.specs.Stands.{NodeStands, WorldStands}
 use Rattle.p2p_net.specs.declared.node.Node.{Node}
 use Rattle.p2p_net.proofs.Nodes.{slice_get-set, below}
 use Rattle.p2p_net.proofs.Frames.{part_frame, links_kept}
-use Rattle.p2p_net.proofs.Performing.{asked, Performs, part_still, links_still, effect-still}
-use Rattle.p2p_net.proofs.Refusing.{refuse_performs}
+use Rattle.p2p_net.proofs.Performing.{asked, Performs, Simulates, part_still, links_still, effect-still}
+use Rattle.p2p_net.proofs.DialAnswers.{refuse_performs}
+use Rattle.p2p_net.proofs.Arrivals.{link_simulates}
+use Rattle.p2p_net.proofs.Readying.{key_is}
 use Rattle.p2p_net.proofs.Resolving.{resolve_performs}
 use Rattle.p2p_net.proofs.Calling.{register_performs, start_performs, send_performs, read_performs}
 use Rattle.p2p_net.proofs.Dialing.{dialer_performs}
@@ -38,16 +44,11 @@ use Rattle.p2p_net.proofs.Writing.{send_step_performs}
 use Rattle.p2p_net.proofs.Receiving.{recv_step_performs}
 use Rattle.p2p_net.proofs.Welcoming.{MayJoin-test, may_join-nodes, Told, ready_row, told_first, told_second, welcome_stands}
 
--- the row is the act's, and the world stands for the log with its entry
-pub record Simulates (configs : List Config) (log : List Entry) (ev : Event) (nodes : List Node) (links : Links) (r : Row) : Type 0 where
-  pub row_is : r ≡ row configs log ev.at ev.seed ev.act
-  pub stands : WorldStands configs (log ++ effect configs log ev ∷ []) nodes links
-
 -- ---- acts that name one node
 
 -- each of them, a line each
 node_performs : (configs : List Config) (log : List Entry) (moment seed : ℕ) (a : Act) (x y : Node) (l links : Links) (r : Row) → NodeStands configs log (node_of log a) x → LinksStand log l
-    → may_act configs (events_of log) a ≡ true → pair_of a ≡ None → NodeDoes (length log) (node_of log a) moment seed a x y l links r → Performs configs log (asked moment seed a) (node_of log a) y links r
+    → may_act configs (events_of log) a ≡ true → meeting_of a ≡ None → NodeDoes (length log) (node_of log a) moment seed a x y l links r → Performs configs log (asked moment seed a) (node_of log a) y links r
 node_performs configs log moment seed (act.Register c n rate) x y l links r s t valid one d = register_performs configs log moment seed n c rate x y l links r s t valid d.0 d.1
 node_performs configs log moment seed (act.Start n) x y l links r s t valid one d = start_performs configs log moment seed n x y l links r s t d.0 d.1
 node_performs configs log moment seed (act.Send bytes c n priority to) x y l links r s t valid one d = send_performs configs log moment seed n c bytes priority to x y l links r s t d.0 d.1
@@ -64,6 +65,7 @@ node_performs configs log moment seed (act.Attempt e n) x y l links r s t valid 
 node_performs configs log moment seed (act.Resolve addresses e n) x y l links r s t valid one d = resolve_performs configs log moment seed addresses e n x y l links r s t d.0.0 d.0.1 d.1
 node_performs configs log moment seed (act.Refuse e n) x y l links r s t valid one d = refuse_performs configs log moment seed e n x y l links r s t d.0.0 d.0.1 d.1
 node_performs configs log moment seed (act.Join a b) x y l links r s t valid one d = cc
+node_performs configs log moment seed (act.Connect e from n m) x y l links r s t valid one d = cc
 
 -- the parts of the other nodes are not named
 part_elsewhere : (p q : Part) (n m : ℕ) → (n == m) ≡ false → same_place (at p n) (at q m) ≡ false
@@ -81,8 +83,9 @@ unnamed_at : (b : Bool) (ps : List Part) (p : Part) (n m : ℕ) → (n == m) ≡
 unnamed_at false ps p n m ne = parts_elsewhere ps p n m ne
 unnamed_at true ps p n m ne = parts_elsewhere ps p n m ne
 
-others_unnamed : (log : List Entry) (a : Act) (p : Part) (m : ℕ) → pair_of a ≡ None → (node_of log a == m) ≡ false → names log a (at p m) ≡ false
+others_unnamed : (log : List Entry) (a : Act) (p : Part) (m : ℕ) → meeting_of a ≡ None → (node_of log a == m) ≡ false → names log a (at p m) ≡ false
 others_unnamed log (act.Join a b) p m one ne = cc
+others_unnamed log (act.Connect e from n k) p m one ne = cc
 others_unnamed log a p m one ne = unnamed_at (names_links a) (parts_named a) p (node_of log a) m ne
 
 -- a node that an act does not name
@@ -102,7 +105,7 @@ one_each configs log ev nodes n y l links r s h away m z false ne g = node_frame
 
 -- one node changed, as its act says
 one_simulates : (configs : List Config) (log : List Entry) (ev : Event) (nodes new : List Node) (l links : Links) (r : Row) → WorldStands configs log nodes l → may_act configs (events_of log) ev.act ≡ true
-    → pair_of ev.act ≡ None → OneDoes (length log) (node_of log ev.act) ev nodes new l links r → Simulates configs log ev new links r
+    → meeting_of ev.act ≡ None → OneDoes (length log) (node_of log ev.act) ev nodes new l links r → Simulates configs log ev new links r
 one_simulates configs log ev nodes new l links r s valid one d =
     let x : Node = d.0 in
     let y : Node = d.1.0 in
@@ -151,9 +154,6 @@ joined_is configs log moment seed a b may = sym (ap (λ t. cond t (ready_row con
 gone_is : (configs : List Config) (log : List Entry) (moment seed a b : ℕ) → may_join log a b ≡ false → row configs log moment seed (act.Join a b) ≡ only reply.Gone
 unfolding row
 gone_is configs log moment seed a b may = ap (λ t. cond t (ready_row configs log a b) (only reply.Gone)) may
-
-key_is : (configs : List Config) (n : ℕ) (x : Node) → OwnStands configs n x → x.config.public_key ≡ key_at configs n
-key_is configs n x s = sym (ap (λ (o : Option Config). elim o [ None ↦ record { 0 = 0 } | Some c ↦ c.public_key ]) s.config)
 
 made_is : (configs : List Config) (log : List Entry) (moment seed a b : ℕ) → may_join log a b ≡ true → entry_of (asked moment seed (act.Join a b)) (ready_row configs log a b) ≡ effect configs log (asked moment seed (act.Join a b))
 unfolding effect
@@ -235,15 +235,17 @@ join_simulates configs log moment seed a b nodes new l links r s d kept =
 
 -- ---- all acts
 
-by_pair : (configs : List Config) (log : List Entry) (moment seed : ℕ) (a : Act) (o : Option (ℕ × ℕ)) (nodes new : List Node) (l links : Links) (r : Row) → WorldStands configs log nodes l → may_act configs (events_of log) a ≡ true
-    → pair_of a ≡ o → DoesOn o (length log) (node_of log a) (asked moment seed a) nodes new l links r → Simulates configs log (asked moment seed a) new links r
-by_pair configs log moment seed a None nodes new l links r s valid is d = one_simulates configs log (asked moment seed a) nodes new l links r s valid is d
-by_pair configs log moment seed (act.Join m k) (Some ends) nodes new l links r s valid is d =
-    let one : m ≡ ends.0 = cc in
-    let two : k ≡ ends.1 = cc in
-    join_simulates configs log moment seed m k nodes new l links r s (subst (λ i. Joins (length log) i k nodes new r) (sym one) (subst (λ i. Joins (length log) ends.0 i nodes new r) (sym two) d.0)) d.1
-by_pair configs log moment seed a (Some ends) nodes new l links r s valid is d = cc
+by_meeting : (configs : List Config) (log : List Entry) (moment seed : ℕ) (a : Act) (o : Option Meeting) (nodes new : List Node) (l links : Links) (r : Row) → WorldStands configs log nodes l → may_act configs (events_of log) a ≡ true
+    → meeting_of a ≡ o → DoesOn o (length log) (node_of log a) (asked moment seed a) nodes new l links r → Simulates configs log (asked moment seed a) new links r
+by_meeting configs log moment seed a None nodes new l links r s valid is d = one_simulates configs log (asked moment seed a) nodes new l links r s valid is d
+by_meeting configs log moment seed (act.Join m k) (Some how) nodes new l links r s valid is d =
+    join_simulates configs log moment seed m k nodes new l links r s
+    (subst (λ (h : Meeting). Meets h (length log) nodes new r) (sym (same_Some (meeting.Join (record { dials = m; listens = k })) how is)) d.0) d.1
+by_meeting configs log moment seed (act.Connect e from n m) (Some how) nodes new l links r s valid is d =
+    link_simulates configs log moment seed e n m from nodes new l links r s
+    (subst (λ (h : Meeting). Meets h (length log) nodes new r) (sym (same_Some (meeting.Link e from (record { dials = n; listens = m })) how is)) d.0) d.1
+by_meeting configs log moment seed a (Some how) nodes new l links r s valid is d = cc
 
 pub simulates : (configs : List Config) (log : List Entry) (ev : Event) (nodes new : List Node) (l links : Links) (r : Row) → WorldStands configs log nodes l → may_act configs (events_of log) ev.act ≡ true
     → WorldDoes (length log) (node_of log ev.act) ev nodes new l links r → Simulates configs log ev new links r
-simulates configs log ev nodes new l links r s valid d = by_pair configs log ev.at ev.seed ev.act (pair_of ev.act) nodes new l links r s valid refl d
+simulates configs log ev nodes new l links r s valid d = by_meeting configs log ev.at ev.seed ev.act (meeting_of ev.act) nodes new l links r s valid refl d

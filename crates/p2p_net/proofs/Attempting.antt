@@ -1,6 +1,6 @@
 -- What attempts are told.
 use Rattle.std.proofs.Common.{◌≡◌, ℕ, false, cond, List, [], ◌∷◌, ◌++◌, map, length, refl, ap, sym, subst, ◌∙◌, arith, Option}
-use Rattle.std.specs.Prelude.{◌==◌}
+use Rattle.std.specs.Prelude.{filter, flat_map, ◌==◌}
 use Rattle.std.specs.List.{list_any}
 use Rattle.std.specs.Option.{option_map}
 use Rattle.std.proofs.lemmas.Bool.Decides.{nat_tests}
@@ -12,7 +12,6 @@ use Rattle.p2p_log.specs.declared.config.Config.{Config}
 use Rattle.p2p_log.specs.declared.queue.Queue.{Queue}
 use Rattle.p2p_log.specs.declared.queue.Queue.TheVariants as queue
 use Rattle.p2p_log.specs.declared.item.Item.{Item}
-use Rattle.p2p_log.specs.declared.item.Item.TheVariants as item
 use Rattle.p2p_log.specs.declared.item.Envelope.{Envelope}
 use Rattle.p2p_log.specs.declared.entry.Entry.{Entry}
 use Rattle.p2p_log.specs.declared.entry.Reply.{Reply}
@@ -20,7 +19,7 @@ use Rattle.p2p_log.specs.declared.entry.Reply.TheVariants as reply
 use Rattle.p2p_log.specs.declared.event.Event.{Event}
 use Rattle.p2p_log.specs.declared.event.Act.{Act}
 use Rattle.p2p_log.specs.QueueCode.{same_queue}
-use Rattle.p2p_log.specs.Lines.{name_of, line}
+use Rattle.p2p_log.specs.Lines.{name_of, placed, ended_item, stays, live, stands_in, line}
 use Rattle.p2p_log.proofs.Queues.{same_queue-refl}
 use Rattle.p2p_log_rules.specs.declared.row.Row.{Row}
 use Rattle.p2p_log_rules.specs.Attempting.{Attempt, dial_rules_at, acted_attempts, attempts_of, told_row}
@@ -30,10 +29,11 @@ use Rattle.p2p_log_rules.specs.Facts.{starts, taken}
 use Rattle.p2p_log_rules.proofs.Touches.{reads, writes}
 use Rattle.p2p_log_laws.proofs.Untouched.{line-untouched}
 use Rattle.p2p_net_queues.specs.Tables as table
-use Rattle.p2p_net_queues.proofs.Going.{line-kept}
+use Rattle.p2p_net_queues.proofs.Going.{line-append, line-kept}
 use Rattle.p2p_net_dialer.specs.Attempts.{with_told, AreBut}
 use Rattle.p2p_net_dialer.specs.Stands.{gates_at, told_item, attempt_of, AttemptStands, DialerStands}
 use Rattle.p2p_net_dialer.specs.declared.attempt.RunningAttempt.{RunningAttempt}
+use Rattle.p2p_net_dialer.specs.declared.dialing.Dialing.{Dialing}
 use Rattle.p2p_net_dialer.proofs.Attempting.{attempt_changed}
 use Rattle.p2p_net_links.specs.Stands.{LinksStand}
 use Rattle.p2p_net_links.specs.declared.links.Links.{Links}
@@ -59,14 +59,34 @@ told_is g name k n m b waiting i =
     ap (λ l. record r { actor = record r.actor { items = l }; names = map name_of waiting ++ (k, 0) ∷ [] }) (sym (map-append (λ (x : Envelope). told_item x.item) waiting (z ∷ [])))
     ∙ ap (λ l. record (attempt_of g name m b (waiting ++ z ∷ [])) { names = l }) (sym (map-append name_of waiting (z ∷ [])))
 
-module _ (configs : List Config) (log : List Entry) (moment seed n name : ℕ) (a : Act) (x y : Node) (l ls : Links) (r : Row) (s : NodeStands configs log n x) (t : LinksStand log l)
-    (unnamed : (p : Part) → is_in p (place.dialer ∷ []) ≡ false → names log a (at p n) ≡ false) (no_links : names log a links ≡ false)
-    (no_start : starts n a ≡ false) (no_dials : (pace : Pace) (rep : Reply) (items : List Item) (puts : List (Queue × Item)) (d : Dials) → acted_dials pace n a moment seed rep items puts d ≡ d)
+-- an entry does to a queue what this row does
+pub record DoesTo (q : Queue) (k : ℕ) (due told : Row) : Type 0 where
+  pub reply : due.reply ≡ told.reply
+  pub takes : due.takes ≡ told.takes
+  pub ends : due.ends ≡ told.ends
+  pub puts : filter (stands_in q) (placed k 0 due.puts) ≡ filter (stands_in q) (placed k 0 told.puts)
+
+pub does_itself : (q : Queue) (k : ℕ) (r : Row) → DoesTo q k r r
+does_itself q k r = record { reply = refl; takes = refl; ends = refl; puts = refl }
+
+line_does : (log : List Entry) (ev : Event) (q : Queue) (due told : Row) → DoesTo q (length log) due told → line (log ++ entry_of ev due ∷ []) q ≡ line (log ++ entry_of ev told ∷ []) q
+line_does log ev q due told h =
+    let put : List Envelope = filter (stands_in q) (placed (length log) 0 due.puts) in
+    line-append log (entry_of ev due) q
+    ∙ (ap (λ t. filter (stands_in q) (filter (stays (t ++ flat_map ended_item due.ends)) (live log)) ++ put) h.takes
+    ∙ (ap (λ d. filter (stands_in q) (filter (stays (told.takes ++ flat_map ended_item d)) (live log)) ++ put) h.ends
+    ∙ (ap (λ p. filter (stands_in q) (filter (stays (told.takes ++ flat_map ended_item told.ends)) (live log)) ++ p) h.puts
+    ∙ sym (line-append log (entry_of ev told) q))))
+
+-- ---- the dialer, where the row of the act does this to the attempt
+
+module _ (configs : List Config) (log : List Entry) (moment seed n name : ℕ) (a : Act) (due : Row) (due_is : row configs log moment seed a ≡ due) (d u : Dialing) (stood : DialerStands configs log n d)
+    (no_start : starts n a ≡ false) (no_dials : (pace : Pace) (rep : Reply) (items : List Item) (puts : List (Queue × Item)) (dials : Dials) → acted_dials pace n a moment seed rep items puts dials ≡ dials)
     (others : (j : ℕ) → (j == name) ≡ false → (reads configs log a (queue.Attempt n j) ≡ false) × (writes configs log a (queue.Attempt n j) ≡ false))
     (f : Reply → Attempt → Attempt)
     (acted : (rep : Reply) (items : List Item) (j : ℕ)
     → acted_attempts (dial_rules_at configs n) n (length log) moment seed rep items a (attempts_of configs log n) j ≡ cond (j == name) (option_map (f rep) (attempts_of configs log n name)) (attempts_of configs log n j))
-    (tells : TellsAttempt x y) (kept : ls ≡ l) where
+    (kept : u.actor ≡ d.actor) where
   abbrev ev : Event
   ev = asked moment seed a
 
@@ -80,72 +100,66 @@ module _ (configs : List Config) (log : List Entry) (moment seed n name : ℕ) (
   q = queue.Attempt n name
 
   abbrev e : Entry
-  e = entry_of ev (row configs log moment seed a)
+  e = entry_of ev due
 
   is_effect : e ≡ effect configs log ev
   unfolding effect
-  is_effect = refl
+  is_effect = ap (entry_of ev) (sym due_is)
 
   abbrev attempts : ℕ → Option Attempt
   attempts = attempts_of configs log n
 
-  stood : DialerStands configs log n x.dialing
-  stood = s.each place.dialer
-
   others_stay : (j : ℕ) → (j == name) ≡ false → line (log ++ e ∷ []) (queue.Attempt n j) ≡ line log (queue.Attempt n j)
   others_stay j other =
       let away = others j other in
-      subst (λ (d : Entry). line (log ++ d ∷ []) (queue.Attempt n j) ≡ line log (queue.Attempt n j)) (sym is_effect) (line-untouched configs log ev (queue.Attempt n j) away.0 away.1)
+      subst (λ (z : Entry). line (log ++ z ∷ []) (queue.Attempt n j) ≡ line log (queue.Attempt n j)) (sym is_effect) (line-untouched configs log ev (queue.Attempt n j) away.0 away.1)
 
-  changed : (now : Option RunningAttempt) (due : Row) → row configs log moment seed a ≡ due → r ≡ due → AreBut name now x.dialing.attempts y.dialing.attempts
-      → AttemptStands g name now (option_map (f due.reply) (attempts name)) (line (log ++ e ∷ []) q) → Performs configs log ev n y ls r
-  changed now due is done but stands = record {
-    row_is = done ∙ sym is;
-    node =
-        each_part configs log ev n x y (place.dialer ∷ []) s tells.1 unnamed (
-          subst (λ (d : Entry). DialerStands configs (log ++ d ∷ []) n y.dialing) is_effect
-              (attempt_changed configs log e n name x.dialing y.dialing now (option_map (f due.reply) (attempts name)) stood
-              (record {
-                no_start = no_start;
-                dials = no_dials (pace_at configs n) e.reply (taken log e) e.puts (dials_of configs log n);
-                actor = tells.0;
-                others = but;
-                tried = λ j.
-                    acted e.reply (taken log e) j ∙ ap (λ rep. cond (j == name) (option_map (f rep) (attempts name)) (attempts j)) (ap (λ (w : Row). w.reply) is);
-                lines = others_stay;
-                stands = stands;
-              })),
-          tt,
-        );
-    linked = subst (LinksStand (log ++ effect configs log ev ∷ [])) (sym kept) (links_kept configs log ev l t no_links);
-  }
+  changed : (now : Option RunningAttempt) (told : Row) → DoesTo q k due told → AreBut name now d.attempts u.attempts
+      → AttemptStands g name now (option_map (f told.reply) (attempts name)) (line (log ++ entry_of ev told ∷ []) q) → DialerStands configs (log ++ effect configs log ev ∷ []) n u
+  changed now told same but stands =
+      subst (λ (z : Entry). DialerStands configs (log ++ z ∷ []) n u) is_effect
+      (attempt_changed configs log e n name d u now (option_map (f told.reply) (attempts name)) stood
+      (record {
+        no_start = no_start;
+        dials = no_dials (pace_at configs n) e.reply (taken log e) e.puts (dials_of configs log n);
+        actor = kept;
+        others = but;
+        tried = λ j. acted e.reply (taken log e) j ∙ ap (λ rep. cond (j == name) (option_map (f rep) (attempts name)) (attempts j)) same.reply;
+        lines = others_stay;
+        stands = subst (AttemptStands g name now (option_map (f told.reply) (attempts name))) (sym (line_does log ev q due told same)) stands;
+      }))
 
   -- nothing is told
-  still_line : (rep : Reply) → row configs log moment seed a ≡ only rep → line (log ++ e ∷ []) q ≡ line log q
-  still_line rep is =
-      line-still log e rep q
-      (record { reply = ap (λ (w : Row). w.reply) is; takes = ap (λ (w : Row). w.takes) is; puts = ap (λ (w : Row). w.puts) is; ends = ap (λ (w : Row). w.ends) is })
-
-  pub untold : (now : Option RunningAttempt) (rep : Reply) → row configs log moment seed a ≡ only rep → r ≡ only rep → AreBut name now x.dialing.attempts y.dialing.attempts
-      → option_map (f rep) (attempts name) ≡ attempts name → now ≡ table.at x.dialing.attempts name → Performs configs log ev n y ls r
-  untold now rep is done but same now_is =
-      changed now (only rep) is done but
-      (subst (AttemptStands g name now (option_map (f rep) (attempts name))) (sym (still_line rep is))
-      (subst (λ o. AttemptStands g name now o (line log q)) (sym same)
+  pub untold_stands : (now : Option RunningAttempt) (rep : Reply) → DoesTo q k due (only rep) → AreBut name now d.attempts u.attempts → option_map (f rep) (attempts name) ≡ attempts name
+      → now ≡ table.at d.attempts name → DialerStands configs (log ++ effect configs log ev ∷ []) n u
+  untold_stands now rep same but no_change now_is =
+      changed now (only rep) same but
+      (subst (AttemptStands g name now (option_map (f rep) (attempts name))) (sym (line-still log (entry_of ev (only rep)) rep q (record { reply = refl; takes = refl; puts = refl; ends = refl })))
+      (subst (λ o. AttemptStands g name now o (line log q)) (sym no_change)
       (subst (λ o. AttemptStands g name o (attempts name) (line log q)) (sym now_is) (stood.attempts name))))
 
   -- this is told
-  told_line : (i : Item) → row configs log moment seed a ≡ told_row name n i → line (log ++ e ∷ []) q ≡ line log q ++ record { entry = k; place = 0; queue = q; item = i } ∷ []
-  told_line i is =
+  told_line : (i : Item) → line (log ++ entry_of ev (told_row name n i) ∷ []) q ≡ line log q ++ record { entry = k; place = 0; queue = q; item = i } ∷ []
+  told_line i =
       let z : Envelope = record { entry = k; place = 0; queue = q; item = i } in
-      subst (λ (w : Row). line (log ++ entry_of ev w ∷ []) q ≡ line log q ++ z ∷ []) (sym is)
-      (line-kept log (entry_of ev (told_row name n i)) q refl ∙ ap (λ b. line log q ++ cond b (z ∷ []) []) (same_queue-refl q))
+      line-kept log (entry_of ev (told_row name n i)) q refl ∙ ap (λ b. line log q ++ cond b (z ∷ []) []) (same_queue-refl q)
 
-  pub told : (now : Option RunningAttempt) (i : Item) → row configs log moment seed a ≡ told_row name n i → r ≡ told_row name n i → AreBut name now x.dialing.attempts y.dialing.attempts
-      → AttemptStands g name now (option_map (f reply.Ok) (attempts name)) (line log q ++ record { entry = k; place = 0; queue = q; item = i } ∷ []) → Performs configs log ev n y ls r
-  told now i is done but stands =
-      changed now (told_row name n i) is done but (subst (AttemptStands g name now (option_map (f reply.Ok) (attempts name))) (sym (told_line i is)) stands)
+  pub told_stands : (now : Option RunningAttempt) (i : Item) → DoesTo q k due (told_row name n i) → AreBut name now d.attempts u.attempts
+      → AttemptStands g name now (option_map (f reply.Ok) (attempts name)) (line log q ++ record { entry = k; place = 0; queue = q; item = i } ∷ []) → DialerStands configs (log ++ effect configs log ev ∷ []) n u
+  told_stands now i same but stands =
+      changed now (told_row name n i) same but (subst (AttemptStands g name now (option_map (f reply.Ok) (attempts name))) (sym (told_line i)) stands)
 
--- an act of the node's dialer's attempts alone
+-- ---- an act that tells an attempt something, and nobody else
+
+-- such an act names the dialer alone
 pub unnamed_by : (log : List Entry) (n : ℕ) (p : Part) → is_in p (place.dialer ∷ []) ≡ false → list_any (λ q. same_place q (at p n)) (parts_of n (place.dialer ∷ [])) ≡ false
 unnamed_by log n p out = not_among (place.dialer ∷ []) p n n out
+
+module _ (configs : List Config) (log : List Entry) (moment seed n : ℕ) (a : Act) (x y : Node) (l ls : Links) (r : Row) (s : NodeStands configs log n x) (t : LinksStand log l)
+    (unnamed : (p : Part) → is_in p (place.dialer ∷ []) ≡ false → names log a (at p n) ≡ false) (no_links : names log a links ≡ false) (tells : TellsAttempt x y) (kept : ls ≡ l) where
+  pub tells_performs : row configs log moment seed a ≡ r → DialerStands configs (log ++ effect configs log (asked moment seed a) ∷ []) n y.dialing → Performs configs log (asked moment seed a) n y ls r
+  tells_performs is stands = record {
+    row_is = sym is;
+    node = each_part configs log (asked moment seed a) n x y (place.dialer ∷ []) s tells.1 unnamed (stands, tt);
+    linked = subst (LinksStand (log ++ effect configs log (asked moment seed a) ∷ [])) (sym kept) (links_kept configs log (asked moment seed a) l t no_links);
+  }

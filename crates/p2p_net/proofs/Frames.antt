@@ -27,6 +27,7 @@ use Rattle.p2p_net_tracker.specs.Stands.{kind_of, asks_of, asks_at, is_told}
 use Rattle.p2p_net_tracker.proofs.Changes.{tracker_frame}
 use Rattle.p2p_net_dialer.specs.Stands.{is_of_dialer}
 use Rattle.p2p_net_dialer.proofs.Changes.{dialer_frame, dialer_unmoved}
+use Rattle.p2p_net_listener.proofs.Changes.{listener_frame}
 use Rattle.p2p_net_router.specs.Names.{is_routers}
 use Rattle.p2p_net_router.specs.Stands.{IsBeside}
 use Rattle.p2p_net_router.specs.declared.router.Router.{Router}
@@ -37,7 +38,7 @@ use Rattle.p2p_net_connections.proofs.Changes.{connections_frame}
 use Rattle.p2p_net_links.specs.Stands.{LinksStand}
 use Rattle.p2p_net_links.specs.declared.links.Links.{Links}
 use Rattle.p2p_net_links.proofs.Changes.{links_frame}
-use Rattle.p2p_net.specs.Places.{Part, router, channels, connections, tracker, dialer, same_part, links, home, names, at, asked_node, or_first, node_asked}
+use Rattle.p2p_net.specs.Places.{Part, router, channels, connections, tracker, dialer, listener, same_part, links, home, names, at, asked_node, or_first, node_asked}
 use Rattle.p2p_net.specs.Stands.{RouterStands, PartStands}
 use Rattle.p2p_net.specs.declared.node.Node.{Node}
 use Rattle.p2p_net.proofs.ActKinds.{registers_unless, starts_unless, half_unless, joins_unless, routes_unless, sends_unless}
@@ -233,6 +234,7 @@ dials_none : (log : List Entry) (n : ℕ) (a : Act) → names log a (at dialer n
 dials_none log n (act.Dialer m) h = grind (arith, nat_tests)
 dials_none log n (act.Attempt e m) h = grind (arith, nat_tests)
 dials_none log n (act.Resolve addresses e m) h = grind (arith, nat_tests)
+dials_none log n (act.Connect e from m to) h = grind (arith, nat_tests)
 dials_none log n (act.Refuse e m) h = grind (arith, nat_tests)
 dials_none log n _ h = refl
 
@@ -270,6 +272,7 @@ part_frame dialer configs log ev n x s h =
     let acts = effect-act configs log ev in
     dialer_frame configs log e n x.dialing s
     (dialer_unmoved configs log e n (ap (starts n) acts ∙ dialer_starts_none log n ev.act h) (ap (is_of_dialer n) acts ∙ dials_none log n ev.act h) (λ k. line-unnamed configs log ev (queue.Attempt n k) h))
+part_frame listener configs log ev n x s h = listener_frame log (effect configs log ev) n x.listening s (line-unnamed configs log ev (queue.Arrivals n) h)
 
 -- the links, where an act does not name them
 pub links_kept : (configs : List Config) (log : List Entry) (ev : Event) (l : Links) → LinksStand log l → names log ev.act links ≡ false → LinksStand (log ++ effect configs log ev ∷ []) l

@@ -1,8 +1,7 @@
 -- Two nodes that a join names.
-use Rattle.std.proofs.Common.{◌≡◌, ℕ, Bool, true, false, ◌≤◌, List, refl, sym, subst, ◌∙◌, Option, Some, None}
+use Rattle.std.proofs.Common.{◌≡◌, ℕ, Bool, true, false, ◌≤◌, List, refl, sym, subst, ◌∙◌, Option, Some}
 use Rattle.std.specs.Prelude.{slice_get, ◌==◌, ◌&&◌, not, is_some, IsTrue}
 use Rattle.std.proofs.lemmas.Bool.{and_parts}
-use Rattle.p2p_log.specs.declared.event.Act.{Act}
 use Rattle.p2p_log.specs.declared.event.Event.{Event}
 use Rattle.p2p_log.specs.declared.entry.Entry.{Entry}
 use Rattle.p2p_log_rules.specs.declared.row.Row.{Row}
@@ -12,9 +11,9 @@ use Rattle.p2p_router.specs.Messenger.{is_bound}
 use Rattle.p2p_net_queues.specs.Tables as table
 use Rattle.p2p_net_links.specs.declared.links.Links.{Links}
 use Rattle.p2p_net.specs.Ready.{is_started}
-use Rattle.p2p_net.specs.Joining.{may_join, joined_row, Connects, JoinsBy, Joins, JoinRecords, DoesOn, ends_by}
+use Rattle.p2p_net.specs.Joining.{may_join, joined_row, Connects, JoinsBy, Joins, MeetingRecords, DoesOn}
 use Rattle.p2p_net.specs.declared.node.Node.{Node}
-use Rattle.p2p_net.specs.declared.joins.Ends.{Ends}
+use Rattle.p2p_net.specs.declared.meeting.Meeting.{Meeting}
 
 -- one place has one thing
 same_at : {X : Type 0} (xs : List X) (n : ℕ) (x y : X) → slice_get xs n ≡ Some x → slice_get xs n ≡ Some y → x ≡ y
@@ -58,14 +57,7 @@ pub joins_both : (k a b : ℕ) (nodes new : List Node) (x y : Node) (t : Bool) (
 joins_both k a b nodes new x y t r first second is allowed row_is connects =
     (x, (y, (first, (second, subst (λ m. JoinsBy m k a b x y nodes new r) (sym allowed ∙ is) (row_is, connects)))))
 
--- an act that has two nodes is their join
-does_join : (o : Option (ℕ × ℕ)) (ends : Ends) (k n : ℕ) (ev : Event) (old new : List Node) (l : Links) (r : Row) → ends_by o ≡ Some ends
-    → Joins k ends.dials ends.listens old new r → DoesOn o k n ev old new l l r
-does_join None ends k n ev old new l r is h = cc
-does_join (Some two) ends k n ev old new l r is h =
-    let same : ends ≡ record { dials = two.0; listens = two.1 } = cc in
-    (subst (λ (e : Ends). Joins k e.dials e.listens old new r) same h, refl)
-
-pub join_records : (o : Option (ℕ × ℕ)) (ends : Ends) (k n : ℕ) (ev : Event) (old new : List Node) (l : Links) (e : Entry) → ends_by o ≡ Some ends
-    → JoinRecords k ev ends.dials ends.listens old new e → (r : Row) × ((e ≡ entry_of ev r) × DoesOn o k n ev old new l l r)
-join_records o ends k n ev old new l e is h = (h.0, (h.1.0, does_join o ends k n ev old new l h.0 is h.1.1))
+-- an act that brings nodes together does that alone
+pub meeting_records : (o : Option Meeting) (how : Meeting) (k n : ℕ) (ev : Event) (old new : List Node) (l : Links) (e : Entry) → o ≡ Some how → MeetingRecords k ev how old new e
+    → (r : Row) × ((e ≡ entry_of ev r) × DoesOn o k n ev old new l l r)
+meeting_records o how k n ev old new l e is h = (h.0, (h.1.0, subst (λ (p : Option Meeting). DoesOn p k n ev old new l l h.0) (sym is) (h.1.1, refl)))

@@ -1,9 +1,10 @@
 -- Places of a list, of which one is changed.
-use Rattle.std.proofs.Common.{◌≡◌, ℕ, zero, suc, ◌<◌, false, cond, List, [], ◌∷◌, length, ap, sym, ◌∙◌, refl, arith, Some}
-use Rattle.std.specs.Prelude.{slice_get, slice_set, slice_index_or, ◌==◌}
+use Rattle.std.proofs.Common.{◌≡◌, ℕ, zero, suc, ◌<◌, false, cond, List, [], ◌∷◌, length, get_or, ap, sym, ◌∙◌, refl, arith, Option, None, Some, Bor}
+use Rattle.std.specs.Prelude.{slice_get, slice_set, slice_index_or, is_some, nat_lt, IfSome, ◌==◌}
+use Rattle.std.specs.Option.{option_copied}
 use Rattle.std.proofs.lemmas.Bool.Decides.{nat_tests}
 use Rattle.std.proofs.lemmas.List.{length-set}
-use Rattle.std.proofs.lemmas.Option.{slice_get-get_or}
+use Rattle.std.proofs.lemmas.Option.{slice_get-get_or, slice_get_past}
 
 pub slice_get-set : {X : Type 0} (xs : List X) (k n : ℕ) (v : X) → k < length xs → slice_get (slice_set xs k v) n ≡ cond (k == n) (Some v) (slice_get xs n)
 slice_get-set [] k n v h = absurd (omega arith)
@@ -40,3 +41,8 @@ pub below : {X : Type 0} (xs : List X) (n : ℕ) (x : X) → slice_get xs n ≡ 
 below [] n x h = cc
 below (y ∷ ys) zero x h = omega arith
 below (y ∷ ys) (suc n) x h = let r = below ys n x h in omega arith
+
+-- what is found at a place, if there is something
+pub copied_at : {X : Type 0} (o : Option (Bor X)) (xs : List X) (n : ℕ) → is_some o ≡ nat_lt n (length xs) → IfSome o (λ b. b.now ≡ get_or xs n b.now) → option_copied o ≡ slice_get xs n
+copied_at None xs n none h = sym (slice_get_past xs n (grind (arith, nat_tests)))
+copied_at (Some b) xs n some h = sym (slice_get-get_or xs n b.now (grind (arith, nat_tests)) ∙ ap (λ y. Some y) (sym h))

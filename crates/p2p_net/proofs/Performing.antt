@@ -16,6 +16,7 @@ use Rattle.p2p_log_rules.specs.declared.row.Row.{Row}
 use Rattle.p2p_log_rules.specs.Attempting.{Attempt, DialRules, dial_rules_at, acted_attempts, attempts_of}
 use Rattle.p2p_log_rules.specs.Dialing.{Pace, pace_at, Dials, acted_dials, dials_of}
 use Rattle.p2p_net_dialer.proofs.Changes.{dialer_frame}
+use Rattle.p2p_net_listener.proofs.Changes.{listener_frame}
 use Rattle.p2p_log_rules.specs.Facts.{starts, registers_at, taken, item_named, steps_router, steps_sender, is_answer, half_of, joins}
 use Rattle.p2p_log_rules.specs.Effect.{only, row, effect}
 use Rattle.p2p_log_rules.specs.Tracking.{steps_tracker}
@@ -28,8 +29,8 @@ use Rattle.p2p_net_connections.proofs.Changes.{connections_frame}
 use Rattle.p2p_net_links.specs.Stands.{LinksStand}
 use Rattle.p2p_net_links.specs.declared.links.Links.{Links}
 use Rattle.p2p_net_links.proofs.Changes.{links_frame}
-use Rattle.p2p_net.specs.Places.{Part, router, channels, connections, tracker, dialer}
-use Rattle.p2p_net.specs.Stands.{PartStands, NodeStands}
+use Rattle.p2p_net.specs.Places.{Part, router, channels, connections, tracker, dialer, listener}
+use Rattle.p2p_net.specs.Stands.{PartStands, NodeStands, WorldStands}
 use Rattle.p2p_net.specs.declared.node.Node.{Node}
 use Rattle.p2p_net.proofs.ActKinds.{registers_unless, starts_unless, half_unless, joins_unless}
 use Rattle.p2p_net.proofs.Routers.{RouterStands-idle}
@@ -43,6 +44,11 @@ pub record Performs (configs : List Config) (log : List Entry) (ev : Event) (n :
   pub row_is : r ≡ row configs log ev.at ev.seed ev.act
   pub node : NodeStands configs (log ++ effect configs log ev ∷ []) n y
   pub linked : LinksStand (log ++ effect configs log ev ∷ []) links
+
+-- the row is the act's, and the world stands for the log with its entry
+pub record Simulates (configs : List Config) (log : List Entry) (ev : Event) (nodes : List Node) (links : Links) (r : Row) : Type 0 where
+  pub row_is : r ≡ row configs log ev.at ev.seed ev.act
+  pub stands : WorldStands configs (log ++ effect configs log ev ∷ []) nodes links
 
 -- ---- acts that move nothing
 
@@ -60,6 +66,7 @@ is_quiet (act.Dialer n) reply.Gone = true
 is_quiet (act.Dialer n) r = false
 is_quiet (act.Attempt e n) r = false
 is_quiet (act.Resolve addresses e n) r = false
+is_quiet (act.Connect e from n to) r = false
 is_quiet (act.Refuse e n) r = false
 is_quiet a r = true
 
@@ -118,6 +125,7 @@ quiet_tries rules n name at seed (act.Dialer m) r s attempts k h = by (m == n)
     by false = refl
 quiet_tries rules n name at seed (act.Attempt e m) r s attempts k h = cc
 quiet_tries rules n name at seed (act.Resolve addresses e m) r s attempts k h = cc
+quiet_tries rules n name at seed (act.Connect e from m to) r s attempts k h = cc
 quiet_tries rules n name at seed (act.Refuse e m) r s attempts k h = cc
 quiet_tries rules n name at seed _ r s attempts k h = refl
 
@@ -190,6 +198,7 @@ part_still dialer configs log e n x a rep s is q h =
           ∙ (ap (λ l. acted_attempts rules n (length log) e.event.at e.event.seed e.reply l a attempts k) none ∙ quiet_tries rules n (length log) e.event.at e.event.seed a rep e.reply attempts k q);
       lines = λ k. line-still log e rep (queue.Attempt n k) h;
     })
+part_still listener configs log e n x a rep s is q h = listener_frame log e n x.listening s (line-still log e rep (queue.Arrivals n) h)
 
 pub links_still : (log : List Entry) (e : Entry) (rep : Reply) (l : Links) → LinksStand log l → IsStill e rep → LinksStand (log ++ e ∷ []) l
 links_still log e rep l s h = links_frame log e l s (λ t link. line-still log e rep (queue.Link link t) h)

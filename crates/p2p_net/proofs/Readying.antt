@@ -2,6 +2,7 @@
 use Rattle.std.proofs.Common.{◌≡◌, ℕ, zero, suc, ◌+◌, ◌*◌, ◌^◌, ◌<◌, ◌≤◌, Bool, true, false, List, [], ◌∷◌, length, refl, ap, sym, subst, ◌∙◌, arith, Option, Some, None}
 use Rattle.std.specs.Prelude.{slice_get, nat_lt, nat_le, not, ◌&&◌, is_some}
 use Rattle.std.proofs.lemmas.Bool.{and_parts, not-true}
+use Rattle.std.proofs.lemmas.Option.{same_Some}
 use Rattle.std.proofs.lemmas.Bool.Decides.{nat_tests}
 use Rattle.p2p_log.specs.declared.config.Config.{Config}
 use Rattle.p2p_log.specs.declared.entry.Entry.{Entry}
@@ -9,7 +10,7 @@ use Rattle.p2p_log.specs.declared.event.Rate.{Rate}
 use Rattle.p2p_log.specs.declared.asked.Asked.TheVariants as ask
 use Rattle.p2p_log.specs.declared.event.Act.{Act}
 use Rattle.p2p_log.specs.declared.event.Act.TheVariants as act
-use Rattle.p2p_log_rules.specs.Facts.{events_of, has_started, is_up, registered, capacity_for, capacity_in}
+use Rattle.p2p_log_rules.specs.Facts.{events_of, has_started, is_up, key_at, registered, capacity_for, capacity_in}
 use Rattle.p2p_log_rules.specs.Effect.{mailbox_size_at, limit_at}
 use Rattle.p2p_log_rules.specs.Valid.{fits, sizes_fit, gates_fit, is_quota, fits_usize, names_join}
 use Rattle.p2p_log_rules.specs.Valid as valid
@@ -24,7 +25,10 @@ use Rattle.p2p_net.specs.Places as place
 use Rattle.p2p_net_tracker.proofs.Begins.{may_take}
 use Rattle.p2p_net.specs.Places.{asked_node, or_first, node_asked, node_of, other_of}
 use Rattle.p2p_net.specs.Ready.{is_started, capacity_by, may_register, names_node, asks_set, subscribes, may_ask, may_at, may_act, IsReady, MayPerform, names_dialer}
+use Rattle.p2p_net.specs.Meetings.{meeting_of, ends_in}
 use Rattle.p2p_net.specs.Stands.{RouterStands, OwnStands, NodeStands, WorldStands}
+use Rattle.p2p_net.specs.declared.meeting.Meeting.{Meeting}
+use Rattle.p2p_net.specs.declared.meeting.Meeting.TheVariants as meeting
 use Rattle.p2p_net.specs.declared.node.Node.{Node}
 use Rattle.p2p_net.proofs.Nodes.{some_at}
 use Rattle.p2p_net.proofs.Routers.{is_unbound-before}
@@ -37,6 +41,9 @@ started_is configs log n x s = let rout : RouterStands configs log n x.router = 
 
 size_is : (configs : List Config) (n : ℕ) (x : Node) → OwnStands configs n x → x.config.mailbox_size ≡ mailbox_size_at configs n
 size_is configs n x s = sym (ap (λ (o : Option Config). elim o [ None ↦ 0 | Some c ↦ c.mailbox_size ]) s.config)
+
+pub key_is : (configs : List Config) (n : ℕ) (x : Node) → OwnStands configs n x → x.config.public_key ≡ key_at configs n
+key_is configs n x s = sym (ap (λ (o : Option Config). elim o [ None ↦ record { 0 = 0 } | Some c ↦ c.public_key ]) s.config)
 
 limit_is : (configs : List Config) (n : ℕ) (x : Node) → OwnStands configs n x → x.config.max_message_size ≡ limit_at configs n
 limit_is configs n x s = sym (ap (λ (o : Option Config). elim o [ None ↦ 0 | Some c ↦ c.max_message_size ]) s.config)
@@ -106,6 +113,10 @@ there_plain : (b : Bool) (at : Bool) → (b ≡ true → at ≡ true) → (b && 
 there_plain true at h = h refl
 there_plain false at h = refl
 
+all_there : (p q at rest : Bool) → (p ≡ true → at ≡ rest) → (p && (q && at)) ≡ (p && (q && rest))
+all_there true q at rest h = ap (λ b. q && b) (h refl)
+all_there false q at rest h = refl
+
 pair_there : (p q at : Bool) → (p ≡ true → at ≡ true) → (p && (q && at)) ≡ (p && q)
 pair_there true true at h = h refl
 pair_there true false at h = refl
@@ -174,6 +185,11 @@ module _ (configs : List Config) (log : List Entry) (nodes : List Node) (links :
       ∙ (ap (λ b. b && subscribes (slice_get log e)) (counted n) ∙ subscription_is configs log e)
   may_by (act.Attempt e n) = of_dialer n e (act.Attempt e n) (λ x. refl)
   may_by (act.Resolve addresses e n) = of_dialer n e (act.Resolve addresses e n) (λ x. refl)
+  may_by (act.Connect e from n to) =
+      all_there (nat_lt n (length nodes)) (nat_lt to (length nodes)) (may_at (slice_get nodes n) log (act.Connect e from n to)) (valid.names_dialer (events_of log) n e)
+      (λ lt. asks (act.Connect e from n to) (valid.names_dialer (events_of log) n e) lt (λ x t. dialed_is log n e))
+      ∙ (ap (λ b. b && (nat_lt to (length nodes) && valid.names_dialer (events_of log) n e)) (counted n)
+      ∙ ap (λ b. nat_lt n (length configs) && (b && valid.names_dialer (events_of log) n e)) (counted to))
   may_by (act.Refuse e n) = of_dialer n e (act.Refuse e n) (λ x. refl)
   may_by a = free a (λ x. refl)
 
@@ -234,6 +250,13 @@ releases_held configs log n lawful key x rest first is =
     let held = release_is_held configs (events_of log) log lawful n key x rest first is in
     (held, held_is_others configs (events_of log) log lawful n key held)
 
+-- the nodes that an act brings together are those that it names
+ends_named : (log : List Entry) (a : Act) (how : Meeting) → meeting_of a ≡ Some how → (node_of log a ≡ (ends_in how).dials) × (other_of (node_of log a) a ≡ (ends_in how).listens)
+ends_named log (act.Join m k) how is = subst (λ (h : Meeting). (m ≡ (ends_in h).dials) × (k ≡ (ends_in h).listens)) (same_Some (meeting.Join (record { dials = m; listens = k })) how is) (refl, refl)
+ends_named log (act.Connect e from m k) how is =
+    subst (λ (h : Meeting). (m ≡ (ends_in h).dials) × (k ≡ (ends_in h).listens)) (same_Some (meeting.Link e from (record { dials = m; listens = k })) how is) (refl, refl)
+ends_named log _ how is = cc
+
 -- an act that may be asked for finds its nodes there, and ready
 pub may_perform : (configs : List Config) (log : List Entry) (nodes : List Node) (links : Links) (a : Act) → WorldStands configs log nodes links → IsLawful configs (events_of log) log → valid.may_act configs (events_of log) a ≡ true
     → MayPerform nodes (node_of log a) a
@@ -248,7 +271,7 @@ may_perform configs log nodes links a s lawful may =
       second = lower m (length nodes) two.0;
       ready = λ x there.
           ready_by configs log n a x (s.each n x there) (releases_held configs log n lawful) (sizes_there configs log nodes links s n x there) (sym (ap (λ o. may_at o log a) there) ∙ two.1);
-      ends = λ i k is. ap (node_of log) is;
+      ends = λ how is. ends_named log a how is;
       sizes = λ i x there. one_mailbox x.config (sizes_there configs log nodes links s i x there);
       numbers = λ i x there. let r : RouterStands configs log i x.router = (s.each i x there).each place.router in r.number;
     }

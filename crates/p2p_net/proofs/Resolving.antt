@@ -19,7 +19,7 @@ use Rattle.p2p_log.specs.declared.event.Act.{Act}
 use Rattle.p2p_log.specs.declared.event.Act.TheVariants as act
 use Rattle.p2p_log.specs.Lines.{line}
 use Rattle.p2p_log_rules.specs.declared.row.Row.{Row}
-use Rattle.p2p_log_rules.specs.Attempting.{Attempt, dial_rules_at, told_addresses, with_attempt, acted_attempts, attempts_of, resolve_by}
+use Rattle.p2p_log_rules.specs.Attempting.{Attempt, dial_rules_at, told_addresses, with_attempt, acted_attempts, attempts_of, told_row, resolve_by}
 use Rattle.p2p_log_rules.specs.Effect.{only, row}
 use Rattle.p2p_net_queues.specs.Tables as table
 use Rattle.p2p_net_dialer.specs.Attempts.{resolved, AreBut, Resolves}
@@ -32,7 +32,7 @@ use Rattle.p2p_net.specs.Places as place
 use Rattle.p2p_net.specs.Places.{at}
 use Rattle.p2p_net.specs.Stands.{NodeStands}
 use Rattle.p2p_net.specs.declared.node.Node.{Node}
-use Rattle.p2p_net.proofs.Attempting.{other_attempt, told_is, untold, told, unnamed_by}
+use Rattle.p2p_net.proofs.Attempting.{other_attempt, told_is, does_itself, untold_stands, told_stands, unnamed_by, tells_performs}
 use Rattle.p2p_net.proofs.Performing.{asked, Performs}
 
 module _ (configs : List Config) (log : List Entry) (moment seed : ℕ) (addresses : List SocketAddr) (name n : ℕ) (x y : Node) (l ls : Links) (r : Row) (s : NodeStands configs log n x) (t : LinksStand log l)
@@ -56,8 +56,9 @@ module _ (configs : List Config) (log : List Entry) (moment seed : ℕ) (address
 
   gone : (now : Option RunningAttempt) → row configs log moment seed a ≡ only reply.Gone → r ≡ only reply.Gone → AreBut name now x.dialing.attempts y.dialing.attempts → now ≡ table.at x.dialing.attempts name → Done
   gone now is done but now_is =
-      untold configs log moment seed n name a x y l ls r s t (unnamed_by log n) refl refl (λ pace rep items puts d. refl) (λ j other. (refl, other_attempt n name j other)) told_addresses acted tells kept now reply.Gone is done but
-      (same (attempts name)) now_is
+      tells_performs configs log moment seed n a x y l ls r s t (unnamed_by log n) refl tells kept (is ∙ sym done)
+      (untold_stands configs log moment seed n name a (only reply.Gone) is x.dialing y.dialing (s.each place.dialer) refl (λ pace rep items puts d. refl) (λ j other. (refl, other_attempt n name j other)) told_addresses acted tells.0
+      now reply.Gone (does_itself (queue.Attempt n name) (length log) (only reply.Gone)) but (same (attempts name)) now_is)
     where
       same : (o : Option Attempt) → option_map (told_addresses reply.Gone) o ≡ o
       same None = refl
@@ -67,12 +68,14 @@ module _ (configs : List Config) (log : List Entry) (moment seed : ℕ) (address
       → b.ingress ≡ at → b.is_resolved ≡ done → row configs log moment seed a ≡ resolve_by at done name n addresses → r ≡ resolve_by at done name n addresses
       → AreBut name (Some (resolved at done (length log) addresses (attempt_of (gates_at configs n) name m b (line log (queue.Attempt n name))))) x.dialing.attempts y.dialing.attempts → Done
   by_ingress b m (ingress.Dns host port) false reserved is there at_is done_is row_is is_row but =
-      told configs log moment seed n name a x y l ls r s t (unnamed_by log n) refl refl (λ pace rep items puts d. refl) (λ j other. (refl, other_attempt n name j other)) told_addresses acted tells kept
-      (Some (resolved (ingress.Dns host port) false (length log) addresses (attempt_of (gates_at configs n) name m b (line log (queue.Attempt n name))))) (item.Resolved addresses) row_is is_row but
+      tells_performs configs log moment seed n a x y l ls r s t (unnamed_by log n) refl tells kept (row_is ∙ sym is_row)
+      (told_stands configs log moment seed n name a (told_row name n (item.Resolved addresses)) row_is x.dialing y.dialing (s.each place.dialer) refl (λ pace rep items puts d. refl) (λ j other. (refl, other_attempt n name j other))
+      told_addresses acted tells.0 (Some (resolved (ingress.Dns host port) false (length log) addresses (attempt_of (gates_at configs n) name m b (line log (queue.Attempt n name))))) (item.Resolved addresses)
+      (does_itself (queue.Attempt n name) (length log) (told_row name n (item.Resolved addresses))) but
       (subst (λ (o : Option Attempt). AttemptStands (gates_at configs n) name
       (Some (resolved (ingress.Dns host port) false (length log) addresses (attempt_of (gates_at configs n) name m b (line log (queue.Attempt n name))))) (option_map (told_addresses reply.Ok) o)
       (line log (queue.Attempt n name) ++ record { entry = length log; place = 0; queue = queue.Attempt n name; item = item.Resolved addresses } ∷ [])) (sym is)
-      (m, reserved, ap (λ (w : RunningAttempt). record w { is_resolved = true }) (told_is (gates_at configs n) name (length log) n m b (line log (queue.Attempt n name)) (item.Resolved addresses))))
+      (m, reserved, ap (λ (w : RunningAttempt). record w { is_resolved = true }) (told_is (gates_at configs n) name (length log) n m b (line log (queue.Attempt n name)) (item.Resolved addresses)))))
   by_ingress b m (ingress.Dns host port) true reserved is there at_is done_is row_is is_row but =
       gone (Some (attempt_of (gates_at configs n) name m b (line log (queue.Attempt n name)))) row_is is_row but (sym there)
   by_ingress b m (ingress.Socket socket) done reserved is there at_is done_is row_is is_row but =

@@ -21,6 +21,9 @@ use Rattle.p2p_net_connections.specs.Stands.{ConnectionsStand}
 use Rattle.p2p_net_dialer.specs.Dialing.{no_dialing}
 use Rattle.p2p_net_dialer.specs.Stands.{DialerStands}
 use Rattle.p2p_net_dialer.proofs.Changes.{dialer_new}
+use Rattle.p2p_net_listener.specs.Listening.{no_listening}
+use Rattle.p2p_net_listener.specs.Stands.{ListenerStands}
+use Rattle.p2p_net_listener.proofs.Changes.{listener_new}
 use Rattle.p2p_net_tracker.specs.Begins.{IsNew}
 use Rattle.p2p_net_tracker.proofs.Begins.{tracker_new}
 use Rattle.p2p_net_queues.specs.Lines.{HoldsLines}
@@ -87,8 +90,8 @@ links_new = record {
 -- a node that was asked for nothing
 pub node_new :
     (configs : List Config) (n : ℕ) (x : Node) → slice_get configs n ≡ Some x.config → x.retained ≡ x.config.max_peers_per_set * x.config.tracked_peer_sets → x.failed ≡ false → x.config.mailbox_size < 2 ^ 64
-    → x.router.number ≡ n → StandsFor configs [] x.router → ((c : ℕ) → tree.get nat_cmp x.router.peers c ≡ None) → x.channels ≡ no_channels → x.connections ≡ no_connections → IsNew x.config x.tracker → x.dialing ≡ no_dialing → NodeStands configs [] n x
-node_new configs n x config retained works small number stands none ch cs tr di = record {
+    → x.router.number ≡ n → StandsFor configs [] x.router → ((c : ℕ) → tree.get nat_cmp x.router.peers c ≡ None) → x.channels ≡ no_channels → x.connections ≡ no_connections → IsNew x.config x.tracker → x.dialing ≡ no_dialing → x.listening ≡ no_listening → NodeStands configs [] n x
+node_new configs n x config retained works small number stands none ch cs tr di li = record {
   own = record { config = config; retained = retained; works = works };
   each = λ p. elim p as (λ q. PartStands q configs [] n x) [
     | place.router ↦
@@ -106,6 +109,7 @@ node_new configs n x config retained works small number stands none ch cs tr di 
     | place.connections ↦ subst (ConnectionsStand configs [] n) (sym cs) (connections_new configs n)
     | place.tracker ↦ tracker_new configs n x.config x.tracker config tr
     | place.dialer ↦ subst (DialerStands configs [] n) (sym di) (dialer_new configs n)
+    | place.listener ↦ subst (ListenerStands [] n) (sym li) (listener_new n)
   ];
 }
 

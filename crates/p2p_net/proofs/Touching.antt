@@ -17,7 +17,7 @@ use Rattle.p2p_log_rules.specs.Effect.{effect}
 use Rattle.p2p_log_rules.proofs.Touches.{in_router, in_half, in_link, in_channels, in_tracker, is_told_to, reads, writes, away}
 use Rattle.p2p_log_rules.specs.Tracking.{asked_by}
 use Rattle.p2p_log_laws.proofs.Untouched.{line-untouched}
-use Rattle.p2p_net.specs.Places.{home, names, at, router, channels, connections, tracker, dialer, links, same_place, asked_node, or_first, node_asked}
+use Rattle.p2p_net.specs.Places.{home, names, at, router, channels, connections, tracker, dialer, listener, links, same_place, asked_node, or_first, node_asked}
 
 -- ---- what the kinds of queues that an act reaches are of
 
@@ -61,6 +61,9 @@ answers_queue n q h = same_queue-sym (queue.Dialer n) q ∙ away (λ r. same_pla
 
 attempt_queue : (n e : ℕ) (q : Queue) → same_place (at dialer n) (home q) ≡ false → same_queue (queue.Attempt n e) q ≡ false
 attempt_queue n e q h = same_queue-sym (queue.Attempt n e) q ∙ away (λ r. same_place (at dialer n) (home r)) q (queue.Attempt n e) h (eqb-refl n)
+
+arrivals_queue : (n : ℕ) (q : Queue) → same_place (at listener n) (home q) ≡ false → same_queue (queue.Arrivals n) q ≡ false
+arrivals_queue n q h = same_queue-sym (queue.Arrivals n) q ∙ away (λ r. same_place (at listener n) (home r)) q (queue.Arrivals n) h (eqb-refl n)
 
 tracker_kinds : (n : ℕ) (q : Queue) → same_place (at tracker n) (home q) ≡ false → in_tracker n q ≡ false
 tracker_kinds n (queue.Tracker m) h = grind (arith, nat_tests)
@@ -147,6 +150,10 @@ writes-named configs log (act.Attempt e n) q h =
     (tracker_queue n q (first_false (same_place (at tracker n) (home q)) (same_place (at dialer n) (home q) || false) h))
     (attempt_queue n e q (second_of_two (same_place (at tracker n) (home q)) (same_place (at dialer n) (home q)) h))
 writes-named configs log (act.Resolve addresses e n) q h = attempt_queue n e q (first_false (same_place (at dialer n) (home q)) false h)
+writes-named configs log (act.Connect e from n to) q h =
+    both_false (same_queue (queue.Attempt n e) q) (same_queue (queue.Arrivals to) q)
+    (attempt_queue n e q (first_false (same_place (at dialer n) (home q)) (same_place (at listener to) (home q) || false) h))
+    (arrivals_queue to q (second_of_two (same_place (at dialer n) (home q)) (same_place (at listener to) (home q)) h))
 writes-named configs log (act.Refuse e n) q h = attempt_queue n e q (first_false (same_place (at dialer n) (home q)) false h)
 writes-named configs log _ q h = refl
 

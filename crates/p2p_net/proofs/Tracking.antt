@@ -1,5 +1,5 @@
 -- The acts of a node's tracker.
-use Rattle.std.proofs.Common.{◌≡◌, ℕ, zero, suc, Bool, true, false, cond, List, [], ◌∷◌, ◌++◌, length, refl, ap, sym, subst, ◌∙◌, Option, Some, None, ◌⊎◌, inl, inr}
+use Rattle.std.proofs.Common.{◌≡◌, ℕ, zero, suc, Bool, true, false, cond, List, [], ◌∷◌, ◌++◌, length, refl, ap, sym, subst, ◌∙◌, Some, ◌⊎◌, inl, inr}
 use Rattle.std.specs.Prelude.{slice_get}
 use Rattle.p2p_log.specs.declared.config.Config.{Config}
 use Rattle.p2p_log.specs.declared.entry.Entry.{Entry}
@@ -30,7 +30,7 @@ use Rattle.p2p_net.specs.Ready.{is_started}
 use Rattle.p2p_net.specs.Acts.{Tracks, TrackerStepsBy}
 use Rattle.p2p_net.specs.Stands.{NodeStands}
 use Rattle.p2p_net.specs.declared.node.Node.{Node}
-use Rattle.p2p_net.proofs.EachPart.{is_in, with_parts, each_part, not_among}
+use Rattle.p2p_net.proofs.EachPart.{is_in, each_part, not_among}
 use Rattle.p2p_net.proofs.Frames.{links_kept}
 use Rattle.p2p_net.proofs.Performing.{asked, Performs}
 use Rattle.p2p_net.proofs.Readying.{started_is}

@@ -1,5 +1,5 @@
 -- The steps of the attempts of a node's dialer.
-use Rattle.std.proofs.Common.{◌≡◌, ℕ, Bool, true, false, cond, List, [], ◌∷◌, ◌++◌, map, length, refl, ap, sym, subst, ◌∙◌, append-nil, eq-eqb, Option, Some, None}
+use Rattle.std.proofs.Common.{◌≡◌, ℕ, ◌+◌, Bool, true, false, cond, List, [], ◌∷◌, ◌++◌, map, length, refl, ap, sym, subst, ◌∙◌, append-nil, eq-eqb, Option, Some, None}
 use Rattle.std.specs.Prelude.{◌==◌, nat_le, filter}
 use Rattle.std.proofs.lemmas.List.{map-append}
 use Rattle.p2p_base.specs.declared.key.Key.{Key}
@@ -13,7 +13,6 @@ use Rattle.p2p_tracker_mailbox.specs.declared.message.Message.TheVariants as mes
 use Rattle.p2p_gates.specs.AttemptTurns as turns
 use Rattle.p2p_gates.specs.Attempting.{Attempting}
 use Rattle.p2p_gates.specs.Stepping.{Turn}
-use Rattle.p2p_gates.specs.declared.attempt.item.AttemptItem.TheVariants as told
 use Rattle.p2p_gates.specs.declared.config.Config.{Config as Gates}
 use Rattle.p2p_gates.specs.declared.stepped.Input.TheVariants as input
 use Rattle.p2p_gates.specs.declared.stepped.Stepped.TheVariants as stepped
@@ -36,7 +35,7 @@ use Rattle.p2p_log.proofs.QueueNames.{queue_from_same}
 use Rattle.p2p_log.proofs.Queues.{same_queue-refl}
 use Rattle.p2p_log.proofs.Taken.{other_left}
 use Rattle.p2p_log_rules.specs.declared.row.Row.{Row}
-use Rattle.p2p_log_rules.specs.Attempting.{Attempt, dial_rules_at, stepped_attempt, drawn_address, dialing, resolved, with_attempt, and_then, attempts_of, left_ends, given_up_row, resolved_row, took_row, attempt_turn, attempt_by}
+use Rattle.p2p_log_rules.specs.Attempting.{Attempt, DialRules, dial_rules_at, linked, stepped_attempt, drawn_address, dialing, resolved, with_attempt, and_then, attempts_of, left_ends, given_up_row, resolved_row, took_row, attempt_turn, attempt_by}
 use Rattle.p2p_log_rules.specs.Effect.{only, row, effect, entry_of}
 use Rattle.p2p_log_rules.specs.Facts.{taken}
 use Rattle.p2p_log_laws.proofs.AttemptShape.{left_gone}
@@ -50,7 +49,7 @@ use Rattle.p2p_net_dialer.specs.Stands.{gates_at, told_item, attempt_of, Attempt
 use Rattle.p2p_net_dialer.specs.declared.attempt.RunningAttempt.{RunningAttempt}
 use Rattle.p2p_net_dialer.specs.declared.attempt.Tried.{Tried}
 use Rattle.p2p_net_dialer.proofs.Attempting.{attempt_changed}
-use Rattle.p2p_net_dialer.proofs.Changes.{private_is}
+use Rattle.p2p_net_dialer.proofs.Changes.{private_is, handshake_timeout_is}
 use Rattle.p2p_net_links.specs.Stands.{LinksStand}
 use Rattle.p2p_net_links.specs.declared.links.Links.{Links}
 use Rattle.p2p_net_tracker.specs.Dialed.{asked_puts, names_asked}
@@ -103,6 +102,9 @@ module _ (configs : List Config) (log : List Entry) (moment seed name n : ℕ) (
   abbrev g : Gates
   g = gates_at configs n
 
+  abbrev rules : DialRules
+  rules = dial_rules_at configs n
+
   abbrev private : Bool
   private = (dial_rules_at configs n).private
 
@@ -135,7 +137,7 @@ module _ (configs : List Config) (log : List Entry) (moment seed name n : ℕ) (
 
   -- the parts after a row: of the attempts this one alone, which is this then
   module _ (due : Row) (now : Option RunningAttempt) (next : Option Attempt) (row_is : row configs log moment seed (act.Attempt name n) ≡ due) (done : r ≡ due) (but : AreBut name now x.dialing.attempts y.dialing.attempts)
-      (becomes : and_then (stepped_attempt private seed due.reply (taken log (e due))) (attempts name) ≡ next)
+      (becomes : and_then (stepped_attempt rules moment seed due.reply (taken log (e due))) (attempts name) ≡ next)
       (others : (j : ℕ) → (j == name) ≡ false → line (log ++ e due ∷ []) (queue.Attempt n j) ≡ line log (queue.Attempt n j))
       (stands : AttemptStands g name now next (line (log ++ e due ∷ []) q)) (tracker_is : TrackerStands configs (log ++ e due ∷ []) n y.tracker) where
     dialer_is : DialerStands configs (log ++ e due ∷ []) n y.dialing
@@ -147,7 +149,7 @@ module _ (configs : List Config) (log : List Entry) (moment seed name n : ℕ) (
           actor = steps.actor;
           others = but;
           tried = λ j.
-              ap (λ b. cond b (with_attempt name (and_then (stepped_attempt private seed due.reply (taken log (e due))) (attempts name)) attempts j) (attempts j)) (eq-eqb n n refl)
+              ap (λ b. cond b (with_attempt name (and_then (stepped_attempt rules moment seed due.reply (taken log (e due))) (attempts name)) attempts j) (attempts j)) (eq-eqb n n refl)
               ∙ ap (λ o. with_attempt name o attempts j) becomes;
           lines = others;
           stands = stands;
@@ -186,12 +188,12 @@ module _ (configs : List Config) (log : List Entry) (moment seed name n : ℕ) (
   -- ---- nothing is taken, and it goes on
 
   still : (rep : Reply) (o : Option RunningAttempt) (b : Option Attempt) → table.at x.dialing.attempts name ≡ o → attempts name ≡ b → row configs log moment seed (act.Attempt name n) ≡ only rep
-      → and_then (stepped_attempt private seed rep []) b ≡ b → steps.tried ≡ record { row = only rep; released = None } → AreBut name o x.dialing.attempts y.dialing.attempts → y.tracker.mailbox ≡ m → Performs configs log ev n y ls r
+      → and_then (stepped_attempt rules moment seed rep []) b ≡ b → steps.tried ≡ record { row = only rep; released = None } → AreBut name o x.dialing.attempts y.dialing.attempts → y.tracker.mailbox ≡ m → Performs configs log ev n y ls r
   still rep o b there is row_is becomes tried_is but same =
       let due : Row = only rep in
       let stay : (p : Queue) → line (log ++ e due ∷ []) p ≡ line log p = λ p. line-kept log (e due) p refl ∙ append-nil (line log p) in
       performs due o b row_is (row_of (record { row = due; released = None }) tried_is) but
-      (ap (λ i. and_then (stepped_attempt private seed rep i) (attempts name)) (none_taken log (e due) refl) ∙ (ap (and_then (stepped_attempt private seed rep [])) is ∙ becomes))
+      (ap (λ i. and_then (stepped_attempt rules moment seed rep i) (attempts name)) (none_taken log (e due) refl) ∙ (ap (and_then (stepped_attempt rules moment seed rep [])) is ∙ becomes))
       (λ j other. stay (queue.Attempt n j))
       (subst (AttemptStands g name o b) (sym (stay q)) (subst (λ w. AttemptStands g name w b (line log q)) there (subst (λ w. AttemptStands g name (table.at x.dialing.attempts name) w (line log q)) is (stood.attempts name))))
       (tracker_left due (ap (λ (w : Tried). w.released) tried_is) same (stay (queue.Tracker n)) (λ p own. stay p))
@@ -199,7 +201,7 @@ module _ (configs : List Config) (log : List Entry) (moment seed name n : ℕ) (
   -- ---- it takes this, and goes on
 
   goes_on : (z : Envelope) (zs : List Envelope) (reserved : Metadata Key) (b next : Attempt) → line log q ≡ z ∷ zs → peer_of reserved ≡ next.key → attempts name ≡ Some b
-      → row configs log moment seed (act.Attempt name n) ≡ record { reply = reply.Ok; takes = name_of z ∷ []; puts = []; ends = [] } → stepped_attempt private seed reply.Ok (z.item ∷ []) b ≡ Some next
+      → row configs log moment seed (act.Attempt name n) ≡ record { reply = reply.Ok; takes = name_of z ∷ []; puts = []; ends = [] } → stepped_attempt rules moment seed reply.Ok (z.item ∷ []) b ≡ Some next
       → steps.tried ≡ record { row = record { reply = reply.Ok; takes = name_of z ∷ []; puts = []; ends = [] }; released = None }
       → AreBut name (Some (attempt_of g name reserved next zs)) x.dialing.attempts y.dialing.attempts → y.tracker.mailbox ≡ m → Performs configs log ev n y ls r
   goes_on z zs reserved b next first peer is row_is becomes tried_is but same =
@@ -207,7 +209,7 @@ module _ (configs : List Config) (log : List Entry) (moment seed name n : ℕ) (
       let after : (p : Queue) → line (log ++ e due ∷ []) p ≡ cond (same_queue q p) zs (line log p) = λ p. line-taken log (e due) q z zs p first refl ∙ append-nil (cond (same_queue q p) zs (line log p)) in
       let here : line (log ++ e due ∷ []) q ≡ zs = after q ∙ ap (λ c. cond c zs (line log q)) (same_queue-refl q) in
       performs due (Some (attempt_of g name reserved next zs)) (Some next) row_is (row_of (record { row = due; released = None }) tried_is) but
-      (ap (λ i. and_then (stepped_attempt private seed reply.Ok i) (attempts name)) (first_taken log (e due) q z zs first refl) ∙ (ap (and_then (stepped_attempt private seed reply.Ok (z.item ∷ []))) is ∙ becomes))
+      (ap (λ i. and_then (stepped_attempt rules moment seed reply.Ok i) (attempts name)) (first_taken log (e due) q z zs first refl) ∙ (ap (and_then (stepped_attempt rules moment seed reply.Ok (z.item ∷ []))) is ∙ becomes))
       (λ j other. after (queue.Attempt n j) ∙ ap (λ c. cond c zs (line log (queue.Attempt n j))) (other_attempt n name j other))
       (subst (AttemptStands g name (Some (attempt_of g name reserved next zs)) (Some next)) (sym here) (reserved, peer, refl))
       (tracker_left due (ap (λ (w : Tried). w.released) tried_is) same (after (queue.Tracker n)) (λ p own. after p ∙ ap (λ c. cond c zs (line log p)) (told_elsewhere n name p own)))
@@ -216,7 +218,7 @@ module _ (configs : List Config) (log : List Entry) (moment seed name n : ℕ) (
 
   gives_up : (took left : List Envelope) (reserved : Metadata Key) (b : Attempt) → line log q ≡ took ++ left → peer_of reserved ≡ b.key → attempts name ≡ Some b
       → row configs log moment seed (act.Attempt name n) ≡ given_up_row n b.key (map name_of took) left
-      → stepped_attempt private seed reply.Ok (taken log (e (given_up_row n b.key (map name_of took) left))) b ≡ None
+      → stepped_attempt rules moment seed reply.Ok (taken log (e (given_up_row n b.key (map name_of took) left))) b ≡ None
       → steps.tried ≡ record { row = record { reply = reply.Ok; takes = map name_of took; puts = []; ends = left_ends left }; released = Some (peer_of reserved) }
       → AreBut name None x.dialing.attempts y.dialing.attempts → y.tracker.mailbox ≡ with_message_in m (message.Release reserved) → Performs configs log ev n y ls r
   gives_up took left reserved b whole peer is row_is becomes tried_is but mailbox =
@@ -236,7 +238,7 @@ module _ (configs : List Config) (log : List Entry) (moment seed name n : ℕ) (
       let tracker_now : y.tracker ≡ record x.tracker { mailbox = y.tracker.mailbox; names = x.tracker.names ++ (k, 0) ∷ [] } =
       steps.tracker ∙ ap (λ (w : Tried). record x.tracker { mailbox = y.tracker.mailbox; names = x.tracker.names ++ names_asked k (release_item w.released) }) tried_is in
       performs due None None row_is row_now but
-      (ap (and_then (stepped_attempt private seed reply.Ok (taken log (e due)))) is ∙ becomes)
+      (ap (and_then (stepped_attempt rules moment seed reply.Ok (taken log (e due)))) is ∙ becomes)
       (λ j other. after (queue.Attempt n j) ∙ (ap (λ c. cond c [] (line log (queue.Attempt n j)) ++ []) (other_attempt n name j other) ∙ append-nil (line log (queue.Attempt n j))))
       (after q ∙ ap (λ c. cond c [] (line log q) ++ []) (same_queue-refl q))
       (tracker_dialed configs log (e due) n x.tracker y.tracker false (z ∷ []) (message.Release reserved ∷ []) tracked
@@ -279,7 +281,7 @@ module _ (configs : List Config) (log : List Entry) (moment seed name n : ℕ) (
         → Performs configs log ev n y ls r
     by_deadline true come none h =
         gives_up [] [] reserved b none peer is (due_row [] none ∙ ap (λ c. cond c (given_up_row n b.key [] []) (only reply.Idle)) come)
-        (ap (λ i. stepped_attempt private seed reply.Ok i b) (none_taken log (e (given_up_row n b.key [] [])) refl)) h.0 h.1.0 h.1.1
+        (ap (λ i. stepped_attempt rules moment seed reply.Ok i b) (none_taken log (e (given_up_row n b.key [] [])) refl)) h.0 h.1.0 h.1.1
     by_deadline false come none h =
         still reply.Idle (Some w) (Some b) there is (due_row [] none ∙ ap (λ c. cond c (given_up_row n b.key [] []) (only reply.Idle)) come) refl h.0
         (subst (λ (xs : List Envelope). AreBut name (Some (attempt_of g name reserved b xs)) x.dialing.attempts y.dialing.attempts) (sym none) h.1.0) h.1.1
@@ -292,34 +294,37 @@ module _ (configs : List Config) (log : List Entry) (moment seed name n : ℕ) (
       abbrev before : RunningAttempt
       before = attempt_of g name reserved b (z ∷ zs)
 
-      ends : row configs log moment seed (act.Attempt name n) ≡ given_up_row n b.key (name_of z ∷ []) zs → stepped_attempt private seed reply.Ok (z.item ∷ []) b ≡ None
+      ends : row configs log moment seed (act.Attempt name n) ≡ given_up_row n b.key (name_of z ∷ []) zs → stepped_attempt rules moment seed reply.Ok (z.item ∷ []) b ≡ None
           → TurnsTo (turns.gives_up (Some reserved) input.Item left m) before → Performs configs log ev n y ls r
       ends row_is becomes h =
           gives_up (z ∷ []) zs reserved b first peer is row_is
-          (ap (λ j. stepped_attempt private seed reply.Ok j b) (first_taken log (e (given_up_row n b.key (name_of z ∷ []) zs)) q z zs first refl) ∙ becomes)
+          (ap (λ j. stepped_attempt rules moment seed reply.Ok j b) (first_taken log (e (given_up_row n b.key (name_of z ∷ []) zs)) q z zs first refl) ∙ becomes)
           (h.0 ∙ ap (λ c. record { row = record { reply = reply.Ok; takes = name_of z ∷ []; puts = []; ends = c }; released = Some (peer_of reserved) }) (ends_are zs)) h.1.0 h.1.1
 
       lasts : (next : Attempt) → next.key ≡ b.key → row configs log moment seed (act.Attempt name n) ≡ record { reply = reply.Ok; takes = name_of z ∷ []; puts = []; ends = [] }
-          → stepped_attempt private seed reply.Ok (z.item ∷ []) b ≡ Some next → steps.tried ≡ record { row = record { reply = reply.Ok; takes = name_of z ∷ []; puts = []; ends = [] }; released = None }
+          → stepped_attempt rules moment seed reply.Ok (z.item ∷ []) b ≡ Some next → steps.tried ≡ record { row = record { reply = reply.Ok; takes = name_of z ∷ []; puts = []; ends = [] }; released = None }
           → AreBut name (Some (attempt_of g name reserved next zs)) x.dialing.attempts y.dialing.attempts → y.tracker.mailbox ≡ m → Performs configs log ev n y ls r
       lasts next key row_is becomes tried_is but same = goes_on z zs reserved b next first (peer ∙ sym key) is row_is becomes tried_is but same
 
       -- it dials the address that was drawn, if there is one
-      by_drawn : (to : Option SocketAddr) → row configs log moment seed (act.Attempt name n) ≡ resolved_row (dialing to b) n b.key (name_of z) zs → stepped_attempt private seed reply.Ok (z.item ∷ []) b ≡ dialing to b
+      by_drawn : (to : Option SocketAddr) → row configs log moment seed (act.Attempt name n) ≡ resolved_row (dialing to b) n b.key (name_of z) zs → stepped_attempt rules moment seed reply.Ok (z.item ∷ []) b ≡ dialing to b
           → TurnsTo (turns.dials to left m) before → Performs configs log ev n y ls r
       by_drawn None row_is becomes h = ends row_is becomes h
       by_drawn (Some to) row_is becomes h = lasts (record b { address = Some to }) refl row_is becomes h.0 h.1.0 h.1.1
 
       -- and keeps the one that it has
       by_address : (at : Option SocketAddr) (addresses : List SocketAddr) → b.address ≡ at → row configs log moment seed (act.Attempt name n) ≡ resolved_row (resolved at private addresses seed b) n b.key (name_of z) zs
-          → stepped_attempt private seed reply.Ok (z.item ∷ []) b ≡ resolved at private addresses seed b → TurnsTo (turns.resolves at addresses left m seed) before → Performs configs log ev n y ls r
+          → stepped_attempt rules moment seed reply.Ok (z.item ∷ []) b ≡ resolved at private addresses seed b → TurnsTo (turns.resolves at addresses left m seed) before → Performs configs log ev n y ls r
       by_address (Some to) addresses at_is row_is becomes h = lasts b refl row_is becomes h.0 h.1.0 h.1.1
       by_address None addresses at_is row_is becomes h =
           by_drawn (drawn_address private addresses seed) row_is becomes (subst (λ c. TurnsTo (turns.dials (turns.chosen (turns.may_be_dialed c addresses) seed) left m) before) (private_is configs n) h)
 
       by_item : (i : Item) → row configs log moment seed (act.Attempt name n) ≡ took_row n private seed b (name_of z) i zs
-          → stepped_attempt private seed reply.Ok (z.item ∷ []) b ≡ stepped_attempt private seed reply.Ok (i ∷ []) b → TurnsTo (turns.item_turn (told_item i) left m moment seed) before → Performs configs log ev n y ls r
+          → stepped_attempt rules moment seed reply.Ok (z.item ∷ []) b ≡ stepped_attempt rules moment seed reply.Ok (i ∷ []) b → TurnsTo (turns.item_turn (told_item i) left m moment seed) before → Performs configs log ev n y ls r
       by_item (item.Resolved addresses) row_is becomes h = by_address b.address addresses refl row_is becomes h
+      by_item item.Linked row_is becomes h =
+          lasts (linked (moment + rules.handshake_timeout) b) refl row_is becomes h.0
+          (subst (λ t. AreBut name (Some (attempt_of g name reserved (linked (moment + t) b) zs)) x.dialing.attempts y.dialing.attempts) (handshake_timeout_is configs n) h.1.0) h.1.1
       by_item _ row_is becomes h = ends row_is becomes h
 
     by_line : (xs : List Envelope) → line log q ≡ xs → TurnsTo (turns.attempt_turn (attempt_of g name reserved b xs).actor m moment seed) (attempt_of g name reserved b xs) → Performs configs log ev n y ls r

@@ -29,7 +29,7 @@ use Rattle.p2p_net_connections.specs.declared.connections.Connection.{Connection
 use Rattle.p2p_net_connections.specs.Connections.{answered, begun}
 use Rattle.p2p_net_links.specs.declared.links.Links.{Links}
 use Rattle.p2p_net_links.specs.Links.{way_of, with_way, written_way, write_frames_row}
-use Rattle.p2p_net_dialer.specs.Attempts.{Tries, Resolves, Refuses}
+use Rattle.p2p_net_dialer.specs.Attempts.{Tries, Resolves, AnswersDial}
 use Rattle.p2p_net_dialer.specs.Dialing as dialing
 use Rattle.p2p_net_dialer.specs.Dialing.{started}
 use Rattle.p2p_net_dialer.specs.declared.attempt.Tried.{Tried}
@@ -240,6 +240,7 @@ NodeDoes k n at seed (act.SendStep conn m) old new l links r = SendSteps k conn 
 NodeDoes k n at seed (act.RecvStep conn m) old new l links r = RecvSteps k n conn old new l links r
 NodeDoes k n at seed (act.Recv c m) old new l links r = Reads c old new r × (links ≡ l)
 NodeDoes k n at seed (act.Join a b) old new l links r = Stays old new r (only reply.Idle) × (links ≡ l)
+NodeDoes k n at seed (act.Connect e from m to) old new l links r = Stays old new r (only reply.Idle) × (links ≡ l)
 NodeDoes k n at seed (act.Ask what m) old new l links r = ((r ≡ ask_answer old.tracker n k what) × Tracks (after_asking old.tracker k what) old new) × (links ≡ l)
 NodeDoes k n at seed (act.Answer e) old new l links r = (Answers n e old.tracker new.tracker r × Tracks new.tracker old new) × (links ≡ l)
 NodeDoes k n at seed (act.Next e) old new l links r = (Continues n e old.tracker new.tracker r × Tracks new.tracker old new) × (links ≡ l)
@@ -248,4 +249,4 @@ NodeDoes k n at seed (act.Dialer m) old new l links r = DialerStepsBy (is_starte
 NodeDoes k n at seed (act.Attempt e m) old new l links r = AttemptSteps k n e at seed old new r × (links ≡ l)
 NodeDoes k n at seed (act.Resolve addresses e m) old new l links r =
     (Resolves (table.at old.dialing.attempts e) k n e addresses old.dialing.attempts new.dialing.attempts r × TellsAttempt old new) × (links ≡ l)
-NodeDoes k n at seed (act.Refuse e m) old new l links r = (Refuses (table.at old.dialing.attempts e) k n e old.dialing.attempts new.dialing.attempts r × TellsAttempt old new) × (links ≡ l)
+NodeDoes k n at seed (act.Refuse e m) old new l links r = (AnswersDial (table.at old.dialing.attempts e) k n e false old.dialing.attempts new.dialing.attempts r × TellsAttempt old new) × (links ≡ l)

@@ -6,8 +6,6 @@ use Rattle.p2p_log.specs.declared.item.Item.TheVariants as item
 use Rattle.p2p_log.specs.declared.entry.Entry.{Entry}
 use Rattle.p2p_log.specs.declared.entry.Reply.TheVariants as reply
 use Rattle.p2p_log.specs.declared.event.Event.{Event}
-use Rattle.p2p_log.specs.declared.event.Act.{Act}
-use Rattle.p2p_log.specs.declared.event.Act.TheVariants as act
 use Rattle.p2p_log_rules.specs.declared.row.Half.{Half}
 use Rattle.p2p_log_rules.specs.declared.row.Row.{Row}
 use Rattle.p2p_log_rules.specs.Effect.{only, entry_of}
@@ -19,7 +17,10 @@ use Rattle.p2p_net.specs.Ready.{is_started}
 use Rattle.p2p_net.specs.Acts.{NodeDoes}
 use Rattle.p2p_net.specs.Routing as routing
 use Rattle.p2p_net.specs.declared.node.Node.{Node}
-use Rattle.p2p_net.specs.declared.joins.Ends.{Ends}
+use Rattle.p2p_net.specs.Linking.{IsLinked}
+use Rattle.p2p_net.specs.Meetings.{meeting_of}
+use Rattle.p2p_net.specs.declared.meeting.Meeting.{Meeting}
+use Rattle.p2p_net.specs.declared.meeting.Meeting.TheVariants as meeting
 
 -- a node has this half of the connection k with its partner, of which its router is told as the put of this place
 abbrev pub Welcomes : ℕ → ℕ → Half → ℕ → Node → Node → Type 0
@@ -62,29 +63,25 @@ abbrev pub OneDoes : ℕ → ℕ → Event → List Node → List Node → Links
 OneDoes k n ev old new l links r =
     (x : Node) × ((y : Node) × ((slice_get old n ≡ Some x) × ((new ≡ slice_set old n y) × NodeDoes k n ev.at ev.seed ev.act x y l links r)))
 
--- the two nodes of a join
-abbrev pub pair_of : Act → Option (ℕ × ℕ)
-pair_of (act.Join a b) = Some (a, b)
-pair_of _ = None
+-- what that comes to at its nodes
+abbrev pub Meets : Meeting → ℕ → List Node → List Node → Row → Type 0
+Meets (meeting.Join ends) k old new r = Joins k ends.dials ends.listens old new r
+Meets (meeting.Link e from ends) k old new r = IsLinked k e ends.dials ends.listens from old new r
 
-abbrev pub ends_by : Option (ℕ × ℕ) → Option Ends
-ends_by None = None
-ends_by (Some ends) = Some (record { dials = ends.0; listens = ends.1 })
-
-abbrev pub DoesOn : Option (ℕ × ℕ) → ℕ → ℕ → Event → List Node → List Node → Links → Links → Row → Type 0
+abbrev pub DoesOn : Option Meeting → ℕ → ℕ → Event → List Node → List Node → Links → Links → Row → Type 0
 DoesOn None k n ev old new l links r = OneDoes k n ev old new l links r
-DoesOn (Some ends) k n ev old new l links r = Joins k ends.0 ends.1 old new r × (links ≡ l)
+DoesOn (Some how) k n ev old new l links r = Meets how k old new r × (links ≡ l)
 
--- what the entry k of an event is, where its act names one node, and where it joins two
+-- what the entry k of an event is, where its act names one node, and where it names two
 abbrev pub OneRecords : ℕ → ℕ → Event → List Node → List Node → Links → Links → Entry → Type 0
 OneRecords k n ev old new l links e = (r : Row) × ((e ≡ entry_of ev r) × OneDoes k n ev old new l links r)
 
-abbrev pub JoinRecords : ℕ → Event → ℕ → ℕ → List Node → List Node → Entry → Type 0
-JoinRecords k ev a b old new e = (r : Row) × ((e ≡ entry_of ev r) × Joins k a b old new r)
+abbrev pub MeetingRecords : ℕ → Event → Meeting → List Node → List Node → Entry → Type 0
+MeetingRecords k ev how old new e = (r : Row) × ((e ≡ entry_of ev r) × Meets how k old new r)
 
 -- what the entry k of an event comes to, which names the node n first
 abbrev pub WorldDoes : ℕ → ℕ → Event → List Node → List Node → Links → Links → Row → Type 0
-WorldDoes k n ev old new l links r = DoesOn (pair_of ev.act) k n ev old new l links r
+WorldDoes k n ev old new l links r = DoesOn (meeting_of ev.act) k n ev old new l links r
 
 -- what the entry k of an event is
 abbrev pub WorldRecords : ℕ → ℕ → Event → List Node → List Node → Links → Links → Entry → Type 0

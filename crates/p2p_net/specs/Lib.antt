@@ -1,6 +1,8 @@
 pub mod Acts
 pub mod Applying
 pub mod Joining
+pub mod Linking
+pub mod Meetings
 pub mod Places
 pub mod Ready
 pub mod Refusals

@@ -14,6 +14,7 @@ pub data Part : Type 0 where
   connections : Part
   tracker : Part
   dialer : Part
+  listener : Part
 
 -- where queues stand: at a part of a node, or at the links
 pub data Place : Type 0 where
@@ -27,6 +28,7 @@ code channels = 1
 code connections = 2
 code tracker = 3
 code dialer = 4
+code listener = 5
 
 abbrev pub same_part : Part → Part → Bool
 same_part p q = code p == code q
@@ -43,6 +45,7 @@ home (queue.Tracker n) = at tracker n
 home (queue.Update n) = at tracker n
 home (queue.Dialer n) = at tracker n
 home (queue.Attempt n e) = at dialer n
+home (queue.Arrivals n) = at listener n
 home (queue.Control n conn) = at tracker n
 home (queue.Answer n e) = at tracker n
 home (queue.Updates n e) = at tracker n
@@ -69,6 +72,7 @@ parts_named (act.Recv c n) = channels ∷ []
 parts_named (act.Dialer n) = tracker ∷ dialer ∷ []
 parts_named (act.Attempt e n) = tracker ∷ dialer ∷ []
 parts_named (act.Resolve addresses e n) = dialer ∷ []
+parts_named (act.Connect e from n to) = dialer ∷ listener ∷ []
 parts_named (act.Refuse e n) = dialer ∷ []
 parts_named _ = tracker ∷ []
 
@@ -118,16 +122,19 @@ node_of log (act.Tracker n) = n
 node_of log (act.Dialer n) = n
 node_of log (act.Attempt e n) = n
 node_of log (act.Resolve addresses e n) = n
+node_of log (act.Connect e from n to) = n
 node_of log (act.Refuse e n) = n
 
 -- and the other one that it names
 abbrev pub other_of : ℕ → Act → ℕ
 other_of n (act.Join a b) = b
+other_of n (act.Connect e from m to) = to
 other_of n a = n
 
 -- the places that an act names
 abbrev pub places : List Entry → Act → List Place
 places log (act.Join a b) = parts_of a (parts_named (act.Join a b)) ++ parts_of b (parts_named (act.Join a b))
+places log (act.Connect e from n to) = at dialer n ∷ at listener to ∷ []
 places log a = places_at (names_links a) (node_of log a) (parts_named a)
 
 abbrev pub names : List Entry → Act → Place → Bool

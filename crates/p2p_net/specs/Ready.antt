@@ -11,7 +11,9 @@ use Rattle.p2p_net_channels.specs.Channels.{capacity_at}
 use Rattle.p2p_log_rules.specs.Tracking.{key_cmp}
 use Rattle.p2p_tracker_mailbox.specs.Desk.{next_message}
 use Rattle.p2p_tracker.specs.Serving.{MayTake}
+use Rattle.p2p_net.specs.Meetings.{meeting_of, ends_in}
 use Rattle.p2p_net.specs.Places.{node_of, other_of}
+use Rattle.p2p_net.specs.declared.meeting.Meeting.{Meeting}
 use Rattle.p2p_net.specs.declared.node.Node.{Node}
 
 -- whether a node has started
@@ -64,6 +66,7 @@ may_ask log x (act.Answer e) = asks_set (slice_get log e)
 may_ask log x (act.Next e) = subscribes (slice_get log e)
 may_ask log x (act.Attempt e n) = names_dialer n (slice_get log e)
 may_ask log x (act.Resolve addresses e n) = names_dialer n (slice_get log e)
+may_ask log x (act.Connect e from n to) = names_dialer n (slice_get log e)
 may_ask log x (act.Refuse e n) = names_dialer n (slice_get log e)
 may_ask log x _ = true
 
@@ -97,7 +100,7 @@ pub record MayPerform (nodes : List Node) (n : ℕ) (a : Act) : Type 0 where
   pub first : n < length nodes
   pub second : other_of n a < length nodes
   pub ready : (x : Node) → slice_get nodes n ≡ Some x → IsReady a x
-  -- a join names its nodes itself
-  pub ends : (m k : ℕ) → a ≡ act.Join m k → n ≡ m
+  -- one that brings two together names these
+  pub ends : (how : Meeting) → meeting_of a ≡ Some how → (n ≡ (ends_in how).dials) × (other_of n a ≡ (ends_in how).listens)
   pub sizes : (n : ℕ) (x : Node) → slice_get nodes n ≡ Some x → 1 ≤ x.config.mailbox_size
   pub numbers : (n : ℕ) (x : Node) → slice_get nodes n ≡ Some x → x.router.number ≡ n

@@ -14,9 +14,10 @@ use Rattle.p2p_net_channels.specs.Stands.{ChannelsStand}
 use Rattle.p2p_net_connections.specs.Stands.{ConnectionsStand}
 use Rattle.p2p_net_tracker.specs.Stands.{TrackerStands}
 use Rattle.p2p_net_dialer.specs.Stands.{DialerStands}
+use Rattle.p2p_net_listener.specs.Stands.{ListenerStands}
 use Rattle.p2p_net_links.specs.Stands.{LinksStand}
 use Rattle.p2p_net_links.specs.declared.links.Links.{Links}
-use Rattle.p2p_net.specs.Places.{Part, router, channels, connections, tracker, dialer}
+use Rattle.p2p_net.specs.Places.{Part, router, channels, connections, tracker, dialer, listener}
 use Rattle.p2p_net.specs.declared.node.Node.{Node}
 
 -- a node's router was told of no connection to come, and of none with a node that its own was not joined to
@@ -37,6 +38,7 @@ PartStands channels configs log n x = ChannelsStand configs log n x.channels
 PartStands connections configs log n x = ConnectionsStand configs log n x.connections
 PartStands tracker configs log n x = TrackerStands configs log n x.tracker
 PartStands dialer configs log n x = DialerStands configs log n x.dialing
+PartStands listener configs log n x = ListenerStands log n x.listening
 
 -- what a node has beside its parts: the sizes of its configuration, and it has found memory so far
 pub record OwnStands (configs : List Config) (n : ℕ) (x : Node) : Type 0 where

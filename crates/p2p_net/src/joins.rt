@@ -2,23 +2,19 @@
 ghost use Rattle.std.specs.Prelude.{◌≡◌, ◌==◌, ℕ, ◌<◌, ◌≤◌, false, length, slice_get, IfOk, OnOk, IsTrue, Some};
 ghost use Rattle.p2p_router.specs.Messenger.{is_bound};
 ghost use Rattle.p2p_net.specs.Ready.{IsReady, MayPerform};
-ghost use Rattle.p2p_net.specs.Joining.{Welcomes, Connects, may_join as may_join_test, joined_row, Joins, pair_of, ends_by, OneRecords, JoinRecords, WorldRecords};
+ghost use Rattle.p2p_net.specs.Joining.{Welcomes, Connects, may_join as may_join_test, joined_row, Joins, OneRecords, Meets, MeetingRecords, WorldRecords};
+ghost use Rattle.p2p_net.specs.Meetings.{ends_in};
 ghost use Rattle.p2p_net.specs.declared.node.Node.{Node};
 
+use crate::linking::link;
+use crate::meeting::{Ends, Meeting, meeting_of};
 use crate::node::{Node, entry_of};
 use p2p_base::Key;
-use p2p_log::{Act, Entry, Event, Item, Queue, Reply, Side};
+use p2p_log::{Entry, Event, Item, Queue, Reply, Side};
 use p2p_log_rules::{Half, Row};
 use p2p_net_links::Links;
 use p2p_net_queues::{Turn, only};
 use std::alloc::{AllocError, Global};
-
-/// The two nodes that a join names: the one that dials, and the one that listens.
-#[derive(Clone, Copy)]
-pub struct Ends {
-    pub dials: u64,
-    pub listens: u64,
-}
 
 /// Whether two nodes may be joined: both have started, they are two, and were not joined before.
 fn may_join(ends: Ends, first: &Node, second: &Node) -> bool
@@ -131,19 +127,6 @@ fn join(alloc: Global, nodes: &mut Vec<Node>, entry: u64, ends: Ends) -> Result<
     Ok(row)
 }
 
-/// The two nodes of a join.
-fn ends_of(act: &Act) -> Option<Ends>
-    ensures { result ≡ ends_by (pair_of act.now) }
-{
-    match act {
-        Act::Join { a, b } => Some(Ends {
-            dials: *a,
-            listens: *b,
-        }),
-        _ => None,
-    }
-}
-
 /// Does an event at this node, the one that it names.
 fn apply_at(
     alloc: Global,
@@ -164,25 +147,47 @@ fn apply_at(
     }
 }
 
-/// Joins two nodes, where they may be, for an event.
-fn join_at(
+/// Brings two nodes together.
+fn meet(
+    alloc: Global,
+    nodes: &mut Vec<Node>,
+    entry: u64,
+    meeting: Meeting,
+) -> Result<Row, AllocError>
+    requires first_in_range { (ends_in meeting).dials < length nodes.old.items }
+    requires second_in_range { (ends_in meeting).listens < length nodes.old.items }
+    requires sizes { (n : ℕ) (x : Node) → slice_get nodes.old.items n ≡ Some x → 1 ≤ x.config.mailbox_size }
+    ensures { IfOk result (λ r. Meets meeting entry nodes.old.items nodes.new.items r) }
+{
+    match meeting {
+        Meeting::Join(ends) => Ok(join(alloc, nodes, entry, ends)?),
+        Meeting::Link {
+            attempt,
+            from,
+            ends,
+        } => Ok(link(alloc, nodes, entry, attempt, from, ends)?),
+    }
+}
+
+/// Brings two nodes together for an event.
+fn meet_at(
     alloc: Global,
     nodes: &mut Vec<Node>,
     entry: u64,
     event: &Event,
-    ends: Ends,
+    meeting: Meeting,
 ) -> Result<Entry, AllocError>
-    requires first_in_range { ends.dials < length nodes.old.items }
-    requires second_in_range { ends.listens < length nodes.old.items }
+    requires first_in_range { (ends_in meeting).dials < length nodes.old.items }
+    requires second_in_range { (ends_in meeting).listens < length nodes.old.items }
     requires sizes { (n : ℕ) (x : Node) → slice_get nodes.old.items n ≡ Some x → 1 ≤ x.config.mailbox_size }
-    ensures { IfOk result (λ e. JoinRecords entry event.now ends.dials ends.listens nodes.old.items nodes.new.items e) }
+    ensures { IfOk result (λ e. MeetingRecords entry event.now meeting nodes.old.items nodes.new.items e) }
 {
-    let row = join(alloc, nodes, entry, ends)?;
+    let row = meet(alloc, nodes, entry, meeting)?;
     Ok(entry_of(alloc, event, row)?)
 }
 
-/// Does an event, and gives the entry that comes of it: at this node, which it names, or at the two nodes of a join, the dialing
-/// one first.
+/// Does an event, and gives the entry that comes of it: at this node, which it names, or at the two that it brings together, the
+/// dialing one first.
 pub fn perform(
     alloc: Global,
     nodes: &mut Vec<Node>,
@@ -194,8 +199,8 @@ pub fn perform(
     requires { MayPerform nodes.old.items node event.now.act }
     ensures { IfOk result (λ e. WorldRecords entry node event.now nodes.old.items nodes.new.items links.old links.new e) }
 {
-    match ends_of(&event.act) {
-        Some(ends) => Ok(join_at(alloc, nodes, entry, event, ends)?),
+    match meeting_of(&event.act) {
+        Some(meeting) => Ok(meet_at(alloc, nodes, entry, event, meeting)?),
         None => Ok(apply_at(alloc, nodes, links, entry, node, event)?),
     }
 }

@@ -6,6 +6,8 @@ mod calls;
 mod configs;
 mod error;
 mod joins;
+mod linking;
+mod meeting;
 mod node;
 mod steps;
 mod valid;

@@ -7,6 +7,7 @@ ghost use Rattle.p2p_log_rules.specs.Valid.{fits};
 ghost use Rattle.p2p_net_channels.specs.Channels.{no_channels};
 ghost use Rattle.p2p_net_connections.specs.Connections.{no_connections};
 ghost use Rattle.p2p_net_dialer.specs.Dialing.{no_dialing};
+ghost use Rattle.p2p_net_listener.specs.Listening.{no_listening};
 ghost use Rattle.p2p_net_router.specs.Stands.{StandsFor};
 ghost use Rattle.p2p_net_tracker.specs.Begins.{IsNew};
 ghost use Rattle.p2p_net.specs.Places.{asked_node as asked_node_of, node_asked as node_asked_by, node_of as node_of_act, other_of as other_of_act};
@@ -22,6 +23,7 @@ use p2p_net_channels::Channels;
 use p2p_net_connections::Connections;
 use p2p_net_dialer::Dialing;
 use p2p_net_links::Links;
+use p2p_net_listener::Listening;
 use p2p_net_queues::{Turn, only};
 use p2p_net_router::Router;
 use p2p_net_tracker::Tracker;
@@ -44,6 +46,8 @@ pub struct Node {
     pub tracker: Tracker,
     /// Its dialer, once it has started, and the attempts of it that have not ended.
     pub dialing: Dialing,
+    /// Its listener.
+    pub listening: Listening,
     /// Whether it found no memory.
     pub failed: bool,
 }
@@ -112,6 +116,7 @@ pub fn node_of(log: &[Entry], act: &Act) -> u64
         Act::Dialer { node } => *node,
         Act::Attempt { node, .. } => *node,
         Act::Resolve { node, .. } => *node,
+        Act::Connect { node, .. } => *node,
         Act::Refuse { node, .. } => *node,
     }
 }
@@ -122,6 +127,7 @@ pub fn other_of(first: u64, act: &Act) -> u64
 {
     match act {
         Act::Join { b, .. } => *b,
+        Act::Connect { to, .. } => *to,
         _ => first,
     }
 }
@@ -142,6 +148,7 @@ impl Node {
         ensures channels { IfOk result (λ x. x.channels ≡ no_channels) }
         ensures connections { IfOk result (λ x. x.connections ≡ no_connections) }
         ensures dialing { IfOk result (λ x. x.dialing ≡ no_dialing) }
+        ensures listening { IfOk result (λ x. x.listening ≡ no_listening) }
         ensures works { IfOk result (λ x. x.failed ≡ false) }
     {
         let size = config.mailbox_size;
@@ -155,6 +162,7 @@ impl Node {
             connections: Connections::new(alloc),
             tracker,
             dialing: Dialing::new(alloc),
+            listening: Listening::new(alloc),
             failed: false,
         })
     }
@@ -230,6 +238,7 @@ impl Node {
             Act::RecvStep { conn, .. } => Ok(self.recv_step(turn, links, *conn)?),
             Act::Recv { channel, .. } => Ok(self.read(turn, *channel)?),
             Act::Join { .. } => Ok(only(turn.alloc, Reply::Idle)),
+            Act::Connect { .. } => Ok(only(turn.alloc, Reply::Idle)),
             Act::Ask { asked, .. } => Ok(self.tracker.ask(turn, asked)?),
             Act::Answer { question } => Ok(self.tracker.answer(turn, *question)?),
             Act::Next { question } => Ok(self.tracker.next(turn, *question)?),
@@ -243,7 +252,7 @@ impl Node {
                 attempt,
                 ..
             } => Ok(self.dialing.resolve(turn, *attempt, addresses)?),
-            Act::Refuse { attempt, .. } => Ok(self.dialing.refuse(turn, *attempt)?),
+            Act::Refuse { attempt, .. } => Ok(self.dialing.answer_dial(turn, *attempt, false)?),
         }
     }
 }

@@ -90,6 +90,7 @@ fn may_ask(log: &[Entry], node: &Node, act: &Act) -> bool
         Act::Next { question } => subscribes(log, *question),
         Act::Attempt { attempt, node } => is_dialed(log, *attempt, *node),
         Act::Resolve { attempt, node, .. } => is_dialed(log, *attempt, *node),
+        Act::Connect { attempt, node, .. } => is_dialed(log, *attempt, *node),
         Act::Refuse { attempt, node } => is_dialed(log, *attempt, *node),
         _ => true,
     }

@@ -22,7 +22,7 @@ use Rattle.p2p_log.specs.declared.entry.Reply.{Reply}
 use Rattle.p2p_log.specs.declared.event.Act.{Act}
 use Rattle.p2p_log.specs.declared.event.Act.TheVariants as act
 use Rattle.p2p_log.specs.Lines.{live_from, line}
-use Rattle.p2p_log_rules.specs.Attempting.{Attempt, DialRules, dial_rules_at, socket_of, begun_of, stepped_attempt, told_addresses, told_refused, with_attempt, with_begun, and_then, acted_attempts, attempts_by, attempts_of}
+use Rattle.p2p_log_rules.specs.Attempting.{Attempt, DialRules, dial_rules_at, socket_of, begun_of, stepped_attempt, told_addresses, told_answer, with_attempt, with_begun, and_then, acted_attempts, attempts_by, attempts_of}
 use Rattle.p2p_log_rules.specs.Facts.{events_of, starts, has_started, is_up, taken, state_from}
 use Rattle.p2p_log_rules.specs.Dialing.{Pace, pace_at, Dials, new_dials, steps_dialer, stepped_dials, acted_dials, dials_by, dials_of}
 use Rattle.p2p_log_rules.proofs.Attempts.{attempts_of-append, attempts_of-late}
@@ -55,9 +55,10 @@ none_steps n _ h = refl
 
 none_tried : (rules : DialRules) (n name at seed : ℕ) (r : Reply) (items : List Item) (a : Act) (attempts : ℕ → Option Attempt) (k : ℕ) → is_of_dialer n a ≡ false → acted_attempts rules n name at seed r items a attempts k ≡ attempts k
 none_tried rules n name at seed r items (act.Dialer m) attempts k h = ap (λ b. cond b (with_begun (begun_of rules.timeout at items) name attempts k) (attempts k)) h
-none_tried rules n name at seed r items (act.Attempt e m) attempts k h = ap (λ b. cond b (with_attempt e (and_then (stepped_attempt rules.private seed r items) (attempts e)) attempts k) (attempts k)) h
+none_tried rules n name at seed r items (act.Attempt e m) attempts k h = ap (λ b. cond b (with_attempt e (and_then (stepped_attempt rules at seed r items) (attempts e)) attempts k) (attempts k)) h
 none_tried rules n name at seed r items (act.Resolve addresses e m) attempts k h = ap (λ b. cond b (with_attempt e (option_map (told_addresses r) (attempts e)) attempts k) (attempts k)) h
-none_tried rules n name at seed r items (act.Refuse e m) attempts k h = ap (λ b. cond b (with_attempt e (option_map (told_refused r) (attempts e)) attempts k) (attempts k)) h
+none_tried rules n name at seed r items (act.Connect e from m to) attempts k h = ap (λ b. cond b (with_attempt e (option_map (told_answer r) (attempts e)) attempts k) (attempts k)) h
+none_tried rules n name at seed r items (act.Refuse e m) attempts k h = ap (λ b. cond b (with_attempt e (option_map (told_answer r) (attempts e)) attempts k) (attempts k)) h
 none_tried rules n name at seed r items _ attempts k h = refl
 
 or_false : (b c : Bool) → c ≡ false → (b || c) ≡ b
@@ -166,7 +167,7 @@ IsBegun gates name _ _ = ⊥
 -- an attempt that begins is what is said of it
 pub begun_is : (g : Gates) (rules : DialRules) (name : ℕ) (m : Metadata Key) (key : Key) (at : ℕ) (to : Ingress) → g.dial_timeout ≡ rules.timeout
     → running (new_attempt name m to g at)
-    ≡ attempt_of g name m (record { key = key; ingress = to; address = socket_of to; deadline = at + rules.timeout; is_resolved = false; is_refused = false }) []
+    ≡ attempt_of g name m (record { key = key; ingress = to; address = socket_of to; deadline = at + rules.timeout; is_resolved = false; is_answered = false }) []
 begun_is g rules name m key at (ingress.Socket s) same = ap (λ t. running (record (new_attempt name m (ingress.Socket s) g at) { deadline = at + t })) same
 begun_is g rules name m key at (ingress.Dns host port) same = ap (λ t. running (record (new_attempt name m (ingress.Dns host port) g at) { deadline = at + t })) same
 
@@ -175,23 +176,28 @@ gates_in None = no_gates
 gates_in (Some c) = gates_of c
 
 abbrev rules_in : Option Config → DialRules
-rules_in None = record { timeout = 0; private = false }
-rules_in (Some c) = record { timeout = c.dial_timeout; private = c.allow_private_ips }
+rules_in None = record { timeout = 0; handshake_timeout = 0; private = false }
+rules_in (Some c) = record { timeout = c.dial_timeout; handshake_timeout = c.handshake_timeout; private = c.allow_private_ips }
 
--- how long an attempt may take, and which addresses it may dial
-pub timeout_is : (configs : List Config) (n : ℕ) → (gates_at configs n).dial_timeout ≡ (dial_rules_at configs n).timeout
-timeout_is configs n = by (slice_get configs n)
+abbrev rules_of : Gates → DialRules
+rules_of g = record { timeout = g.dial_timeout; handshake_timeout = g.handshake_timeout; private = g.allow_private_ips }
+
+-- how long an attempt may take, before and after its link, and which addresses it may dial
+rules_are : (configs : List Config) (n : ℕ) → rules_of (gates_at configs n) ≡ dial_rules_at configs n
+rules_are configs n = by (slice_get configs n)
   where
-    by : (o : Option Config) → (gates_in o).dial_timeout ≡ (rules_in o).timeout
+    by : (o : Option Config) → rules_of (gates_in o) ≡ rules_in o
     by None = refl
     by (Some c) = refl
+
+pub timeout_is : (configs : List Config) (n : ℕ) → (gates_at configs n).dial_timeout ≡ (dial_rules_at configs n).timeout
+timeout_is configs n = ap (λ (r : DialRules). r.timeout) (rules_are configs n)
+
+pub handshake_timeout_is : (configs : List Config) (n : ℕ) → (gates_at configs n).handshake_timeout ≡ (dial_rules_at configs n).handshake_timeout
+handshake_timeout_is configs n = ap (λ (r : DialRules). r.handshake_timeout) (rules_are configs n)
 
 pub private_is : (configs : List Config) (n : ℕ) → (gates_at configs n).allow_private_ips ≡ (dial_rules_at configs n).private
-private_is configs n = by (slice_get configs n)
-  where
-    by : (o : Option Config) → (gates_in o).allow_private_ips ≡ (rules_in o).private
-    by None = refl
-    by (Some c) = refl
+private_is configs n = ap (λ (r : DialRules). r.private) (rules_are configs n)
 
 with_is : (g : Gates) (o : Option (Attempting Key)) (b : Option Attempt) (name k : ℕ) (l : List (ℕ × RunningAttempt)) (f : ℕ → Option Attempt) (waits : List Envelope) → IsBegun g name o b
     → ((k == name) ≡ true → waits ≡ []) → AttemptStands g k (table.at l k) (f k) waits → AttemptStands g k (table.at (attempts_with o name l) k) (with_begun b name f k) waits

@@ -22,7 +22,7 @@ use Rattle.p2p_gates.specs.declared.stepped.Stepped.TheVariants as stepped
 use Rattle.p2p_log.specs.declared.end.End.{End}
 use Rattle.p2p_log.specs.declared.entry.Reply.TheVariants as reply
 use Rattle.p2p_log_rules.specs.declared.row.Row.{Row}
-use Rattle.p2p_log_rules.specs.Attempting.{resolve_by, refuse_by}
+use Rattle.p2p_log_rules.specs.Attempting.{resolve_by, answered_row}
 use Rattle.p2p_log_rules.specs.Rows.{only}
 use Rattle.p2p_net_queues.specs.Rows.{item_ends}
 use Rattle.p2p_net_queues.specs.Tables as table
@@ -39,7 +39,7 @@ is_name (ingress.Dns host port) = true
 
 -- one that has begun
 abbrev pub running : Attempting Key → RunningAttempt
-running a = record { actor = a; names = []; is_resolved = false; is_refused = false }
+running a = record { actor = a; names = []; is_resolved = false; is_answered = false }
 
 -- ---- what it is told
 
@@ -52,10 +52,15 @@ abbrev pub resolved : Ingress → Bool → ℕ → List SocketAddr → RunningAt
 resolved (ingress.Dns host port) false k addresses a = record (with_told k (told.Addresses addresses) a) { is_resolved = true }
 resolved _ _ k addresses a = a
 
--- once a link may have been refused to it: it has an address, and that comes once
-abbrev pub refused : Option SocketAddr → Bool → ℕ → RunningAttempt → RunningAttempt
-refused (Some s) false k a = record (with_told k told.Refused a) { is_refused = true }
-refused _ _ k a = a
+-- what it is told of its dial
+abbrev pub link_told : Bool → AttemptItem
+link_told true = told.Linked
+link_told false = told.Refused
+
+-- once its dial may have been answered: it has an address, and that comes once
+abbrev pub answered : Option SocketAddr → Bool → Bool → ℕ → RunningAttempt → RunningAttempt
+answered (Some s) false links k a = record (with_told k (link_told links) a) { is_answered = true }
+answered _ _ links k a = a
 
 -- ---- its step
 
@@ -121,6 +126,7 @@ Resolves None k n name addresses old new r = (r ≡ only reply.Gone) × AreBut n
 Resolves (Some a) k n name addresses old new r =
     (r ≡ resolve_by a.actor.ingress a.is_resolved name n addresses) × AreBut name (Some (resolved a.actor.ingress a.is_resolved k addresses a)) old new
 
-abbrev pub Refuses : Option RunningAttempt → ℕ → ℕ → ℕ → List (ℕ × RunningAttempt) → List (ℕ × RunningAttempt) → Row → Type 0
-Refuses None k n name old new r = (r ≡ only reply.Gone) × AreBut name None old new
-Refuses (Some a) k n name old new r = (r ≡ refuse_by a.actor.address a.is_refused name n) × AreBut name (Some (refused a.actor.address a.is_refused k a)) old new
+abbrev pub AnswersDial : Option RunningAttempt → ℕ → ℕ → ℕ → Bool → List (ℕ × RunningAttempt) → List (ℕ × RunningAttempt) → Row → Type 0
+AnswersDial None k n name links old new r = (r ≡ only reply.Gone) × AreBut name None old new
+AnswersDial (Some a) k n name links old new r =
+    (r ≡ answered_row a.actor.address a.is_answered links name n) × AreBut name (Some (answered a.actor.address a.is_answered links k a)) old new

@@ -48,6 +48,7 @@ actor_of gates d = record { cfg = gates; peers = d.peers; deadline = d.deadline;
 -- the item as the attempt is told it
 abbrev pub told_item : Item → AttemptItem
 told_item (item.Resolved addresses) = told.Addresses addresses
+told_item item.Linked = told.Linked
 told_item _ = told.Refused
 
 -- the attempt of this name of which this stands, by this reservation and with these that wait for it
@@ -66,7 +67,7 @@ attempt_of gates name reserved a waiting = record {
   };
   names = map name_of waiting;
   is_resolved = a.is_resolved;
-  is_refused = a.is_refused;
+  is_answered = a.is_answered;
 }
 
 -- the attempt of this name stands for what is said of it, by a reservation of its key; where there is none, nothing waits for it
@@ -84,6 +85,7 @@ abbrev pub is_of_dialer : ℕ → Act → Bool
 is_of_dialer n (act.Dialer m) = m == n
 is_of_dialer n (act.Attempt e m) = m == n
 is_of_dialer n (act.Resolve addresses e m) = m == n
+is_of_dialer n (act.Connect e from m to) = m == n
 is_of_dialer n (act.Refuse e m) = m == n
 is_of_dialer n _ = false
 

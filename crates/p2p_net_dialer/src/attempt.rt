@@ -2,9 +2,9 @@
 ghost use Rattle.std.specs.Prelude.{◌≡◌, ◌++◌, ◌∷◌, [], not, is_some, IfOk, OnOk};
 ghost use Rattle.p2p_log.specs.declared.queue.Queue.TheVariants as queue;
 ghost use Rattle.p2p_log.specs.declared.entry.Reply.TheVariants as reply;
-ghost use Rattle.p2p_log_rules.specs.Attempting.{resolve_by, refuse_by};
+ghost use Rattle.p2p_log_rules.specs.Attempting.{link_item, resolve_by, answered_row};
 ghost use Rattle.p2p_gates.specs.AttemptTurns.{attempt_turn};
-ghost use Rattle.p2p_net_dialer.specs.Attempts.{is_item as item_test, is_name, running, took_names, with_told, resolved, refused, released_key, ended, tried, after_turn};
+ghost use Rattle.p2p_net_dialer.specs.Attempts.{is_item as item_test, is_name, running, took_names, with_told, link_told, resolved, answered, released_key, ended, tried, after_turn};
 
 use p2p_address::{Ingress, SocketAddr};
 use p2p_base::{Key, List};
@@ -24,8 +24,8 @@ pub struct RunningAttempt {
     pub names: Deque<(u64, u64)>,
     /// Whether it was told the addresses of its peer.
     pub is_resolved: bool,
-    /// Whether it was told that there is no link to its peer.
-    pub is_refused: bool,
+    /// Whether its dial was answered, with a link or a refusal.
+    pub is_answered: bool,
 }
 
 /// What an attempt did in a step.
@@ -67,6 +67,16 @@ fn released(put: Option<Put<Key>>) -> Option<Key>
     }
 }
 
+/// What an attempt is told of its dial: that there is a link, or that there is none.
+fn link_told(links: bool) -> (AttemptItem, Item)
+    ensures { result ≡ (link_told links, link_item links) }
+{
+    if links {
+        return (AttemptItem::Linked, Item::Linked);
+    }
+    (AttemptItem::Refused, Item::Refused)
+}
+
 impl RunningAttempt {
     /// An attempt that has begun.
     pub fn new(alloc: Global, actor: Attempt<Key>) -> RunningAttempt
@@ -76,7 +86,7 @@ impl RunningAttempt {
             actor,
             names: Deque::new(alloc),
             is_resolved: false,
-            is_refused: false,
+            is_answered: false,
         }
     }
 
@@ -179,20 +189,21 @@ impl RunningAttempt {
         Ok(self.tell(turn, attempt, told, item)?)
     }
 
-    /// It is told that there is no link to its peer, once it has an address to dial, and once.
+    /// Its dial is answered, with a link or a refusal, once it has an address to dial, and once.
     ///
     /// `Err` only where there is no memory. Some of it may then be told, and its node goes no further.
-    pub fn refuse(&mut self, turn: Turn, attempt: u64) -> Result<Row, AllocError>
-        ensures row { IfOk result (λ r. r ≡ refuse_by self.old.actor.address self.old.is_refused attempt turn.node) }
-        ensures after { OnOk result (self.new ≡ refused self.old.actor.address self.old.is_refused turn.entry self.old) }
+    pub fn answer_dial(&mut self, turn: Turn, attempt: u64, links: bool) -> Result<Row, AllocError>
+        ensures row { IfOk result (λ r. r ≡ answered_row self.old.actor.address self.old.is_answered links attempt turn.node) }
+        ensures after { OnOk result (self.new ≡ answered self.old.actor.address self.old.is_answered links turn.entry self.old) }
     {
         if self.actor.address().is_none() {
             return Ok(only(turn.alloc, Reply::Pending));
         }
-        if self.is_refused {
+        if self.is_answered {
             return Ok(only(turn.alloc, Reply::Gone));
         }
-        self.is_refused = true;
-        Ok(self.tell(turn, attempt, AttemptItem::Refused, Item::Refused)?)
+        self.is_answered = true;
+        let (told, item) = link_told(links);
+        Ok(self.tell(turn, attempt, told, item)?)
     }
 }

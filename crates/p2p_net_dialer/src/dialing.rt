@@ -2,7 +2,7 @@
 ghost use Rattle.std.specs.Prelude.{◌≡◌, [], None, Some, true, ◌&&◌, IfOk, OnOk};
 ghost use Rattle.p2p_log_rules.specs.Valid.{is_quota};
 ghost use Rattle.p2p_net_queues.specs.Tables as table;
-ghost use Rattle.p2p_net_dialer.specs.Attempts.{Tries, Resolves, Refuses, kept_with};
+ghost use Rattle.p2p_net_dialer.specs.Attempts.{Tries, Resolves, AnswersDial, kept_with};
 ghost use Rattle.p2p_net_dialer.specs.Dialing.{gates_of, no_dialing, started, asked_item, is_answer as answer_test, begun_by, Steps};
 
 use crate::attempt::{RunningAttempt, Tried};
@@ -210,17 +210,17 @@ impl Dialing {
         Ok(row)
     }
 
-    /// The attempt of this name is told that there is no link to its peer.
+    /// The dial of the attempt of this name is answered, with a link or a refusal.
     ///
     /// `Err` only where there is no memory. The attempt may then be dropped, and its node goes no further.
-    pub fn refuse(&mut self, turn: Turn, name: u64) -> Result<Row, AllocError>
-        ensures refuses { IfOk result (λ r. Refuses (table.at self.old.attempts name) turn.entry turn.node name self.old.attempts self.new.attempts r) }
+    pub fn answer_dial(&mut self, turn: Turn, name: u64, links: bool) -> Result<Row, AllocError>
+        ensures answers { IfOk result (λ r. AnswersDial (table.at self.old.attempts name) turn.entry turn.node name links self.old.attempts self.new.attempts r) }
         ensures actor { OnOk result (self.new.actor ≡ self.old.actor) }
     {
         let Some(mut running) = self.attempts.remove(name) else {
             return Ok(only(turn.alloc, Reply::Gone));
         };
-        let row = running.refuse(turn, name)?;
+        let row = running.answer_dial(turn, name, links)?;
         self.attempts.insert(name, running)?;
         Ok(row)
     }

@@ -1,5 +1,6 @@
 //! What becomes of the attempts of a node's dialer in a world.
 use crate::tracker::{ask, tracking};
+use p2p_address::{IpAddr, SocketAddr};
 use p2p_net::{Act, Item, Reply, RunError, World};
 use std::alloc::Global;
 
@@ -11,8 +12,27 @@ enum Said {
     Other,
 }
 
-// What the newest entry answered, how many items it took, and whether it gave a reservation back.
-fn newest(world: &World) -> (Said, usize, bool) {
+// What comes of an event: the answer, how many items it took and put, and whether the first of those that it put gives a
+// reservation back.
+#[derive(Clone, Copy, PartialEq, Eq, Debug)]
+struct Seen(Said, usize, usize, bool);
+
+const IDLE: Seen = Seen(Said::Idle, 0, 0, false);
+
+const GONE: Seen = Seen(Said::Gone, 0, 0, false);
+
+const TOLD: Seen = Seen(Said::Ok, 0, 1, false);
+
+const LINKED: Seen = Seen(Said::Ok, 0, 2, false);
+
+const TAKEN: Seen = Seen(Said::Ok, 1, 0, false);
+
+const ENDED: Seen = Seen(Said::Ok, 1, 1, true);
+
+const ENDED_AT_ITS_DEADLINE: Seen = Seen(Said::Ok, 0, 1, true);
+
+// What the newest entry shows.
+fn newest(world: &World) -> Seen {
     match world.report().log.as_slice().last() {
         Some(entry) => {
             let said = match entry.reply {
@@ -21,10 +41,10 @@ fn newest(world: &World) -> (Said, usize, bool) {
                 Reply::Gone => Said::Gone,
                 _ => Said::Other,
             };
-            let released = matches!(entry.puts.as_slice(), [(_, Item::Release(_))]);
-            (said, entry.takes.len(), released)
+            let released = matches!(entry.puts.as_slice().first(), Some((_, Item::Release(_))));
+            Seen(said, entry.takes.len(), entry.puts.len(), released)
         }
-        None => (Said::Other, 0, false),
+        None => Seen(Said::Other, 0, 0, false),
     }
 }
 
@@ -43,51 +63,80 @@ fn dialing(alloc: Global) -> Result<(World, u64), RunError> {
     Ok((world, attempt))
 }
 
-// Steps of an attempt, each with its moment and what comes of it.
-const AT_ITS_DEADLINE: &[(u64, (Said, usize, bool))] = &[
-    (0, (Said::Idle, 0, false)),
-    (14_999_999_999, (Said::Idle, 0, false)),
-    (15_000_000_000, (Said::Ok, 0, true)),
-    (15_000_000_000, (Said::Gone, 0, false)),
-];
+// What is done with the attempt: a step, a refusal, and a link to the listener of its own node; and a step of the tracker.
+#[derive(Clone, Copy)]
+enum Do {
+    Step,
+    Refuse,
+    Link,
+    Track,
+}
 
-// The place of the first step of an attempt that does another thing. `None` where all do what is written.
-fn first_other(alloc: Global) -> Result<Option<usize>, RunError> {
+fn act(what: Do, attempt: u64) -> Act {
+    let from = SocketAddr {
+        ip: IpAddr::V4([10, 0, 0, 1]),
+        port: 40_000,
+    };
+    match what {
+        Do::Step => Act::Attempt { attempt, node: 0 },
+        Do::Refuse => Act::Refuse { attempt, node: 0 },
+        Do::Link => Act::Connect {
+            attempt,
+            from,
+            node: 0,
+            to: 0,
+        },
+        Do::Track => Act::Tracker { node: 0 },
+    }
+}
+
+// The place of the first event that does another thing. `None` where all do what is written.
+fn first_other(alloc: Global, steps: &[(u64, Do, Seen)]) -> Result<Option<usize>, RunError> {
     let (mut world, attempt) = dialing(alloc)?;
-    for (i, step) in AT_ITS_DEADLINE.iter().enumerate() {
-        ask(&mut world, step.0, Act::Attempt { attempt, node: 0 })?;
-        if newest(&world) != step.1 {
+    for (i, step) in steps.iter().enumerate() {
+        ask(&mut world, step.0, act(step.1, attempt))?;
+        if newest(&world) != step.2 {
             return Ok(Some(i));
         }
     }
     Ok(None)
 }
 
+const AT_ITS_DEADLINE: &[(u64, Do, Seen)] = &[
+    (0, Do::Step, IDLE),
+    (14_999_999_999, Do::Step, IDLE),
+    (15_000_000_000, Do::Step, ENDED_AT_ITS_DEADLINE),
+    (15_000_000_000, Do::Step, GONE),
+];
+
 #[test]
 fn an_attempt_ends_at_its_deadline_and_gives_its_reservation_back(rt: HostRuntime) {
-    assert_eq!(rt; first_other(rt.alloc()), Ok(None));
+    assert_eq!(rt; first_other(rt.alloc(), AT_ITS_DEADLINE), Ok(None));
 }
 
-// What comes of a refusal, of the next step of the attempt, of a second refusal, and of the tracker's step.
-fn refused(alloc: Global) -> Result<[(Said, usize, bool); 4], RunError> {
-    let (mut world, attempt) = dialing(alloc)?;
-    ask(&mut world, 0, Act::Refuse { attempt, node: 0 })?;
-    let told = newest(&world);
-    ask(&mut world, 0, Act::Attempt { attempt, node: 0 })?;
-    let ended = newest(&world);
-    ask(&mut world, 0, Act::Refuse { attempt, node: 0 })?;
-    let again = newest(&world);
-    ask(&mut world, 0, Act::Tracker { node: 0 })?;
-    Ok([told, ended, again, newest(&world)])
-}
+const REFUSED: &[(u64, Do, Seen)] = &[
+    (0, Do::Refuse, TOLD),
+    (0, Do::Step, ENDED),
+    (0, Do::Refuse, GONE),
+    (0, Do::Track, TAKEN),
+];
 
 #[test]
 fn a_refused_attempt_ends_once_and_its_tracker_takes_the_release(rt: HostRuntime) {
-    let due = [
-        (Said::Ok, 0, false),
-        (Said::Ok, 1, true),
-        (Said::Gone, 0, false),
-        (Said::Ok, 1, false),
-    ];
-    assert_eq!(rt; refused(rt.alloc()), Ok(due));
+    assert_eq!(rt; first_other(rt.alloc(), REFUSED), Ok(None));
+}
+
+const LINKED_ONCE: &[(u64, Do, Seen)] = &[
+    (0, Do::Link, LINKED),
+    (0, Do::Link, GONE),
+    (0, Do::Refuse, GONE),
+    (1, Do::Step, TAKEN),
+    (5_000_000_000, Do::Step, IDLE),
+    (5_000_000_001, Do::Step, ENDED_AT_ITS_DEADLINE),
+    (5_000_000_001, Do::Link, GONE),
+];
+
+#[test]
+fn an_attempt_is_linked_once_and_then_waits_for_the_handshake_alone(rt: HostRuntime) {
+    assert_eq!(rt; first_other(rt.alloc(), LINKED_ONCE), Ok(None));
 }

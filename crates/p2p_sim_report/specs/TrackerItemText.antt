@@ -1,4 +1,4 @@
--- The text of what a node's tracker is asked, of what it answers, and of what attempts are told.
+-- The text of what a node's tracker is asked, of what it answers, of what attempts are told, and of what listeners take.
 use Rattle.std.specs.Prelude.{ℕ, List, ◌++◌, codes, Option, Some, None}
 use Rattle.p2p_base.specs.declared.key.Key.{Key}
 use Rattle.p2p_address.specs.declared.ip.SocketAddr.{SocketAddr}
@@ -45,3 +45,9 @@ dial_onto out (Some grant) = granted_onto out grant.0 grant.1
 
 abbrev pub resolved_onto : List ℕ → List SocketAddr → List ℕ
 resolved_onto out addresses = list_onto socket_onto (out ++ codes "{\"addresses\":") addresses ++ codes "}"
+
+-- ---- what a listener takes
+
+abbrev pub arrival_onto : List ℕ → SocketAddr → Key → ℕ → List ℕ
+arrival_onto out from k link =
+    number_onto (key_onto (socket_onto (out ++ codes "{\"from\":") from ++ codes ",\"key\":") k ++ codes ",\"link\":") link ++ codes "}"

@@ -6,7 +6,8 @@ ghost use Rattle.p2p_sim_report.specs.ItemText.{subscribe_onto, ready_onto, cont
 use crate::peers::{put_peer_set, put_update};
 use crate::text::{ToText, put, put_flag, put_hex, put_list, put_number};
 use crate::tracker_item::{
-    put_ask_dial, put_call, put_connect, put_dial, put_dialable, put_release, put_resolved,
+    put_arrival, put_ask_dial, put_call, put_connect, put_dial, put_dialable, put_release,
+    put_resolved,
 };
 use p2p_base::Key;
 use p2p_log::{Item, Queue};
@@ -136,7 +137,9 @@ impl ToText for Item {
             Item::Dialable { next, peers } => put_dialable(out, *next, peers.as_slice()),
             Item::Dial(grant) => put_dial(out, grant),
             Item::Resolved(addresses) => put_resolved(out, addresses.as_slice()),
+            Item::Linked => put(out, "\"linked\""),
             Item::Refused => put(out, "\"refused\""),
+            Item::Arrival { from, key, link } => put_arrival(out, *from, *key, *link),
             Item::Kill => put(out, "\"kill\""),
             Item::PeerSet(peers) => put_peer_set(out, peers),
             Item::Update(update) => put_update(out, update),

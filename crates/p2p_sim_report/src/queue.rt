@@ -68,6 +68,7 @@ impl ToText for Queue {
             Queue::Updates { question, .. } => put_one(out, "\"updates:", question),
             Queue::Blocked { question, .. } => put_one(out, "\"blocked:", question),
             Queue::Attempt { node, attempt } => put_numbers(out, "\"attempt:", node, attempt),
+            Queue::Arrivals(node) => put_one(out, "\"arrivals:", node),
         }
     }
 }

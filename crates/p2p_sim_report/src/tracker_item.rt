@@ -1,7 +1,7 @@
-//! The text of what a node's tracker is asked, of what it answers, and of what attempts are told.
+//! The text of what a node's tracker is asked, of what it answers, of what attempts are told, and of what listeners take.
 ghost use Rattle.std.specs.Prelude.{◌≡◌, OnOk};
 ghost use Rattle.std.specs.String.{string_bytes};
-ghost use Rattle.p2p_sim_report.specs.TrackerItemText.{call_onto, connect_onto, ask_dial_onto, release_onto, digits_onto, next_onto, dialable_onto, granted_onto, dial_onto, resolved_onto};
+ghost use Rattle.p2p_sim_report.specs.TrackerItemText.{call_onto, connect_onto, ask_dial_onto, release_onto, digits_onto, next_onto, dialable_onto, granted_onto, dial_onto, resolved_onto, arrival_onto};
 
 use crate::address::put_ingress;
 use crate::text::{ToText, put, put_count, put_list, put_number};
@@ -94,5 +94,22 @@ pub fn put_resolved(out: &mut String, addresses: &[SocketAddr]) -> Result<(), Al
 {
     put(out, "{\"addresses\":")?;
     put_list(out, addresses)?;
+    put(out, "}")
+}
+
+pub fn put_arrival(
+    out: &mut String,
+    from: SocketAddr,
+    key: Key,
+    link: u64,
+) -> Result<(), AllocError>
+    ensures { OnOk result (string_bytes out.new ≡ arrival_onto (string_bytes out.old) from key link) }
+{
+    put(out, "{\"from\":")?;
+    from.write_onto(out)?;
+    put(out, ",\"key\":")?;
+    key.write_onto(out)?;
+    put(out, ",\"link\":")?;
+    put_number(out, link)?;
     put(out, "}")
 }

@@ -38,11 +38,22 @@ resolve_of d = do
   node ← field "node" whole d
   Some (act.Resolve addresses attempt node)
 
+-- the address from which it comes, and the node to which it is linked
+abbrev pub connect_of : Data → Option Act
+connect_of d = do
+  has ("attempt" ∷ "from" ∷ "node" ∷ "to" ∷ []) d
+  attempt ← field "attempt" whole d
+  from ← field "from" socket_of d
+  node ← field "node" whole d
+  to ← field "to" whole d
+  Some (act.Connect attempt from node to)
+
 -- the act of a dialer or an attempt that this word asks for
 abbrev pub dialer_act_named : List ℕ → Data → Option Act
 dialer_act_named word d =
     if bytes_eq word (codes "dialer") then dialer_of d
     else if bytes_eq word (codes "attempt") then attempt_of d
     else if bytes_eq word (codes "resolve") then resolve_of d
+    else if bytes_eq word (codes "connect") then connect_of d
     else if bytes_eq word (codes "refuse") then refuse_of d
     else None

@@ -1,7 +1,7 @@
 //! The acts of a node's dialer and of its attempts, each by its own names.
 ghost use Rattle.std.specs.Prelude.{◌≡◌};
 ghost use Rattle.serde_json.specs.View.{view};
-ghost use Rattle.p2p_sim_script.specs.DialerActForm.{attempt_named_of, attempt_of, dialer_act_named, dialer_of, refuse_of, resolve_of};
+ghost use Rattle.p2p_sim_script.specs.DialerActForm.{attempt_named_of, attempt_of, connect_of, dialer_act_named, dialer_of, refuse_of, resolve_of};
 ghost use Rattle.p2p_sim_script.specs.Gives.{Gives};
 
 use crate::error::ScriptError;
@@ -60,6 +60,24 @@ fn read_resolve(alloc: Global, tree: &Value) -> Result<Act, ScriptError>
     })
 }
 
+fn read_connect(alloc: Global, tree: &Value) -> Result<Act, ScriptError>
+    ensures { Gives result (connect_of (view tree.now)) }
+{
+    if !only(tree, &["at", "seed", "do", "attempt", "from", "node", "to"]) {
+        return Err(ScriptError::NotScript);
+    }
+    let attempt = field(alloc, tree, "attempt")?;
+    let from = field(alloc, tree, "from")?;
+    let node = field(alloc, tree, "node")?;
+    let to = field(alloc, tree, "to")?;
+    Ok(Act::Connect {
+        attempt,
+        from,
+        node,
+        to,
+    })
+}
+
 /// The act of a dialer or an attempt that `word` asks for.
 pub(crate) fn read_dialer_named(alloc: Global, word: &str, tree: &Value) -> Result<Act, ScriptError>
     ensures { Gives result (dialer_act_named word.now (view tree.now)) }
@@ -68,6 +86,7 @@ pub(crate) fn read_dialer_named(alloc: Global, word: &str, tree: &Value) -> Resu
         "dialer" => read_dialer(tree),
         "attempt" => read_attempt(tree),
         "resolve" => return read_resolve(alloc, tree),
+        "connect" => return read_connect(alloc, tree),
         "refuse" => read_refuse(tree),
         _ => None,
     };

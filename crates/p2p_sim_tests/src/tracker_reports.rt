@@ -134,7 +134,22 @@ fn tell_attempt(alloc: Global, puts: &mut Vec<(Queue, Item)>) -> Result<(), Allo
         port: 3000,
     })?;
     puts.push((queue, Item::Resolved(addresses)))?;
+    puts.push((queue, Item::Linked))?;
     puts.push((queue, Item::Refused))?;
+    Ok(())
+}
+
+fn arrive(puts: &mut Vec<(Queue, Item)>) -> Result<(), AllocError> {
+    let from = SocketAddr {
+        ip: IpAddr::V4([10, 0, 0, 3]),
+        port: 40_000,
+    };
+    let arrival = Item::Arrival {
+        from,
+        key: Key(3),
+        link: 8,
+    };
+    puts.push((Queue::Arrivals(7), arrival))?;
     Ok(())
 }
 
@@ -147,6 +162,7 @@ fn put_entry(alloc: Global) -> Result<Entry, AllocError> {
     puts.push((Queue::Control { node: 7, conn: 4 }, Item::Kill))?;
     tell_callers(alloc, &mut puts)?;
     tell_attempt(alloc, &mut puts)?;
+    arrive(&mut puts)?;
     Ok(entry(alloc, Reply::Ok, puts))
 }
 
@@ -181,7 +197,7 @@ fn log(alloc: Global) -> Result<Vec<Entry>, AllocError> {
 }
 
 const LINES: &[&str] = &[
-    r#"{"end":[],"n":0,"put":[["tracker:7",{"call":3}],["tracker:7",{"connect":{"conn":4,"key":2}}],["tracker:7",{"dialable":true}],["tracker:7",{"dial":2}],["tracker:7",{"release":2}],["update:7",[[10,0,0,255],[0,1,2,3,4,5,6,7,8,9,10,11,12,13,14,255]]],["update:7",[]],["dialer:7",{"dialable":{"next":"18446744073709551616","peers":[2,3]}}],["dialer:7",{"dialable":{"next":null,"peers":[]}}],["dialer:7",{"dial":null}],["dialer:7",{"dial":{"ingress":{"ip":[10,0,0,2],"port":3000},"key":2}}],["dialer:7",{"dial":{"ingress":{"host":"a\"\\/\n\r\t\b\f\u0000\u001fé","port":65535},"key":3}}],["control:7:4","kill"],["answer:5",null],["answer:5",{"primary":[1],"secondary":[]}],["updates:5",{"all":{"primary":[1,2,4],"secondary":[3]},"index":6,"latest":{"primary":[1,2],"secondary":[3]}}],["blocked:5",[8,9]],["attempt:7:6",{"addresses":[{"ip":[10,0,0,2],"port":3000}]}],["attempt:7:6","refused"]],"reply":"ok","take":[]}"#,
+    r#"{"end":[],"n":0,"put":[["tracker:7",{"call":3}],["tracker:7",{"connect":{"conn":4,"key":2}}],["tracker:7",{"dialable":true}],["tracker:7",{"dial":2}],["tracker:7",{"release":2}],["update:7",[[10,0,0,255],[0,1,2,3,4,5,6,7,8,9,10,11,12,13,14,255]]],["update:7",[]],["dialer:7",{"dialable":{"next":"18446744073709551616","peers":[2,3]}}],["dialer:7",{"dialable":{"next":null,"peers":[]}}],["dialer:7",{"dial":null}],["dialer:7",{"dial":{"ingress":{"ip":[10,0,0,2],"port":3000},"key":2}}],["dialer:7",{"dial":{"ingress":{"host":"a\"\\/\n\r\t\b\f\u0000\u001fé","port":65535},"key":3}}],["control:7:4","kill"],["answer:5",null],["answer:5",{"primary":[1],"secondary":[]}],["updates:5",{"all":{"primary":[1,2,4],"secondary":[3]},"index":6,"latest":{"primary":[1,2],"secondary":[3]}}],["blocked:5",[8,9]],["attempt:7:6",{"addresses":[{"ip":[10,0,0,2],"port":3000}]}],["attempt:7:6","linked"],["attempt:7:6","refused"],["arrivals:7",{"from":{"ip":[10,0,0,3],"port":40000},"key":3,"link":8}]],"reply":"ok","take":[]}"#,
     r#"{"end":[],"n":1,"put":[],"reply":{"feedback":"ok"},"take":[]}"#,
     r#"{"end":[],"n":2,"put":[],"reply":{"feedback":"backoff"},"take":[]}"#,
     r#"{"end":[],"n":3,"put":[],"reply":{"feedback":"closed"},"take":[]}"#,

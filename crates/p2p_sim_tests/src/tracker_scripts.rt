@@ -36,7 +36,8 @@ const TRACKING: &str = r#"{"configs":[
     {"at":0,"do":"dialer","node":4},
     {"at":0,"do":"attempt","attempt":10,"node":5},
     {"at":0,"do":"refuse","attempt":11,"node":6},
-    {"at":0,"do":"resolve","addresses":[{"ip":[10,0,0,5],"port":3001}],"attempt":12,"node":7}]}"#;
+    {"at":0,"do":"resolve","addresses":[{"ip":[10,0,0,5],"port":3001}],"attempt":12,"node":7},
+    {"at":0,"do":"connect","attempt":13,"from":{"ip":[10,0,0,6],"port":3002},"node":8,"to":9}]}"#;
 
 // ---- what is a script
 
@@ -128,6 +129,13 @@ const CHANGES_OF_NAMES: &[(&str, &str, &str)] = &[
     ),
     (r#""addresses":["#, r#""addresses":[null,"#, "none"),
     (r#""do":"resolve""#, r#""do":"resolved""#, "none"),
+    (r#""do":"connect""#, r#""do":"link""#, "none"),
+    (r#","to":9"#, "", "none"),
+    (
+        r#"{"ip":[10,0,0,6],"port":3002}"#,
+        r#"{"host":"a.example","port":3002}"#,
+        "none",
+    ),
     (r#""do":"peer_set""#, r#""do":"peer_sets""#, "none"),
     (r#""preset":"recommended""#, r#""preset":"remote""#, "none"),
     (
@@ -227,6 +235,12 @@ fn numbers_of(act: &Act) -> (&'static str, u64, u64) {
         Act::Dialer { node } => ("dialer", *node, 0),
         Act::Attempt { attempt, node } => ("attempt", *node, *attempt),
         Act::Refuse { attempt, node } => ("refuse", *node, *attempt),
+        Act::Connect {
+            attempt,
+            from,
+            node,
+            to: 9,
+        } if *from == socket([10, 0, 0, 6], 3002) => ("connect", *node, *attempt),
         Act::Resolve {
             addresses,
             attempt,
@@ -253,6 +267,7 @@ const NUMBERS: &[(&str, u64, u64)] = &[
     ("attempt", 5, 10),
     ("refuse", 6, 11),
     ("resolve", 7, 12),
+    ("connect", 8, 13),
 ];
 
 fn have_numbers(script: &[Event]) -> bool {

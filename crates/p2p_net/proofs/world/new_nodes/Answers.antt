@@ -22,7 +22,7 @@ loop-number-preserved c =
     let stands : NodeStands configs [] n new =
     node_new configs n new there (c.in_ok-new.ensures.retained ∙ ap (λ (z : Config). z.max_peers_per_set * z.tracked_peer_sets) (sym c.in_ok-new.ensures.config)) c.in_ok-new.ensures.works
     (subst (λ (z : Config). z.mailbox_size < 2 ^ 64) (sym c.in_ok-new.ensures.config) c.in_ok-new.ensures.counted) c.in_ok-new.ensures.number (c.in_ok-new.ensures.router configs) c.in_ok-new.ensures.peers
-    c.in_ok-new.ensures.channels c.in_ok-new.ensures.connections (subst (λ (z : Config). IsNew z new.tracker) (sym c.in_ok-new.ensures.config) c.in_ok-new.ensures.tracker) c.in_ok-new.ensures.dialing
+    c.in_ok-new.ensures.channels c.in_ok-new.ensures.connections (subst (λ (z : Config). IsNew z new.tracker) (sym c.in_ok-new.ensures.config) c.in_ok-new.ensures.tracker) c.in_ok-new.ensures.dialing c.in_ok-new.ensures.listening
     in
     record {
       long = ap length c.in_ok-push.ensures.items ∙ (length-append old (new ∷ []) ∙ ap (λ k. k + 1) c.loop-number.invariant.long);

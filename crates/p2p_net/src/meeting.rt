@@ -1,0 +1,52 @@
+//! `Meeting`, how an act brings two nodes together.
+ghost use Rattle.std.specs.Prelude.{◌≡◌};
+ghost use Rattle.p2p_net.specs.Meetings.{meeting_of as meeting_of_act};
+
+use p2p_address::SocketAddr;
+use p2p_log::Act;
+
+/// The two nodes that an act brings together: the one that dials, and the one that listens.
+#[derive(Clone, Copy)]
+pub struct Ends {
+    pub dials: u64,
+    pub listens: u64,
+}
+
+/// How an act brings two nodes together.
+#[derive(Clone, Copy)]
+pub enum Meeting {
+    /// By a connection.
+    Join(Ends),
+    /// By a link of an attempt, which comes from this address.
+    Link {
+        attempt: u64,
+        from: SocketAddr,
+        ends: Ends,
+    },
+}
+
+/// How an act brings two nodes together, where it does.
+pub fn meeting_of(act: &Act) -> Option<Meeting>
+    ensures { result ≡ meeting_of_act act.now }
+{
+    match act {
+        Act::Join { a, b } => Some(Meeting::Join(Ends {
+            dials: *a,
+            listens: *b,
+        })),
+        Act::Connect {
+            attempt,
+            from,
+            node,
+            to,
+        } => Some(Meeting::Link {
+            attempt: *attempt,
+            from: *from,
+            ends: Ends {
+                dials: *node,
+                listens: *to,
+            },
+        }),
+        _ => None,
+    }
+}
