@@ -1,40 +1,83 @@
-//! What came of a step, in one word.
+//! What the steps of a script show, in plain data.
+use p2p_address::SocketAddr;
 use p2p_base::Key;
-use p2p_gates::{Outcome, Stepped};
+use p2p_gates::{Outcome, Put, Reply, Stepped};
 
-// What came of a step.
-#[derive(Clone, Copy, PartialEq, Eq, Debug)]
-pub enum Came {
+// What a step of a script shows.
+#[derive(Clone, Copy, PartialEq)]
+pub enum Seen {
+    // It was done, and there is no more to tell.
+    Done,
+    // It can't be done: no attempt or no handshake was begun.
+    Undone,
     // No input was ready.
     Idle,
-    // It goes on, and put nothing.
+    // What was stepped goes on, and put nothing,
     GoesOn,
-    // It goes on, and put a question.
-    Asked,
-    // An arrival was refused.
-    Refused,
-    // A handshake or an attempt began.
-    Began,
-    // It ended, and a reservation is ready to spawn.
+    // or it asked whom to dial,
+    AskedWhom,
+    // for this key, to dial it,
+    AskedToDial(u64),
+    // or for this key, which connects.
+    AskedToListen(u64),
+    // What an arrival was told. Where it was admitted, a handshake began.
+    Told(Reply),
+    // An attempt began.
+    Dialed,
+    // What was stepped ended, and a reservation is ready to spawn,
     Ready,
-    // It ended, and put nothing.
+    // it ended without one,
     Ended,
-    // It ended, and gave its reservation back.
+    // or it gave its reservation back.
     Released,
+    // It put what is put in no such case.
+    Odd,
+    // How many of the peers that arrived were admitted.
+    Admitted(u64),
+    // Whether what waited behind the item that ended an attempt or a handshake was handed out.
+    HandedOut(bool),
+    // Of an attempt or a handshake: its name, and whether it has ended.
+    Name(u64),
+    HasEnded(bool),
+    // Of an attempt: whether an address was granted, and the address that it dials.
+    IsAddressed(bool),
+    Dials(Option<SocketAddr>),
+    // Of a handshake: its link, and whether the peer was accepted.
+    Link(u64),
+    IsAccepted(bool),
 }
 
-pub fn came_of(stepped: &Stepped<Key>) -> Came {
+// What a step of a listener, a dialer, an attempt or a handshake shows.
+pub fn seen_of(stepped: &Stepped<Key>) -> Seen {
     let Stepped::Served { put, outcome, .. } = stepped else {
-        return Came::Idle;
+        return Seen::Idle;
     };
     match outcome {
-        Outcome::GoesOn if put.is_some() => Came::Asked,
-        Outcome::GoesOn => Came::GoesOn,
-        Outcome::Refused { .. } => Came::Refused,
-        Outcome::Admitted(_) => Came::Began,
-        Outcome::Dialed(_) => Came::Began,
-        Outcome::Ready(_) => Came::Ready,
-        Outcome::Ended if put.is_some() => Came::Released,
-        Outcome::Ended => Came::Ended,
+        Outcome::GoesOn => asked(*put),
+        Outcome::Refused { reply, .. } => Seen::Told(*reply),
+        Outcome::Admitted(_) => Seen::Told(Reply::Admitted),
+        Outcome::Dialed(_) => Seen::Dialed,
+        Outcome::Ready(_) => Seen::Ready,
+        Outcome::Ended => ended(*put),
+    }
+}
+
+// What a step shows that goes on and put this.
+fn asked(put: Option<Put<Key>>) -> Seen {
+    match put {
+        None => Seen::GoesOn,
+        Some(Put::Dialable) => Seen::AskedWhom,
+        Some(Put::Dial { public_key }) => Seen::AskedToDial(public_key.0),
+        Some(Put::Listen { public_key, .. }) => Seen::AskedToListen(public_key.0),
+        Some(_) => Seen::Odd,
+    }
+}
+
+// What a step shows that ended without a connection and put this.
+fn ended(put: Option<Put<Key>>) -> Seen {
+    match put {
+        None => Seen::Ended,
+        Some(Put::Release { .. }) => Seen::Released,
+        Some(_) => Seen::Odd,
     }
 }
