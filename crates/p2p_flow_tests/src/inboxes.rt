@@ -1,133 +1,226 @@
 //! What comes over a connection, as the quotas of its channels admit it.
 ghost use Rattle.std.specs.Prelude.{◌≤◌};
 
+use crate::node::{SECOND, first_byte, quota};
+use crate::texts::first_other_text;
 use bytes::Bytes;
 use p2p_base::{Key, Sent};
 use p2p_flow_connection::{Delivered, Error, Inbounds, Inbox};
-use p2p_runtime::Quota;
 use p2p_wire::Data;
 use std::alloc::{AllocError, Global};
-use std::test::Fail;
 
-const SECOND: u64 = 1_000_000_000;
+// The inbox of a connection, and the mailboxes that it delivers to.
+#[derive(Drop)]
+struct Stand {
+    inbounds: Inbounds<Key>,
+    inbox: Inbox<Key>,
+}
 
-// The mailboxes of channel 7, with so many places.
-fn inbounds(alloc: Global, places: usize) -> Result<Inbounds<Key>, AllocError>
-    requires { 1 ≤ places }
-{
-    let mut inbounds = Inbounds::new(alloc);
-    inbounds.register(alloc, 7, places)?;
-    Ok(inbounds)
+// What a script does. A message is one byte.
+#[derive(Clone, Copy)]
+enum Do {
+    // Delivers a message of key 1, on this channel, at this moment.
+    Deliver(u64, u8, u64),
+    // Delivers the message that is held, at this moment.
+    Retry(u64),
+    // Asks whether a message is held.
+    AskHeld,
+    // Puts a message of this key into the mailbox of channel 7, past the inbox.
+    Put(u64, u8),
+    // Takes a message of channel 7.
+    Take,
+    // Closes the mailbox of channel 7.
+    Close,
+}
+
+// What a step of a script shows.
+#[derive(Clone, Copy, PartialEq)]
+enum Seen {
+    // It was done, and there is no more to tell.
+    Done,
+    // It can't be done: a message is held, or none is, or no mailbox is there.
+    Undone,
+    // What became of a message, with its sender and its byte where it was handed back.
+    Kept,
+    Held,
+    MailboxFull(u64, u8),
+    Closed(u64, u8),
+    InvalidChannel,
+    // Whether a message is held.
+    Holds(bool),
+    // A message that was taken: its sender and its byte.
+    Message(u64, u8),
+    // No message waits.
+    Nothing,
 }
 
 // An inbox in which channel 7 has a burst of 1 and a period of a second.
 fn inbox(alloc: Global) -> Result<Inbox<Key>, AllocError> {
-    let mut quotas = Vec::new(alloc);
-    if let Some(quota) = Quota::with_period(SECOND) {
-        quotas.push((7, quota))?;
-    }
-    Inbox::new(alloc, quotas)
+    let one_a_second = quota(1, SECOND)?;
+    Inbox::new(alloc, Vec::from_slice(alloc, &[(7, one_a_second)])?)
 }
 
-fn data(alloc: Global, channel: u64, byte: u8) -> Result<Data, AllocError> {
-    let message = Bytes::copy_from_slice(alloc, &[byte])?;
-    Ok(Data { channel, message })
+// The same with the mailbox of channel 7, which has so many places.
+fn new_stand(alloc: Global, places: usize) -> Result<Stand, AllocError>
+    requires { 1 ≤ places }
+{
+    let inbox = inbox(alloc)?;
+    let mut inbounds = Inbounds::new(alloc);
+    inbounds.register(alloc, 7, places)?;
+    Ok(Stand { inbounds, inbox })
 }
 
-// What was answered, in a word, and what was handed back.
-fn word(delivered: Delivered<Key>) -> (u8, Option<Bytes>) {
+// What a delivery shows.
+fn seen_of(delivered: &Delivered<Key>) -> Seen {
     match delivered {
-        Delivered::Kept => (b'k', None),
-        Delivered::Held => (b'h', None),
-        Delivered::MailboxFull((_, bytes)) => (b'f', Some(bytes)),
-        Delivered::Closed((_, bytes)) => (b'c', Some(bytes)),
-        Delivered::InvalidChannel => (b'i', None),
+        Delivered::Kept => Seen::Kept,
+        Delivered::Held => Seen::Held,
+        Delivered::MailboxFull((from, message)) => Seen::MailboxFull(from.0, first_byte(message)),
+        Delivered::Closed((from, message)) => Seen::Closed(from.0, first_byte(message)),
+        Delivered::InvalidChannel => Seen::InvalidChannel,
     }
 }
 
-#[test]
-fn a_message_that_its_quota_refuses_is_held_until_it_admits(rt: HostRuntime) -> Result<(), Fail> {
-    let alloc = rt.alloc();
-    let mut inbounds = inbounds(alloc, 4)?;
-    let mut inbox = inbox(alloc)?;
-    assert!(rt; !inbox.is_holding());
-    if !inbox.is_holding() {
-        let first = inbox.deliver(&mut inbounds, Key(1), data(alloc, 7, 10)?, 0)?;
-        assert_eq!(rt; word(first).0, b'k');
+impl Stand {
+    // Delivers a message, where none is held.
+    fn deliver(&mut self, message: Data, now: u64) -> Result<Seen, AllocError> {
+        if self.inbox.is_holding() {
+            return Ok(Seen::Undone);
+        }
+        let delivered = self
+            .inbox
+            .deliver(&mut self.inbounds, Key(1), message, now)?;
+        Ok(seen_of(&delivered))
     }
-    if !inbox.is_holding() {
-        let second = inbox.deliver(&mut inbounds, Key(1), data(alloc, 7, 20)?, 0)?;
-        assert_eq!(rt; word(second).0, b'h');
+
+    // Delivers the message that is held.
+    fn retry(&mut self, now: u64) -> Result<Seen, AllocError> {
+        if !self.inbox.is_holding() {
+            return Ok(Seen::Undone);
+        }
+        let delivered = self.inbox.retry(&mut self.inbounds, now)?;
+        Ok(seen_of(&delivered))
     }
-    assert!(rt; inbox.is_holding());
-    if inbox.is_holding() {
-        let early = inbox.retry(&mut inbounds, SECOND - 1)?;
-        assert_eq!(rt; word(early).0, b'h');
-    }
-    if inbox.is_holding() {
-        let then = inbox.retry(&mut inbounds, SECOND)?;
-        assert_eq!(rt; word(then).0, b'k');
-    }
-    assert!(rt; !inbox.is_holding());
-    let mut bytes = Vec::new(alloc);
-    for _ in 0..3 {
-        if let Some((from, message)) = inbounds.take(7) {
-            assert_eq!(rt; from, Key(1));
-            bytes.push(message.first().copied().unwrap_or(0))?;
+
+    // Puts a message into the mailbox of channel 7.
+    fn put(&mut self, from: u64, message: Bytes) -> Result<Seen, AllocError> {
+        match self.inbounds.put(7, (Key(from), message)) {
+            Ok(Sent::Ok) => Ok(Seen::Kept),
+            Ok(Sent::Rejected((from, message))) => {
+                Ok(Seen::MailboxFull(from.0, first_byte(&message)))
+            }
+            Ok(_) => Ok(Seen::Undone),
+            Err(_) => Err(AllocError),
         }
     }
-    assert_eq!(rt; bytes.as_slice(), [10, 20].as_slice());
-    Ok(())
+
+    // Takes a message of channel 7.
+    fn take(&mut self) -> Seen {
+        match self.inbounds.take(7) {
+            Some((from, message)) => Seen::Message(from.0, first_byte(&message)),
+            None => Seen::Nothing,
+        }
+    }
+
+    // Does one step of a script.
+    fn act(&mut self, alloc: Global, act: Do) -> Result<Seen, AllocError> {
+        match act {
+            Do::Deliver(channel, byte, now) => {
+                let message = Bytes::copy_from_slice(alloc, &[byte])?;
+                self.deliver(Data { channel, message }, now)
+            }
+            Do::Retry(now) => self.retry(now),
+            Do::AskHeld => Ok(Seen::Holds(self.inbox.is_holding())),
+            Do::Put(from, byte) => self.put(from, Bytes::copy_from_slice(alloc, &[byte])?),
+            Do::Take => Ok(self.take()),
+            Do::Close => {
+                self.inbounds.close(7);
+                Ok(Seen::Done)
+            }
+        }
+    }
+
+    // The place of the first step of a script that shows another thing. `None` where each shows what is written.
+    fn first_other(
+        &mut self,
+        alloc: Global,
+        script: &[(Do, Seen)],
+    ) -> Result<Option<usize>, AllocError> {
+        for (i, step) in script.iter().enumerate() {
+            if self.act(alloc, step.0)? != step.1 {
+                return Ok(Some(i));
+            }
+        }
+        Ok(None)
+    }
+}
+
+// The same at a new inbox, where the mailbox of channel 7 has so many places.
+fn first_other(
+    alloc: Global,
+    places: usize,
+    script: &[(Do, Seen)],
+) -> Result<Option<usize>, AllocError>
+    requires { 1 ≤ places }
+{
+    let mut stand = new_stand(alloc, places)?;
+    stand.first_other(alloc, script)
+}
+
+const HELD: &[(Do, Seen)] = &[
+    (Do::AskHeld, Seen::Holds(false)),
+    (Do::Deliver(7, 10, 0), Seen::Kept),
+    (Do::AskHeld, Seen::Holds(false)),
+    (Do::Deliver(7, 20, 0), Seen::Held),
+    (Do::AskHeld, Seen::Holds(true)),
+    (Do::Retry(SECOND - 1), Seen::Held),
+    (Do::AskHeld, Seen::Holds(true)),
+    (Do::Retry(SECOND), Seen::Kept),
+    (Do::AskHeld, Seen::Holds(false)),
+    (Do::Take, Seen::Message(1, 10)),
+    (Do::Take, Seen::Message(1, 20)),
+    (Do::Take, Seen::Nothing),
+];
+
+#[test]
+fn a_message_that_its_quota_refuses_is_held_until_it_admits(rt: HostRuntime) {
+    assert_eq!(rt; first_other(rt.alloc(), 4, HELD), Ok(None));
+}
+
+const FIVE_AND_A_SIXTH: &[(Do, Seen)] = &[
+    (Do::Put(1, 0), Seen::Kept),
+    (Do::Put(1, 1), Seen::Kept),
+    (Do::Put(1, 2), Seen::Kept),
+    (Do::Put(1, 3), Seen::Kept),
+    (Do::Put(1, 4), Seen::Kept),
+    (Do::Put(1, 5), Seen::MailboxFull(1, 5)),
+];
+
+#[test]
+fn five_messages_fill_five_places_and_a_sixth_is_refused(rt: HostRuntime) {
+    assert_eq!(rt; first_other(rt.alloc(), 5, FIVE_AND_A_SIXTH), Ok(None));
+}
+
+// The cell of a refused message stays taken, so that the last one comes a second later.
+const REFUSED: &[(Do, Seen)] = &[
+    (Do::Put(2, 1), Seen::Kept),
+    (Do::Deliver(7, 9, 0), Seen::MailboxFull(1, 9)),
+    (Do::Deliver(8, 9, 0), Seen::InvalidChannel),
+    (Do::Close, Seen::Done),
+    (Do::Deliver(7, 9, SECOND), Seen::Closed(1, 9)),
+];
+
+#[test]
+fn a_message_that_no_mailbox_takes_is_told(rt: HostRuntime) {
+    assert_eq!(rt; first_other(rt.alloc(), 1, REFUSED), Ok(None));
 }
 
 #[test]
-fn five_messages_fill_five_places_and_a_sixth_is_refused(rt: HostRuntime) -> Result<(), Fail> {
-    let alloc = rt.alloc();
-    let mut inbounds = inbounds(alloc, 5)?;
-    for byte in 0..6u8 {
-        let message = Bytes::copy_from_slice(alloc, &[byte])?;
-        let kept = match inbounds.put(7, (Key(1), message)) {
-            Ok(Sent::Ok) => true,
-            _ => false,
-        };
-        assert_eq!(rt; kept, byte < 5);
-    }
-    Ok(())
-}
-
-// Delivers one message on a channel, to a mailbox of one place that holds one, or is closed.
-fn delivered(alloc: Global, channel: u64, closed: bool) -> Result<u8, AllocError> {
-    let mut inbounds = inbounds(alloc, 1)?;
-    let message = Bytes::copy_from_slice(alloc, &[1])?;
-    let _ = inbounds.put(7, (Key(2), message));
-    if closed {
-        inbounds.close(7);
-    }
-    let mut inbox = inbox(alloc)?;
-    if inbox.is_holding() {
-        return Ok(0);
-    }
-    let answer = inbox.deliver(&mut inbounds, Key(1), data(alloc, channel, 9)?, 0)?;
-    Ok(word(answer).0)
-}
-
-#[test]
-fn a_message_that_no_mailbox_takes_is_told(rt: HostRuntime) -> Result<(), Fail> {
-    let alloc = rt.alloc();
-    assert_eq!(rt; delivered(alloc, 7, false)?, b'f');
-    assert_eq!(rt; delivered(alloc, 7, true)?, b'c');
-    assert_eq!(rt; delivered(alloc, 8, false)?, b'i');
-    Ok(())
-}
-
-#[test]
-fn the_ends_of_a_connection_have_their_texts(rt: HostRuntime) -> Result<(), Fail> {
-    let alloc = rt.alloc();
-    let killed: Error<Key> = Error::Killed(Key(7));
-    let ended: Error<Key> = Error::Disconnected;
-    let invalid: Error<Key> = Error::InvalidChannel;
-    assert_eq!(rt; format!(in alloc; "{killed}")?.as_str(), "peer killed: 7");
-    assert_eq!(rt; format!(in alloc; "{ended}")?.as_str(), "peer disconnected");
-    assert_eq!(rt; format!(in alloc; "{invalid}")?.as_str(), "invalid channel");
-    Ok(())
+fn the_ends_of_a_connection_have_their_texts(rt: HostRuntime) {
+    let ends: [(Error<Key>, &str); 3] = [
+        (Error::Killed(Key(7)), "peer killed: 7"),
+        (Error::Disconnected, "peer disconnected"),
+        (Error::InvalidChannel, "invalid channel"),
+    ];
+    assert_eq!(rt; first_other_text(rt.alloc(), &ends), Ok(None));
 }

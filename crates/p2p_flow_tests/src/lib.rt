@@ -11,6 +11,10 @@ mod inboxes;
 #[cfg(test)]
 mod killed;
 #[cfg(test)]
+mod node;
+#[cfg(test)]
 mod registered;
 #[cfg(test)]
 mod senders;
+#[cfg(test)]
+mod texts;

@@ -1,4 +1,5 @@
 //! What is seen of a connection after an act.
+use crate::node::first_byte;
 use bytes::Bytes;
 use p2p_base::Key;
 use p2p_flow_connection::{self as connection, Delivered};
@@ -48,19 +49,19 @@ pub(super) enum What {
 // That, and two numbers beside it: a truth is 1, and 0 stands where nothing is told.
 pub(super) type Seen = (What, u64, u64);
 
-fn error_seen(error: Error<Key>, frames: usize, written: usize) -> Seen {
+fn error_seen(error: &Error<Key>, frames: usize, written: usize) -> Seen {
     match error {
         Error::Connection(connection::Error::Killed(Key(2))) => (What::Killed, 0, 0),
         Error::Connection(connection::Error::Disconnected) => (What::Disconnected, 0, 0),
         Error::Connection(connection::Error::InvalidChannel) => (What::InvalidChannel, 0, 0),
         Error::SendFailed => (What::SendFailed, frames as u64, written as u64),
         Error::ReceiveFailed => (What::ReceiveFailed, 0, 0),
-        Error::DecodeFailed(CodecError::InvalidEnum(byte)) => (What::InvalidEnum, byte as u64, 0),
+        Error::DecodeFailed(CodecError::InvalidEnum(byte)) => (What::InvalidEnum, *byte as u64, 0),
         _ => (What::Other, 0, 0),
     }
 }
 
-fn delivered_seen(was_held: bool, delivered: Delivered<Key>) -> Seen {
+fn delivered_seen(was_held: bool, delivered: &Delivered<Key>) -> Seen {
     match delivered {
         Delivered::Kept => (What::Received, was_held as u64, 1),
         Delivered::Held => (What::Received, was_held as u64, 0),
@@ -69,27 +70,29 @@ fn delivered_seen(was_held: bool, delivered: Delivered<Key>) -> Seen {
     }
 }
 
-pub(super) fn step_seen(stepped: Stepped<Key>) -> Seen {
+pub(super) fn step_seen(stepped: &Stepped<Key>) -> Seen {
     match stepped {
         Stepped::Idle => (What::Nothing, 0, 0),
         Stepped::Started => (What::Started, 0, 0),
         Stepped::Running => (What::Running, 0, 0),
-        Stepped::Sent { ping, frames } => (What::Sent, ping as u64, frames.len() as u64),
-        Stepped::Pinged { was_held, admitted } => (What::Pinged, was_held as u64, admitted as u64),
+        Stepped::Sent { ping, frames } => (What::Sent, *ping as u64, frames.len() as u64),
+        Stepped::Pinged { was_held, admitted } => {
+            (What::Pinged, *was_held as u64, *admitted as u64)
+        }
         Stepped::Received {
             was_held,
             delivered,
             ..
-        } => delivered_seen(was_held, delivered),
+        } => delivered_seen(*was_held, delivered),
         Stepped::Ended {
             error,
             frames,
             written,
-        } => error_seen(error, frames.len(), written),
+        } => error_seen(error, frames.len(), *written),
     }
 }
 
-pub(super) fn route_seen(stepped: router::Stepped<Key>) -> Seen {
+pub(super) fn route_seen(stepped: &router::Stepped<Key>) -> Seen {
     let router::Stepped::Content { copies, .. } = stepped else {
         return (What::Done, 0, 0);
     };
@@ -102,10 +105,12 @@ pub(super) fn route_seen(stepped: router::Stepped<Key>) -> Seen {
     }
 }
 
-pub(super) fn asked_seen(message: Option<tracker::Message<Key>>) -> Seen {
+pub(super) fn asked_seen(message: Option<&tracker::Message<Key>>) -> Seen {
     match message {
         None => (What::Nothing, 0, 0),
-        Some(tracker::Message::Connect { public_key, conn }) => (What::Connect, public_key.0, conn),
+        Some(tracker::Message::Connect { public_key, conn }) => {
+            (What::Connect, public_key.0, *conn)
+        }
         Some(
             tracker::Message::Release {
                 metadata: Metadata::Dialer(key),
@@ -115,9 +120,9 @@ pub(super) fn asked_seen(message: Option<tracker::Message<Key>>) -> Seen {
     }
 }
 
-pub(super) fn byte_seen(bytes: Option<Bytes>) -> Seen {
+pub(super) fn byte_seen(bytes: Option<&Bytes>) -> Seen {
     match bytes {
-        Some(bytes) => (What::Byte, bytes.first().copied().unwrap_or(0) as u64, 0),
+        Some(bytes) => (What::Byte, first_byte(bytes) as u64, 0),
         None => (What::Nothing, 0, 0),
     }
 }
