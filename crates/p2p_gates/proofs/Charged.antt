@@ -1,5 +1,5 @@
 -- What the quotas stand for, in the order by which they are kept and in that by which addresses are told.
-use Rattle.std.proofs.Common.{◌≡◌, ℕ, Bool, true, false, cond, max, not, List, Result, Ok, Err, sym, ap, ◌∙◌, subst}
+use Rattle.std.proofs.Common.{◌≡◌, ℕ, Bool, true, false, cond, not, List, Result, Ok, Err, sym, ap, ◌∙◌, subst}
 use Rattle.std.specs.Prelude.{is_ok, OnOk, OnErr}
 use Rattle.std.specs.declared.cmp.Ordering.{Ordering}
 use Rattle.p2p_address.specs.Addresses.{subnet_of}
@@ -8,7 +8,8 @@ use Rattle.p2p_address.specs.declared.ip.IpAddr.{IpAddr}
 use Rattle.p2p_runtime.specs.QuotaKeys.{KeptByKey, StandsForEach, with_admission}
 use Rattle.p2p_runtime.specs.QuotaLaw.{Rate, admits}
 use Rattle.p2p_tracker_calls.specs.Heard.{ip_cmp}
-use Rattle.p2p_gates.specs.Quotas.{Quotas, Passed, KeepsRates, refuses, charged, verdict}
+use Rattle.p2p_gates_rules.specs.Quotas.{Passed, refuses, charged, verdict}
+use Rattle.p2p_gates.specs.Quotas.{Quotas, KeepsRates, rates_of}
 use Rattle.p2p_gates.proofs.Orders.{derived-is}
 
 pub negated : (a b : Bool) → b ≡ not a → a ≡ not b
@@ -46,16 +47,16 @@ charged-stands new rate past ip at answer e h k =
     (λ (q : IpAddr → List ℕ). StandsForEach ghosts.cmp new q at) e h k)
 
 -- the verdict by the rates that the quotas had before the arrival was counted
-pub verdict-counted : (q r : Quotas) (p : Passed) (ip subnet : IpAddr) (now : ℕ) (a b : Bool) → KeepsRates q r
+pub verdict-counted : (q r : Quotas) (p : Passed) (ip subnet : IpAddr) (at : ℕ) (a b : Bool) → KeepsRates q r
     → subnet ≡ subnet_of ip
-    → a ≡ refuses r.addresses.rate p.addresses ip (max p.latest now)
-    → b ≡ refuses r.subnets.rate p.subnets subnet (max p.latest now)
-    → let told : Bool × Bool = (a, b) in told ≡ verdict q p ip now
-verdict-counted q r p ip subnet now a b rates s e f =
-    let first : a ≡ refuses q.addresses.rate p.addresses ip (max p.latest now) =
-    e ∙ ap (λ (x : Rate). refuses x p.addresses ip (max p.latest now)) rates.addresses in
-    let second : b ≡ refuses q.subnets.rate p.subnets (subnet_of ip) (max p.latest now) =
+    → a ≡ refuses r.addresses.rate p.addresses ip at
+    → b ≡ refuses r.subnets.rate p.subnets subnet at
+    → let told : Bool × Bool = (a, b) in told ≡ verdict (rates_of q) p ip at
+verdict-counted q r p ip subnet at a b rates s e f =
+    let first : a ≡ refuses q.addresses.rate p.addresses ip at =
+    e ∙ ap (λ (x : Rate). refuses x p.addresses ip at) rates.addresses in
+    let second : b ≡ refuses q.subnets.rate p.subnets (subnet_of ip) at =
     f
-    ∙ (ap (λ (x : Rate). refuses x p.subnets subnet (max p.latest now)) rates.subnets
-    ∙ ap (λ (x : IpAddr). refuses q.subnets.rate p.subnets x (max p.latest now)) s) in
+    ∙ (ap (λ (x : Rate). refuses x p.subnets subnet at) rates.subnets
+    ∙ ap (λ (x : IpAddr). refuses q.subnets.rate p.subnets x at) s) in
     λ i. (first i, second i)

@@ -5,23 +5,13 @@ use Rattle.std.specs.BTreeMap.{is_at}
 use Rattle.std.specs.declared.cmp.Ordering.{Ordering}
 use Rattle.p2p_address.specs.contracts.ip.IpAddrOrd.TheImpl.{ghosts}
 use Rattle.p2p_address.specs.declared.ip.IpAddr.{IpAddr}
-use Rattle.p2p_base.specs.Sorted.{sorted_once}
-use Rattle.p2p_base.proofs.SortedRepeats.{any-sorted_once}
 use Rattle.p2p_tracker_calls.specs.Heard.{ip_cmp}
-use Rattle.p2p_tracker_calls.proofs.Named.{among-flip}
-use Rattle.p2p_tracker_directory.specs.Listed.{is_heard}
-use Rattle.p2p_tracker_directory.proofs.Addresses.{ip_total, derived-order, among-sorted_once}
-use Rattle.p2p_gates.specs.Listening.{is_registered}
+use Rattle.p2p_tracker_directory.proofs.Addresses.{derived-order}
+use Rattle.p2p_gates_rules.specs.Gates.{is_registered}
 
 -- the order that is derived is the one by which addresses are told
 pub derived-is : ghosts.cmp ≡ ip_cmp
 derived-is = λ i x y. derived-order x y i
-
--- an address stands among others by either test
-pub is_registered-is_heard : (ips : List IpAddr) (ip : IpAddr) → is_registered ips ip ≡ is_heard ips ip
-is_registered-is_heard ips ip =
-    sym (any-sorted_once ip_total ip ips)
-    ∙ (sym (among-flip ip_total (sorted_once ip_cmp ips) ip) ∙ among-sorted_once ips ip)
 
 -- whether a set that is kept by the derived order has an address
 pub kept-is_registered : (ips : List IpAddr) (ip : IpAddr) → list_any (is_at (ghosts.cmp ip)) ips ≡ is_registered ips ip
@@ -30,6 +20,5 @@ kept-is_registered ips ip = ap (λ (cmp : IpAddr → IpAddr → Ordering). list_
 -- a set that was made of a list has its addresses
 pub made-is_registered : (kept ips : List IpAddr) (ip : IpAddr)
     → list_any (is_at (ghosts.cmp ip)) kept ≡ list_any (is_at (ghosts.cmp ip)) ips
-    → is_registered kept ip ≡ is_heard ips ip
-made-is_registered kept ips ip e =
-    sym (kept-is_registered kept ip) ∙ (e ∙ (kept-is_registered ips ip ∙ is_registered-is_heard ips ip))
+    → is_registered kept ip ≡ is_registered ips ip
+made-is_registered kept ips ip e = sym (kept-is_registered kept ip) ∙ (e ∙ kept-is_registered ips ip)

@@ -1,13 +1,10 @@
 -- A listener as contracts see it.
 use Rattle.std.specs.Prelude.{◌≡◌, ℕ, Bool, false, List, [], ◌∷◌, ◌++◌}
-use Rattle.std.specs.List.{list_any}
-use Rattle.std.specs.BTreeMap.{is_at}
 use Rattle.p2p_address.specs.declared.ip.IpAddr.{IpAddr}
 use Rattle.p2p_runtime.specs.QuotaPlaces.{Places}
-use Rattle.p2p_tracker_calls.specs.Heard.{ip_cmp}
-use Rattle.p2p_tracker_directory.specs.Listed.{is_heard}
+use Rattle.p2p_gates_rules.specs.Gates.{Known, is_registered}
 use Rattle.p2p_gates.specs.Quotas as quotas
-use Rattle.p2p_gates.specs.Quotas.{Quotas, Passed}
+use Rattle.p2p_gates.specs.Quotas.{Quotas}
 use Rattle.p2p_gates.specs.declared.arrival.Arrival.{Arrival}
 use Rattle.p2p_gates.specs.declared.config.Config.{Config}
 
@@ -50,20 +47,7 @@ with_rest l new = record l {
   places = new.places;
 }
 
--- an address stands among those that are registered
-abbrev pub is_registered : List IpAddr → IpAddr → Bool
-is_registered ips ip = list_any (is_at (ip_cmp ip)) ips
-
--- what the gates go by: the addresses that the listener was told of last, and the arrivals that passed the quotas
-pub record Known : Type 0 where
-  pub addresses : List IpAddr
-  pub passed : Passed
-
--- nothing was told, and none has passed
-abbrev pub nothing_known : Known
-nothing_known = record { addresses = []; passed = quotas.none_passed }
-
 -- a listener stands for what its gates go by
 pub record StandsFor {P : Type 0} (l : Listening P) (k : Known) : Type 0 where
-  pub addresses : (ip : IpAddr) → is_registered l.registered ip ≡ is_heard k.addresses ip
-  pub passed : quotas.StandsFor l.quotas k.passed
+  pub addresses : (ip : IpAddr) → is_registered l.registered ip ≡ is_registered k.addresses ip
+  pub passed : quotas.StandsFor l.quotas k.passed k.latest

@@ -16,11 +16,12 @@ mod listener;
 mod stepped;
 pub mod stream;
 
-pub use arrival::{Arrival, Reply};
+pub use arrival::Arrival;
 pub use attempt::{Attempt, AttemptItem};
 pub use config::Config;
 pub use dialer::Dialer;
 pub use handshake::Handshake;
 pub use line::Line;
 pub use listener::Listener;
+pub use p2p_gates_rules::Reply;
 pub use stepped::{Input, Left, Outcome, Put, Stepped};

@@ -2,12 +2,12 @@
 ghost use Rattle.std.specs.Prelude.{◌≡◌};
 ghost use Rattle.p2p_gates.specs.Stepping.{gone_on};
 
-use crate::arrival::Reply;
 use crate::attempt::{Attempt, AttemptItem};
 use crate::handshake::Handshake;
 use crate::line::Line;
 use p2p_address::IpAddr;
 use p2p_base::PublicKey;
+use p2p_gates_rules::Reply;
 use p2p_tracker_directory::{Metadata, Reservation};
 use p2p_tracker_mailbox::{HandshakeItem, Waiting};
 

@@ -1,25 +1,28 @@
 //! `Listener`, who takes arrivals through the gates.
-ghost use Rattle.std.specs.Prelude.{◌≡◌, ℕ, ◌<◌, ◌+◌, ◌∷◌, ◌++◌, true, false, [], Some, None, IfOk, OnOk, IsErr, OnErr, drop};
+ghost use Rattle.std.specs.Prelude.{◌≡◌, ℕ, ◌<◌, ◌+◌, ◌∷◌, ◌++◌, max, true, false, [], Some, None, IfOk, OnOk, IfSome, IsErr, OnErr, drop};
 ghost use Rattle.std.specs.BTreeSet.{IsFromIterResult};
 ghost use Rattle.p2p_address.specs.declared.ip.IpAddr.{IpAddr as Address};
-ghost use Rattle.p2p_tracker_directory.specs.Listed.{is_heard};
-ghost use Rattle.p2p_gates.specs.Gates.{reply_to, known_after, places_after};
-ghost use Rattle.p2p_gates.specs.Listening.{Known, StandsFor, is_registered, with_arrival, with_rest, new_listener, nothing_known};
+ghost use Rattle.p2p_runtime.specs.QuotaPlaces.{Places};
+ghost use Rattle.p2p_gates.specs.Gates.{has_place, rules_of, reply_to, known_after, places_after};
+ghost use Rattle.p2p_gates_rules.specs.Gates.{Known, is_registered, nothing_known, limited_reply, turned_away, charged_by};
+ghost use Rattle.p2p_gates_rules.specs.Quotas.{verdict};
+ghost use Rattle.p2p_gates.specs.Listening.{StandsFor, with_arrival, with_rest, new_listener};
 ghost use Rattle.p2p_gates.specs.ListenerTurns.{begins, stepped_by, way_by, refused_over, receive_turn, listener_turn};
-ghost use Rattle.p2p_gates.specs.Quotas.{KeepsRates};
+ghost use Rattle.p2p_gates.specs.Quotas.{KeepsRates, rates_of};
 ghost use Rattle.p2p_gates.specs.Stepping.{gone_on};
 ghost use Rattle.p2p_gates.specs.declared.stepped.Input.TheVariants as input;
-ghost use Rattle.p2p_gates.specs.declared.arrival.Reply.TheVariants as reply;
+ghost use Rattle.p2p_gates_rules.specs.declared.reply.Reply.TheVariants as reply;
 
 mod quotas;
 
-use crate::arrival::{Arrival, Reply};
+use crate::arrival::Arrival;
 use crate::config::Config;
 use crate::handshake::Handshake;
 use crate::line::Line;
 use crate::stepped::{Input, Left, Outcome, Put, Stepped};
 use p2p_address::{IpAddr, SocketAddr, is_global};
 use p2p_base::PublicKey;
+use p2p_gates_rules::Reply;
 use p2p_runtime::Limiter;
 use p2p_tracker_mailbox::Mailbox;
 use quotas::Quotas;
@@ -75,7 +78,7 @@ fn set_of<K: Ord + Copy>(alloc: Global, items: &[K]) -> Result<BTreeSet<K>, Allo
 
 // These addresses, in order.
 fn in_order(alloc: Global, addresses: &[IpAddr]) -> Result<BTreeSet<IpAddr>, AllocError>
-    ensures { IfOk result (λ s. (ip : Address) → is_registered s.keys ip ≡ is_heard addresses.now ip) }
+    ensures { IfOk result (λ s. (ip : Address) → is_registered s.keys ip ≡ is_registered addresses.now ip) }
 {
     Ok(set_of(alloc, addresses)?)
 }
@@ -271,12 +274,37 @@ impl<P: PublicKey> Listener<P> {
         ensures rest { self.new ≡ with_rest self.old self.new }
         ensures rates { KeepsRates self.old.quotas self.new.quotas }
     {
+        match self.turn_away(ip) {
+            Some(reply) => Ok(reply),
+            None => self.limit(ip, now),
+        }
+    }
+
+    // The first of the gates before the quotas that refuses an arrival from `ip`, where one does.
+    fn turn_away(&self, ip: &IpAddr) -> Option<Reply>
+        ensures first { (k : Known) → StandsFor self.now k → result ≡ turned_away (rules_of self.now) k.addresses ip.now }
+        ensures placeless { (p : Places) → IfSome result (λ r. places_after r p ≡ p) }
+    {
         if !self.allow_private_ips && !is_global(ip) {
-            return Ok(Reply::Private);
+            return Some(Reply::Private);
         }
         if !self.bypass_ip_check && !is_registered(&self.registered, ip) {
-            return Ok(Reply::Unregistered);
+            return Some(Reply::Unregistered);
         }
+        None
+    }
+
+    // What the quotas and the places tell an arrival from `ip`. It takes a place where neither refuses it.
+    fn limit(&mut self, ip: &IpAddr, now: u64) -> Result<Reply, AllocError>
+        ensures reply { (k : Known) → StandsFor self.old k → IfOk result (λ r. r
+            ≡ limited_reply (verdict (rates_of self.old.quotas) k.passed ip.now (max k.latest now)) (has_place self.old.places)) }
+        ensures stands { (k : Known) → StandsFor self.old k
+            → OnOk result (StandsFor self.new (charged_by (rules_of self.old) k ip.now now)) }
+        ensures places { IfOk result (λ r. self.new.places ≡ places_after r self.old.places) }
+        ensures arrivals { self.new.arrivals ≡ self.old.arrivals }
+        ensures rest { self.new ≡ with_rest self.old self.new }
+        ensures rates { KeepsRates self.old.quotas self.new.quotas }
+    {
         let (ip, subnet) = self.quotas.check(ip, now)?;
         if ip || subnet {
             return Ok(Reply::Limited { ip, subnet });

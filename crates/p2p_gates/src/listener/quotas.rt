@@ -3,7 +3,8 @@ ghost use Rattle.std.specs.Prelude.{◌≡◌, ℕ, true, max, List, IfOk, OnOk}
 ghost use Rattle.p2p_address.specs.declared.ip.IpAddr.{IpAddr as Address};
 ghost use Rattle.p2p_runtime.specs.QuotaKeys.{StandsForEach, KeepsOnlyRecent};
 ghost use Rattle.p2p_tracker_calls.specs.Heard.{ip_cmp};
-ghost use Rattle.p2p_gates.specs.Quotas.{Passed, StandsFor, KeepsRates, is_pruned, counted_after, none_passed, refuses, charged, verdict, passed_after};
+ghost use Rattle.p2p_gates_rules.specs.Quotas.{Passed, none_passed, refuses, charged, verdict, passed_after};
+ghost use Rattle.p2p_gates.specs.Quotas.{StandsFor, KeepsRates, rates_of, is_pruned, counted_after};
 
 use p2p_address::{IpAddr, subnet};
 use p2p_runtime::{KeyedRateLimiter, Quota};
@@ -60,7 +61,7 @@ impl Quotas {
     pub(super) fn new(alloc: Global, address: Quota, subnet: Quota) -> Quotas
         ensures addresses { result.addresses.rate ≡ address }
         ensures subnets { result.subnets.rate ≡ subnet }
-        ensures stands { StandsFor result none_passed }
+        ensures stands { StandsFor result none_passed 0 }
     {
         Quotas {
             addresses: KeyedRateLimiter::new(alloc, address),
@@ -73,7 +74,7 @@ impl Quotas {
     // answer changes.
     fn count(&mut self)
         ensures rates { KeepsRates self.old self.new }
-        ensures stands { (p : Passed) → StandsFor self.old p → StandsFor self.new p }
+        ensures stands { (p : Passed) (latest : ℕ) → StandsFor self.old p latest → StandsFor self.new p latest }
         ensures counted { self.new.counted ≡ counted_after self.old.counted }
         ensures addresses { is_pruned self.old.counted ≡ true → KeepsOnlyRecent ip_cmp self.new.addresses }
         ensures subnets { is_pruned self.old.counted ≡ true → KeepsOnlyRecent ip_cmp self.new.subnets }
@@ -91,9 +92,10 @@ impl Quotas {
     // whatever the other does.
     pub(super) fn check(&mut self, ip: &IpAddr, now: u64) -> Result<(bool, bool), AllocError>
         ensures rates { KeepsRates self.old self.new }
-        ensures answer { (p : Passed) → StandsFor self.old p → IfOk result (λ r. r ≡ verdict self.old p ip.now now) }
-        ensures stands { (p : Passed) → StandsFor self.old p
-            → OnOk result (StandsFor self.new (passed_after self.old p ip.now now)) }
+        ensures answer { (p : Passed) (latest : ℕ) → StandsFor self.old p latest
+            → IfOk result (λ r. r ≡ verdict (rates_of self.old) p ip.now (max latest now)) }
+        ensures stands { (p : Passed) (latest : ℕ) → StandsFor self.old p latest
+            → OnOk result (StandsFor self.new (passed_after (rates_of self.old) p ip.now (max latest now)) (max latest now)) }
         ensures counted { OnOk result (self.new.counted ≡ counted_after self.old.counted) }
     {
         self.count();

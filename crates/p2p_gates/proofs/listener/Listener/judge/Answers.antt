@@ -1,0 +1,30 @@
+use Rattle.std.proofs.Common.{◌≡◌, max, IfOk, OnOk, Option, sym, ap, subst, ◌∙◌}
+use Rattle.p2p_gates_rules.specs.Gates.{first_told, unless_refused, limited_reply, charged_by}
+use Rattle.p2p_gates_rules.specs.Quotas.{verdict}
+use Rattle.p2p_gates_rules.specs.declared.reply.Reply.{Reply}
+use Rattle.p2p_gates.specs.Gates.{has_place, rules_of}
+use Rattle.p2p_gates.specs.Listening.{StandsFor}
+use Rattle.p2p_gates.specs.Quotas.{rates_of}
+use Rattle.p2p_gates.proofs.listener.Listener.judge.Goals as goal
+
+pub returns-in-Some-clause-reply : goal.returns-in-Some-clause-reply
+returns-in-Some-clause-reply g c = λ k s.
+    ap (λ (o : Option Reply). first_told o
+    (limited_reply (verdict (rates_of c.args.self.now.quotas) k.passed c.args.ip.now (max k.latest c.args.now)) (has_place c.args.self.now.places)))
+    (sym c.in-Some.is ∙ c.turn_away.ensures.first k s)
+
+pub returns-in-None-clause-reply : goal.returns-in-None-clause-reply
+returns-in-None-clause-reply g c = λ k s.
+    subst (λ (o : Option Reply). IfOk c.limit.result (λ r. r ≡ first_told o
+    (limited_reply (verdict (rates_of c.args.self.now.quotas) k.passed c.args.ip.now (max k.latest c.args.now)) (has_place c.args.self.now.places))))
+    (sym c.in-None.is ∙ c.turn_away.ensures.first k s) (c.limit.ensures.reply k s)
+
+pub returns-in-Some-clause-stands : goal.returns-in-Some-clause-stands
+returns-in-Some-clause-stands g c = λ k s.
+    subst (λ (o : Option Reply). StandsFor c.args.self.now (unless_refused o k (charged_by (rules_of c.args.self.now) k c.args.ip.now c.args.now)))
+    (sym c.in-Some.is ∙ c.turn_away.ensures.first k s) s
+
+pub returns-in-None-clause-stands : goal.returns-in-None-clause-stands
+returns-in-None-clause-stands g c = λ k s.
+    subst (λ (o : Option Reply). OnOk c.limit.result (StandsFor c.limit.new.self (unless_refused o k (charged_by (rules_of c.args.self.now) k c.args.ip.now c.args.now))))
+    (sym c.in-None.is ∙ c.turn_away.ensures.first k s) (c.limit.ensures.stands k s)
