@@ -5,8 +5,8 @@ END_OF_TIME = 5_000_000_000
 
 def register_faults(event, sends):
     if event.said['quota'] < sends:
-        yield event.fault('quota', 'the script sends %d messages, more than this burst of %d; quotas do not act yet'
-                          % (sends, event.said['quota']))
+        yield event.fault('quota', 'the script sends %d messages, more than this burst of %d; '
+                          'the quotas of channels do not act yet' % (sends, event.said['quota']))
 
 
 def send_faults(event, least, registered, count):

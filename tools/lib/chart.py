@@ -18,6 +18,12 @@ def peers_text(peers):
     return 'none' if not isinstance(peers, dict) else '%s, %s' % (peers.get('primary'), peers.get('secondary'))
 
 
+def limited_text(refuses):
+    """Which quotas refuse who arrived: that of the address, that of its subnet, or both."""
+    by = [name for name, refused in zip(('address', 'subnet'), refuses) if refused]
+    return 'limited by %s' % ('both' if len(by) == 2 else ''.join(by))
+
+
 def reply_text(reply):
     if isinstance(reply, dict) and len(reply) == 1:
         (name, value), = reply.items()
@@ -27,6 +33,8 @@ def reply_text(reply):
             return 'update %s' % value.get('index')
         if name == 'peer_set':
             return 'peer set %s' % peers_text(value)
+        if name == 'limited' and isinstance(value, list):
+            return limited_text(value)
         return '%s %s' % (name, value)
     return str(reply)
 

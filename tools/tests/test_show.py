@@ -46,6 +46,28 @@ ATTEMPT_SCRIPT = r'''{"configs":[],"script":[
 {"at":0,"do":"attempt","attempt":2,"node":0},
 {"at":0,"do":"refuse","attempt":2,"node":0}]}
 '''
+LISTENER = r'''{"end":[],"n":0,"put":[["tracker:0",{"call":0}]],"reply":{"feedback":"ok"},"take":[]}
+{"end":[],"n":1,"put":[["update:0",[[10,0,0,2]]]],"reply":"ok","take":[[0,0]]}
+{"end":[],"n":2,"put":[["attempt:1:0","linked"],["arrivals:0",{"from":{"ip":[10,0,0,2],"port":1},"key":2,"link":2}]],"reply":"ok","take":[]}
+{"end":[],"n":3,"put":[],"reply":"ok","take":[[1,0]]}
+{"end":[],"n":4,"put":[["tracker:0",{"acceptable":{"handshake":4,"key":2}}]],"reply":"admitted","take":[[2,1]]}
+{"end":[],"n":5,"put":[["handshake:0:4",{"acceptable":true}]],"reply":"ok","take":[[4,0]]}
+{"end":[],"n":6,"put":[],"reply":{"limited":[true,false]},"take":[]}
+{"end":[],"n":7,"put":[],"reply":{"limited":[false,true]},"take":[]}
+{"end":[],"n":8,"put":[],"reply":{"limited":[true,true]},"take":[]}
+{"copies":0,"entries":9}
+'''
+LISTENER_SCRIPT = r'''{"configs":[],"script":[
+{"at":0,"do":"track","index":0,"node":0,"primary":[]},
+{"at":0,"do":"tracker","node":0},
+{"at":0,"do":"connect","attempt":0,"from":{"ip":[10,0,0,2],"port":1},"node":1,"to":0},
+{"at":0,"do":"listener","node":0},
+{"at":0,"do":"listener","node":0},
+{"at":0,"do":"tracker","node":0},
+{"at":0,"do":"listener","node":0},
+{"at":0,"do":"listener","node":0},
+{"at":0,"do":"listener","node":0}]}
+'''
 BAD = {
     '': 'the last line, with the counts, is missing',
     '{"copies":0,"entries":0}': 'line 1: the line has no end, so the report was cut off',
@@ -108,6 +130,13 @@ class Show(unittest.TestCase):
         drawn = self.drawn(ATTEMPT, ATTEMPT_SCRIPT)
         for words in ('node 0 dialer: ok', 'node 0 resolve of event 2: ok', 'node 0 attempt of event 2: ok', 'refused: attempt:0:2',
                       'release of key 2: tracker:0', 'node 0 refuse of event 2: gone'):
+            with self.subTest(words):
+                self.assertIn(words, drawn)
+
+    def test_a_report_of_a_listener_is_drawn_by_what_its_gates_say(self):
+        drawn = self.drawn(LISTENER, LISTENER_SCRIPT)
+        for words in ('node 1 connect of event 0: ok', '3  node 0 listener: ok', 'node 0 listener: admitted', '6  node 0 listener: limited by address',
+                      '7  node 0 listener: limited by subnet', '8  node 0 listener: limited by both'):
             with self.subTest(words):
                 self.assertIn(words, drawn)
 

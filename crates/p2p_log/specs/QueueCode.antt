@@ -23,6 +23,7 @@ kind_of (queue.Updates n e) = 13
 kind_of (queue.Blocked n e) = 14
 kind_of (queue.Attempt n e) = 15
 kind_of (queue.Arrivals n) = 16
+kind_of (queue.Handshake n e) = 17
 
 -- the node, or the link, that it belongs to
 abbrev pub owner_of : Queue → ℕ
@@ -42,8 +43,9 @@ owner_of (queue.Updates n e) = n
 owner_of (queue.Blocked n e) = n
 owner_of (queue.Attempt n e) = n
 owner_of (queue.Arrivals n) = n
+owner_of (queue.Handshake n e) = n
 
--- its channel, connection, question or attempt, or 0 where it has none
+-- its channel, connection, question, attempt or handshake, or 0 where it has none
 abbrev pub detail_of : Queue → ℕ
 detail_of (queue.Router n) = 0
 detail_of (queue.Peers n c) = c
@@ -61,6 +63,7 @@ detail_of (queue.Updates n e) = e
 detail_of (queue.Blocked n e) = e
 detail_of (queue.Attempt n e) = e
 detail_of (queue.Arrivals n) = 0
+detail_of (queue.Handshake n e) = e
 
 -- whether two names are of one queue
 abbrev pub same_queue : Queue → Queue → Bool

@@ -6,6 +6,7 @@ use crate::queue::Queue;
 use bytes::Bytes;
 use p2p_base::{Feedback, Key, List, Set};
 use p2p_flow::{PeerSetUpdate, TrackedPeers};
+use p2p_gates_rules::Reply as GatesReply;
 
 /// The answer to an event.
 #[derive(Drop)]
@@ -34,6 +35,8 @@ pub enum Reply {
     Update(PeerSetUpdate<Key>),
     /// The keys that are blocked.
     Blocked(Set<Key>),
+    /// What the gates of a listener told the peer that arrived.
+    Gates(GatesReply),
 }
 
 /// An event, its reply, the names of the items that it took, what it put in which queue, and what it ended.

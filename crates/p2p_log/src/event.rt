@@ -89,6 +89,10 @@ pub enum Act {
     Dialer {
         node: u64,
     },
+    /// One step of a node's listener.
+    Listener {
+        node: u64,
+    },
     /// One step of the attempt that a step of a node's dialer began.
     Attempt {
         attempt: u64,
@@ -202,6 +206,7 @@ impl Act {
             }),
             Act::Tracker { node } => Ok(Act::Tracker { node: *node }),
             Act::Dialer { node } => Ok(Act::Dialer { node: *node }),
+            Act::Listener { node } => Ok(Act::Listener { node: *node }),
             Act::Attempt { attempt, node } => Ok(Act::Attempt {
                 attempt: *attempt,
                 node: *node,

@@ -52,6 +52,11 @@ pub enum Item {
     AskDialable,
     /// To the tracker: a peer is to be reserved for a dial.
     AskDial(Key),
+    /// To the tracker: whether the peer of this handshake may connect.
+    AskAcceptable {
+        handshake: u64,
+        key: Key,
+    },
     /// To the tracker: a reservation is given back.
     Release(Key),
     /// The addresses from which peers may come, each once, IPv4 first and each kind in the order of its bytes.
@@ -75,6 +80,8 @@ pub enum Item {
         key: Key,
         link: u64,
     },
+    /// To a handshake: whether its peer may connect.
+    Acceptable(bool),
     /// A connection is to end.
     Kill,
     /// The peers of the set that was asked for, or none where no set of that index is kept.
@@ -136,6 +143,10 @@ impl Item {
             }),
             Item::AskDialable => Ok(Item::AskDialable),
             Item::AskDial(key) => Ok(Item::AskDial(*key)),
+            Item::AskAcceptable { handshake, key } => Ok(Item::AskAcceptable {
+                handshake: *handshake,
+                key: *key,
+            }),
             Item::Release(key) => Ok(Item::Release(*key)),
             Item::Addresses(addresses) => Ok(Item::Addresses(addresses.try_clone(alloc)?)),
             Item::Dialable { next, peers } => Ok(Item::Dialable {
@@ -151,6 +162,7 @@ impl Item {
                 key: *key,
                 link: *link,
             }),
+            Item::Acceptable(accepts) => Ok(Item::Acceptable(*accepts)),
             Item::Kill => Ok(Item::Kill),
             Item::PeerSet(peers) => Ok(Item::PeerSet(clone_peers(peers)?)),
             Item::Update(update) => Ok(Item::Update(update.try_clone()?)),

@@ -13,7 +13,7 @@ pub enum Side {
     In,
 }
 
-/// The name of a queue. Nodes, channels, connections, questions and attempts are named by their numbers.
+/// The name of a queue. Nodes, channels, connections, questions, attempts and handshakes are named by their numbers.
 #[derive(Clone, Copy, Debug)]
 pub enum Queue {
     /// The mailbox of a node's router.
@@ -40,6 +40,8 @@ pub enum Queue {
     Attempt { node: u64, attempt: u64 },
     /// The peers that a node's listener has yet to take.
     Arrivals(u64),
+    /// What a handshake of a node's listener is told.
+    Handshake { node: u64, handshake: u64 },
     /// What a connection of a node is told to do.
     Control { node: u64, conn: u64 },
     /// The answer to the question for a peer set that an event asked of a node.
@@ -76,6 +78,7 @@ impl Queue {
             Queue::Blocked { .. } => 14,
             Queue::Attempt { .. } => 15,
             Queue::Arrivals(_) => 16,
+            Queue::Handshake { .. } => 17,
         }
     }
 
@@ -100,10 +103,11 @@ impl Queue {
             Queue::Blocked { node, .. } => node,
             Queue::Attempt { node, .. } => node,
             Queue::Arrivals(node) => node,
+            Queue::Handshake { node, .. } => node,
         }
     }
 
-    /// The channel, the connection, the question or the attempt of the queue, or 0 where it has none.
+    /// The channel, the connection, the question, the attempt or the handshake of the queue, or 0 where it has none.
     pub fn detail(&self) -> u64
         ensures { result ≡ detail_of self.now }
     {
@@ -124,6 +128,7 @@ impl Queue {
             Queue::Blocked { question, .. } => question,
             Queue::Attempt { attempt, .. } => attempt,
             Queue::Arrivals(_) => 0,
+            Queue::Handshake { handshake, .. } => handshake,
         }
     }
 }

@@ -26,6 +26,7 @@ pub mod HeldPeers
 pub mod Joins
 pub mod Leads
 pub mod Leaving
+pub mod ListenerShape
 pub mod Ledger
 pub mod Marks
 pub mod Newest

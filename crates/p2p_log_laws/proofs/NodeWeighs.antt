@@ -23,6 +23,7 @@ use Rattle.p2p_log.specs.Lines.{ended_item, line}
 use Rattle.p2p_log_rules.specs.declared.row.Row.{Row}
 use Rattle.p2p_log_rules.specs.Attempting.{Attempt, DialRules, dial_rules_at, begun_of, told_addresses, told_answer, with_attempt, with_begun, and_then, stepped_attempt, attempts_by, attempts_of, attempt_turn, attempt_by, attempt_row, resolve_row, refuse_row, connect_row}
 use Rattle.p2p_log_rules.specs.Dialing.{dialer_row}
+use Rattle.p2p_log_rules.specs.Listening.{listener_row}
 use Rattle.p2p_log_rules.specs.Effect.{entry_of, row}
 use Rattle.p2p_log_rules.specs.Facts.{taken}
 use Rattle.p2p_log_rules.specs.Moves.{Moves}
@@ -37,6 +38,7 @@ use Rattle.p2p_log_laws.proofs.AttemptHolds.{told_kept, none_kept, addresses_kep
 use Rattle.p2p_log_laws.proofs.DialerGrants.{Hand, dialer_hands}
 use Rattle.p2p_log_laws.proofs.Plain.{Plain, IsPlain, plain_item, no_grants, no_releases, no_grants_stand, no_releases_stand, plain_out_of_reach}
 use Rattle.p2p_log_laws.proofs.Shape.{Shape, no_moves}
+use Rattle.p2p_log_laws.proofs.ListenerShape.{listener_plain}
 use Rattle.p2p_log_laws.proofs.Shapes.{row_shape}
 use Rattle.p2p_log_laws.proofs.TrackerGrants.{Step, tracker_steps}
 use Rattle.p2p_log_laws.proofs.Weighing.{weight, taken_items}
@@ -277,6 +279,9 @@ module _ (configs : List Config) (n : ℕ) (key : Key) (log : List Entry) where
     each_weighs (act.Tracker m) = tracker_at m (m == n) refl
     each_weighs (act.Dialer m) = dialer_at m (m == n) refl
     each_weighs (act.Attempt i m) = attempt_at i m (m == n) refl
+    each_weighs (act.Listener m) =
+        let aside = listener_plain configs log m at n key in
+        plain_weighs (event at seed (act.Listener m)) (listener_row configs log m at) refl aside.0 aside.1 (λ k. refl)
     each_weighs (act.Resolve addresses i m) =
         let r : Row = resolve_row configs log addresses i m in
         other (act.Resolve addresses i m) r (row_shape configs log at seed (act.Resolve addresses i m)) (refl, refl) (refl, refl) refl

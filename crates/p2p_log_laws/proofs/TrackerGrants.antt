@@ -4,6 +4,7 @@ use Rattle.std.specs.Prelude.{◌==◌, ◌&&◌, ◌||◌, count_by}
 use Rattle.std.specs.List.{AllByRecursion as Each, list_any}
 use Rattle.std.proofs.lemmas.Bool.{false≢true}
 use Rattle.p2p_base.specs.declared.key.Key.{Key}
+use Rattle.p2p_address.specs.declared.ip.IpAddr.{IpAddr}
 use Rattle.p2p_address.specs.declared.peer.Ingress.{Ingress}
 use Rattle.p2p_tracker_calls.specs.declared.call.Call.{Call}
 use Rattle.p2p_tracker_calls.specs.declared.call.Call.TheVariants as call
@@ -31,7 +32,9 @@ use Rattle.p2p_log_rules.specs.Moves.{Moves}
 use Rattle.p2p_log_rules.specs.Rows.{only}
 use Rattle.p2p_log_rules.specs.Tracking.{key_cmp, rules_at, asked_by, item_calls, step_calls, grants_dial, calls_of, update_subscriptions, blocked_subscriptions}
 use Rattle.p2p_log_rules.specs.TrackerPuts as puts
-use Rattle.p2p_log_rules.specs.TrackerPuts.{Put, dial_grant, item_puts}
+use Rattle.p2p_tracker_calls.specs.Allows.{is_acceptable}
+use Rattle.p2p_log_rules.specs.Handshakes.{is_shaking, source_at}
+use Rattle.p2p_log_rules.specs.TrackerPuts.{Put, dial_grant, acceptable_puts, item_puts}
 use Rattle.p2p_log_rules.specs.TrackerRows as rows
 use Rattle.p2p_log_rules.proofs.Moves.{one_taken, rings, rings_in}
 use Rattle.p2p_log_laws.specs.Grants.{one, held_after}
@@ -113,6 +116,14 @@ module _ (n : ℕ) (key : Key) (rules : Rules Key) where
     abbrev ItemTurn : Item → Type 0
     ItemTurn i = Turn (puts_of i) (releases_key key i) (is_held key_cmp calls key) (is_held key_cmp (item_calls log i at jitter (list_any grants_dial (puts_of i)) calls) key)
 
+    acceptable_turn : (name : ℕ) (k : Key) (runs : Bool) (source : Option IpAddr) → Turn (acceptable_puts rules n at us bs calls name k runs source) false (is_held key_cmp calls key) (is_held key_cmp calls key)
+    acceptable_turn name k true (Some source) =
+        let xs = acceptable_puts rules n at us bs calls name k true (Some source) in
+        plain_turn xs false (is_held key_cmp calls key) (is_held key_cmp calls key)
+        (plain_item n key (queue.Handshake n name) (item.Acceptable (is_acceptable key_cmp rules calls k source at)) refl refl, tt) refl
+    acceptable_turn name k true None = plain_turn [] false (is_held key_cmp calls key) (is_held key_cmp calls key) tt refl
+    acceptable_turn name k false source = plain_turn [] false (is_held key_cmp calls key) (is_held key_cmp calls key) tt refl
+
     item_turn : (i : Item) → ItemTurn i
     item_turn (item.Call e) =
         let xs = puts_of (item.Call e) in
@@ -126,6 +137,7 @@ module _ (n : ℕ) (key : Key) (rules : Rules Key) where
         let xs = puts_of item.AskDialable in
         plain_turn xs false (is_held key_cmp calls key) (is_held key_cmp calls key) (plain_item n key (queue.Dialer n) (item.Dialable (query_again_at key_cmp rules calls at) (dialable_keys key_cmp rules calls at)) refl refl, tt) refl
     item_turn (item.AskDial k) = dial_turn k at jitter calls (dial_grant rules n at us bs calls k) (λ g e. dial_free rules n at us bs calls k g e)
+    item_turn (item.AskAcceptable name k) = acceptable_turn name k (is_shaking log n name) (source_at log name)
     item_turn (item.Release k) =
         plain_turn [] (k.0 == key.0) (is_held key_cmp calls key) (is_held key_cmp (call.Release k ∷ calls) key) tt (held_released k calls key)
     item_turn _ = plain_turn [] false (is_held key_cmp calls key) (is_held key_cmp calls key) tt refl

@@ -1,8 +1,9 @@
 -- The shapes of the acts of a node's tracker: none moves a copy.
-use Rattle.std.proofs.Common.{◌≡◌, ℕ, Bool, true, false, cond, List, [], ◌∷◌, Option, Some, refl, ap, ◌∙◌, eq-eqb, subst}
+use Rattle.std.proofs.Common.{◌≡◌, ℕ, Bool, true, false, cond, List, [], ◌∷◌, Option, Some, refl, ap, ◌∙◌, eq-eqb, subst, None}
 use Rattle.std.specs.Prelude.{nat_lt}
 use Rattle.std.specs.List.{AllByRecursion as Each}
 use Rattle.p2p_base.specs.declared.key.Key.{Key}
+use Rattle.p2p_address.specs.declared.ip.IpAddr.{IpAddr}
 use Rattle.p2p_tracker_calls.specs.declared.call.Call.{Call}
 use Rattle.p2p_tracker_calls.specs.declared.call.Call.TheVariants as call
 use Rattle.p2p_tracker_calls.specs.Rules.{Rules}
@@ -27,6 +28,7 @@ use Rattle.p2p_log_rules.specs.Facts.{is_up}
 use Rattle.p2p_log_rules.specs.Reading.{is_read}
 use Rattle.p2p_log_rules.specs.Rows.{only}
 use Rattle.p2p_log_rules.specs.Tracking.{key_cmp, rules_at, asked_by, calls_of, update_subscriptions, blocked_subscriptions}
+use Rattle.p2p_log_rules.specs.Handshakes.{is_shaking, source_at}
 use Rattle.p2p_log_rules.specs.TrackerPuts as puts
 use Rattle.p2p_log_rules.specs.TrackerPuts.{Put}
 use Rattle.p2p_log_rules.specs.TrackerRows as rows
@@ -141,11 +143,17 @@ module _ (n : ℕ) (rules : Rules Key) (at : ℕ) (updates sets : List ℕ) (cal
   unblocked_told : (c : Call Key) → Each (IsTold n) (puts.unblocked_puts rules n at updates sets calls c)
   unblocked_told c = each_unblocked n (IsTold n) (kinds_told n) rules at updates sets calls c
 
+  acceptable_told : (name : ℕ) (key : Key) (runs : Bool) (source : Option IpAddr) → Each (IsTold n) (puts.acceptable_puts rules n at updates sets calls name key runs source)
+  acceptable_told name key true (Some source) = (((refl, refl), eq-eqb n n refl), tt)
+  acceptable_told name key true None = tt
+  acceptable_told name key false source = tt
+
   item_told : (log : List Entry) (i : Item) → Each (IsTold n) (puts.item_puts rules n at updates sets calls log i)
   item_told log (item.Call e) = each_asked n (IsTold n) (kinds_told n) rules at updates sets calls e (asked_by log e)
   item_told log (item.Connect conn key) = each_connected n (IsTold n) (kinds_told n) rules at updates sets calls conn key
   item_told log item.AskDialable = (((refl, refl), eq-eqb n n refl), tt)
   item_told log (item.AskDial key) = (((refl, refl), eq-eqb n n refl), tt)
+  item_told log (item.AskAcceptable name key) = acceptable_told name key (is_shaking log n name) (source_at log name)
   item_told log _ = tt
 
 -- a ring of the tracker takes items that carry no copy

@@ -1,5 +1,6 @@
 pub mod Attempts
 pub mod Facts
+pub mod Handshakes
 pub mod Lawful
 pub mod Moves
 pub mod Recorded

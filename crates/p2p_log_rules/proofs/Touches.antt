@@ -57,6 +57,7 @@ in_tracker n (queue.Control m e) = m == n
 in_tracker n (queue.Answer m e) = m == n
 in_tracker n (queue.Updates m e) = m == n
 in_tracker n (queue.Blocked m e) = m == n
+in_tracker n (queue.Handshake m e) = m == n
 in_tracker n _ = false
 
 -- whether what is told for what the event e asked stands in the queue
@@ -79,6 +80,7 @@ reads configs log (act.Answer e) q = is_told_to (asked_by log e) e q
 reads configs log (act.Next e) q = is_told_to (asked_by log e) e q
 reads configs log (act.Tracker n) q = same_queue (queue.Tracker n) q
 reads configs log (act.Dialer n) q = same_queue (queue.Dialer n) q
+reads configs log (act.Listener n) q = same_queue (queue.Update n) q || same_queue (queue.Arrivals n) q
 reads configs log (act.Attempt e n) q = same_queue (queue.Attempt n e) q
 reads configs log a q = elim (reading_of configs log a) [ None ↦ false | Some p ↦ same_queue p q ]
 
@@ -93,6 +95,7 @@ writes configs log (act.RecvStep conn n) q = in_channels n q
 writes configs log (act.Ask what n) q = same_queue (queue.Tracker n) q
 writes configs log (act.Tracker n) q = in_tracker n q
 writes configs log (act.Dialer n) q = same_queue (queue.Tracker n) q
+writes configs log (act.Listener n) q = same_queue (queue.Tracker n) q
 writes configs log (act.Attempt e n) q = same_queue (queue.Tracker n) q || same_queue (queue.Attempt n e) q
 writes configs log (act.Resolve addresses e n) q = same_queue (queue.Attempt n e) q
 writes configs log (act.Connect e from n to) q = same_queue (queue.Attempt n e) q || same_queue (queue.Arrivals to) q

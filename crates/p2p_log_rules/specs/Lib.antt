@@ -3,7 +3,9 @@ pub mod Dialing
 pub mod Effect
 pub mod Facts
 pub mod Frames
+pub mod Handshakes
 pub mod Lawful
+pub mod Listening
 pub mod Moves
 pub mod Reading
 pub mod Rows

@@ -3,12 +3,13 @@ use Rattle.std.specs.Prelude.{ℕ, Bool, true, false, cond, List, [], ◌∷◌,
 use Rattle.std.specs.Option.{option_map}
 use Rattle.p2p_base.specs.declared.key.Key.{Key}
 use Rattle.p2p_address.specs.Addresses.{ingress_of}
+use Rattle.p2p_address.specs.declared.ip.IpAddr.{IpAddr}
 use Rattle.p2p_address.specs.declared.peer.Address.{Address}
 use Rattle.p2p_address.specs.declared.peer.Ingress.{Ingress}
 use Rattle.p2p_flow.specs.declared.update.PeerSetUpdate.{PeerSetUpdate}
 use Rattle.p2p_tracker_calls.specs.declared.call.Call.{Call}
 use Rattle.p2p_tracker_calls.specs.declared.call.Call.TheVariants as call
-use Rattle.p2p_tracker_calls.specs.Allows.{allows_dial}
+use Rattle.p2p_tracker_calls.specs.Allows.{allows_dial, is_acceptable}
 use Rattle.p2p_tracker_calls.specs.BlockedKeys.{blocked_keys}
 use Rattle.p2p_tracker_calls.specs.Blocks.{is_blockable}
 use Rattle.p2p_tracker_calls.specs.DialList.{dialable_keys, query_again_at}
@@ -28,6 +29,7 @@ use Rattle.p2p_log.specs.declared.entry.Entry.{Entry}
 use Rattle.p2p_log.specs.declared.asked.Asked.TheVariants as ask
 use Rattle.p2p_log.specs.declared.event.Act.{Act}
 use Rattle.p2p_log.specs.declared.event.Act.TheVariants as act
+use Rattle.p2p_log_rules.specs.Handshakes.{is_shaking, source_at}
 use Rattle.p2p_log_rules.specs.Tracking.{key_cmp, asked_by}
 
 abbrev pub Put : Type 0
@@ -101,10 +103,16 @@ module _ (rules : Rules Key) (n at : ℕ) (updates sets : List ℕ) (calls : Lis
   abbrev pub dial_grant : Key → Option (Key × Ingress)
   dial_grant k = cond (allows_dial key_cmp rules calls k at) (option_map (λ a. (k, ingress_of a)) (address_of key_cmp rules calls k)) None
 
+  -- whether the peer of a handshake may connect from where it came, told to one that has not ended
+  abbrev pub acceptable_puts : ℕ → Key → Bool → Option IpAddr → List Put
+  acceptable_puts name key true (Some source) = (queue.Handshake n name, item.Acceptable (is_acceptable key_cmp rules calls key source at)) ∷ []
+  acceptable_puts name key _ _ = []
+
   -- what is put for an item
   abbrev pub item_puts : List Entry → Item → List Put
   item_puts log (item.Call e) = asked_puts e (asked_by log e)
   item_puts log (item.Connect conn key) = cond (accepts key_cmp rules calls key (Some at)) [] (kill_put n (Some conn))
   item_puts log item.AskDialable = (queue.Dialer n, item.Dialable (query_again_at key_cmp rules calls at) (dialable_keys key_cmp rules calls at)) ∷ []
   item_puts log (item.AskDial key) = (queue.Dialer n, item.Dial (dial_grant key)) ∷ []
+  item_puts log (item.AskAcceptable name key) = acceptable_puts name key (is_shaking log n name) (source_at log name)
   item_puts log _ = []

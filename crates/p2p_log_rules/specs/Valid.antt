@@ -121,6 +121,7 @@ may_act configs events (act.Answer e) = is_node configs (set_asked_of (slice_get
 may_act configs events (act.Next e) = is_node configs (subscribed_at (slice_get events e))
 may_act configs events (act.Tracker n) = nat_lt n (length configs)
 may_act configs events (act.Dialer n) = nat_lt n (length configs)
+may_act configs events (act.Listener n) = nat_lt n (length configs)
 may_act configs events (act.Attempt e n) = nat_lt n (length configs) && names_dialer events n e
 may_act configs events (act.Resolve addresses e n) = nat_lt n (length configs) && names_dialer events n e
 may_act configs events (act.Connect e from n to) = nat_lt n (length configs) && (nat_lt to (length configs) && names_dialer events n e)

@@ -221,13 +221,13 @@ module _ (configs : List Config) (log : List Entry) (moment seed name n m : ℕ)
 
   -- a node whose parts are those of another, but for its dialer and its listener
   node_now : (j : ℕ) (w z : Node) → NodeStands configs log j w → z ≡ record w { dialing = z.dialing; listening = z.listening } → DialerStands configs (log ++ e ∷ []) j z.dialing
-      → ListenerStands (log ++ e ∷ []) j z.listening → NodeStands configs (log ++ e ∷ []) j z
+      → ListenerStands configs (log ++ e ∷ []) j z.listening → NodeStands configs (log ++ e ∷ []) j z
   node_now j w z stood same dials listens = each_part configs log ev j w z (dialer ∷ listener ∷ []) stood same (unnamed log name n m j from) (dials, (listens, tt))
 
   dialer_frame : (j : ℕ) (w : Node) → NodeStands configs log j w → (n == j) ≡ false → DialerStands configs (log ++ e ∷ []) j w.dialing
   dialer_frame j w stood other = part_frame dialer configs log ev j w (stood.each dialer) (ap (λ b. b || false) other)
 
-  listener_frame_at : (j : ℕ) (w : Node) → NodeStands configs log j w → (m == j) ≡ false → ListenerStands (log ++ e ∷ []) j w.listening
+  listener_frame_at : (j : ℕ) (w : Node) → NodeStands configs log j w → (m == j) ≡ false → ListenerStands configs (log ++ e ∷ []) j w.listening
   listener_frame_at j w stood other = part_frame listener configs log ev j w (stood.each listener) (ap (λ b. b || false) other)
 
   -- a node once the attempt is told, and before the peer arrives
@@ -252,34 +252,36 @@ module _ (configs : List Config) (log : List Entry) (moment seed name n m : ℕ)
       by false other g = let stood = s.each j w g in record { before = w; stood = stood; same = refl; dials = dialer_frame j w stood other }
 
   -- and after it
-  after_arrival : (j : ℕ) (w : Node) (x : Listening) → IsBetween j w → ListenerStands (log ++ e ∷ []) j x → NodeStands configs (log ++ e ∷ []) j (record w { listening = x })
+  after_arrival : (j : ℕ) (w : Node) (x : Listening) → IsBetween j w → ListenerStands configs (log ++ e ∷ []) j x → NodeStands configs (log ++ e ∷ []) j (record w { listening = x })
   after_arrival j w x b listens =
       node_now j b.before (record w { listening = x }) b.stood (ap (λ (z : Node). record z { listening = x }) b.same) b.dials listens
 
-  still_listens : (j : ℕ) (w : Node) → IsBetween j w → ListenerStands log j w.listening
-  still_listens j w b = subst (ListenerStands log j) (sym (ap (λ (z : Node). z.listening) b.same)) (b.stood.each listener)
+  still_listens : (j : ℕ) (w : Node) → IsBetween j w → ListenerStands configs log j w.listening
+  still_listens j w b = subst (ListenerStands configs log j) (sym (ap (λ (z : Node). z.listening) b.same)) (b.stood.each listener)
 
   -- where the peer does not arrive
-  nobody_listens : (j : ℕ) (w : Node) → IsBetween j w → (m == j) ≡ false → ListenerStands (log ++ e ∷ []) j w.listening
-  nobody_listens j w b other = subst (ListenerStands (log ++ e ∷ []) j) (sym (ap (λ (z : Node). z.listening) b.same)) (listener_frame_at j b.before b.stood other)
+  nobody_listens : (j : ℕ) (w : Node) → IsBetween j w → (m == j) ≡ false → ListenerStands configs (log ++ e ∷ []) j w.listening
+  nobody_listens j w b other = subst (ListenerStands configs (log ++ e ∷ []) j) (sym (ap (λ (z : Node). z.listening) b.same)) (listener_frame_at j b.before b.stood other)
 
   abbrev Each : List Node → Type 0
   Each ns = (j : ℕ) (z : Node) → slice_get ns j ≡ Some z → NodeStands configs (log ++ e ∷ []) j z
 
   -- nobody arrives
   each_told : comes ≡ false → Each mid
+  unfolding effect
   each_told none j w g = let b = between j w g in after_arrival j w w.listening b (by (m == j) refl b)
     where
-      by : (t : Bool) → (m == j) ≡ t → IsBetween j w → ListenerStands (log ++ e ∷ []) j w.listening
-      by true here b = listener_frame log e j w.listening (still_listens j w b) (line_of false none j here ∙ append-nil (line log (queue.Arrivals j)))
+      by : (t : Bool) → (m == j) ≡ t → IsBetween j w → ListenerStands configs (log ++ e ∷ []) j w.listening
+      by true here b = listener_frame configs log e j w.listening (still_listens j w b) (record { known = refl; handshakes = refl; arrivals = line_of false none j here ∙ append-nil (line log (queue.Arrivals j)) })
       by false other b = nobody_listens j w b other
 
   -- the peer arrives
   abbrev arrived_at : Node → Node
-  arrived_at y = record y { listening = arrived m k (length c.told.puts) from (key_at configs n) y.listening }
+  arrived_at y = record y { listening = arrived k (length c.told.puts) from (key_at configs n) y.listening }
 
   each_arrived : comes ≡ true → (y : Node) → slice_get mid m ≡ Some y
       → Each (slice_set mid m (arrived_at y))
+  unfolding effect
   each_arrived some y there j z g = by (m == j) refl (sym (slice_get-set mid m j (arrived_at y) (below mid m y there)) ∙ g)
     where
       by : (t : Bool) → (m == j) ≡ t → cond t (Some (arrived_at y)) (slice_get mid j) ≡ Some z → NodeStands configs (log ++ e ∷ []) j z
@@ -288,7 +290,7 @@ module _ (configs : List Config) (log : List Entry) (moment seed name n m : ℕ)
           let b = between m y there in
           subst (NodeStands configs (log ++ e ∷ []) j) it
           (subst (λ i. NodeStands configs (log ++ e ∷ []) i (arrived_at y)) (eqb-true m j here)
-          (after_arrival m y (arrived_at y).listening b (listener_arrived log e m k (length c.told.puts) from (key_at configs n) y.listening (still_listens m y b) (line_of true some m (eq-eqb m m refl)))))
+          (after_arrival m y (arrived_at y).listening b (listener_arrived configs log e m k (length c.told.puts) from (key_at configs n) y.listening (still_listens m y b) refl (line_of true some m (eq-eqb m m refl)))))
       by false other g = let b = between j z g in after_arrival j z z.listening b (nobody_listens j z b other)
 
   arrival_is : Arrives comes m k (length c.told.puts) from (key_at configs n) mid new

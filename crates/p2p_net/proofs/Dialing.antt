@@ -228,6 +228,7 @@ module _ (configs : List Config) (log : List Entry) (moment seed n : ℕ) (x y :
           no_step = refl;
           no_question = refl;
           no_answer = λ d. refl;
+          no_admission = refl;
           rest =
               tracks.1.1
               ∙ (ap (λ w. record x.tracker { mailbox = w; told = y.tracker.told; names = x.tracker.names ++ names_asked k (item_in o) }) mailbox

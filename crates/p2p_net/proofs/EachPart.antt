@@ -44,7 +44,7 @@ kept_part channels ps configs log n x y out s = subst (ChannelsStand configs log
 kept_part connections ps configs log n x y out s = subst (ConnectionsStand configs log n) (sym (ap (λ b. cond b y.connections x.connections) out)) s
 kept_part tracker ps configs log n x y out s = subst (TrackerStands configs log n) (sym (ap (λ b. cond b y.tracker x.tracker) out)) s
 kept_part dialer ps configs log n x y out s = subst (DialerStands configs log n) (sym (ap (λ b. cond b y.dialing x.dialing) out)) s
-kept_part listener ps configs log n x y out s = subst (ListenerStands log n) (sym (ap (λ b. cond b y.listening x.listening) out)) s
+kept_part listener ps configs log n x y out s = subst (ListenerStands configs log n) (sym (ap (λ b. cond b y.listening x.listening) out)) s
 
 abbrev part_of : ℕ → Part
 part_of zero = router

@@ -19,6 +19,7 @@ use Rattle.p2p_log.specs.Lines.{live, line, stands_in}
 use Rattle.p2p_log_rules.specs.declared.row.Half.{Half}
 use Rattle.p2p_log_rules.specs.Facts.{starts, registers_at, capacity_for, taken, steps_router, steps_sender, is_answer, half_of, key_at, answers_by, joins}
 use Rattle.p2p_log_rules.specs.Effect.{row, effect}
+use Rattle.p2p_log_rules.specs.Handshakes.{steps_listener}
 use Rattle.p2p_log_rules.specs.Tracking.{asked_by, steps_tracker}
 use Rattle.p2p_log_rules.specs.TrackerRows.{answers, is_answer as gives_answer, answer_by}
 use Rattle.p2p_net_tracker.specs.declared.question.Question.{Question}
@@ -27,7 +28,7 @@ use Rattle.p2p_net_tracker.specs.Stands.{kind_of, asks_of, asks_at, is_told}
 use Rattle.p2p_net_tracker.proofs.Changes.{tracker_frame}
 use Rattle.p2p_net_dialer.specs.Stands.{is_of_dialer}
 use Rattle.p2p_net_dialer.proofs.Changes.{dialer_frame, dialer_unmoved}
-use Rattle.p2p_net_listener.proofs.Changes.{listener_frame}
+use Rattle.p2p_net_listener.proofs.Changes.{listener_frame, listener_unmoved, handshakes_unmoved}
 use Rattle.p2p_net_router.specs.Names.{is_routers}
 use Rattle.p2p_net_router.specs.Stands.{IsBeside}
 use Rattle.p2p_net_router.specs.declared.router.Router.{Router}
@@ -223,6 +224,7 @@ told_home n (queue.Control m c) h = ap (at tracker) (let e : m ≡ n = grind (ar
 told_home n (queue.Answer m e) h = ap (at tracker) (let e : m ≡ n = grind (arith, nat_tests) in e)
 told_home n (queue.Updates m e) h = ap (at tracker) (let e : m ≡ n = grind (arith, nat_tests) in e)
 told_home n (queue.Blocked m e) h = ap (at tracker) (let e : m ≡ n = grind (arith, nat_tests) in e)
+told_home n (queue.Handshake m e) h = ap (at tracker) (let e : m ≡ n = grind (arith, nat_tests) in e)
 told_home n _ h = cc
 
 -- ---- the dialer
@@ -237,6 +239,17 @@ dials_none log n (act.Resolve addresses e m) h = grind (arith, nat_tests)
 dials_none log n (act.Connect e from m to) h = grind (arith, nat_tests)
 dials_none log n (act.Refuse e m) h = grind (arith, nat_tests)
 dials_none log n _ h = refl
+
+-- ---- the listener
+
+listens_none : (log : List Entry) (n : ℕ) (a : Act) → names log a (at listener n) ≡ false → steps_listener n a ≡ false
+listens_none log n (act.Listener m) h = grind (arith, nat_tests)
+listens_none log n _ h = refl
+
+-- a step of it names its tracker too
+admits_none : (log : List Entry) (n : ℕ) (a : Act) → names log a (at tracker n) ≡ false → steps_listener n a ≡ false
+admits_none log n (act.Listener m) h = grind (arith, nat_tests)
+admits_none log n _ h = refl
 
 -- ---- all parts
 
@@ -266,13 +279,17 @@ part_frame tracker configs log ev n x s h =
       no_late_answer = λ d past. late_answer configs log ev d past;
       mailbox = line-unnamed configs log ev (queue.Tracker n) h;
       told = λ q own. line-unnamed configs log ev q (ap (names log ev.act) (told_home n q own) ∙ h);
+      handshakes = handshakes_unmoved log e n (ap (steps_listener n) (effect-act configs log ev) ∙ admits_none log n ev.act h);
     })
 part_frame dialer configs log ev n x s h =
     let e = effect configs log ev in
     let acts = effect-act configs log ev in
     dialer_frame configs log e n x.dialing s
     (dialer_unmoved configs log e n (ap (starts n) acts ∙ dialer_starts_none log n ev.act h) (ap (is_of_dialer n) acts ∙ dials_none log n ev.act h) (λ k. line-unnamed configs log ev (queue.Attempt n k) h))
-part_frame listener configs log ev n x s h = listener_frame log (effect configs log ev) n x.listening s (line-unnamed configs log ev (queue.Arrivals n) h)
+part_frame listener configs log ev n x s h =
+    let e = effect configs log ev in
+    listener_frame configs log e n x.listening s
+    (listener_unmoved configs log e n (ap (steps_listener n) (effect-act configs log ev) ∙ listens_none log n ev.act h) (line-unnamed configs log ev (queue.Arrivals n) h))
 
 -- the links, where an act does not name them
 pub links_kept : (configs : List Config) (log : List Entry) (ev : Event) (l : Links) → LinksStand log l → names log ev.act links ≡ false → LinksStand (log ++ effect configs log ev ∷ []) l

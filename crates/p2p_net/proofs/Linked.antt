@@ -37,6 +37,6 @@ module _ (k name n m : ℕ) (from : SocketAddr) (nodes : List Node) (x y after :
 
   -- the peer arrives
   pub linked_to : (z : Node) (r : Row) → comes ≡ true → slice_get (slice_set nodes n after) m ≡ Some z → r ≡ with_arrival true m arrival told
-      → IsLinked k name n m from nodes (slice_set (slice_set nodes n after) m (record z { listening = arrived m k (length told.puts) from x.config.public_key z.listening })) r
+      → IsLinked k name n m from nodes (slice_set (slice_set nodes n after) m (record z { listening = arrived k (length told.puts) from x.config.public_key z.listening })) r
   linked_to z r some there row_is =
-      linked true (slice_set (slice_set nodes n after) m (record z { listening = arrived m k (length told.puts) from x.config.public_key z.listening })) r some row_is (z, (there, refl))
+      linked true (slice_set (slice_set nodes n after) m (record z { listening = arrived k (length told.puts) from x.config.public_key z.listening })) r some row_is (z, (there, refl))

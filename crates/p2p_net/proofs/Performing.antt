@@ -19,6 +19,8 @@ use Rattle.p2p_net_dialer.proofs.Changes.{dialer_frame}
 use Rattle.p2p_net_listener.proofs.Changes.{listener_frame}
 use Rattle.p2p_log_rules.specs.Facts.{starts, registers_at, taken, item_named, steps_router, steps_sender, is_answer, half_of, joins}
 use Rattle.p2p_log_rules.specs.Effect.{only, row, effect}
+use Rattle.p2p_log_rules.specs.Handshakes.{steps_listener, with_admitted, handshakes_by, handshakes_of}
+use Rattle.p2p_log_rules.specs.Listening.{gate_rules_at, took_known, known_of}
 use Rattle.p2p_log_rules.specs.Tracking.{steps_tracker}
 use Rattle.p2p_log_rules.specs.TrackerRows.{answers}
 use Rattle.p2p_net_tracker.specs.Stands.{asks_of}
@@ -64,6 +66,9 @@ is_quiet (act.Tracker n) r = false
 is_quiet (act.Dialer n) reply.Idle = true
 is_quiet (act.Dialer n) reply.Gone = true
 is_quiet (act.Dialer n) r = false
+is_quiet (act.Listener n) reply.Idle = true
+is_quiet (act.Listener n) reply.Gone = true
+is_quiet (act.Listener n) r = false
 is_quiet (act.Attempt e n) r = false
 is_quiet (act.Resolve addresses e n) r = false
 is_quiet (act.Connect e from n to) r = false
@@ -105,7 +110,7 @@ quiet_answers : (d : ℕ) (a : Act) (r s : Reply) → is_quiet a r ≡ true → 
 quiet_answers d (act.Answer e) r s h = cc
 quiet_answers d _ r s h = refl
 
-either_same : (b : Bool) (d : Dials) → cond b d d ≡ d
+either_same : {X : Type 0} (b : Bool) (d : X) → cond b d d ≡ d
 either_same true d = refl
 either_same false d = refl
 
@@ -115,6 +120,19 @@ quiet_dials pace n (act.Dialer m) at seed reply.Idle items puts d h = either_sam
 quiet_dials pace n (act.Dialer m) at seed reply.Gone items puts d h = either_same (m == n) d
 quiet_dials pace n (act.Dialer m) at seed _ items puts d h = cc
 quiet_dials pace n _ at seed r items puts d h = refl
+
+-- nobody is admitted
+quiet_handshakes : (n name : ℕ) (a : Act) (r : Reply) (names : List ℕ) → is_quiet a r ≡ true → cond (steps_listener n a) (with_admitted name r names) names ≡ names
+quiet_handshakes n name (act.Listener m) reply.Idle names h = either_same (m == n) names
+quiet_handshakes n name (act.Listener m) reply.Gone names h = either_same (m == n) names
+quiet_handshakes n name (act.Listener m) _ names h = cc
+quiet_handshakes n name _ r names h = refl
+
+handshakes_still : (log : List Entry) (e : Entry) (n : ℕ) (a : Act) (rep : Reply) → e.event.act ≡ a → e.reply ≡ rep → is_quiet a rep ≡ true → handshakes_by n log e (handshakes_of log n) ≡ handshakes_of log n
+handshakes_still log e n a rep is told q =
+    let names = handshakes_of log n in
+    ap (λ b. cond (steps_listener n b) (with_admitted (length log) e.reply names) names) is
+    ∙ (ap (λ r. cond (steps_listener n a) (with_admitted (length log) r names) names) told ∙ quiet_handshakes n (length log) a rep names q)
 
 -- nothing is taken, so nothing is begun
 quiet_tries : (rules : DialRules) (n name at seed : ℕ) (a : Act) (r s : Reply) (attempts : ℕ → Option Attempt) (k : ℕ) → is_quiet a r ≡ true → acted_attempts rules n name at seed s [] a attempts k ≡ attempts k
@@ -181,6 +199,7 @@ part_still tracker configs log e n x a rep s is q h =
       no_late_answer = λ d past. ap (λ b. answers d b e.reply) is ∙ quiet_answers d a rep e.reply q;
       mailbox = line-still log e rep (queue.Tracker n) h;
       told = λ p own. line-still log e rep p h;
+      handshakes = handshakes_still log e n a rep is h.reply q;
     })
 part_still dialer configs log e n x a rep s is q h =
     let none = taken-none log e h.takes in
@@ -198,7 +217,16 @@ part_still dialer configs log e n x a rep s is q h =
           ∙ (ap (λ l. acted_attempts rules n (length log) e.event.at e.event.seed e.reply l a attempts k) none ∙ quiet_tries rules n (length log) e.event.at e.event.seed a rep e.reply attempts k q);
       lines = λ k. line-still log e rep (queue.Attempt n k) h;
     })
-part_still listener configs log e n x a rep s is q h = listener_frame log e n x.listening s (line-still log e rep (queue.Arrivals n) h)
+part_still listener configs log e n x a rep s is q h =
+    let known = known_of configs log n in
+    listener_frame configs log e n x.listening s
+    (record {
+      known =
+          ap (λ l. cond (steps_listener n e.event.act) (took_known (gate_rules_at configs n) e.event.at l known) known) (taken-none log e h.takes)
+          ∙ either_same (steps_listener n e.event.act) known;
+      handshakes = handshakes_still log e n a rep is h.reply q;
+      arrivals = line-still log e rep (queue.Arrivals n) h;
+    })
 
 pub links_still : (log : List Entry) (e : Entry) (rep : Reply) (l : Links) → LinksStand log l → IsStill e rep → LinksStand (log ++ e ∷ []) l
 links_still log e rep l s h = links_frame log e l s (λ t link. line-still log e rep (queue.Link link t) h)

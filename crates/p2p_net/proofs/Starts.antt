@@ -11,6 +11,7 @@ use Rattle.p2p_log.specs.declared.queue.Queue.TheVariants as queue
 use Rattle.p2p_log.specs.declared.queue.Side.TheVariants as side
 use Rattle.p2p_log_rules.specs.Facts.{registered, history_from, half_at, is_running, is_joined}
 use Rattle.p2p_log_rules.specs.Effect.{mailbox_size_at}
+use Rattle.p2p_log_rules.specs.Listening.{no_gates, gate_rules_of}
 use Rattle.p2p_log_rules.specs.Valid.{fits, has_key, is_valid_config, config_fault_from, config_fault}
 use Rattle.p2p_log.proofs.Places.{slice_get-append}
 use Rattle.p2p_net_router.specs.Stands.{StandsFor}
@@ -18,11 +19,10 @@ use Rattle.p2p_net_channels.specs.Channels.{no_channels}
 use Rattle.p2p_net_channels.specs.Stands.{ChannelsStand}
 use Rattle.p2p_net_connections.specs.Connections.{no_connections}
 use Rattle.p2p_net_connections.specs.Stands.{ConnectionsStand}
-use Rattle.p2p_net_dialer.specs.Dialing.{no_dialing}
+use Rattle.p2p_net_dialer.specs.Dialing.{no_dialing, gates_of}
 use Rattle.p2p_net_dialer.specs.Stands.{DialerStands}
 use Rattle.p2p_net_dialer.proofs.Changes.{dialer_new}
-use Rattle.p2p_net_listener.specs.Listening.{no_listening}
-use Rattle.p2p_net_listener.specs.Stands.{ListenerStands}
+use Rattle.p2p_net_listener.specs.Listening.{IsNew as IsNewListening}
 use Rattle.p2p_net_listener.proofs.Changes.{listener_new}
 use Rattle.p2p_net_tracker.specs.Begins.{IsNew}
 use Rattle.p2p_net_tracker.proofs.Begins.{tracker_new}
@@ -90,7 +90,7 @@ links_new = record {
 -- a node that was asked for nothing
 pub node_new :
     (configs : List Config) (n : ℕ) (x : Node) → slice_get configs n ≡ Some x.config → x.retained ≡ x.config.max_peers_per_set * x.config.tracked_peer_sets → x.failed ≡ false → x.config.mailbox_size < 2 ^ 64
-    → x.router.number ≡ n → StandsFor configs [] x.router → ((c : ℕ) → tree.get nat_cmp x.router.peers c ≡ None) → x.channels ≡ no_channels → x.connections ≡ no_connections → IsNew x.config x.tracker → x.dialing ≡ no_dialing → x.listening ≡ no_listening → NodeStands configs [] n x
+    → x.router.number ≡ n → StandsFor configs [] x.router → ((c : ℕ) → tree.get nat_cmp x.router.peers c ≡ None) → x.channels ≡ no_channels → x.connections ≡ no_connections → IsNew x.config x.tracker → x.dialing ≡ no_dialing → IsNewListening (gates_of x.config) x.listening → NodeStands configs [] n x
 node_new configs n x config retained works small number stands none ch cs tr di li = record {
   own = record { config = config; retained = retained; works = works };
   each = λ p. elim p as (λ q. PartStands q configs [] n x) [
@@ -109,7 +109,9 @@ node_new configs n x config retained works small number stands none ch cs tr di 
     | place.connections ↦ subst (ConnectionsStand configs [] n) (sym cs) (connections_new configs n)
     | place.tracker ↦ tracker_new configs n x.config x.tracker config tr
     | place.dialer ↦ subst (DialerStands configs [] n) (sym di) (dialer_new configs n)
-    | place.listener ↦ subst (ListenerStands [] n) (sym li) (listener_new n)
+    | place.listener ↦
+        listener_new configs n (gates_of x.config) x.listening li (sym (ap (λ (o : Option Config). elim o [ None ↦ no_gates | Some c ↦ gate_rules_of c ]) config))
+        (sym (ap (λ (o : Option Config). elim o [ None ↦ 0 | Some c ↦ c.max_concurrent_handshakes ]) config))
   ];
 }
 

@@ -59,6 +59,9 @@ tracker_queue n q h = same_queue-sym (queue.Tracker n) q ∙ away (λ r. same_pl
 answers_queue : (n : ℕ) (q : Queue) → same_place (at tracker n) (home q) ≡ false → same_queue (queue.Dialer n) q ≡ false
 answers_queue n q h = same_queue-sym (queue.Dialer n) q ∙ away (λ r. same_place (at tracker n) (home r)) q (queue.Dialer n) h (eqb-refl n)
 
+update_queue : (n : ℕ) (q : Queue) → same_place (at tracker n) (home q) ≡ false → same_queue (queue.Update n) q ≡ false
+update_queue n q h = same_queue-sym (queue.Update n) q ∙ away (λ r. same_place (at tracker n) (home r)) q (queue.Update n) h (eqb-refl n)
+
 attempt_queue : (n e : ℕ) (q : Queue) → same_place (at dialer n) (home q) ≡ false → same_queue (queue.Attempt n e) q ≡ false
 attempt_queue n e q h = same_queue-sym (queue.Attempt n e) q ∙ away (λ r. same_place (at dialer n) (home r)) q (queue.Attempt n e) h (eqb-refl n)
 
@@ -73,6 +76,7 @@ tracker_kinds n (queue.Control m c) h = grind (arith, nat_tests)
 tracker_kinds n (queue.Answer m e) h = grind (arith, nat_tests)
 tracker_kinds n (queue.Updates m e) h = grind (arith, nat_tests)
 tracker_kinds n (queue.Blocked m e) h = grind (arith, nat_tests)
+tracker_kinds n (queue.Handshake m e) h = grind (arith, nat_tests)
 tracker_kinds n _ h = refl
 
 -- what is told for what an event asked
@@ -106,6 +110,10 @@ second_false true true h = h
 second_of_two : (a b : Bool) → (a || (b || false)) ≡ false → b ≡ false
 second_of_two a b h = first_false b false (second_false a (b || false) h)
 
+both_false : (a b : Bool) → a ≡ false → b ≡ false → (a || b) ≡ false
+both_false true b h k = h
+both_false false b h k = k
+
 reads-named : (configs : List Config) (log : List Entry) (a : Act) (q : Queue) → names log a (home q) ≡ false → reads configs log a q ≡ false
 reads-named configs log (act.Router n) q h = router_queue n q (first_false (same_place (at router n) (home q)) (same_place (at connections n) (home q) || false) h)
 reads-named configs log (act.SendStep conn n) q h =
@@ -121,12 +129,12 @@ reads-named configs log (act.Answer e) q h = told_queue log e q (first_false (sa
 reads-named configs log (act.Next e) q h = told_queue log e q (first_false (same_place (at tracker (node_asked (slice_get log e))) (home q)) false h)
 reads-named configs log (act.Tracker n) q h = tracker_queue n q (first_false (same_place (at tracker n) (home q)) false h)
 reads-named configs log (act.Dialer n) q h = answers_queue n q (first_false (same_place (at tracker n) (home q)) (same_place (at dialer n) (home q) || false) h)
+reads-named configs log (act.Listener n) q h =
+    both_false (same_queue (queue.Update n) q) (same_queue (queue.Arrivals n) q)
+    (update_queue n q (first_false (same_place (at tracker n) (home q)) (same_place (at listener n) (home q) || false) h))
+    (arrivals_queue n q (second_of_two (same_place (at tracker n) (home q)) (same_place (at listener n) (home q)) h))
 reads-named configs log (act.Attempt e n) q h = attempt_queue n e q (second_of_two (same_place (at tracker n) (home q)) (same_place (at dialer n) (home q)) h)
 reads-named configs log _ q h = refl
-
-both_false : (a b : Bool) → a ≡ false → b ≡ false → (a || b) ≡ false
-both_false true b h k = h
-both_false false b h k = k
 
 writes-named : (configs : List Config) (log : List Entry) (a : Act) (q : Queue) → names log a (home q) ≡ false → writes configs log a q ≡ false
 writes-named configs log (act.Start n) q h = router_queue n q (first_false (same_place (at router n) (home q)) (same_place (at dialer n) (home q) || false) h)
@@ -145,6 +153,7 @@ writes-named configs log (act.RecvStep conn n) q h = channel_kinds n q (first_fa
 writes-named configs log (act.Ask what n) q h = tracker_queue n q (first_false (same_place (at tracker n) (home q)) false h)
 writes-named configs log (act.Tracker n) q h = tracker_kinds n q (first_false (same_place (at tracker n) (home q)) false h)
 writes-named configs log (act.Dialer n) q h = tracker_queue n q (first_false (same_place (at tracker n) (home q)) (same_place (at dialer n) (home q) || false) h)
+writes-named configs log (act.Listener n) q h = tracker_queue n q (first_false (same_place (at tracker n) (home q)) (same_place (at listener n) (home q) || false) h)
 writes-named configs log (act.Attempt e n) q h =
     both_false (same_queue (queue.Tracker n) q) (same_queue (queue.Attempt n e) q)
     (tracker_queue n q (first_false (same_place (at tracker n) (home q)) (same_place (at dialer n) (home q) || false) h))

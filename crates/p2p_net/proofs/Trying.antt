@@ -179,7 +179,7 @@ module _ (configs : List Config) (log : List Entry) (moment seed name n : ℕ) (
       → ((p : Queue) → is_told n p ≡ true → line (log ++ e due ∷ []) p ≡ line log p) → TrackerStands configs (log ++ e due ∷ []) n y.tracker
   tracker_left due none same waits lines =
       subst (TrackerStands configs (log ++ e due ∷ []) n) (sym (same_tracker none same))
-      (tracker_frame configs log (e due) n x.tracker tracked (record { no_step = refl; no_question = refl; no_answer = λ d h. refl; no_late_answer = λ d h. refl; mailbox = waits; told = lines }))
+      (tracker_frame configs log (e due) n x.tracker tracked (record { no_step = refl; no_question = refl; no_answer = λ d h. refl; no_late_answer = λ d h. refl; mailbox = waits; told = lines; handshakes = refl }))
 
   -- what it did, as a row
   row_of : (t : Tried) → steps.tried ≡ t → r ≡ record t.row { puts = t.row.puts ++ asked_puts n (release_item t.released) }
@@ -246,6 +246,7 @@ module _ (configs : List Config) (log : List Entry) (moment seed name n : ℕ) (
         no_step = refl;
         no_question = refl;
         no_answer = λ d. refl;
+        no_admission = refl;
         rest = tracker_now ∙ (ap (λ w. record x.tracker { mailbox = w; names = x.tracker.names ++ (k, 0) ∷ [] }) mailbox
             ∙ (ap (λ w. record x.tracker { mailbox = record m { desk = w.desk; dialer = w.dialer }; names = x.tracker.names ++ (k, 0) ∷ [] }) (sym mailbox)
             ∙ ap (λ w. record x.tracker { mailbox = record m { desk = y.tracker.mailbox.desk; dialer = y.tracker.mailbox.dialer }; names = x.tracker.names ++ (k, 0) ∷ []; told = w }) (sym (ap (λ (w : Tracker). w.told) tracker_now))));

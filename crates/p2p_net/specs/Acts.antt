@@ -1,5 +1,5 @@
 -- What each act comes to, and what it makes of a node and of the links. No log: of the router's calls the log is a matter of its own.
-use Rattle.std.specs.Prelude.{◌≡◌, ℕ, ◌+◌, Bool, true, false, ◌&&◌, List, ◌++◌, drop, Option, Some, None, slice_get, if◌then◌else◌}
+use Rattle.std.specs.Prelude.{◌≡◌, ℕ, ◌+◌, Bool, true, false, ◌&&◌, List, [], ◌∷◌, ◌++◌, drop, Option, Some, None, slice_get, if◌then◌else◌}
 use Rattle.p2p_base.specs.declared.key.Key.{Key}
 use Rattle.p2p_log.specs.declared.queue.Queue.{Queue}
 use Rattle.p2p_log.specs.declared.queue.Queue.TheVariants as queue
@@ -35,7 +35,10 @@ use Rattle.p2p_net_dialer.specs.Dialing.{started}
 use Rattle.p2p_net_dialer.specs.declared.attempt.Tried.{Tried}
 use Rattle.p2p_net_dialer.specs.declared.dialing.Dialed.{Dialed}
 use Rattle.p2p_net_tracker.specs.Asking.{ask_answer, after_asking}
-use Rattle.p2p_net_tracker.specs.Dialed.{asked_puts, names_asked, dialed_row}
+use Rattle.p2p_net_listener.specs.Listening as listening
+use Rattle.p2p_net_listener.specs.declared.listening.Took.{Took}
+use Rattle.p2p_net_listener.specs.declared.listening.Took.TheVariants as takes
+use Rattle.p2p_net_tracker.specs.Dialed.{updated_row, asked_puts, names_asked, dialed_row}
 use Rattle.p2p_net_tracker.specs.Reading.{Answers, Continues}
 use Rattle.p2p_net_tracker.specs.Stepping as tracking
 use Rattle.p2p_net_tracker.specs.declared.tracker.Tracker.{Tracker}
@@ -208,7 +211,31 @@ abbrev pub DialerStepsBy : Bool → ℕ → ℕ → ℕ → ℕ → Node → Nod
 DialerStepsBy false k n at seed old new r = Stays old new r (only reply.Gone)
 DialerStepsBy true k n at seed old new r = DialerSteps k n at seed old new r
 
--- ---- its attempts
+-- ---- the listener
+
+-- what it took, at the tracker
+abbrev pub ListenedBy : Option Took → ℕ → ℕ → Tracker → Tracker → Row → Type 0
+ListenedBy None k n old new r = (r ≡ only reply.Idle) × (new ≡ record old { mailbox = new.mailbox })
+ListenedBy (Some takes.Update) k n old new r =
+    (r ≡ updated_row (held old.told (queue.Update n)))
+    × (((q : Queue) → held new.told q ≡ (if same_queue (queue.Update n) q then drop 1 (held old.told q) else held old.told q))
+    × (new ≡ record old { mailbox = new.mailbox; told = new.told }))
+ListenedBy (Some (takes.Arrival name told asked)) k n old new r =
+    (r ≡ record { reply = reply.Gates told; takes = name ∷ []; puts = asked_puts n asked; ends = [] })
+    × (new ≡ record old { mailbox = new.mailbox; names = old.names ++ names_asked k asked })
+
+-- a step of the listener, whose update waits in the tracker's mailbox
+pub record ListenerSteps (k n at : ℕ) (old new : Node) (r : Row) : Type 0 where
+  pub took : Option Took
+  pub steps : listening.Steps k at old.listening new.listening old.tracker.mailbox new.tracker.mailbox took
+  pub tracks : ListenedBy took k n old.tracker new.tracker r
+  pub rest : new ≡ record old { tracker = new.tracker; listening = new.listening }
+
+abbrev pub ListenerStepsBy : Bool → ℕ → ℕ → ℕ → Node → Node → Row → Type 0
+ListenerStepsBy false k n at old new r = Stays old new r (only reply.Gone)
+ListenerStepsBy true k n at old new r = ListenerSteps k n at old new r
+
+-- ---- the dialer's attempts
 
 -- what gives the reservation of a key back
 abbrev pub release_item : Option Key → Option Item
@@ -246,6 +273,7 @@ NodeDoes k n at seed (act.Answer e) old new l links r = (Answers n e old.tracker
 NodeDoes k n at seed (act.Next e) old new l links r = (Continues n e old.tracker new.tracker r × Tracks new.tracker old new) × (links ≡ l)
 NodeDoes k n at seed (act.Tracker m) old new l links r = TrackerStepsBy (is_started old) k n at seed old new r × (links ≡ l)
 NodeDoes k n at seed (act.Dialer m) old new l links r = DialerStepsBy (is_started old) k n at seed old new r × (links ≡ l)
+NodeDoes k n at seed (act.Listener m) old new l links r = ListenerStepsBy (is_started old) k n at old new r × (links ≡ l)
 NodeDoes k n at seed (act.Attempt e m) old new l links r = AttemptSteps k n e at seed old new r × (links ≡ l)
 NodeDoes k n at seed (act.Resolve addresses e m) old new l links r =
     (Resolves (table.at old.dialing.attempts e) k n e addresses old.dialing.attempts new.dialing.attempts r × TellsAttempt old new) × (links ≡ l)

@@ -33,7 +33,7 @@ with_arrival true m arrival r = record r { puts = r.puts ++ (queue.Arrivals m, a
 abbrev pub Arrives : Bool → ℕ → ℕ → ℕ → SocketAddr → Key → List Node → List Node → Type 0
 Arrives false m k place from key old new = (new ≡ old)
 Arrives true m k place from key old new =
-    (y : Node) × ((slice_get old m ≡ Some y) × (new ≡ slice_set old m (record y { listening = arrived m k place from key y.listening })))
+    (y : Node) × ((slice_get old m ≡ Some y) × (new ≡ slice_set old m (record y { listening = arrived k place from key y.listening })))
 
 -- the entry k links this attempt of the node n to the listener of the node m, where that has started
 pub record IsLinked (k name n m : ℕ) (from : SocketAddr) (old new : List Node) (r : Row) : Type 0 where

@@ -38,7 +38,7 @@ PartStands channels configs log n x = ChannelsStand configs log n x.channels
 PartStands connections configs log n x = ConnectionsStand configs log n x.connections
 PartStands tracker configs log n x = TrackerStands configs log n x.tracker
 PartStands dialer configs log n x = DialerStands configs log n x.dialing
-PartStands listener configs log n x = ListenerStands log n x.listening
+PartStands listener configs log n x = ListenerStands configs log n x.listening
 
 -- what a node has beside its parts: the sizes of its configuration, and it has found memory so far
 pub record OwnStands (configs : List Config) (n : ℕ) (x : Node) : Type 0 where

@@ -6,8 +6,8 @@ ghost use Rattle.p2p_log_rules.specs.Effect.{entry_of as entry_of_row};
 ghost use Rattle.p2p_log_rules.specs.Valid.{fits};
 ghost use Rattle.p2p_net_channels.specs.Channels.{no_channels};
 ghost use Rattle.p2p_net_connections.specs.Connections.{no_connections};
-ghost use Rattle.p2p_net_dialer.specs.Dialing.{no_dialing};
-ghost use Rattle.p2p_net_listener.specs.Listening.{no_listening};
+ghost use Rattle.p2p_net_dialer.specs.Dialing.{no_dialing, gates_of};
+ghost use Rattle.p2p_net_listener.specs.Listening.{IsNew as IsNewListening};
 ghost use Rattle.p2p_net_router.specs.Stands.{StandsFor};
 ghost use Rattle.p2p_net_tracker.specs.Begins.{IsNew};
 ghost use Rattle.p2p_net.specs.Places.{asked_node as asked_node_of, node_asked as node_asked_by, node_of as node_of_act, other_of as other_of_act};
@@ -21,7 +21,7 @@ use p2p_log::{Act, Config, Entry, Event, Reply};
 use p2p_log_rules::Row;
 use p2p_net_channels::Channels;
 use p2p_net_connections::Connections;
-use p2p_net_dialer::Dialing;
+use p2p_net_dialer::{Dialing, gates_config};
 use p2p_net_links::Links;
 use p2p_net_listener::Listening;
 use p2p_net_queues::{Turn, only};
@@ -114,6 +114,7 @@ pub fn node_of(log: &[Entry], act: &Act) -> u64
         Act::Next { question } => node_asked(log, *question),
         Act::Tracker { node } => *node,
         Act::Dialer { node } => *node,
+        Act::Listener { node } => *node,
         Act::Attempt { node, .. } => *node,
         Act::Resolve { node, .. } => *node,
         Act::Connect { node, .. } => *node,
@@ -148,12 +149,13 @@ impl Node {
         ensures channels { IfOk result (λ x. x.channels ≡ no_channels) }
         ensures connections { IfOk result (λ x. x.connections ≡ no_connections) }
         ensures dialing { IfOk result (λ x. x.dialing ≡ no_dialing) }
-        ensures listening { IfOk result (λ x. x.listening ≡ no_listening) }
+        ensures listening { IfOk result (λ x. IsNewListening (gates_of config) x.listening) }
         ensures works { IfOk result (λ x. x.failed ≡ false) }
     {
         let size = config.mailbox_size;
         prove!(size <= usize::MAX);
         let tracker = Tracker::new(alloc, &config)?;
+        let listening = Listening::new(alloc, gates_config(&config))?;
         Ok(Node {
             config,
             retained: retained(&config),
@@ -162,7 +164,7 @@ impl Node {
             connections: Connections::new(alloc),
             tracker,
             dialing: Dialing::new(alloc),
-            listening: Listening::new(alloc),
+            listening,
             failed: false,
         })
     }
@@ -244,6 +246,7 @@ impl Node {
             Act::Next { question } => Ok(self.tracker.next(turn, *question)?),
             Act::Tracker { .. } => Ok(self.track_step(turn, event.at, event.seed)?),
             Act::Dialer { .. } => Ok(self.dial_step(turn, event.at, event.seed)?),
+            Act::Listener { .. } => Ok(self.listen_step(turn, event.at)?),
             Act::Attempt { attempt, .. } => {
                 Ok(self.attempt_step(turn, *attempt, event.at, event.seed)?)
             }

@@ -1,4 +1,4 @@
-//! The steps of a node: of its router, its tracker, its dialer and attempts, and of the two halves of each connection.
+//! The steps of a node: of its router, its tracker, its dialer and attempts, its listener, and of the two halves of each connection.
 ghost use Rattle.std.specs.Prelude.{◌≡◌, ℕ, IfOk, OnOk, IfSome, Option, slice_get};
 ghost use Rattle.p2p_log_rules.specs.Effect.{other_side as other_side_of};
 ghost use Rattle.p2p_log.specs.Lines.{name_of};
@@ -7,7 +7,7 @@ ghost use Rattle.p2p_log_rules.specs.Tracking.{key_cmp};
 ghost use Rattle.p2p_tracker_mailbox.specs.Desk.{next_message};
 ghost use Rattle.p2p_tracker.specs.Serving.{MayTake};
 ghost use Rattle.p2p_net.specs.Ready.{is_started as is_started_test};
-ghost use Rattle.p2p_net.specs.Acts.{TrackerStepsBy, DialerStepsBy, AttemptSteps, release_item, Routes, Writes, Begins, SendSteps, Receives, RecvSteps, arrived_row, arrived_into, arrived_off, accepted_row, accepted_into, accepted_off, first_in, frame_in};
+ghost use Rattle.p2p_net.specs.Acts.{TrackerStepsBy, DialerStepsBy, ListenerStepsBy, AttemptSteps, release_item, Routes, Writes, Begins, SendSteps, Receives, RecvSteps, arrived_row, arrived_into, arrived_off, accepted_row, accepted_into, accepted_off, first_in, frame_in};
 
 use crate::node::Node;
 use p2p_base::Key;
@@ -16,6 +16,7 @@ use p2p_log_rules::Row;
 use p2p_net_channels::{Arrived, open};
 use p2p_net_dialer::{Dialed, Tried};
 use p2p_net_links::Links;
+use p2p_net_listener::Took;
 use p2p_net_queues::{Turn, only, taking};
 use std::alloc::AllocError;
 
@@ -99,6 +100,27 @@ impl Node {
         match done {
             None => Ok(only(turn.alloc, Reply::Idle)),
             Some(Dialed { took, asked }) => Ok(self.tracker.dialed(turn, took, asked)?),
+        }
+    }
+
+    /// One step of the listener, at a moment.
+    pub(crate) fn listen_step(&mut self, turn: Turn, at: u64) -> Result<Row, AllocError>
+        ensures does { IfOk result (λ r. ListenerStepsBy (is_started_test self.old) turn.entry turn.node at self.old self.new r) }
+        ensures failed { OnOk result (self.new.failed ≡ self.old.failed) }
+    {
+        if !self.is_started() {
+            return Ok(only(turn.alloc, Reply::Gone));
+        }
+        let way = &mut self.tracker.mailbox;
+        match self.listening.step(turn.entry, way, at)? {
+            None => Ok(only(turn.alloc, Reply::Idle)),
+            Some(Took::Update) => Ok(self.tracker.take_update(turn)?),
+            Some(Took::Arrival { name, told, asked }) => {
+                let mut row = taking(turn.alloc, name)?;
+                row.reply = Reply::Gates(told);
+                self.tracker.put_message(turn, asked, &mut row)?;
+                Ok(row)
+            }
         }
     }
 

@@ -36,32 +36,30 @@ pub struct Dialed {
 }
 
 /// The quota of a rate that admits something.
-fn quota(rate: Rate) -> Option<Quota>
+fn quota(rate: Rate) -> Quota
     requires { is_quota rate ≡ true }
-    ensures { result ≡ Some (record { burst = rate.burst; period = rate.period }) }
+    ensures { result ≡ record { burst = rate.burst; period = rate.period } }
 {
-    Quota::new(rate.burst, rate.period)
+    Quota::new(rate.burst, rate.period).unwrap()
 }
 
 /// What the gates of a node are told, of a configuration that fits.
-fn gates_config(config: &Config) -> Option<GatesConfig>
+pub fn gates_config(config: &Config) -> GatesConfig
     requires per_ip { is_quota config.now.allowed_handshake_rate_per_ip ≡ true }
     requires per_subnet { is_quota config.now.allowed_handshake_rate_per_subnet ≡ true }
-    ensures { result ≡ Some (gates_of config.now) }
+    ensures { result ≡ gates_of config.now }
 {
-    let per_ip = quota(config.allowed_handshake_rate_per_ip)?;
-    let per_subnet = quota(config.allowed_handshake_rate_per_subnet)?;
-    Some(GatesConfig {
+    GatesConfig {
         allow_private_ips: config.allow_private_ips,
         bypass_ip_check: config.bypass_ip_check,
         max_concurrent_handshakes: config.max_concurrent_handshakes,
-        allowed_handshake_rate_per_ip: per_ip,
-        allowed_handshake_rate_per_subnet: per_subnet,
+        allowed_handshake_rate_per_ip: quota(config.allowed_handshake_rate_per_ip),
+        allowed_handshake_rate_per_subnet: quota(config.allowed_handshake_rate_per_subnet),
         handshake_timeout: config.handshake_timeout,
         dial_timeout: config.dial_timeout,
         dial_frequency: config.dial_frequency,
         peer_connection_cooldown: config.peer_connection_cooldown,
-    })
+    }
 }
 
 /// What a dialer asked, as an item of its tracker's mailbox.
@@ -102,10 +100,8 @@ impl Dialing {
         requires per_subnet { is_quota config.now.allowed_handshake_rate_per_subnet ≡ true }
         ensures { self.new ≡ started config.now at self.old }
     {
-        match gates_config(config) {
-            Some(gates) => self.actor = Some(Dialer::new(alloc, gates, at)),
-            None => self.actor = None,
-        }
+        let gates = gates_config(config);
+        self.actor = Some(Dialer::new(alloc, gates, at));
     }
 
     /// One step of the dialer, whose answers wait in its tracker's mailbox, at the moment `at`. A grant begins an attempt of

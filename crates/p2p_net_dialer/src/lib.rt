@@ -5,4 +5,4 @@ mod attempt;
 mod dialing;
 
 pub use attempt::{RunningAttempt, Tried};
-pub use dialing::{Dialed, Dialing};
+pub use dialing::{Dialed, Dialing, gates_config};

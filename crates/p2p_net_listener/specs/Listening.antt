@@ -1,15 +1,79 @@
--- The listener of a node as a value.
-use Rattle.std.specs.Prelude.{ℕ, [], ◌∷◌, ◌++◌}
+-- The listener of a node as values: what it is made with, and what a step of it comes to.
+use Rattle.std.specs.Prelude.{◌≡◌, ℕ, List, [], ◌∷◌, ◌++◌, drop, Option, Some, None, slice_get}
 use Rattle.p2p_base.specs.declared.key.Key.{Key}
 use Rattle.p2p_address.specs.declared.ip.SocketAddr.{SocketAddr}
-use Rattle.p2p_log.specs.declared.queue.Queue.TheVariants as queue
+use Rattle.p2p_tracker_mailbox.specs.declared.mailbox.Mailbox.{Mailbox}
+use Rattle.p2p_gates_rules.specs.Gates.{Known, nothing_known}
+use Rattle.p2p_gates_rules.specs.declared.reply.Reply.{Reply}
+use Rattle.p2p_gates_rules.specs.declared.reply.Reply.TheVariants as gates
+use Rattle.p2p_gates.specs.Listening.{StandsFor, new_listener, with_arrival, with_rest}
+use Rattle.p2p_gates.specs.ListenerTurns.{listener_turn}
+use Rattle.p2p_gates.specs.Quotas.{KeepsRates}
+use Rattle.p2p_gates.specs.declared.config.Config.{Config as Gates}
+use Rattle.p2p_gates.specs.declared.stepped.Outcome.{Outcome}
+use Rattle.p2p_gates.specs.declared.stepped.Outcome.TheVariants as outcome
+use Rattle.p2p_gates.specs.declared.stepped.Put.{Put}
+use Rattle.p2p_gates.specs.declared.stepped.Put.TheVariants as put
+use Rattle.p2p_gates.specs.declared.stepped.Stepped.{Stepped}
+use Rattle.p2p_gates.specs.declared.stepped.Stepped.TheVariants as stepped
+use Rattle.p2p_log.specs.declared.item.Item.{Item}
 use Rattle.p2p_log.specs.declared.item.Item.TheVariants as item
 use Rattle.p2p_net_listener.specs.declared.listening.Listening.{Listening}
+use Rattle.p2p_net_listener.specs.declared.listening.Took.{Took}
+use Rattle.p2p_net_listener.specs.declared.listening.Took.TheVariants as took
 
-abbrev pub no_listening : Listening
-no_listening = record { arrivals = [] }
+-- a listener that was made with this, at which nobody has arrived
+pub record IsNew (cfg : Gates) (l : Listening) : Type 0 where
+  pub actor : l.actor ≡ new_listener cfg l.actor.quotas
+  pub stands : StandsFor l.actor nothing_known
+  pub ip_rate : l.actor.quotas.addresses.rate ≡ cfg.allowed_handshake_rate_per_ip
+  pub subnet_rate : l.actor.quotas.subnets.rate ≡ cfg.allowed_handshake_rate_per_subnet
+  pub names : l.names ≡ []
 
--- a peer with this key has arrived at the node n from an address over the link k, as the put of this place
-abbrev pub arrived : ℕ → ℕ → ℕ → SocketAddr → Key → Listening → Listening
-arrived n k place from key l =
-    record l { arrivals = l.arrivals ++ record { entry = k; place = place; queue = queue.Arrivals n; item = item.Arrival from key k } ∷ [] }
+-- a peer with this key has arrived from an address over the link k, as the put of this place
+abbrev pub arrived : ℕ → ℕ → SocketAddr → Key → Listening → Listening
+arrived k place from key l = record {
+  actor = with_arrival l.actor (record { from = from; key = key; link = k });
+  names = l.names ++ (k, place) ∷ [];
+}
+
+-- what the gates told, where an arrival was taken
+abbrev pub told_in : Outcome Key → Option Reply
+told_in (outcome.Refused link r) = Some r
+told_in (outcome.Admitted h) = Some gates.Admitted
+told_in _ = None
+
+-- what it asked, as an item
+abbrev pub asked_item : Option (Put Key) → Option Item
+asked_item (Some (put.Acceptable key source handshake)) = Some (item.AskAcceptable handshake key)
+asked_item _ = None
+
+-- what it took, by what the gates told and by the name of its oldest arrival
+abbrev pub took_of : Option Reply → Option (Put Key) → Option (ℕ × ℕ) → Option Took
+took_of None p name = Some took.Update
+took_of (Some told) p None = None
+took_of (Some told) p (Some name) = Some (took.Arrival name told (asked_item p))
+
+abbrev pub took_by : Stepped Key → Option (ℕ × ℕ) → Option Took
+took_by stepped.Idle name = None
+took_by (stepped.Served took p left o) name = took_of (told_in o) p name
+
+-- the names of the arrivals that still wait
+abbrev pub names_left : Option Reply → List (ℕ × ℕ) → List (ℕ × ℕ)
+names_left None names = names
+names_left (Some told) names = drop 1 names
+
+abbrev pub names_after : Stepped Key → List (ℕ × ℕ) → List (ℕ × ℕ)
+names_after stepped.Idle names = names
+names_after (stepped.Served took p left o) names = names_left (told_in o) names
+
+-- a step of the listener at a moment, whatever its gates go by
+pub record Steps (name at : ℕ) (old new : Listening) (way after : Mailbox Key) (o : Option Took) : Type 0 where
+  pub took : (k : Known) → StandsFor old.actor k → o ≡ took_by (listener_turn old.actor k way name at).stepped (slice_get old.names 0)
+  pub names : (k : Known) → StandsFor old.actor k → new.names ≡ names_after (listener_turn old.actor k way name at).stepped old.names
+  pub stands : (k : Known) → StandsFor old.actor k → StandsFor new.actor (listener_turn old.actor k way name at).known
+  pub arrivals : (k : Known) → StandsFor old.actor k → new.actor.arrivals ≡ (listener_turn old.actor k way name at).arrivals
+  pub places : (k : Known) → StandsFor old.actor k → new.actor.places ≡ (listener_turn old.actor k way name at).places
+  pub mailbox : (k : Known) → StandsFor old.actor k → after ≡ (listener_turn old.actor k way name at).way
+  pub rest : new.actor ≡ with_rest old.actor new.actor
+  pub rates : KeepsRates old.actor.quotas new.actor.quotas

@@ -3,4 +3,4 @@
 
 mod listening;
 
-pub use listening::Listening;
+pub use listening::{Listening, Took};

@@ -1,31 +1,85 @@
 //! `Listening`, the listener of a node.
-ghost use Rattle.std.specs.Prelude.{◌≡◌, ◌++◌, ◌∷◌, [], length, OnOk};
+ghost use Rattle.std.specs.Prelude.{◌≡◌, ◌++◌, ◌∷◌, [], length, slice_get, IfOk, OnOk};
 ghost use Rattle.p2p_log.specs.declared.queue.Queue.TheVariants as queue;
 ghost use Rattle.p2p_log.specs.declared.item.Item.TheVariants as item;
-ghost use Rattle.p2p_net_listener.specs.Listening.{no_listening, arrived};
+ghost use Rattle.p2p_net_listener.specs.Listening.{IsNew, arrived, Steps, told_in, asked_item, took_by, names_after};
 
 use p2p_address::SocketAddr;
 use p2p_base::Key;
-use p2p_log::{Envelope, Item, Queue};
+use p2p_gates::{Arrival, Config as GatesConfig, Listener, Outcome, Put, Stepped};
+use p2p_gates_rules::Reply;
+use p2p_log::{Item, Queue};
 use p2p_log_rules::Row;
 use p2p_net_queues::{Deque, Turn};
+use p2p_tracker_mailbox::Mailbox;
 use std::alloc::{AllocError, Global};
 
 /// The listener of a node.
 #[derive(Drop)]
 pub struct Listening {
-    /// The peers that it has yet to take, the oldest first.
-    pub arrivals: Deque<Envelope>,
+    /// The listener, with the peers that it has yet to take.
+    pub actor: Listener<Key>,
+    /// The names of these, the oldest first.
+    pub names: Deque<(u64, u64)>,
+}
+
+/// What a listener took in a step.
+#[derive(Drop)]
+pub enum Took {
+    /// The addresses from which peers may come.
+    Update,
+    /// A peer that arrived.
+    Arrival {
+        /// Its name.
+        name: (u64, u64),
+        /// What the gates told it.
+        told: Reply,
+        /// What was asked of the tracker, where its handshake begins.
+        asked: Option<Item>,
+    },
+}
+
+/// What the gates told, where an arrival was taken.
+fn told(outcome: &Outcome<Key>) -> Option<Reply>
+    ensures { result ≡ told_in outcome.now }
+{
+    match outcome {
+        Outcome::Refused { reply, .. } => Some(*reply),
+        Outcome::Admitted(_) => Some(Reply::Admitted),
+        _ => None,
+    }
+}
+
+/// What a listener asked, as an item of its tracker's mailbox.
+fn asked(put: Option<Put<Key>>) -> Option<Item>
+    ensures { result ≡ asked_item put }
+{
+    match put {
+        Some(
+            Put::Acceptable {
+                public_key,
+                handshake,
+                ..
+            },
+        ) => Some(Item::AskAcceptable {
+            handshake,
+            key: public_key,
+        }),
+        _ => None,
+    }
 }
 
 impl Listening {
     /// Nobody has arrived yet.
-    pub fn new(alloc: Global) -> Listening
-        ensures { result ≡ no_listening }
+    ///
+    /// `Err` only where there is no memory.
+    pub fn new(alloc: Global, gates: GatesConfig) -> Result<Listening, AllocError>
+        ensures { IfOk result (λ l. IsNew gates l) }
     {
-        Listening {
-            arrivals: Deque::new(alloc),
-        }
+        Ok(Listening {
+            actor: Listener::new(alloc, gates)?,
+            names: Deque::new(alloc),
+        })
     }
 
     /// A peer with this key arrives from an address over the entry's link, as the row's next put.
@@ -39,17 +93,52 @@ impl Listening {
         key: Key,
     ) -> Result<(), AllocError>
         ensures row { OnOk result (row.new ≡ record row.old { puts = row.old.puts ++ (queue.Arrivals turn.node, item.Arrival from key turn.entry) ∷ [] }) }
-        ensures after { OnOk result (self.new ≡ arrived turn.node turn.entry (length row.old.puts) from key self.old) }
+        ensures after { OnOk result (self.new ≡ arrived turn.entry (length row.old.puts) from key self.old) }
     {
-        let queue = Queue::Arrivals(turn.node);
         let link = turn.entry;
-        self.arrivals.push(Envelope {
-            entry: turn.entry,
-            place: row.puts.len() as u64,
-            queue,
-            item: Item::Arrival { from, key, link },
-        })?;
+        let place = row.puts.len() as u64;
+        self.actor.arrive(from, key, link)?;
+        self.names.push((turn.entry, place))?;
+        let queue = Queue::Arrivals(turn.node);
         row.puts.push((queue, Item::Arrival { from, key, link }))?;
         Ok(())
+    }
+
+    /// One step of the listener, whose update waits in its tracker's mailbox, at the moment `at`. A peer that is admitted begins
+    /// a handshake of this name. `None` where no input was ready.
+    ///
+    /// `Err` only where there is no memory.
+    pub fn step(
+        &mut self,
+        name: u64,
+        way: &mut Mailbox<Key>,
+        at: u64,
+    ) -> Result<Option<Took>, AllocError>
+        ensures { IfOk result (λ o. Steps name at self.old self.new way.old way.new o) }
+    {
+        let stepped = self.actor.step(way, name, at)?;
+        Ok(self.note(stepped))
+    }
+
+    /// What was done in a step, by the name of the arrival that was taken.
+    fn note(&mut self, stepped: Stepped<Key>) -> Option<Took>
+        ensures took { result ≡ took_by stepped (slice_get self.old.names 0) }
+        ensures names { self.new.names ≡ names_after stepped self.old.names }
+        ensures actor { self.new.actor ≡ self.old.actor }
+    {
+        match stepped {
+            Stepped::Idle => None,
+            Stepped::Served { put, outcome, .. } => match told(&outcome) {
+                None => Some(Took::Update),
+                Some(told) => {
+                    let name = self.names.pop()?;
+                    Some(Took::Arrival {
+                        name,
+                        told,
+                        asked: asked(put),
+                    })
+                }
+            },
+        }
     }
 }

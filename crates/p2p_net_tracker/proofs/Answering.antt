@@ -21,6 +21,7 @@ use Rattle.p2p_log.proofs.QueueNames.{queue_from_same}
 use Rattle.p2p_log_rules.specs.declared.row.Row.{Row}
 use Rattle.p2p_log_rules.specs.Effect.{entry_of}
 use Rattle.p2p_log_rules.specs.Rows.{only}
+use Rattle.p2p_log_rules.specs.Handshakes.{handshakes_by, handshakes_of}
 use Rattle.p2p_log_rules.specs.Tracking.{asked_by, steps_tracker}
 use Rattle.p2p_log_rules.specs.TrackerRows.{answers, is_answer, was_answered, oldest_row, answer_at, answer_by, answer_row, next_by, next_row}
 use Rattle.p2p_net_queues.specs.declared.board.Board.{Board}
@@ -32,7 +33,7 @@ use Rattle.p2p_net_tracker.specs.declared.question.Question.TheVariants as quest
 use Rattle.p2p_net_tracker.specs.declared.tracker.Tracker.{Tracker}
 use Rattle.p2p_net_tracker.specs.Reading.{read_first, Pops, ReadsFrom, OnlyAnswers, noted, ReadsAnswerBy, ReadsAnswer, AnswersBy, Answers, ContinuesBy, Continues}
 use Rattle.p2p_net_tracker.specs.Stands.{asks_of, asks_at, AreFresh, is_told, TrackerStands}
-use Rattle.p2p_net_tracker.proofs.Changes.{tracker_frame, tracker_read}
+use Rattle.p2p_net_tracker.proofs.Changes.{tracker_frame, TellsAsker, tracker_read}
 use Rattle.p2p_net_tracker.proofs.Facts.{fresh-longer, was_answered-append, was_answered-kept}
 
 -- what was asked of a node, by the act that asked
@@ -66,6 +67,9 @@ with_board configs log n t b s holds = record {
   answered = s.answered;
   fresh = s.fresh;
   dialer = s.dialer;
+  heard = s.heard;
+  handshakes = s.handshakes;
+  none_later = s.none_later;
   told = holds;
 }
 
@@ -73,7 +77,8 @@ and_false : (b : Bool) → (b && false) ≡ false
 and_false true = refl
 and_false false = refl
 
-module _ (configs : List Config) (log : List Entry) (at seed n : ℕ) (a : Act) (t u : Tracker) (r : Row) (s : TrackerStands configs log n t) (no_step : steps_tracker n a ≡ false) (no_question : asks_of n a ≡ None) where
+module _ (configs : List Config) (log : List Entry) (at seed n : ℕ) (a : Act) (t u : Tracker) (r : Row) (s : TrackerStands configs log n t) (no_step : steps_tracker n a ≡ false) (no_question : asks_of n a ≡ None)
+    (no_admission : handshakes_by n log (entry_of (record { at = at; seed = seed; act = a }) r) (handshakes_of log n) ≡ handshakes_of log n) where
   abbrev e : Entry
   e = entry_of (record { at = at; seed = seed; act = a }) r
 
@@ -90,6 +95,7 @@ module _ (configs : List Config) (log : List Entry) (at seed n : ℕ) (a : Act) 
         no_question = no_question;
         no_answer = λ d asked. ap (λ (k : Row). answers d a k.reply) is ∙ none d;
         no_late_answer = λ d past. ap (λ (k : Row). answers d a k.reply) is ∙ none d;
+        handshakes = no_admission;
         mailbox = left (queue.Tracker n);
         told = λ q own. left q;
       }))
@@ -103,14 +109,14 @@ module _ (configs : List Config) (log : List Entry) (at seed n : ℕ) (a : Act) 
       by true is = let none : line log p ≡ [] = ap (line log) (queue_from_same q p is) ∙ empty in ap (drop 1) (s.told p here ∙ none) ∙ sym none
 
   -- the oldest item of a queue, with these questions answered then
-  pub read_stands : (q : Queue) (l : List Envelope) (answered : List (ℕ × Bool)) → line log q ≡ l → is_told n q ≡ true → same_queue q (queue.Dialer n) ≡ false → r ≡ oldest_row reply.Pending l → ((d : ℕ) → answers d a reply.Pending ≡ false)
+  pub read_stands : (q : Queue) (l : List Envelope) (answered : List (ℕ × Bool)) → line log q ≡ l → TellsAsker n q → r ≡ oldest_row reply.Pending l → ((d : ℕ) → answers d a reply.Pending ≡ false)
       → Pops q t u → u ≡ record t { told = u.told; answered = answered } → (l ≡ [] → answered ≡ t.answered)
       → ((d : ℕ) → asks_at log n d ≡ Some question.PeerSet → is_some (table.at answered d) ≡ was_answered (log ++ e ∷ []) d) → AreFresh (log ++ e ∷ []) answered → TrackerStands configs (log ++ e ∷ []) n u
-  read_stands q [] answered empty own other is none pops same kept noted_all fresh =
-      still_stands reply.Pending is none (same ∙ ap (λ m. record t { told = u.told; answered = m }) (kept refl)) (popped_none q pops own empty)
-  read_stands q (x ∷ rest) answered first own other is none pops same kept noted_all fresh =
-      tracker_read configs log e n t u q x rest answered s no_step no_question
-      (record { first = first; gone = ap (λ (k : Row). k.takes ++ flat_map ended_item k.ends) is }) (ap (λ (k : Row). k.puts) is) own other same noted_all fresh pops
+  read_stands q [] answered empty asker is none pops same kept noted_all fresh =
+      still_stands reply.Pending is none (same ∙ ap (λ m. record t { told = u.told; answered = m }) (kept refl)) (popped_none q pops asker.own empty)
+  read_stands q (x ∷ rest) answered first asker is none pops same kept noted_all fresh =
+      tracker_read configs log e n t u q x rest answered s no_step no_question no_admission
+      (record { first = first; gone = ap (λ (k : Row). k.takes ++ flat_map ended_item k.ends) is }) (ap (λ (k : Row). k.puts) is) asker same noted_all fresh pops
 
 first_row : (held_there l : List Envelope) → held_there ≡ l → read_first (slice_get held_there 0) ≡ oldest_row reply.Pending l
 first_row h [] is = ap (λ k. read_first (slice_get k 0)) is
@@ -195,7 +201,7 @@ tracker_answers configs log at seed n e index t u r s asked h =
     by_taken true is reads =
         let only_gone : OnlyAnswers reply.Gone t u r = subst (λ b. ReadsAnswerBy b n e t u r) is reads in (
           only_gone.0 ∙ sym (row_is ∙ at_is true is),
-          still_stands configs log at seed n (act.Answer e) t u r s refl refl reply.Gone only_gone.0 (λ d. no_answer_gone d e) (only_gone.1 ∙ ap (λ (k : Tracker). record t { told = k.told }) (sym only_gone.1))
+          still_stands configs log at seed n (act.Answer e) t u r s refl refl refl reply.Gone only_gone.0 (λ d. no_answer_gone d e) (only_gone.1 ∙ ap (λ (k : Tracker). record t { told = k.told }) (sym only_gone.1))
               (λ p own. ap (λ (k : Tracker). held k.told p) only_gone.1 ∙ s.told p own),
         )
     by_taken false is reads =
@@ -204,7 +210,8 @@ tracker_answers configs log at seed n e index t u r s asked h =
         let first : r ≡ oldest_row reply.Pending (line log q) = taking.0 ∙ first_row (held t.told q) (line log q) (s.told q (eq-eqb n n refl)) in
         let entry = entry_of (record { at = at; seed = seed; act = act.Answer e }) r in (
           first ∙ sym (row_is ∙ at_is false is),
-          read_stands configs log at seed n (act.Answer e) t u r s refl refl q (line log q) (noted (is_answer r.reply) e t.answered) refl (eq-eqb n n refl) refl first (λ d. no_answer_pending d e) taking.1.0 taking.1.1
+          read_stands configs log at seed n (act.Answer e) t u r s refl refl refl q (line log q) (noted (is_answer r.reply) e t.answered) refl
+              (record { own = eq-eqb n n refl; no_dialer = refl; no_listener = refl; no_handshake = λ k. refl }) first (λ d. no_answer_pending d e) taking.1.0 taking.1.1
               (λ none. noted_empty (line log q) r e t.answered first none)
               (λ d wants. note_taken t.answered (was_answered log d) (is_answer r.reply) e d (s.answered d wants) ∙ sym (was_answered-append log entry d))
               (λ d past.
@@ -220,13 +227,13 @@ tracker_answers configs log at seed n e index t u r s asked h =
 -- ---- what comes next for a subscription
 
 module _ (configs : List Config) (log : List Entry) (at seed n e : ℕ) (t u : Tracker) (r : Row) (s : TrackerStands configs log n t) where
-  reads_on : (q : Queue) → is_told n q ≡ true → same_queue q (queue.Dialer n) ≡ false → ReadsFrom q t u r
+  reads_on : (q : Queue) → TellsAsker n q → ReadsFrom q t u r
       → (r ≡ oldest_row reply.Pending (line log q)) × TrackerStands configs (log ++ entry_of (record { at = at; seed = seed; act = act.Next e }) r ∷ []) n u
-  reads_on q own other reads =
-      let first : r ≡ oldest_row reply.Pending (line log q) = reads.0 ∙ first_row (held t.told q) (line log q) (s.told q own) in
+  reads_on q asker reads =
+      let first : r ≡ oldest_row reply.Pending (line log q) = reads.0 ∙ first_row (held t.told q) (line log q) (s.told q asker.own) in
       let entry = entry_of (record { at = at; seed = seed; act = act.Next e }) r in (
         first,
-        read_stands configs log at seed n (act.Next e) t u r s refl refl q (line log q) t.answered refl own other first (λ d. refl) reads.1.0 reads.1.1 (λ none. refl)
+        read_stands configs log at seed n (act.Next e) t u r s refl refl refl q (line log q) t.answered refl asker first (λ d. refl) reads.1.0 reads.1.1 (λ none. refl)
             (λ d wants. s.answered d wants ∙ sym (was_answered-kept log entry d refl))
             (fresh-longer log entry t.answered s.fresh (λ d past. refl)),
       )
@@ -235,12 +242,12 @@ module _ (configs : List Config) (log : List Entry) (at seed n e : ℕ) (t u : T
       → (r ≡ next_row log e) × TrackerStands configs (log ++ entry_of (record { at = at; seed = seed; act = act.Next e }) r ∷ []) n u
   tracker_updates asked h =
       let kind : table.at t.questions e ≡ Some question.Updates = s.asked e ∙ (asks-asked log n e (act.Ask ask.Subscribe n) asked ∙ ap (λ b. cond b (Some question.Updates) None) (eq-eqb n n refl)) in
-      let done = reads_on (queue.Updates n e) (eq-eqb n n refl) refl (subst (λ o. ContinuesBy o n e t u r) kind h) in
+      let done = reads_on (queue.Updates n e) (record { own = eq-eqb n n refl; no_dialer = refl; no_listener = refl; no_handshake = λ k. refl }) (subst (λ o. ContinuesBy o n e t u r) kind h) in
       (done.0 ∙ sym (ap (next_by log e) asked), done.1)
 
   pub tracker_sets : asked_by log e ≡ Some (act.Ask ask.Blocked n) → Continues n e t u r
       → (r ≡ next_row log e) × TrackerStands configs (log ++ entry_of (record { at = at; seed = seed; act = act.Next e }) r ∷ []) n u
   tracker_sets asked h =
       let kind : table.at t.questions e ≡ Some question.Blocked = s.asked e ∙ (asks-asked log n e (act.Ask ask.Blocked n) asked ∙ ap (λ b. cond b (Some question.Blocked) None) (eq-eqb n n refl)) in
-      let done = reads_on (queue.Blocked n e) (eq-eqb n n refl) refl (subst (λ o. ContinuesBy o n e t u r) kind h) in
+      let done = reads_on (queue.Blocked n e) (record { own = eq-eqb n n refl; no_dialer = refl; no_listener = refl; no_handshake = λ k. refl }) (subst (λ o. ContinuesBy o n e t u r) kind h) in
       (done.0 ∙ sym (ap (next_by log e) asked), done.1)

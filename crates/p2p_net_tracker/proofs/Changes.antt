@@ -1,5 +1,5 @@
 -- A node's tracker after one more entry: one that leaves it alone, one that asks it, and one that reads what it told.
-use Rattle.std.proofs.Common.{◌≡◌, ℕ, ◌+◌, Bool, true, false, cond, List, [], ◌∷◌, ◌++◌, map, drop, length, Option, Some, None, refl, ap, sym, subst, ◌∙◌, append-nil, eq-eqb}
+use Rattle.std.proofs.Common.{◌≡◌, ℕ, Bool, true, false, cond, List, [], ◌∷◌, ◌++◌, map, drop, length, Option, Some, None, refl, ap, sym, subst, ◌∙◌, append-nil, eq-eqb}
 use Rattle.std.specs.Prelude.{filter, flat_map, slice_get, is_some, if◌then◌else◌}
 use Rattle.std.proofs.lemmas.List.{map-append}
 use Rattle.p2p_base.specs.declared.key.Key.{Key}
@@ -22,6 +22,7 @@ use Rattle.p2p_log.specs.QueueCode.{same_queue}
 use Rattle.p2p_log.specs.Lines.{name_of, ended_item, goes, line, placed, stands_in}
 use Rattle.p2p_log.proofs.Queues.{same_queue-refl}
 use Rattle.p2p_log.proofs.QueueNames.{queue_from_same}
+use Rattle.p2p_log_rules.specs.Handshakes.{handshakes_by, handshakes_of}
 use Rattle.p2p_log_rules.specs.Tracking.{key_cmp, asked_by, steps_tracker, update_subscriptions, blocked_subscriptions}
 use Rattle.p2p_net_queues.specs.Board.{held}
 use Rattle.p2p_net_queues.proofs.Going.{put_in, line-kept, line-taken}
@@ -32,8 +33,8 @@ use Rattle.p2p_log_rules.specs.TrackerRows.{answers, was_answered}
 use Rattle.p2p_net_queues.specs.Tables as table
 use Rattle.p2p_net_tracker.specs.declared.question.Question.{Question}
 use Rattle.p2p_net_tracker.specs.declared.question.Question.TheVariants as question
-use Rattle.p2p_net_tracker.specs.Stands.{asks_of, asks_at, AreFresh, is_told, Match, IsTicket, kind_of, HasTicket, Says, IsMessage, IsAnswer, TrackerStands, LeavesTracker}
-use Rattle.p2p_net_tracker.proofs.Facts.{asks_at-kept, fresh-longer, was_answered-kept, calls-kept, update_subscriptions-kept, blocked_subscriptions-kept, asked_by-longer}
+use Rattle.p2p_net_tracker.specs.Stands.{asks_of, asks_at, AreFresh, is_told, Match, IsTicket, kind_of, HasTicket, Says, IsMessage, IsAnswer, HeardStands, TrackerStands, LeavesTracker}
+use Rattle.p2p_net_tracker.proofs.Facts.{asks_at-kept, fresh-longer, was_answered-kept, calls-kept, update_subscriptions-kept, blocked_subscriptions-kept, asked_by-longer, shaking-kept, NoneLater-kept, source_at-longer}
 use Rattle.p2p_net_tracker.proofs.Matching.{Match-weaker, Match-last, slice_get-last}
 
 -- the tickets are these, and some more
@@ -59,6 +60,7 @@ pub IsMessage-longer : (old new : Tickets) → AreMore old new → (log more : L
 IsMessage-longer old new given log more (item.Call e) m h = (h.0, asked_by-longer log more e h.0 h.1, Says-more old new given e h.0 m h.2)
 IsMessage-longer old new given log more item.AskDialable m h = h
 IsMessage-longer old new given log more (item.AskDial key) m h = h
+IsMessage-longer old new given log more (item.AskAcceptable name key) m h = (h.0, source_at-longer log more name h.0 h.1, h.2)
 IsMessage-longer old new given log more (item.Release key) m h = h
 IsMessage-longer old new given log more _ m h = absurd h
 
@@ -88,6 +90,9 @@ tracker_frame configs log e n t s q = record {
       s.answered d before ∙ sym (was_answered-kept log e d (q.no_answer d before));
   fresh = fresh-longer log e t.answered s.fresh q.no_late_answer;
   dialer = subst (λ l. Match (λ x a. IsAnswer x.item a) l t.mailbox.dialer) (sym (q.told (queue.Dialer n) (eq-eqb n n refl))) s.dialer;
+  heard = subst (HeardStands t.mailbox.heard) (sym (q.told (queue.Update n) (eq-eqb n n refl))) s.heard;
+  handshakes = shaking-kept log e n t.mailbox.handshakes q.handshakes (λ k. q.told (queue.Handshake n k) (eq-eqb n n refl)) s.handshakes;
+  none_later = NoneLater-kept log e n q.handshakes s.none_later;
   told = λ p own. s.told p own ∙ sym (q.told p own);
 }
 
@@ -101,6 +106,7 @@ told_apart n m (queue.Control k e) h = refl
 told_apart n m (queue.Answer k e) h = refl
 told_apart n m (queue.Updates k e) h = refl
 told_apart n m (queue.Blocked k e) h = refl
+told_apart n m (queue.Handshake k e) h = refl
 told_apart n m _ h = cc
 
 -- a mailbox that is open keeps each message
@@ -113,6 +119,7 @@ kept_open false false xs m h = refl
 pub record Asks (log : List Entry) (e : Entry) (n : ℕ) : Type 0 where
   pub no_step : steps_tracker n e.event.act ≡ false
   pub no_answer : (d : ℕ) → answers d e.event.act e.reply ≡ false
+  pub no_admission : handshakes_by n log e (handshakes_of log n) ≡ handshakes_of log n
   pub takes : e.takes ≡ []
   pub puts : e.puts ≡ (queue.Tracker n, item.Call (length log)) ∷ []
   pub ends : e.ends ≡ []
@@ -167,18 +174,29 @@ tracker_asked configs log e n t desk tickets questions_now m s q more put says q
       answered = λ d is. answered d is ∙ sym (was_answered-kept log e d (q.no_answer d));
       fresh = fresh-longer log e t.answered s.fresh (λ d past. q.no_answer d);
       dialer = subst (λ l. Match (λ y a. IsAnswer y.item a) l t.mailbox.dialer) (sym (same (queue.Dialer n) (eq-eqb n n refl))) s.dialer;
+      heard = subst (HeardStands t.mailbox.heard) (sym (same (queue.Update n) (eq-eqb n n refl))) s.heard;
+      handshakes = shaking-kept log e n t.mailbox.handshakes q.no_admission (λ k. same (queue.Handshake n k) (eq-eqb n n refl)) s.handshakes;
+      none_later = NoneLater-kept log e n q.no_admission s.none_later;
       told = λ p own. s.told p own ∙ sym (same p own);
     }
 
 -- ---- what was told is read
 
--- the entry takes the first item of a queue in which it told someone else than the dialer, and does no more; these were answered then
+-- a queue in which it tells one who asked by an oracle
+pub record TellsAsker (n : ℕ) (q : Queue) : Type 0 where
+  pub own : is_told n q ≡ true
+  pub no_dialer : same_queue q (queue.Dialer n) ≡ false
+  pub no_listener : same_queue q (queue.Update n) ≡ false
+  pub no_handshake : (k : ℕ) → same_queue q (queue.Handshake n k) ≡ false
+
+-- the entry takes the first item of a queue in which it told one who asked by an oracle, and does no more; these were answered then
 pub tracker_read : (configs : List Config) (log : List Entry) (e : Entry) (n : ℕ) (t u : Tracker) (q : Queue) (x : Envelope) (rest : List Envelope) (answered : List (ℕ × Bool)) → TrackerStands configs log n t
-    → steps_tracker n e.event.act ≡ false → asks_of n e.event.act ≡ None → TakesFirst log e q x rest → e.puts ≡ [] → is_told n q ≡ true → same_queue q (queue.Dialer n) ≡ false → u ≡ record t { told = u.told; answered = answered }
+    → steps_tracker n e.event.act ≡ false → asks_of n e.event.act ≡ None → handshakes_by n log e (handshakes_of log n) ≡ handshakes_of log n → TakesFirst log e q x rest → e.puts ≡ [] → TellsAsker n q
+    → u ≡ record t { told = u.told; answered = answered }
     → ((d : ℕ) → asks_at log n d ≡ Some question.PeerSet → is_some (table.at answered d) ≡ was_answered (log ++ e ∷ []) d)
     → AreFresh (log ++ e ∷ []) answered
     → ((p : Queue) → held u.told p ≡ (if same_queue q p then drop 1 (held t.told p) else held t.told p)) → TrackerStands configs (log ++ e ∷ []) n u
-tracker_read configs log e n t u q x rest answered s no_step no_question takes none own other same noted fresh pops =
+tracker_read configs log e n t u q x rest answered s no_step no_question no_admission takes none asker same noted fresh pops =
     subst (TrackerStands configs (log ++ e ∷ []) n) (sym same) (record {
       follows = subst (Follows key_cmp t.actor.directory t.actor.controls) (sym (calls-kept configs log e n no_step)) s.follows;
       rules = s.rules;
@@ -200,7 +218,10 @@ tracker_read configs log e n t u q x rest answered s no_step no_question takes n
       asked = λ d. s.asked d ∙ sym (asks_at-kept log e n d no_question);
       answered = λ d is. noted d (sym (asks_at-kept log e n d no_question) ∙ is);
       fresh = fresh;
-      dialer = subst (λ l. Match (λ y a. IsAnswer y.item a) l t.mailbox.dialer) (sym (after (queue.Dialer n) ∙ ap (λ b. cond b rest (line log (queue.Dialer n))) other)) s.dialer;
+      dialer = subst (λ l. Match (λ y a. IsAnswer y.item a) l t.mailbox.dialer) (sym (other (queue.Dialer n) asker.no_dialer)) s.dialer;
+      heard = subst (HeardStands t.mailbox.heard) (sym (other (queue.Update n) asker.no_listener)) s.heard;
+      handshakes = shaking-kept log e n t.mailbox.handshakes no_admission (λ k. other (queue.Handshake n k) (asker.no_handshake k)) s.handshakes;
+      none_later = NoneLater-kept log e n no_admission s.none_later;
       told = λ p here. pops p ∙ (left p here (same_queue q p) refl ∙ sym (after p));
     })
   where
@@ -209,8 +230,11 @@ tracker_read configs log e n t u q x rest answered s no_step no_question takes n
         line-taken log e q x rest p takes.first takes.gone
         ∙ (ap (λ l. cond (same_queue q p) rest (line log p) ++ filter (stands_in p) (placed (length log) 0 l)) none ∙ append-nil (cond (same_queue q p) rest (line log p)))
 
+    other : (p : Queue) → same_queue q p ≡ false → line (log ++ e ∷ []) p ≡ line log p
+    other p apart = after p ∙ ap (λ b. cond b rest (line log p)) apart
+
     mailbox : line (log ++ e ∷ []) (queue.Tracker n) ≡ line log (queue.Tracker n)
-    mailbox = after (queue.Tracker n) ∙ ap (λ b. cond b rest (line log (queue.Tracker n))) (told_apart n n q own)
+    mailbox = other (queue.Tracker n) (told_apart n n q asker.own)
 
     left : (p : Queue) → is_told n p ≡ true → (b : Bool) → same_queue q p ≡ b → (if b then drop 1 (held t.told p) else held t.told p) ≡ cond b rest (line log p)
     left p here true is = ap (drop 1) (s.told p here ∙ (ap (line log) (queue_from_same q p is) ∙ takes.first))

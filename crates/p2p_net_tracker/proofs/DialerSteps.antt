@@ -15,14 +15,15 @@ use Rattle.p2p_log.specs.Lines.{name_of, goes, line, live, stays, stands_in}
 use Rattle.p2p_log.proofs.Names.{AreApart-live_from, filter_stays-first}
 use Rattle.p2p_log.proofs.QueueNames.{queue_from_same}
 use Rattle.p2p_log.proofs.Queues.{same_queue-refl}
+use Rattle.p2p_log_rules.specs.Handshakes.{handshakes_by, handshakes_of}
 use Rattle.p2p_log_rules.specs.Tracking.{key_cmp, steps_tracker}
 use Rattle.p2p_log_rules.specs.TrackerRows.{answers}
 use Rattle.p2p_net_queues.specs.Board.{held}
 use Rattle.p2p_net_queues.proofs.Going.{put_in, line-append}
 use Rattle.p2p_net_tracker.specs.declared.tracker.Tracker.{Tracker}
-use Rattle.p2p_net_tracker.specs.Stands.{asks_of, is_told, Match, IsTicket, IsMessage, IsAnswer, TrackerStands}
+use Rattle.p2p_net_tracker.specs.Stands.{asks_of, is_told, Match, IsTicket, IsMessage, IsAnswer, HeardStands, TrackerStands}
 use Rattle.p2p_net_tracker.proofs.Changes.{same_tickets, IsMessage-longer}
-use Rattle.p2p_net_tracker.proofs.Facts.{asks_at-kept, fresh-longer, was_answered-kept, calls-kept, update_subscriptions-kept, blocked_subscriptions-kept}
+use Rattle.p2p_net_tracker.proofs.Facts.{asks_at-kept, fresh-longer, was_answered-kept, calls-kept, update_subscriptions-kept, blocked_subscriptions-kept, shaking-kept, NoneLater-kept}
 use Rattle.p2p_net_tracker.proofs.Matching.{Match-append, Match-drop, Match-weaker}
 use Rattle.p2p_net_tracker.proofs.ToldLines.{away_none}
 
@@ -35,6 +36,7 @@ pub record DialerMoves (log : List Entry) (e : Entry) (n : ℕ) (t u : Tracker) 
   pub no_step : steps_tracker n e.event.act ≡ false
   pub no_question : asks_of n e.event.act ≡ None
   pub no_answer : (d : ℕ) → answers d e.event.act e.reply ≡ false
+  pub no_admission : handshakes_by n log e (handshakes_of log n) ≡ handshakes_of log n
   pub rest : u ≡ record t { mailbox = record t.mailbox { desk = u.mailbox.desk; dialer = u.mailbox.dialer }; names = t.names ++ map name_of xs; told = u.told }
   pub items : u.mailbox.desk.messages.items ≡ t.mailbox.desk.messages.items ++ ms
   pub closed : u.mailbox.desk.messages.closed ≡ t.mailbox.desk.messages.closed
@@ -116,12 +118,18 @@ tracker_dialed configs log e n t u took xs ms s q =
           (subst (Match (λ (x : Envelope) a. IsAnswer x.item a) (cond (is_taken_of took n (queue.Dialer n)) (drop 1 (line log (queue.Dialer n))) (line log (queue.Dialer n)))) (sym q.answered)
           (subst (λ b. Match (λ (x : Envelope) a. IsAnswer x.item a) (cond b (drop 1 (line log (queue.Dialer n))) (line log (queue.Dialer n))) (cond took (drop 1 t.mailbox.dialer) t.mailbox.dialer))
           (sym (and_true took (same_queue (queue.Dialer n) (queue.Dialer n)) (same_queue-refl (queue.Dialer n)))) (by_taken took)));
+      heard = subst (HeardStands t.mailbox.heard) (sym (other (queue.Update n) (eq-eqb n n refl) refl)) s.heard;
+      handshakes = shaking-kept log e n t.mailbox.handshakes q.no_admission (λ k. other (queue.Handshake n k) (eq-eqb n n refl) refl) s.handshakes;
+      none_later = NoneLater-kept log e n q.no_admission s.none_later;
       told = λ p own. q.told p ∙ (by_place (is_taken_of took n p) (held t.told p) (line log p) (s.told p own) ∙ sym (q.lines p own));
     })
   where
     by_place : (b : Bool) (h l : List Envelope) → h ≡ l → (if b then drop 1 h else h) ≡ cond b (drop 1 l) l
     by_place true h l is = ap (drop 1) is
     by_place false h l is = is
+
+    other : (p : Queue) → is_told n p ≡ true → same_queue (queue.Dialer n) p ≡ false → line (log ++ e ∷ []) p ≡ line log p
+    other p own apart = q.lines p own ∙ ap (λ b. cond b (drop 1 (line log p)) (line log p)) (ap (λ b. took && b) apart ∙ and_false took)
 
     by_taken : (b : Bool) → Match (λ x a. IsAnswer x.item a) (cond b (drop 1 (line log (queue.Dialer n))) (line log (queue.Dialer n))) (cond b (drop 1 t.mailbox.dialer) t.mailbox.dialer)
     by_taken true = Match-drop (λ (x : Envelope) a. IsAnswer x.item a) (line log (queue.Dialer n)) t.mailbox.dialer s.dialer

@@ -59,5 +59,5 @@ module _ (n : ℕ) (t : Tickets) (k : ℕ) where
   answers-named p (put.Update ticket update ∷ ps) = answers-named (p + 1) ps
   answers-named p (put.Blocked ticket keys dropped ∷ ps) = answers-named (p + 1) ps
   answers-named p (put.PeerSet ticket peers ∷ ps) = answers-named (p + 1) ps
-  answers-named p (put.Acceptable handshake acceptable ∷ ps) = answers-named p ps
+  answers-named p (put.Acceptable handshake acceptable ∷ ps) = answers-named (p + 1) ps
   answers-named p (put.Listen handshake grant ∷ ps) = answers-named p ps

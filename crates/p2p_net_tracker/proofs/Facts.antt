@@ -1,22 +1,29 @@
 -- What one more entry makes of the facts of a node's tracker.
-use Rattle.std.proofs.Common.{◌≡◌, ℕ, ◌≤◌, Bool, true, false, cond, List, [], ◌∷◌, ◌++◌, refl, ap, sym, ◌∙◌, arith, length, length-append, append_assoc, append-nil, Option, Some, None}
+use Rattle.std.proofs.Common.{◌≡◌, ℕ, zero, suc, ◌≤◌, Bool, true, false, cond, List, [], ◌∷◌, ◌++◌, take, refl, ap, sym, subst, ◌∙◌, arith, length, length-append, append_assoc, append-nil, Option, Some, None}
 use Rattle.std.specs.Prelude.{slice_get, flat_map, nat_lt, ◌==◌, ◌||◌}
 use Rattle.p2p_base.specs.declared.key.Key.{Key}
 use Rattle.std.specs.List.{list_any}
+use Rattle.p2p_address.specs.declared.ip.IpAddr.{IpAddr}
 use Rattle.p2p_tracker_calls.specs.Jitter.{jitter_of}
 use Rattle.p2p_tracker_calls.specs.declared.call.Call.{Call}
 use Rattle.p2p_log.specs.declared.config.Config.{Config}
 use Rattle.p2p_log.specs.declared.entry.Entry.{Entry}
 use Rattle.p2p_log.specs.declared.event.Act.{Act}
+use Rattle.p2p_log.specs.declared.queue.Queue.TheVariants as queue
+use Rattle.p2p_log.specs.Lines.{line}
 use Rattle.p2p_log_rules.specs.Facts.{taken}
+use Rattle.p2p_log_rules.specs.Handshakes.{handshakes_by, handshakes_of, is_shaking, source_in, source_at}
 use Rattle.p2p_log_rules.specs.Tracking.{asked_by, steps_tracker, rules_at, step_calls, grants_dial, call_where, calls_by, calls_from, calls_of, calls_taken, subscribes, subscribes_blocked, update_subscriptions, blocked_subscriptions}
 use Rattle.p2p_log_rules.proofs.Facts.{history_from-append}
 use Rattle.p2p_log_rules.specs.TrackerRows.{answers, was_answered}
+use Rattle.p2p_log_rules.proofs.Handshakes.{handshakes_of-kept}
 use Rattle.p2p_log.proofs.Places.{slice_get-append}
 use Rattle.std.proofs.lemmas.Option.{slice_get_past}
 use Rattle.std.proofs.lemmas.Bool.Decides.{nat_tests}
 use Rattle.std.proofs.lemmas.List.Folds.{list_any-append}
-use Rattle.p2p_net_tracker.specs.Stands.{asks_of, asks_at, AreFresh}
+use Rattle.p2p_tracker_mailbox.specs.Lines.{Lines, line_of}
+use Rattle.p2p_tracker_mailbox.specs.declared.answer.HandshakeItem.{HandshakeItem}
+use Rattle.p2p_net_tracker.specs.Stands.{asks_of, asks_at, AreFresh, HandshakeStands, NoneLater}
 use Rattle.p2p_net_tracker.proofs.Matching.{slice_get-longer}
 
 calls_from-append : (configs : List Config) (n : ℕ) (before es : List Entry) (e : Entry) (calls : List (Call Key))
@@ -124,3 +131,35 @@ was_answered-kept log e d h = was_answered-append log e d ∙ by (was_answered l
     by : (a b : Bool) → b ≡ false → (a || b) ≡ a
     by true b h = refl
     by false b h = h
+
+-- ---- handshakes
+
+-- what waits for handshakes is their lines after an entry that begins and ends none, and leaves their lines
+pub shaking-kept : (log : List Entry) (e : Entry) (n : ℕ) (lines : Lines (HandshakeItem Key)) → handshakes_by n log e (handshakes_of log n) ≡ handshakes_of log n
+    → ((k : ℕ) → line (log ++ e ∷ []) (queue.Handshake n k) ≡ line log (queue.Handshake n k))
+    → ((k : ℕ) → HandshakeStands (line_of lines k) (is_shaking log n k) (line log (queue.Handshake n k)))
+    → (k : ℕ) → HandshakeStands (line_of lines k) (is_shaking (log ++ e ∷ []) n k) (line (log ++ e ∷ []) (queue.Handshake n k))
+shaking-kept log e n lines h same stands k =
+    subst (λ l. HandshakeStands (line_of lines k) (list_any (λ j. k == j) l) (line (log ++ e ∷ []) (queue.Handshake n k))) (sym (handshakes_of-kept log e n h))
+    (subst (HandshakeStands (line_of lines k) (is_shaking log n k)) (sym (same k)) (stands k))
+
+-- and no handshake has the name of a later entry
+pub NoneLater-kept : (log : List Entry) (e : Entry) (n : ℕ) → handshakes_by n log e (handshakes_of log n) ≡ handshakes_of log n → NoneLater log n → NoneLater (log ++ e ∷ []) n
+NoneLater-kept log e n h none k past =
+    let long = length-append log (e ∷ []) in
+    ap (list_any (λ j. k == j)) (handshakes_of-kept log e n h) ∙ none k (omega (arith, long, past))
+
+-- from where a peer came stays so
+take-longer : {X : Type 0} (xs ys : List X) (i : ℕ) (x : X) → slice_get xs i ≡ Some x → take i (xs ++ ys) ≡ take i xs
+take-longer [] ys i x h = cc
+take-longer (y ∷ xs) ys zero x h = refl
+take-longer (y ∷ xs) ys (suc i) x h = ap (λ l. y ∷ l) (take-longer xs ys i x h)
+
+pub source_at-longer : (log more : List Entry) (name : ℕ) (source : IpAddr) → source_at log name ≡ Some source → source_at (log ++ more) name ≡ Some source
+unfolding source_at
+source_at-longer log more name source h = go (slice_get log name) refl h
+  where
+    go : (o : Option Entry) → slice_get log name ≡ o → source_in (take name log) o ≡ Some source → source_in (take name (log ++ more)) (slice_get (log ++ more) name) ≡ Some source
+    go None is k = cc
+    go (Some d) is k =
+        ap (source_in (take name (log ++ more))) (slice_get-longer log more name d is) ∙ (ap (λ l. source_in l (Some d)) (take-longer log more name d is) ∙ k)

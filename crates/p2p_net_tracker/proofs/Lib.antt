@@ -5,6 +5,8 @@ pub mod Desk
 pub mod DialerSteps
 pub mod Dialing
 pub mod Facts
+pub mod Hearing
+pub mod ListenerSteps
 pub mod Matching
 pub mod Named
 pub mod Questions

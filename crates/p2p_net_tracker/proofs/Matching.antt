@@ -1,5 +1,5 @@
 -- Two lists of which each place goes together.
-use Rattle.std.proofs.Common.{◌≡◌, ℕ, zero, suc, ◌+◌, List, [], ◌∷◌, ◌++◌, drop, length, Some, refl, ap}
+use Rattle.std.proofs.Common.{◌≡◌, ℕ, zero, suc, List, [], ◌∷◌, ◌++◌, drop, length, Some, refl, ap}
 use Rattle.std.specs.Prelude.{slice_get, slice_index_or}
 use Rattle.p2p_net_tracker.specs.Stands.{Match}
 

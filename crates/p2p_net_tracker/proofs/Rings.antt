@@ -1,6 +1,6 @@
 -- What rings lose: the queues of a board beside the items of a log.
 use Rattle.std.proofs.Common.{◌≡◌, ℕ, ◌+◌, Bool, true, false, cond, List, [], ◌∷◌, ◌++◌, drop, refl, ap, sym, ◌∙◌, arith, append_assoc, append-nil, drop-drop}
-use Rattle.std.specs.Prelude.{filter, flat_map, count_by, if◌then◌else◌}
+use Rattle.std.specs.Prelude.{filter, flat_map, count_by}
 use Rattle.std.proofs.lemmas.List.Sums.{sum_by-append, sum_by-cons}
 use Rattle.p2p_log.specs.declared.queue.Queue.{Queue}
 use Rattle.p2p_log.specs.declared.queue.Queue.TheVariants as queue
@@ -110,7 +110,7 @@ left_in items q p apart = go (filter (stands_in q) items) refl (is_same p q) ref
         ∙ (ap (λ b. cond b rest (filter (stands_in p) items)) is ∙ sym (ap (drop 1) (ap (λ r. filter (stands_in r) items) (queue_from_same q p is) ∙ first)))
     go (x ∷ rest) first false is = filter_stays-first items q p x rest apart first ∙ ap (λ b. cond b rest (filter (stands_in p) items)) is
 
-count-first : (p q : Queue) (qs : List Queue) → count_by (is_same p) (q ∷ qs) ≡ cond (is_same p q) 1 0 + count_by (is_same p) qs
+pub count-first : (p q : Queue) (qs : List Queue) → count_by (is_same p) (q ∷ qs) ≡ cond (is_same p q) 1 0 + count_by (is_same p) qs
 count-first p q qs = sum_by-cons (λ r. cond (is_same p r) 1 0) q qs
 
 drop-if : (b : Bool) (n : ℕ) (xs : List Envelope) → drop n (cond b (drop 1 xs) xs) ≡ drop (cond b 1 0 + n) xs

@@ -91,6 +91,7 @@ item-updates t log (item.Call e) m ts es h s =
     subst (λ o. Match (IsTicket t.updates) (updates_for m ts) (es ++ ((elim o [ None ↦ [] | Some b ↦ cond (subscribes b) (e ∷ []) [] ]) ++ []))) (sym h.1) (says-updates t e h.0 m ts es h.2 s)
 item-updates t log item.AskDialable m ts es h s = subst (λ d. Match (IsTicket t.updates) (updates_for d ts) (es ++ [])) (sym h) (same_events (IsTicket t.updates) ts es s)
 item-updates t log (item.AskDial key) m ts es h s = subst (λ d. Match (IsTicket t.updates) (updates_for d ts) (es ++ [])) (sym h) (same_events (IsTicket t.updates) ts es s)
+item-updates t log (item.AskAcceptable name key) m ts es h s = subst (λ d. Match (IsTicket t.updates) (updates_for d ts) (es ++ [])) (sym h.2) (same_events (IsTicket t.updates) ts es s)
 item-updates t log (item.Release key) m ts es h s = subst (λ d. Match (IsTicket t.updates) (updates_for d ts) (es ++ [])) (sym h.2) (same_events (IsTicket t.updates) ts es s)
 item-updates t log _ m ts es h s = absurd h
 
@@ -100,6 +101,7 @@ item-sets t log (item.Call e) m ts es h s =
     subst (λ o. Match (IsTicket t.blocked) (sets_for m ts) (es ++ ((elim o [ None ↦ [] | Some b ↦ cond (subscribes_blocked b) (e ∷ []) [] ]) ++ []))) (sym h.1) (says-sets t e h.0 m ts es h.2 s)
 item-sets t log item.AskDialable m ts es h s = subst (λ d. Match (IsTicket t.blocked) (sets_for d ts) (es ++ [])) (sym h) (same_events (IsTicket t.blocked) ts es s)
 item-sets t log (item.AskDial key) m ts es h s = subst (λ d. Match (IsTicket t.blocked) (sets_for d ts) (es ++ [])) (sym h) (same_events (IsTicket t.blocked) ts es s)
+item-sets t log (item.AskAcceptable name key) m ts es h s = subst (λ d. Match (IsTicket t.blocked) (sets_for d ts) (es ++ [])) (sym h.2) (same_events (IsTicket t.blocked) ts es s)
 item-sets t log (item.Release key) m ts es h s = subst (λ d. Match (IsTicket t.blocked) (sets_for d ts) (es ++ [])) (sym h.2) (same_events (IsTicket t.blocked) ts es s)
 item-sets t log _ m ts es h s = absurd h
 
@@ -112,6 +114,7 @@ pub item-may_take : (kept : Kept Key) (t : Tickets) (log : List Entry) (i : Item
 item-may_take kept t log (item.Call e) m now h released = says-may_take kept t e h.0 m now h.2
 item-may_take kept t log item.AskDialable m now h released = subst (λ k. MayTake key_cmp kept k now) (sym h) tt
 item-may_take kept t log (item.AskDial key) m now h released = subst (λ k. MayTake key_cmp kept k now) (sym h) tt
+item-may_take kept t log (item.AskAcceptable name key) m now h released = subst (λ k. MayTake key_cmp kept k now) (sym h.2) tt
 item-may_take kept t log (item.Release key) m now h released =
     subst (λ k. MayTake key_cmp kept k now) (sym h.2) (ap (λ k. is_held_or_unknown (lookup (is_at (key_cmp k)) kept.records)) h.1 ∙ released)
 item-may_take kept t log _ m now h released = absurd h
@@ -139,6 +142,7 @@ item-calls rules n t log (item.Call e) m now jitter us bs calls h = says-calls r
 item-calls rules n t log item.AskDialable m now jitter us bs calls h = ap (λ d. calls_after key_cmp rules d now jitter calls) h
 item-calls rules n t log (item.AskDial key) m now jitter us bs calls h =
     ap (λ d. calls_after key_cmp rules d now jitter calls) h ∙ ap (λ b. call.Dial key now jitter b ∷ calls) (sym (dial-granted rules n calls key now))
+item-calls rules n t log (item.AskAcceptable name key) m now jitter us bs calls h = ap (λ d. calls_after key_cmp rules d now jitter calls) h.2
 item-calls rules n t log (item.Release key) m now jitter us bs calls h =
     ap (λ d. calls_after key_cmp rules d now jitter calls) h.2 ∙ ap (λ k. call.Release k ∷ calls) h.1
 item-calls rules n t log _ m now jitter us bs calls h = absurd h

@@ -1,6 +1,6 @@
 -- A step of a node's tracker: its row is the log's, and it stands for the log with that entry.
-use Rattle.std.proofs.Common.{◌≡◌, ℕ, ◌+◌, Bool, true, false, cond, List, [], ◌∷◌, ◌++◌, map, drop, length, refl, ap, sym, subst, ◌∙◌, arith, eq-eqb, append-nil, Option, Some}
-use Rattle.std.specs.Prelude.{filter, flat_map, slice_get}
+use Rattle.std.proofs.Common.{◌≡◌, ℕ, Bool, true, false, cond, List, [], ◌∷◌, ◌++◌, map, drop, length, refl, ap, sym, subst, ◌∙◌, arith, eq-eqb, append-nil, Option, Some, inl}
+use Rattle.std.specs.Prelude.{filter, flat_map, slice_get, count_by, ◌==◌}
 use Rattle.std.specs.List.{list_any}
 use Rattle.std.specs.BTreeMap.{is_at}
 use Rattle.std.specs.Ordering.{nat_cmp}
@@ -14,6 +14,7 @@ use Rattle.p2p_tracker_calls.specs.Jitter.{jitter_of}
 use Rattle.p2p_tracker_calls.specs.Named.{EqualKeysAreOne}
 use Rattle.p2p_tracker_calls.specs.Rules.{Rules}
 use Rattle.p2p_tracker_mailbox.specs.Desk.{next_message}
+use Rattle.p2p_tracker_mailbox.specs.Lines.{line_of}
 use Rattle.p2p_tracker_mailbox.specs.Mailboxes.{runs_in}
 use Rattle.p2p_tracker_mailbox.specs.declared.mailbox.Mailbox.{Mailbox}
 use Rattle.p2p_tracker_mailbox.specs.declared.message.Message.{Message}
@@ -36,11 +37,13 @@ use Rattle.p2p_log.specs.Lines.{name_of, ended_item, goes, stays, live, line, pl
 use Rattle.p2p_log_rules.specs.declared.row.Row.{Row}
 use Rattle.p2p_log_rules.specs.Facts.{taken, item_named}
 use Rattle.p2p_log_rules.specs.Effect.{entry_of}
+use Rattle.p2p_log_rules.specs.Handshakes.{is_shaking}
 use Rattle.p2p_log_rules.specs.Rows.{only}
 use Rattle.p2p_log_rules.specs.Tracking.{key_cmp, rules_at, item_calls, step_calls, grants_dial, call_where, calls_of, subscribes, subscribes_blocked, update_subscriptions, blocked_subscriptions}
 use Rattle.p2p_log_rules.specs.TrackerPuts as puts
 use Rattle.p2p_log_rules.specs.TrackerRows.{rings_of, told_row, served_row, tracker_step}
 use Rattle.p2p_log_rules.proofs.Recorded.{item_named-first}
+use Rattle.p2p_log_rules.proofs.Handshakes.{handshakes_of-kept}
 use Rattle.p2p_net_queues.specs.Board.{held}
 use Rattle.p2p_net_queues.specs.Rows.{taken_row}
 use Rattle.p2p_net_queues.proofs.Going.{line-kept}
@@ -48,15 +51,17 @@ use Rattle.p2p_net_tracker.specs.declared.tracker.Tracker.{Tracker}
 use Rattle.p2p_net_tracker.specs.Naming.{named_puts}
 use Rattle.p2p_net_tracker.specs.Telling.{lost, told_in, told_to}
 use Rattle.p2p_net_tracker.specs.Stepping.{ActorSteps, Tells, TellsFor, TellsBy, Steps}
-use Rattle.p2p_net_tracker.specs.Stands.{is_told, Match, IsTicket, IsMessage, IsAnswer, TrackerStands}
+use Rattle.p2p_net_tracker.specs.Stands.{is_told, Match, IsTicket, IsMessage, IsAnswer, HeardStands, HandshakeStands, TrackerStands}
 use Rattle.p2p_net_tracker.proofs.Changes.{same_tickets, IsMessage-longer}
 use Rattle.p2p_net_tracker.proofs.Desk.{LeavesDesk, all_left}
 use Rattle.p2p_net_tracker.proofs.Dialing.{answers_in, answers-after, answers-named}
-use Rattle.p2p_net_tracker.proofs.Facts.{asks_at-kept, fresh-longer, was_answered-kept, calls_of-append, update_subscriptions-append, blocked_subscriptions-append}
+use Rattle.p2p_net_tracker.proofs.Facts.{asks_at-kept, fresh-longer, was_answered-kept, calls_of-append, update_subscriptions-append, blocked_subscriptions-append, NoneLater-kept}
+use Rattle.p2p_net_tracker.proofs.Hearing.{TellsFew, runs_is, unblocked_once, item_few, heard-after, shaken-after}
 use Rattle.p2p_net_tracker.proofs.Matching.{Match-append, Match-weaker}
 use Rattle.p2p_net_tracker.proofs.Named.{has_any-is, named-unblocked, named-item}
+use Rattle.p2p_net_tracker.proofs.Rings.{is_same}
 use Rattle.p2p_net_tracker.proofs.Serving.{item-calls, item-updates, item-sets}
-use Rattle.p2p_net_tracker.proofs.ToldLines.{named-each, Told, holds_told, mailbox-told, dialer-told, lost_is, away_none, away_first, mailbox_first}
+use Rattle.p2p_net_tracker.proofs.ToldLines.{named-each, Told, holds_told, mailbox-told, dialer-told, heard-told, handshake-told, lost_is, away_none, away_first, mailbox_first}
 
 pub equal_keys : EqualKeysAreOne key_cmp
 equal_keys p q h = ap (λ n. record { 0 = n }) (same p.0 q.0 h)
@@ -83,6 +88,8 @@ record Left (configs : List Config) (log : List Entry) (at seed n : ℕ) (t u : 
   desk : LeavesDesk t.mailbox.desk (record u.mailbox.desk { messages = record u.mailbox.desk.messages { items = t.mailbox.desk.messages.items } })
   items : u.mailbox.desk.messages.items ≡ messages
   answered : Match (λ x a. IsAnswer x.item a) (line (log ++ step_entry at seed n r ∷ []) (queue.Dialer n)) u.mailbox.dialer
+  heard_left : HeardStands u.mailbox.heard (line (log ++ step_entry at seed n r ∷ []) (queue.Update n))
+  shaken : (k : ℕ) → HandshakeStands (line_of u.mailbox.handshakes k) (is_shaking log n k) (line (log ++ step_entry at seed n r ∷ []) (queue.Handshake n k))
   told_left : (q : Queue) → is_told n q ≡ true → held u.told q ≡ line (log ++ step_entry at seed n r ∷ []) q
 
 stands_after : (configs : List Config) (log : List Entry) (at seed n : ℕ) (t u : Tracker) (r : Row) (waits : List Envelope) (messages : List (Message Key)) → TrackerStands configs log n t
@@ -112,6 +119,9 @@ stands_after configs log at seed n t u r waits messages s h =
       answered = λ d is. s.answered d (sym (asks_at-kept log e n d refl) ∙ is) ∙ sym (was_answered-kept log e d refl);
       fresh = fresh-longer log e t.answered s.fresh (λ d past. refl);
       dialer = h.answered;
+      heard = h.heard_left;
+      handshakes = λ k. subst (λ l. HandshakeStands (line_of u.mailbox.handshakes k) (list_any (λ j. k == j) l) (line (log ++ e ∷ []) (queue.Handshake n k))) (sym (handshakes_of-kept log e n refl)) (h.shaken k);
+      none_later = NoneLater-kept log e n refl s.none_later;
       told = h.told_left;
     })
 
@@ -211,6 +221,27 @@ module _ (configs : List Config) (log : List Entry) (at seed n : ℕ) (t u : Tra
       (subst (Match (λ (x : Envelope) a. IsAnswer x.item a) (line log (queue.Dialer n) ++ added)) (sym (ap (λ (m : Mailbox Key). m.dialer) mailbox ∙ answers-after put start))
       (Match-append (λ (x : Envelope) a. IsAnswer x.item a) (line log (queue.Dialer n)) added start.dialer (answers_in put) before (answers-named n t.tickets (length log) 0 put)))
 
+  -- what the listener is told, in place of what waits for it
+  heard_now : (names : List (ℕ × ℕ)) (put : List (Put Key)) (start : Mailbox Key) → Told log e n names (named_puts n t.tickets put) → u.mailbox ≡ after_puts put start → TellsFew (runs_in start) put
+      → HeardStands start.heard (line log (queue.Update n)) → HeardStands u.mailbox.heard (line (log ++ e ∷ []) (queue.Update n))
+  heard_now names put start told mailbox few before =
+      let q = queue.Update n in
+      let xs = named_puts n t.tickets put in
+      subst (HeardStands u.mailbox.heard) (sym (heard-told log e n names xs told))
+      (subst (λ (m : Mailbox Key). HeardStands m.heard (drop (count_by (is_same q) (rings_of xs)) (line log q) ++ filter (stands_in q) (placed (length log) 0 xs))) (sym mailbox)
+      (heard-after n t.tickets (length log) put start (line log (queue.Update n)) few before))
+
+  -- what handshakes are told, beside what waits for them
+  shaken_now : (names : List (ℕ × ℕ)) (put : List (Put Key)) (start : Mailbox Key) → Told log e n names (named_puts n t.tickets put) → u.mailbox ≡ after_puts put start → TellsFew (runs_in start) put
+      → ((k : ℕ) → HandshakeStands (line_of start.handshakes k) (is_shaking log n k) (line log (queue.Handshake n k)))
+      → (k : ℕ) → HandshakeStands (line_of u.mailbox.handshakes k) (is_shaking log n k) (line (log ++ e ∷ []) (queue.Handshake n k))
+  shaken_now names put start told mailbox few before k =
+      let q = queue.Handshake n k in
+      let xs = named_puts n t.tickets put in
+      subst (HandshakeStands (line_of u.mailbox.handshakes k) (is_shaking log n k)) (sym (handshake-told log e n names xs told k))
+      (subst (λ (m : Mailbox Key). HandshakeStands (line_of m.handshakes k) (is_shaking log n k) (line log q ++ filter (stands_in q) (placed (length log) 0 xs))) (sym mailbox)
+      (shaken-after n t.tickets (length log) start (is_shaking log n) (λ j. line log (queue.Handshake n j)) before put few k))
+
   -- blocks had ended
   after_unblocked : (put : List (Put Key)) → ActorSteps t.actor u.actor t.mailbox u.mailbox at seed (stepped.EndedBlocks put) → TellsBy (stepped.EndedBlocks put) (length log) n t u r
       → u ≡ record t { actor = u.actor; mailbox = u.mailbox; names = u.names; told = u.told }
@@ -223,6 +254,10 @@ module _ (configs : List Config) (log : List Entry) (at seed n : ℕ) (t u : Tra
       let desk = all_left put t.mailbox in
       let mailbox : u.mailbox ≡ after_puts put t.mailbox = steps.put in
       let waits = mailbox-told log e n [] (named_puts n t.tickets put) told ∙ away_none log (queue.Tracker n) in
+      let few : TellsFew (runs_in t.mailbox) put =
+      subst (TellsFew (runs_in t.mailbox)) (sym is)
+      (inl (unblocked_once rules t.actor.updates t.actor.sets t.mailbox.desk.sets t.mailbox.heard (runs_in t.mailbox) calls at (call.UnblockExpired at)))
+      in
       let named : named_puts n t.tickets put ≡ puts.unblocked_puts rules n at us bs calls (call.UnblockExpired at) =
       ap (named_puts n t.tickets) is ∙ named-unblocked n t.tickets rules t.mailbox.heard at t.actor.updates t.actor.sets us bs t.mailbox.desk.sets s.subscribed s.subscribed_blocked (runs_in t.mailbox) calls (call.UnblockExpired at)
       in (
@@ -249,6 +284,8 @@ module _ (configs : List Config) (log : List Entry) (at seed n : ℕ) (t u : Tra
           };
           items = ap (λ (m : Mailbox Key). m.desk.messages.items) mailbox ∙ ap (λ (q : base.Queue (Message Key)). q.items) desk.messages;
           answered = answers_now [] put t.mailbox told mailbox s.dialer;
+          heard_left = heard_now [] put t.mailbox told mailbox few s.heard;
+          shaken = shaken_now [] put t.mailbox told mailbox few s.handshakes;
           told_left = told_after [] (only reply.Ok) put tells.0 refl told;
         }),
       )
@@ -274,9 +311,13 @@ module _ (configs : List Config) (log : List Entry) (at seed n : ℕ) (t u : Tra
       let mailbox : u.mailbox ≡ after_puts put start = steps.put in
       let xs = puts.item_puts rules n at us bs calls log i in
       let named : named_puts n t.tickets put ≡ xs =
-      ap (named_puts n t.tickets) puts_is ∙ named-item n t.tickets rules t.mailbox.heard at t.actor.updates t.actor.sets us bs t.mailbox.desk.sets s.subscribed s.subscribed_blocked (runs_in t.mailbox) calls log i m says
+      ap (named_puts n t.tickets) puts_is ∙ named-item n t.tickets rules t.mailbox.heard at t.actor.updates t.actor.sets us bs t.mailbox.desk.sets s.subscribed s.subscribed_blocked (runs_in t.mailbox) calls log i m
+      (λ k. runs_is (line_of t.mailbox.handshakes k) (is_shaking log n k) (line log (queue.Handshake n k)) (s.handshakes k)) says
       in
       let row_is : r ≡ told_row log (name_of x ∷ []) xs = row_now (name_of x ∷ []) (taken_row (name_of x)) put xs telling refl away named in
+      let few : TellsFew (runs_in start) put =
+      subst (TellsFew (runs_in t.mailbox)) (sym puts_is) (item_few rules t.actor.updates t.actor.sets t.mailbox.desk.sets t.mailbox.heard (runs_in t.mailbox) calls at t.tickets log i m says)
+      in
       let puts_are : r.puts ≡ xs = ap (λ (k : Row). k.puts) row_is
       in (
         row_is ∙ ap (λ k. told_row log (name_of x ∷ []) (puts.item_puts rules n at us bs calls log k)) (sym is),
@@ -306,6 +347,8 @@ module _ (configs : List Config) (log : List Entry) (at seed n : ℕ) (t u : Tra
           };
           items = ap (λ (k : Mailbox Key). k.desk.messages.items) mailbox ∙ (ap (λ (q : base.Queue (Message Key)). q.items) desk.messages ∙ ap (drop 1) items);
           answered = answers_now (name_of x ∷ []) put start told mailbox s.dialer;
+          heard_left = heard_now (name_of x ∷ []) put start told mailbox few s.heard;
+          shaken = shaken_now (name_of x ∷ []) put start told mailbox few s.handshakes;
           told_left = told_after (name_of x ∷ []) (taken_row (name_of x)) put telling refl told;
         }),
       )
@@ -346,6 +389,10 @@ module _ (configs : List Config) (log : List Entry) (at seed n : ℕ) (t u : Tra
           items = ap (λ (m : Mailbox Key). m.desk.messages.items) mailbox;
           answered = subst (λ l. Match (λ x a. IsAnswer x.item a) l u.mailbox.dialer) (sym (same (queue.Dialer n)))
               (subst (Match (λ (x : Envelope) a. IsAnswer x.item a) (line log (queue.Dialer n))) (sym (ap (λ (m : Mailbox Key). m.dialer) mailbox)) s.dialer);
+          heard_left = subst (HeardStands u.mailbox.heard) (sym (same (queue.Update n))) (subst (λ (m : Mailbox Key). HeardStands m.heard (line log (queue.Update n))) (sym mailbox) s.heard);
+          shaken = λ k.
+              subst (HandshakeStands (line_of u.mailbox.handshakes k) (is_shaking log n k)) (sym (same (queue.Handshake n k)))
+              (subst (λ (m : Mailbox Key). HandshakeStands (line_of m.handshakes k) (is_shaking log n k) (line log (queue.Handshake n k))) (sym mailbox) (s.handshakes k));
           told_left = λ q own. tells.0.told q ∙ (s.told q own ∙ sym (same q));
         }),
       )
@@ -421,5 +468,7 @@ gone_stands configs log at seed n t s =
       desk = record { messages = refl; questions = refl; updates = refl; sets = refl };
       items = refl;
       answered = subst (λ l. Match (λ x a. IsAnswer x.item a) l t.mailbox.dialer) (sym (same (queue.Dialer n))) s.dialer;
+      heard_left = subst (HeardStands t.mailbox.heard) (sym (same (queue.Update n))) s.heard;
+      shaken = λ k. subst (HandshakeStands (line_of t.mailbox.handshakes k) (is_shaking log n k)) (sym (same (queue.Handshake n k))) (s.handshakes k);
       told_left = λ q own. s.told q own ∙ sym (same q);
     })

@@ -36,7 +36,7 @@ named-each n t [] = tt
 named-each n t (p ∷ ps) = one p (named-each n t ps)
   where
     one : (p : Put Key) → Each (IsTold n) (named_puts n t ps) → Each (IsTold n) (before (named_put n t p) (named_puts n t ps))
-    one (put.Acceptable handshake acceptable) rest = rest
+    one (put.Acceptable handshake acceptable) rest = (eq-eqb n n refl, rest)
     one (put.Listen handshake grant) rest = rest
     one (put.Kill peer conn) rest = (eq-eqb n n refl, rest)
     one (put.Listenable addresses dropped) rest = (eq-eqb n n refl, rest)
@@ -76,6 +76,16 @@ ring_not_dialer n _ = tt
 rings_not_dialer : (n : ℕ) (xs : List (Queue × Item)) → Each (λ p. is_same (queue.Dialer n) p ≡ false) (rings_of xs)
 rings_not_dialer n [] = tt
 rings_not_dialer n (x ∷ xs) = Each-append (λ p. is_same (queue.Dialer n) p ≡ false) (ring_of x.0) (rings_of xs) (ring_not_dialer n x.0) (rings_not_dialer n xs)
+
+-- nor that of a handshake
+ring_not_handshake : (n k : ℕ) (q : Queue) → Each (λ p. is_same (queue.Handshake n k) p ≡ false) (ring_of q)
+ring_not_handshake n k (queue.Update m) = (refl, tt)
+ring_not_handshake n k (queue.Blocked m e) = (refl, tt)
+ring_not_handshake n k _ = tt
+
+rings_not_handshake : (n k : ℕ) (xs : List (Queue × Item)) → Each (λ p. is_same (queue.Handshake n k) p ≡ false) (rings_of xs)
+rings_not_handshake n k [] = tt
+rings_not_handshake n k (x ∷ xs) = Each-append (λ p. is_same (queue.Handshake n k) p ≡ false) (ring_of x.0) (rings_of xs) (ring_not_handshake n k x.0) (rings_not_handshake n k xs)
 
 -- an entry that takes these, puts those, and ends what they overwrite
 pub record Told (log : List Entry) (e : Entry) (n : ℕ) (names : List (ℕ × ℕ)) (xs : List (Queue × Item)) : Type 0 where
@@ -118,6 +128,20 @@ module _ (log : List Entry) (e : Entry) (n : ℕ) (takes : List (ℕ × ℕ)) (x
       line-told (queue.Tracker n)
       ∙ (ap (λ k. drop k (filter (stands_in (queue.Tracker n)) left) ++ filter (stands_in (queue.Tracker n)) (placed (length log) 0 xs)) (none_same n n (rings_of xs) (rings_are_told n xs h.each))
       ∙ (ap (λ l. filter (stands_in (queue.Tracker n)) left ++ l) (none_put n n (length log) 0 xs h.each) ∙ append-nil (filter (stands_in (queue.Tracker n)) left)))
+
+  -- what the listener is told
+  pub heard-told : line (log ++ e ∷ []) (queue.Update n) ≡ drop (count_by (is_same (queue.Update n)) (rings_of xs)) (line log (queue.Update n)) ++ filter (stands_in (queue.Update n)) (placed (length log) 0 xs)
+  heard-told =
+      line-told (queue.Update n)
+      ∙ ap (λ l. drop (count_by (is_same (queue.Update n)) (rings_of xs)) l ++ filter (stands_in (queue.Update n)) (placed (length log) 0 xs)) (h.away (queue.Update n) (eq-eqb n n refl))
+
+  -- what a handshake is told
+  pub handshake-told : (k : ℕ) → line (log ++ e ∷ []) (queue.Handshake n k) ≡ line log (queue.Handshake n k) ++ filter (stands_in (queue.Handshake n k)) (placed (length log) 0 xs)
+  handshake-told k =
+      let added = filter (stands_in (queue.Handshake n k)) (placed (length log) 0 xs) in
+      line-told (queue.Handshake n k)
+      ∙ (ap (λ c. drop c (filter (stands_in (queue.Handshake n k)) left) ++ added) (count_by-none (is_same (queue.Handshake n k)) (rings_of xs) (rings_not_handshake n k xs))
+      ∙ ap (λ l. l ++ added) (h.away (queue.Handshake n k) (eq-eqb n n refl)))
 
   -- what the dialer is answered
   pub dialer-told : line (log ++ e ∷ []) (queue.Dialer n) ≡ line log (queue.Dialer n) ++ filter (stands_in (queue.Dialer n)) (placed (length log) 0 xs)

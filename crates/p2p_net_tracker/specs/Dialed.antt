@@ -1,4 +1,4 @@
--- What a node's dialer took of its answers, and what it asked, as values.
+-- What a node's dialer and its listener took of what they were told, and what they asked, as values.
 use Rattle.std.specs.Prelude.{ℕ, Bool, true, List, [], ◌∷◌, Option, Some, None}
 use Rattle.p2p_log.specs.declared.queue.Queue.{Queue}
 use Rattle.p2p_log.specs.declared.queue.Queue.TheVariants as queue
@@ -8,7 +8,7 @@ use Rattle.p2p_log.specs.declared.entry.Reply.TheVariants as reply
 use Rattle.p2p_log.specs.Lines.{name_of}
 use Rattle.p2p_log_rules.specs.declared.row.Row.{Row}
 
--- the name of the oldest answer, where one was taken
+-- the name of the oldest of these, where one was taken
 abbrev pub taken_names : Bool → List Envelope → List (ℕ × ℕ)
 taken_names true (x ∷ xs) = name_of x ∷ []
 taken_names _ xs = []
@@ -24,3 +24,7 @@ names_asked k (Some i) = (k, 0) ∷ []
 -- the row of a dialer's step, of these answers
 abbrev pub dialed_row : List Envelope → ℕ → Bool → Option Item → Row
 dialed_row answers n took asked = record { reply = reply.Ok; takes = taken_names took answers; puts = asked_puts n asked; ends = [] }
+
+-- the row of a listener's step that took the update that it was told
+abbrev pub updated_row : List Envelope → Row
+updated_row updates = record { reply = reply.Ok; takes = taken_names true updates; puts = []; ends = [] }

@@ -28,7 +28,7 @@ named_put n t (put.Blocked ticket keys dropped) = Some (queue.Blocked n (event_a
 named_put n t (put.PeerSet ticket peers) = Some (queue.Answer n (event_at t.questions ticket), item.PeerSet peers)
 named_put n t (put.Dialable list) = Some (queue.Dialer n, item.Dialable list.next_query_at list.peers)
 named_put n t (put.Dial grant) = Some (queue.Dialer n, item.Dial (grant_of grant))
-named_put n t (put.Acceptable handshake acceptable) = None
+named_put n t (put.Acceptable handshake acceptable) = Some (queue.Handshake n handshake, item.Acceptable acceptable)
 named_put n t (put.Listen handshake grant) = None
 
 abbrev pub before : {X : Type 0} → Option X → List X → List X

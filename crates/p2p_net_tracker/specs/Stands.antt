@@ -1,6 +1,7 @@
 -- When a node's tracker stands for a log.
 use Rattle.std.specs.Prelude.{◌≡◌, ℕ, ◌≤◌, Bool, true, false, ◌==◌, cond, is_some, Option, None, List, [], ◌∷◌, ◌++◌, map, length, Some, slice_get}
 use Rattle.p2p_base.specs.declared.key.Key.{Key}
+use Rattle.p2p_address.specs.declared.ip.IpAddr.{IpAddr}
 use Rattle.p2p_address.specs.declared.peer.Ingress.{Ingress}
 use Rattle.p2p_tracker_calls.specs.Blocks.{is_local}
 use Rattle.p2p_tracker_calls.specs.Grants.{is_held}
@@ -8,6 +9,9 @@ use Rattle.p2p_tracker_directory.specs.Reserved.{peer_of}
 use Rattle.p2p_tracker_directory.specs.declared.metadata.Metadata.{Metadata}
 use Rattle.p2p_tracker_mailbox.specs.declared.answer.DialerAnswer.{DialerAnswer}
 use Rattle.p2p_tracker_mailbox.specs.declared.answer.DialerAnswer.TheVariants as answer
+use Rattle.p2p_tracker_mailbox.specs.declared.answer.HandshakeItem.{HandshakeItem}
+use Rattle.p2p_tracker_mailbox.specs.declared.answer.HandshakeItem.TheVariants as shake
+use Rattle.p2p_tracker_mailbox.specs.Lines.{line_of}
 use Rattle.p2p_tracker_mailbox.specs.declared.message.Message.{Message}
 use Rattle.p2p_tracker_mailbox.specs.declared.message.Message.TheVariants as message
 use Rattle.p2p_tracker.specs.Following.{Follows}
@@ -24,6 +28,7 @@ use Rattle.p2p_log.specs.declared.event.Act.{Act}
 use Rattle.p2p_log.specs.declared.event.Act.TheVariants as act
 use Rattle.p2p_log.specs.Lines.{name_of, line}
 use Rattle.p2p_log_rules.specs.Facts.{key_at}
+use Rattle.p2p_log_rules.specs.Handshakes.{handshakes_by, handshakes_of, is_shaking, source_at}
 use Rattle.p2p_log_rules.specs.Rows.{mailbox_size_at}
 use Rattle.p2p_log_rules.specs.Tracking.{key_cmp, rules_at, asked_by, steps_tracker, calls_of, update_subscriptions, blocked_subscriptions}
 use Rattle.p2p_log_rules.specs.TrackerRows.{most_peers_at, answers, was_answered}
@@ -44,6 +49,7 @@ is_told n (queue.Control m e) = m == n
 is_told n (queue.Answer m e) = m == n
 is_told n (queue.Updates m e) = m == n
 is_told n (queue.Blocked m e) = m == n
+is_told n (queue.Handshake m e) = m == n
 is_told n _ = false
 
 -- two lists are as long, and what stands at one place goes together
@@ -79,11 +85,12 @@ abbrev pub Says : Tickets → ℕ → Act → Message Key → Type 0
 Says t e (act.Ask what n) m = (ticket : ℕ) × (m ≡ message_of what ticket) × HasTicket t (kind_of what) ticket e
 Says t e _ m = ⊥
 
--- the item names the event that the message is of, or is what a dialer asks, or gives a reservation of its key back; nobody else asks the tracker yet
+-- the item names the event that the message is of, or is what a dialer or a listener asks, or gives a reservation of its key back; nobody else asks the tracker yet
 abbrev pub IsMessage : Tickets → List Entry → Item → Message Key → Type 0
 IsMessage t log (item.Call e) m = (a : Act) × (asked_by log e ≡ Some a) × Says t e a m
 IsMessage t log item.AskDialable m = m ≡ message.Dialable
 IsMessage t log (item.AskDial key) m = m ≡ message.Dial key
+IsMessage t log (item.AskAcceptable name key) m = (source : IpAddr) × (source_at log name ≡ Some source) × (m ≡ message.Acceptable key source name)
 IsMessage t log (item.Release key) m = (reserved : Metadata Key) × (peer_of reserved ≡ key) × (m ≡ message.Release reserved)
 IsMessage t log _ m = ⊥
 
@@ -92,6 +99,25 @@ abbrev pub IsAnswer : Item → DialerAnswer Key → Type 0
 IsAnswer (item.Dialable next peers) a = a ≡ answer.Dialable (record { peers = peers; next_query_at = next })
 IsAnswer (item.Dial grant) a = (g : Option (Metadata Key × Ingress)) × (a ≡ answer.Dial g) × (grant ≡ grant_of g)
 IsAnswer _ a = ⊥
+
+-- the addresses that the listener was told and did not take are all that its line holds
+abbrev pub HeardStands : Option (List IpAddr) → List Envelope → Type 0
+HeardStands None xs = xs ≡ []
+HeardStands (Some ips) xs = (x : Envelope) × (xs ≡ x ∷ []) × (x.item ≡ item.Addresses ips)
+
+-- the item is what a handshake is told
+abbrev pub IsShaken : Item → HandshakeItem Key → Type 0
+IsShaken (item.Acceptable b) i = i ≡ shake.Acceptable b
+IsShaken _ i = ⊥
+
+-- what waits for a handshake is its line, and it waits for one that runs
+abbrev pub HandshakeStands : Option (List (HandshakeItem Key)) → Bool → List Envelope → Type 0
+HandshakeStands None b xs = (b ≡ false) × (xs ≡ [])
+HandshakeStands (Some items) b xs = (b ≡ true) × Match (λ x i. IsShaken x.item i) xs items
+
+-- no handshake has the name of a later event
+abbrev pub NoneLater : List Entry → ℕ → Type 0
+NoneLater log n = (k : ℕ) → length log ≤ k → is_shaking log n k ≡ false
 
 -- by the calls so far the key is held, and it is another's
 abbrev pub IsHeldByPeer : List Config → List Entry → ℕ → Key → Type 0
@@ -139,6 +165,10 @@ pub record TrackerStands (configs : List Config) (log : List Entry) (n : ℕ) (t
   pub fresh : AreFresh log t.answered
   -- what the dialer is answered is its line
   pub dialer : Match (λ x a. IsAnswer x.item a) (line log (queue.Dialer n)) t.mailbox.dialer
+  -- what the listener is told is its line, and so it is for each handshake
+  pub heard : HeardStands t.mailbox.heard (line log (queue.Update n))
+  pub handshakes : (k : ℕ) → HandshakeStands (line_of t.mailbox.handshakes k) (is_shaking log n k) (line log (queue.Handshake n k))
+  pub none_later : NoneLater log n
   -- what waits for those who asked is their line
   pub told : (q : Queue) → is_told n q ≡ true → held t.told q ≡ line log q
 
@@ -148,5 +178,6 @@ pub record LeavesTracker (log : List Entry) (e : Entry) (n : ℕ) : Type 0 where
   pub no_question : asks_of n e.event.act ≡ None
   pub no_answer : (d : ℕ) → asks_at log n d ≡ Some question.PeerSet → answers d e.event.act e.reply ≡ false
   pub no_late_answer : (d : ℕ) → length log ≤ d → answers d e.event.act e.reply ≡ false
+  pub handshakes : handshakes_by n log e (handshakes_of log n) ≡ handshakes_of log n
   pub mailbox : line (log ++ e ∷ []) (queue.Tracker n) ≡ line log (queue.Tracker n)
   pub told : (q : Queue) → is_told n q ≡ true → line (log ++ e ∷ []) q ≡ line log q

@@ -1,10 +1,10 @@
-//! What a node's dialer took of its answers, and what it and its attempts asked.
-ghost use Rattle.std.specs.Prelude.{◌≡◌, ◌++◌, ◌&&◌, drop, IfOk, OnOk, if◌then◌else◌};
+//! What a node's dialer and its listener took of what they were told, and what they and the attempts asked.
+ghost use Rattle.std.specs.Prelude.{◌≡◌, ◌++◌, ◌&&◌, true, drop, IfOk, OnOk, if◌then◌else◌};
 ghost use Rattle.p2p_log.specs.declared.queue.Queue.{Queue as Name};
 ghost use Rattle.p2p_log.specs.declared.queue.Queue.TheVariants as queue;
 ghost use Rattle.p2p_log.specs.QueueCode.{same_queue};
 ghost use Rattle.p2p_net_queues.specs.Board.{held};
-ghost use Rattle.p2p_net_tracker.specs.Dialed.{taken_names, asked_puts, names_asked, dialed_row};
+ghost use Rattle.p2p_net_tracker.specs.Dialed.{taken_names, asked_puts, names_asked, dialed_row, updated_row};
 
 use crate::telling::pop_name;
 use crate::tracker::Tracker;
@@ -38,15 +38,41 @@ impl Tracker {
         ensures rest { OnOk result (self.new ≡ record self.old { told = self.new.told }) }
     {
         if took {
-            if let Some(name) = pop_name(&mut self.told, Queue::Dialer(node)) {
-                row.takes.push(name)?;
-            }
+            self.take_oldest(Queue::Dialer(node), row)?;
         }
         Ok(())
     }
 
-    /// The row with what the dialer, or an attempt of it, put in the actor's mailbox, which has this entry's name. It was put
-    /// there already.
+    // Takes the oldest item of a queue, where there is one.
+    fn take_oldest(&mut self, queue: Queue, row: &mut Row) -> Result<(), AllocError>
+        ensures row { OnOk result (row.new ≡ record row.old { takes = row.old.takes ++ taken_names true (held self.old.told queue) }) }
+        ensures told { OnOk result ((q : Name) → held self.new.told q
+            ≡ (if same_queue queue q then drop 1 (held self.old.told q) else held self.old.told q)) }
+        ensures rest { OnOk result (self.new ≡ record self.old { told = self.new.told }) }
+    {
+        if let Some(name) = pop_name(&mut self.told, queue) {
+            row.takes.push(name)?;
+        }
+        Ok(())
+    }
+
+    /// The row of a step of the node's listener, which took the update that it was told. It was taken from the actor's mailbox
+    /// already.
+    ///
+    /// `Err` only where there is no memory.
+    pub fn take_update(&mut self, turn: Turn) -> Result<Row, AllocError>
+        ensures row { IfOk result (λ r. r ≡ updated_row (held self.old.told (queue.Update turn.node))) }
+        ensures told { OnOk result ((q : Name) → held self.new.told q
+            ≡ (if same_queue (queue.Update turn.node) q then drop 1 (held self.old.told q) else held self.old.told q)) }
+        ensures rest { OnOk result (self.new ≡ record self.old { told = self.new.told }) }
+    {
+        let mut row = only(turn.alloc, Reply::Ok);
+        self.take_oldest(Queue::Update(turn.node), &mut row)?;
+        Ok(row)
+    }
+
+    /// The row with what the dialer, an attempt of it or the listener put in the actor's mailbox, which has this entry's name.
+    /// It was put there already.
     ///
     /// `Err` only where there is no memory.
     pub fn put_message(

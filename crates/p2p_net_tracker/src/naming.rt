@@ -52,7 +52,7 @@ fn grant(granted: Option<(Metadata<Key>, Ingress)>) -> Option<(Key, Ingress)>
     }
 }
 
-/// What the tracker of a node put, as an item in its queue. No handshake has a queue yet.
+/// What the tracker of a node put, as an item in its queue. No handshake asks for a reservation yet.
 fn name(node: u64, tickets: &Tickets, put: Put<Key>) -> Option<(Queue, Item)>
     ensures { result ≡ named_put node tickets.now put }
 {
@@ -85,7 +85,13 @@ fn name(node: u64, tickets: &Tickets, put: Put<Key>) -> Option<(Queue, Item)>
             Some((Queue::Dialer(node), item))
         }
         Put::Dial(granted) => Some((Queue::Dialer(node), Item::Dial(grant(granted)))),
-        Put::Acceptable { .. } => None,
+        Put::Acceptable {
+            handshake,
+            acceptable,
+        } => Some((
+            Queue::Handshake { node, handshake },
+            Item::Acceptable(acceptable),
+        )),
         Put::Listen { .. } => None,
     }
 }

@@ -1,13 +1,15 @@
 -- The text of a reply.
-use Rattle.std.specs.Prelude.{ℕ, List, ◌++◌, codes, Option}
+use Rattle.std.specs.Prelude.{ℕ, Bool, List, ◌++◌, codes, Option}
 use Rattle.p2p_base.specs.declared.key.Key.{Key}
 use Rattle.p2p_base.specs.declared.outcome.Feedback.{Feedback}
 use Rattle.p2p_base.specs.declared.outcome.Feedback.TheVariants as feedback
 use Rattle.p2p_flow.specs.declared.tracked.TrackedPeers.{TrackedPeers}
 use Rattle.p2p_flow.specs.declared.update.PeerSetUpdate.{PeerSetUpdate}
+use Rattle.p2p_gates_rules.specs.declared.reply.Reply.{Reply as GatesReply}
+use Rattle.p2p_gates_rules.specs.declared.reply.Reply.TheVariants as gates
 use Rattle.p2p_log.specs.declared.entry.Reply.{Reply}
 use Rattle.p2p_log.specs.declared.entry.Reply.TheVariants as reply
-use Rattle.p2p_sim_report.specs.Text.{number_onto, key_onto, hex_onto, list_onto}
+use Rattle.p2p_sim_report.specs.Text.{number_onto, flag_onto, key_onto, hex_onto, list_onto}
 use Rattle.p2p_sim_report.specs.PeersText.{peer_set_onto, update_onto}
 
 abbrev pub capacity_onto : List ℕ → ℕ → List ℕ
@@ -38,6 +40,17 @@ updated_onto out update = update_onto (out ++ codes "{\"update\":") update ++ co
 abbrev pub blocked_onto : List ℕ → List Key → List ℕ
 blocked_onto out keys = list_onto key_onto (out ++ codes "{\"blocked\":") keys ++ codes "}"
 
+-- whether the quota of the address refuses it, and whether that of the subnet does
+abbrev pub limited_onto : List ℕ → Bool → Bool → List ℕ
+limited_onto out ip subnet = flag_onto (flag_onto (out ++ codes "{\"limited\":[") ip ++ codes ",") subnet ++ codes "]}"
+
+abbrev pub gates_onto : List ℕ → GatesReply → List ℕ
+gates_onto out gates.Private = out ++ codes "\"private\""
+gates_onto out gates.Unregistered = out ++ codes "\"unregistered\""
+gates_onto out (gates.Limited ip subnet) = limited_onto out ip subnet
+gates_onto out gates.TooMany = out ++ codes "\"too_many\""
+gates_onto out gates.Admitted = out ++ codes "\"admitted\""
+
 abbrev pub reply_onto : List ℕ → Reply → List ℕ
 reply_onto out reply.Ok = out ++ codes "\"ok\""
 reply_onto out reply.Idle = out ++ codes "\"idle\""
@@ -51,3 +64,4 @@ reply_onto out (reply.PeerSetTooLarge count limit) = too_large_onto out count li
 reply_onto out (reply.PeerSet peers) = answered_onto out peers
 reply_onto out (reply.Update update) = updated_onto out update
 reply_onto out (reply.Blocked keys) = blocked_onto out keys
+reply_onto out (reply.Gates told) = gates_onto out told

@@ -1,9 +1,9 @@
 -- The text of what a node's tracker is asked, of what it answers, of what attempts are told, and of what listeners take.
-use Rattle.std.specs.Prelude.{ℕ, List, ◌++◌, codes, Option, Some, None}
+use Rattle.std.specs.Prelude.{ℕ, Bool, List, ◌++◌, codes, Option, Some, None}
 use Rattle.p2p_base.specs.declared.key.Key.{Key}
 use Rattle.p2p_address.specs.declared.ip.SocketAddr.{SocketAddr}
 use Rattle.p2p_address.specs.declared.peer.Ingress.{Ingress}
-use Rattle.p2p_sim_report.specs.Text.{number_onto, key_onto, list_onto}
+use Rattle.p2p_sim_report.specs.Text.{number_onto, flag_onto, key_onto, list_onto}
 use Rattle.p2p_sim_report.specs.AddressText.{socket_onto, ingress_onto}
 
 -- ---- what it is asked
@@ -16,6 +16,10 @@ connect_onto out conn k = key_onto (number_onto (out ++ codes "{\"connect\":{\"c
 
 abbrev pub ask_dial_onto : List ℕ → Key → List ℕ
 ask_dial_onto out k = key_onto (out ++ codes "{\"dial\":") k ++ codes "}"
+
+abbrev pub ask_acceptable_onto : List ℕ → ℕ → Key → List ℕ
+ask_acceptable_onto out handshake k =
+    key_onto (number_onto (out ++ codes "{\"acceptable\":{\"handshake\":") handshake ++ codes ",\"key\":") k ++ codes "}}"
 
 abbrev pub release_onto : List ℕ → Key → List ℕ
 release_onto out k = key_onto (out ++ codes "{\"release\":") k ++ codes "}"
@@ -40,6 +44,9 @@ granted_onto out k i = key_onto (ingress_onto (out ++ codes "{\"dial\":{\"ingres
 abbrev pub dial_onto : List ℕ → Option (Key × Ingress) → List ℕ
 dial_onto out None = out ++ codes "{\"dial\":null}"
 dial_onto out (Some grant) = granted_onto out grant.0 grant.1
+
+abbrev pub acceptable_onto : List ℕ → Bool → List ℕ
+acceptable_onto out accepts = flag_onto (out ++ codes "{\"acceptable\":") accepts ++ codes "}"
 
 -- ---- what an attempt is told
 

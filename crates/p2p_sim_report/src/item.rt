@@ -6,8 +6,8 @@ ghost use Rattle.p2p_sim_report.specs.ItemText.{subscribe_onto, ready_onto, cont
 use crate::peers::{put_peer_set, put_update};
 use crate::text::{ToText, put, put_flag, put_hex, put_list, put_number};
 use crate::tracker_item::{
-    put_arrival, put_ask_dial, put_call, put_connect, put_dial, put_dialable, put_release,
-    put_resolved,
+    put_acceptable, put_arrival, put_ask_acceptable, put_ask_dial, put_call, put_connect, put_dial,
+    put_dialable, put_release, put_resolved,
 };
 use p2p_base::Key;
 use p2p_log::{Item, Queue};
@@ -132,6 +132,7 @@ impl ToText for Item {
             Item::Connect { conn, key } => put_connect(out, *conn, *key),
             Item::AskDialable => put(out, "{\"dialable\":true}"),
             Item::AskDial(key) => put_ask_dial(out, *key),
+            Item::AskAcceptable { handshake, key } => put_ask_acceptable(out, *handshake, *key),
             Item::Release(key) => put_release(out, *key),
             Item::Addresses(addresses) => put_list(out, addresses.as_slice()),
             Item::Dialable { next, peers } => put_dialable(out, *next, peers.as_slice()),
@@ -140,6 +141,7 @@ impl ToText for Item {
             Item::Linked => put(out, "\"linked\""),
             Item::Refused => put(out, "\"refused\""),
             Item::Arrival { from, key, link } => put_arrival(out, *from, *key, *link),
+            Item::Acceptable(accepts) => put_acceptable(out, *accepts),
             Item::Kill => put(out, "\"kill\""),
             Item::PeerSet(peers) => put_peer_set(out, peers),
             Item::Update(update) => put_update(out, update),

@@ -69,6 +69,9 @@ impl ToText for Queue {
             Queue::Blocked { question, .. } => put_one(out, "\"blocked:", question),
             Queue::Attempt { node, attempt } => put_numbers(out, "\"attempt:", node, attempt),
             Queue::Arrivals(node) => put_one(out, "\"arrivals:", node),
+            Queue::Handshake { node, handshake } => {
+                put_numbers(out, "\"handshake:", node, handshake)
+            }
         }
     }
 }

@@ -1,12 +1,13 @@
 //! The text of replies.
 ghost use Rattle.std.specs.Prelude.{◌≡◌, OnOk};
 ghost use Rattle.std.specs.String.{string_bytes};
-ghost use Rattle.p2p_sim_report.specs.ReplyText.{capacity_onto, sent_onto, received_onto, feedback_onto, too_large_onto, answered_onto, updated_onto, blocked_onto};
+ghost use Rattle.p2p_sim_report.specs.ReplyText.{capacity_onto, sent_onto, received_onto, feedback_onto, too_large_onto, answered_onto, updated_onto, blocked_onto, limited_onto, gates_onto};
 
 use crate::peers::{put_peer_set, put_update};
-use crate::text::{ToText, put, put_hex, put_list, put_number};
+use crate::text::{ToText, put, put_flag, put_hex, put_list, put_number};
 use p2p_base::{Feedback, Key};
 use p2p_flow::{PeerSetUpdate, TrackedPeers};
+use p2p_gates_rules::Reply as GatesReply;
 use p2p_log::Reply;
 use std::alloc::AllocError;
 
@@ -80,6 +81,28 @@ fn put_blocked(out: &mut String, keys: &[Key]) -> Result<(), AllocError>
     put(out, "}")
 }
 
+fn put_limited(out: &mut String, ip: bool, subnet: bool) -> Result<(), AllocError>
+    ensures { OnOk result (string_bytes out.new ≡ limited_onto (string_bytes out.old) ip subnet) }
+{
+    put(out, "{\"limited\":[")?;
+    put_flag(out, ip)?;
+    put(out, ",")?;
+    put_flag(out, subnet)?;
+    put(out, "]}")
+}
+
+fn put_gates(out: &mut String, told: GatesReply) -> Result<(), AllocError>
+    ensures { OnOk result (string_bytes out.new ≡ gates_onto (string_bytes out.old) told) }
+{
+    match told {
+        GatesReply::Private => put(out, "\"private\""),
+        GatesReply::Unregistered => put(out, "\"unregistered\""),
+        GatesReply::Limited { ip, subnet } => put_limited(out, ip, subnet),
+        GatesReply::TooMany => put(out, "\"too_many\""),
+        GatesReply::Admitted => put(out, "\"admitted\""),
+    }
+}
+
 impl ToText for Reply {
     ghost use Rattle.p2p_sim_report.specs.ReplyText.{reply_onto};
 
@@ -101,6 +124,7 @@ impl ToText for Reply {
             Reply::PeerSet(peers) => put_answered(out, peers),
             Reply::Update(update) => put_updated(out, update),
             Reply::Blocked(keys) => put_blocked(out, keys.as_slice()),
+            Reply::Gates(told) => put_gates(out, *told),
         }
     }
 }

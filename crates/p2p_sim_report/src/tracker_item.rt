@@ -1,10 +1,10 @@
 //! The text of what a node's tracker is asked, of what it answers, of what attempts are told, and of what listeners take.
 ghost use Rattle.std.specs.Prelude.{◌≡◌, OnOk};
 ghost use Rattle.std.specs.String.{string_bytes};
-ghost use Rattle.p2p_sim_report.specs.TrackerItemText.{call_onto, connect_onto, ask_dial_onto, release_onto, digits_onto, next_onto, dialable_onto, granted_onto, dial_onto, resolved_onto, arrival_onto};
+ghost use Rattle.p2p_sim_report.specs.TrackerItemText.{call_onto, connect_onto, ask_dial_onto, ask_acceptable_onto, release_onto, digits_onto, next_onto, dialable_onto, granted_onto, dial_onto, acceptable_onto, resolved_onto, arrival_onto};
 
 use crate::address::put_ingress;
-use crate::text::{ToText, put, put_count, put_list, put_number};
+use crate::text::{ToText, put, put_count, put_flag, put_list, put_number};
 use p2p_address::{Ingress, SocketAddr};
 use p2p_base::Key;
 use std::alloc::AllocError;
@@ -33,6 +33,16 @@ pub fn put_ask_dial(out: &mut String, key: Key) -> Result<(), AllocError>
     put(out, "{\"dial\":")?;
     key.write_onto(out)?;
     put(out, "}")
+}
+
+pub fn put_ask_acceptable(out: &mut String, handshake: u64, key: Key) -> Result<(), AllocError>
+    ensures { OnOk result (string_bytes out.new ≡ ask_acceptable_onto (string_bytes out.old) handshake key) }
+{
+    put(out, "{\"acceptable\":{\"handshake\":")?;
+    put_number(out, handshake)?;
+    put(out, ",\"key\":")?;
+    key.write_onto(out)?;
+    put(out, "}}")
 }
 
 pub fn put_release(out: &mut String, key: Key) -> Result<(), AllocError>
@@ -87,6 +97,14 @@ pub fn put_dial(out: &mut String, grant: &Option<(Key, Ingress)>) -> Result<(), 
         Some((key, ingress)) => put_granted(out, *key, ingress),
         None => put(out, "{\"dial\":null}"),
     }
+}
+
+pub fn put_acceptable(out: &mut String, accepts: bool) -> Result<(), AllocError>
+    ensures { OnOk result (string_bytes out.new ≡ acceptable_onto (string_bytes out.old) accepts) }
+{
+    put(out, "{\"acceptable\":")?;
+    put_flag(out, accepts)?;
+    put(out, "}")
 }
 
 pub fn put_resolved(out: &mut String, addresses: &[SocketAddr]) -> Result<(), AllocError>

@@ -1,4 +1,4 @@
--- The form of each act of a node's dialer and of its attempts.
+-- The form of each act of a node's dialer, of its attempts and of its listener.
 use Rattle.std.specs.Prelude.{ℕ, List, [], ◌∷◌, codes, bytes_eq, Option, Some, None, if◌then◌else◌}
 use Rattle.serde_json.specs.Data.{Data}
 use Rattle.p2p_log.specs.declared.event.Act.{Act}
@@ -11,6 +11,11 @@ abbrev pub dialer_of : Data → Option Act
 dialer_of d = do
   node ← node_of d
   Some (act.Dialer node)
+
+abbrev pub listener_of : Data → Option Act
+listener_of d = do
+  node ← node_of d
+  Some (act.Listener node)
 
 -- the attempt, and the node
 abbrev pub attempt_named_of : Data → Option (ℕ × ℕ)
@@ -48,7 +53,7 @@ connect_of d = do
   to ← field "to" whole d
   Some (act.Connect attempt from node to)
 
--- the act of a dialer or an attempt that this word asks for
+-- the act of a dialer, an attempt or a listener that this word asks for
 abbrev pub dialer_act_named : List ℕ → Data → Option Act
 dialer_act_named word d =
     if bytes_eq word (codes "dialer") then dialer_of d
@@ -56,4 +61,5 @@ dialer_act_named word d =
     else if bytes_eq word (codes "resolve") then resolve_of d
     else if bytes_eq word (codes "connect") then connect_of d
     else if bytes_eq word (codes "refuse") then refuse_of d
+    else if bytes_eq word (codes "listener") then listener_of d
     else None

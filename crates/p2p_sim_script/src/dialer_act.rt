@@ -1,7 +1,7 @@
-//! The acts of a node's dialer and of its attempts, each by its own names.
+//! The acts of a node's dialer, of its attempts and of its listener, each by its own names.
 ghost use Rattle.std.specs.Prelude.{◌≡◌};
 ghost use Rattle.serde_json.specs.View.{view};
-ghost use Rattle.p2p_sim_script.specs.DialerActForm.{attempt_named_of, attempt_of, connect_of, dialer_act_named, dialer_of, refuse_of, resolve_of};
+ghost use Rattle.p2p_sim_script.specs.DialerActForm.{attempt_named_of, attempt_of, connect_of, dialer_act_named, dialer_of, listener_of, refuse_of, resolve_of};
 ghost use Rattle.p2p_sim_script.specs.Gives.{Gives};
 
 use crate::error::ScriptError;
@@ -16,6 +16,13 @@ fn read_dialer(tree: &Value) -> Option<Act>
 {
     let node = read_node(tree)?;
     Some(Act::Dialer { node })
+}
+
+fn read_listener(tree: &Value) -> Option<Act>
+    ensures { result ≡ listener_of (view tree.now) }
+{
+    let node = read_node(tree)?;
+    Some(Act::Listener { node })
 }
 
 // The attempt, and the node, of an act that names nothing else.
@@ -78,7 +85,7 @@ fn read_connect(alloc: Global, tree: &Value) -> Result<Act, ScriptError>
     })
 }
 
-/// The act of a dialer or an attempt that `word` asks for.
+/// The act of a dialer, an attempt or a listener that `word` asks for.
 pub(crate) fn read_dialer_named(alloc: Global, word: &str, tree: &Value) -> Result<Act, ScriptError>
     ensures { Gives result (dialer_act_named word.now (view tree.now)) }
 {
@@ -88,6 +95,7 @@ pub(crate) fn read_dialer_named(alloc: Global, word: &str, tree: &Value) -> Resu
         "resolve" => return read_resolve(alloc, tree),
         "connect" => return read_connect(alloc, tree),
         "refuse" => read_refuse(tree),
+        "listener" => read_listener(tree),
         _ => None,
     };
     act.ok_or(ScriptError::NotScript)

@@ -1,0 +1,114 @@
+-- The shape of a listener's step: it moves no copy, and neither grants a key nor releases one.
+use Rattle.std.proofs.Common.{◌≡◌, ℕ, Bool, true, false, cond, List, [], ◌∷◌, refl, subst, sym, ap}
+use Rattle.std.specs.Prelude.{◌||◌, length}
+use Rattle.std.specs.List.{AllByRecursion as Each}
+use Rattle.p2p_base.specs.declared.key.Key.{Key}
+use Rattle.p2p_gates_rules.specs.Gates.{Known, reply_to}
+use Rattle.p2p_gates_rules.specs.declared.reply.Reply.{Reply as GatesReply}
+use Rattle.p2p_gates_rules.specs.declared.reply.Reply.TheVariants as gates
+use Rattle.p2p_log.specs.declared.config.Config.{Config}
+use Rattle.p2p_log.specs.declared.queue.Queue.{Queue}
+use Rattle.p2p_log.specs.declared.queue.Queue.TheVariants as queue
+use Rattle.p2p_log.specs.declared.item.Item.{Item}
+use Rattle.p2p_log.specs.declared.item.Item.TheVariants as item
+use Rattle.p2p_log.specs.declared.item.Envelope.{Envelope}
+use Rattle.p2p_log.specs.declared.entry.Entry.{Entry}
+use Rattle.p2p_log.specs.declared.entry.Reply.{Reply}
+use Rattle.p2p_log.specs.declared.entry.Reply.TheVariants as reply
+use Rattle.p2p_log.specs.declared.event.Act.TheVariants as act
+use Rattle.p2p_log.specs.QueueCode.{same_queue}
+use Rattle.p2p_log.specs.Lines.{name_of, line}
+use Rattle.p2p_log_rules.specs.declared.row.Row.{Row}
+use Rattle.p2p_log_rules.specs.Moves.{Moves}
+use Rattle.p2p_log_rules.specs.Facts.{is_up}
+use Rattle.p2p_log_rules.specs.Rows.{only}
+use Rattle.p2p_log_rules.specs.Listening.{known_of, gate_rules_at, gates_puts, arrived_row, arrival_turn, listener_turn, has_place, listener_row}
+use Rattle.p2p_log.proofs.Queues.{same_queue-refl}
+use Rattle.p2p_log_rules.proofs.Moves.{one_taken, first_has}
+use Rattle.p2p_log_rules.proofs.Touches.{reads, writes}
+use Rattle.p2p_log_laws.proofs.Fitting.{StandsFit, fits, holds_bare, bare_there}
+use Rattle.p2p_log_laws.proofs.Plain.{IsAside, Plain, IsPlain, plain_item, plain_aside}
+use Rattle.p2p_log_laws.proofs.Shape.{Shape, IsQuiet, quiet_laws, still, no_moves, one_move, first_in}
+use Rattle.p2p_log_rules.specs.Reading.{is_read}
+
+-- a row that moves no copy, no grant and no release, whatever the key, at any node
+pub record Aside (configs : List Config) (log : List Entry) (m : ℕ) (r : Row) : Type 0 where
+  pub shape : Shape configs log (act.Listener m) r
+  pub plain : (n : ℕ) (key : Key) → (moves : Moves log r) × IsPlain n key log r moves
+
+module _ (configs : List Config) (log : List Entry) (m : ℕ) where
+  idle_aside : (rep : Reply) → is_read rep ≡ false → Aside configs log m (only rep)
+  idle_aside rep silent = record {
+    shape = still configs log (act.Listener m) rep refl silent;
+    plain = λ n key. (no_moves log (only rep) refl refl, record { taken = tt; ended = tt; puts = tt });
+  }
+
+  module _ (q : Queue) (x : Envelope) (rest : List Envelope) (first : line log q ≡ x ∷ rest) (read : reads configs log (act.Listener m) q ≡ true) (bare : holds_bare q ≡ true) (aside : (n : ℕ) → IsAside n q) where
+    -- the oldest of a queue is taken
+    taken_aside : (rep : Reply) → is_read rep ≡ false → (puts : List (Queue × Item)) → Each IsQuiet puts → Each (λ p. writes configs log (act.Listener m) p.0 ≡ true) puts
+        → ((n : ℕ) (key : Key) → Each (Plain n key) puts) → Aside configs log m (record { reply = rep; takes = name_of x ∷ []; puts = puts; ends = [] })
+    taken_aside rep silent puts quiet near plain =
+        let r : Row = record { reply = rep; takes = name_of x ∷ []; puts = puts; ends = [] } in
+        let moves : Moves log r = one_move log q x rest first r refl refl in
+        let there : x.queue ≡ q = one_taken log q x rest first in
+        record {
+          shape = record {
+            moves = moves;
+            reach = record { taken = (first_in (reads configs log (act.Listener m)) log q x rest first read, tt); ended = tt; puts = near };
+            laws = λ stand.
+                let whole : fits x.queue x.item ≡ true = first_has StandsFit log q x rest stand.fitting first in
+                let fit : fits q x.item ≡ true = subst (λ p. fits p x.item ≡ true) there whole in
+                quiet_laws configs log (act.Listener m) r moves refl silent (bare_there q x.item bare fit, tt) tt tt quiet;
+          };
+          plain = λ n key. (moves, record { taken = (plain_aside n key x.queue x.item (subst (IsAside n) (sym there) (aside n)), tt); ended = tt; puts = plain n key });
+        }
+
+  -- what is asked for a handshake that begins
+  quiet_gates : (name : ℕ) (key : Key) (told : GatesReply) → Each IsQuiet (gates_puts m name key told)
+  quiet_gates name key gates.Admitted = ((refl, refl), tt)
+  quiet_gates name key _ = tt
+
+  near_gates : (name : ℕ) (key : Key) (told : GatesReply) → Each (λ p. writes configs log (act.Listener m) p.0 ≡ true) (gates_puts m name key told)
+  near_gates name key gates.Admitted = (same_queue-refl (queue.Tracker m), tt)
+  near_gates name key _ = tt
+
+  plain_gates : (name : ℕ) (k : Key) (told : GatesReply) (n : ℕ) (key : Key) → Each (Plain n key) (gates_puts m name k told)
+  plain_gates name k gates.Admitted n key = (plain_item n key (queue.Tracker m) (item.AskAcceptable name k) refl refl, tt)
+  plain_gates name k _ n key = tt
+
+  update_read : reads configs log (act.Listener m) (queue.Update m) ≡ true
+  update_read = ap (λ b. b || same_queue (queue.Arrivals m) (queue.Update m)) (same_queue-refl (queue.Update m))
+
+  arrivals_read : reads configs log (act.Listener m) (queue.Arrivals m) ≡ true
+  arrivals_read = ap (λ b. same_queue (queue.Update m) (queue.Arrivals m) || b) (same_queue-refl (queue.Arrivals m))
+
+  arrived_aside : (known : Known) (place : Bool) (at : ℕ) (x : Envelope) (rest : List Envelope) → line log (queue.Arrivals m) ≡ x ∷ rest → (i : Item)
+      → Aside configs log m (arrived_row (gate_rules_at configs m) known place m (length log) at (name_of x) i)
+  arrived_aside known place at x rest first (item.Arrival from key link) =
+      let told : GatesReply = reply_to (gate_rules_at configs m) known place from.ip at in
+      taken_aside (queue.Arrivals m) x rest first arrivals_read refl (λ n. (refl, refl)) (reply.Gates told) refl (gates_puts m (length log) key told)
+      (quiet_gates (length log) key told) (near_gates (length log) key told) (plain_gates (length log) key told)
+  arrived_aside known place at x rest first _ = idle_aside reply.Idle refl
+
+  arrival_aside : (known : Known) (place : Bool) (at : ℕ) (xs : List Envelope) → line log (queue.Arrivals m) ≡ xs → Aside configs log m (arrival_turn (gate_rules_at configs m) known place m (length log) at xs)
+  arrival_aside known place at [] none = idle_aside reply.Idle refl
+  arrival_aside known place at (x ∷ rest) first = arrived_aside known place at x rest first x.item
+
+  turn_aside : (known : Known) (place : Bool) (at : ℕ) (us : List Envelope) → line log (queue.Update m) ≡ us
+      → Aside configs log m (listener_turn (gate_rules_at configs m) known place m (length log) at us (line log (queue.Arrivals m)))
+  turn_aside known place at [] none = arrival_aside known place at (line log (queue.Arrivals m)) refl
+  turn_aside known place at (x ∷ rest) first = taken_aside (queue.Update m) x rest first update_read refl (λ n. (refl, refl)) reply.Ok refl [] tt tt (λ n key. tt)
+
+  listener_aside : (at : ℕ) → Aside configs log m (listener_row configs log m at)
+  listener_aside at = by_up (is_up log m)
+    where
+      by_up : (b : Bool) → Aside configs log m
+          (cond b (listener_turn (gate_rules_at configs m) (known_of configs log m) (has_place configs log m) m (length log) at (line log (queue.Update m)) (line log (queue.Arrivals m))) (only reply.Gone))
+      by_up true = turn_aside (known_of configs log m) (has_place configs log m) at (line log (queue.Update m)) refl
+      by_up false = idle_aside reply.Gone refl
+
+pub listener_shape : (configs : List Config) (log : List Entry) (m at : ℕ) → Shape configs log (act.Listener m) (listener_row configs log m at)
+listener_shape configs log m at = (listener_aside configs log m at).shape
+
+pub listener_plain : (configs : List Config) (log : List Entry) (m at n : ℕ) (key : Key) → (moves : Moves log (listener_row configs log m at)) × IsPlain n key log (listener_row configs log m at) moves
+listener_plain configs log m at n key = (listener_aside configs log m at).plain n key

@@ -1,0 +1,103 @@
+-- A node's listener, by the log: what its gates go by, and the row of its step.
+use Rattle.std.specs.Prelude.{ℕ, Bool, false, cond, nat_lt, List, [], ◌∷◌, length, Some, None, slice_get}
+use Rattle.p2p_base.specs.declared.key.Key.{Key}
+use Rattle.p2p_runtime.specs.QuotaLaw.{Rate as Quota}
+use Rattle.p2p_gates_rules.specs.Gates.{GateRules, Known, nothing_known, reply_to, known_after}
+use Rattle.p2p_gates_rules.specs.declared.reply.Reply.{Reply as GatesReply}
+use Rattle.p2p_gates_rules.specs.declared.reply.Reply.TheVariants as gates
+use Rattle.p2p_log.specs.declared.config.Config.{Config}
+use Rattle.p2p_log.specs.declared.queue.Queue.{Queue}
+use Rattle.p2p_log.specs.declared.queue.Queue.TheVariants as queue
+use Rattle.p2p_log.specs.declared.item.Item.{Item}
+use Rattle.p2p_log.specs.declared.item.Item.TheVariants as item
+use Rattle.p2p_log.specs.declared.item.Envelope.{Envelope}
+use Rattle.p2p_log.specs.declared.entry.Entry.{Entry}
+use Rattle.p2p_log.specs.declared.entry.Reply.TheVariants as reply
+use Rattle.p2p_log.specs.declared.event.Rate.{Rate}
+use Rattle.p2p_log.specs.Lines.{name_of, line}
+use Rattle.p2p_log_rules.specs.declared.row.Row.{Row}
+use Rattle.p2p_log_rules.specs.Facts.{is_up, taken, state_from}
+use Rattle.p2p_log_rules.specs.Handshakes.{steps_listener, handshakes_of}
+use Rattle.p2p_log_rules.specs.Rows.{only}
+
+abbrev pub quota_of : Rate → Quota
+quota_of r = record { burst = r.burst; period = r.period }
+
+-- the rules of the gates of a node
+abbrev pub gate_rules_of : Config → GateRules
+gate_rules_of c = record {
+  allow_private_ips = c.allow_private_ips;
+  bypass_ip_check = c.bypass_ip_check;
+  rates = record {
+    address = quota_of c.allowed_handshake_rate_per_ip;
+    subnet = quota_of c.allowed_handshake_rate_per_subnet;
+  };
+}
+
+abbrev pub no_gates : GateRules
+no_gates = record {
+  allow_private_ips = false;
+  bypass_ip_check = false;
+  rates = record { address = record { burst = 0; period = 0 }; subnet = record { burst = 0; period = 0 } };
+}
+
+abbrev pub gate_rules_at : List Config → ℕ → GateRules
+gate_rules_at configs n = elim (slice_get configs n) [ None ↦ no_gates | Some c ↦ gate_rules_of c ]
+
+-- how many handshakes of a node may run at a time
+abbrev pub most_handshakes_at : List Config → ℕ → ℕ
+most_handshakes_at configs n = elim (slice_get configs n) [ None ↦ 0 | Some c ↦ c.max_concurrent_handshakes ]
+
+-- ---- what the gates go by, and what an entry makes of it
+
+-- once it took this at a moment: addresses, or an arrival, which is held against the quotas where it comes to them
+abbrev pub took_known : GateRules → ℕ → List Item → Known → Known
+took_known rules at (item.Addresses addresses ∷ items) k = record k { addresses = addresses }
+took_known rules at (item.Arrival from key link ∷ items) k = known_after rules k from.ip at
+took_known rules at _ k = k
+
+-- after an entry, given those before it
+abbrev pub known_by : List Config → ℕ → List Entry → Entry → Known → Known
+known_by configs n before e k =
+    cond (steps_listener n e.event.act) (took_known (gate_rules_at configs n) e.event.at (taken before e) k) k
+
+-- what the gates of a node's listener go by
+unfoldable pub known_of : List Config → List Entry → ℕ → Known
+known_of configs log n = state_from (known_by configs n) [] log nothing_known
+
+-- ---- its step
+
+-- whether its peer may connect is asked for a handshake that begins, which has the name of this entry
+abbrev pub gates_puts : ℕ → ℕ → Key → GatesReply → List (Queue × Item)
+gates_puts n name key gates.Admitted = (queue.Tracker n, item.AskAcceptable name key) ∷ []
+gates_puts n name key _ = []
+
+-- an arrival of this key was taken, which is told this
+abbrev pub told_row : ℕ → ℕ → ℕ × ℕ → Key → GatesReply → Row
+told_row n entry name key told = record { reply = reply.Gates told; takes = name ∷ []; puts = gates_puts n entry key told; ends = [] }
+
+-- an arrival is taken through the gates
+abbrev pub arrived_row : GateRules → Known → Bool → ℕ → ℕ → ℕ → ℕ × ℕ → Item → Row
+arrived_row rules known place n entry at name (item.Arrival from key link) =
+    told_row n entry name key (reply_to rules known place from.ip at)
+arrived_row rules known place n entry at name _ = only reply.Idle
+
+abbrev pub arrival_turn : GateRules → Known → Bool → ℕ → ℕ → ℕ → List Envelope → Row
+arrival_turn rules known place n entry at [] = only reply.Idle
+arrival_turn rules known place n entry at (x ∷ xs) = arrived_row rules known place n entry at (name_of x) x.item
+
+-- an update first, and then the oldest arrival
+abbrev pub listener_turn : GateRules → Known → Bool → ℕ → ℕ → ℕ → List Envelope → List Envelope → Row
+listener_turn rules known place n entry at [] arrivals = arrival_turn rules known place n entry at arrivals
+listener_turn rules known place n entry at (x ∷ xs) arrivals = record { reply = reply.Ok; takes = name_of x ∷ []; puts = []; ends = [] }
+
+-- a handshake more may run
+abbrev pub has_place : List Config → List Entry → ℕ → Bool
+has_place configs log n = nat_lt (length (handshakes_of log n)) (most_handshakes_at configs n)
+
+abbrev pub listener_row : List Config → List Entry → ℕ → ℕ → Row
+listener_row configs log n at =
+    cond (is_up log n)
+    (listener_turn (gate_rules_at configs n) (known_of configs log n) (has_place configs log n) n (length log) at
+    (line log (queue.Update n)) (line log (queue.Arrivals n)))
+    (only reply.Gone)

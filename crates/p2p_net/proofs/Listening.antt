@@ -1,0 +1,444 @@
+-- The acts of a node's listener.
+use Rattle.std.proofs.Common.{◌≡◌, ℕ, ◌+◌, Bool, true, false, cond, List, [], ◌∷◌, ◌++◌, map, drop, length, refl, ap, sym, subst, ◌∙◌, append-nil, eq-eqb, length-append, Option, Some, None}
+use Rattle.std.specs.Prelude.{filter, slice_get, take}
+use Rattle.std.proofs.lemmas.Option.{same_Some}
+use Rattle.p2p_base.specs.declared.key.Key.{Key}
+use Rattle.p2p_base.specs.Queue.{has_room}
+use Rattle.p2p_address.specs.declared.ip.IpAddr.{IpAddr}
+use Rattle.p2p_address.specs.declared.ip.SocketAddr.{SocketAddr}
+use Rattle.p2p_runtime.specs.QuotaPlaces.{Places}
+use Rattle.p2p_tracker_mailbox.specs.Lines.{begun}
+use Rattle.p2p_tracker_mailbox.specs.declared.mailbox.Mailbox.{Mailbox}
+use Rattle.p2p_tracker_mailbox.specs.declared.message.Message.TheVariants as message
+use Rattle.p2p_gates_rules.specs.Gates as rule
+use Rattle.p2p_gates_rules.specs.Gates.{GateRules, Known}
+use Rattle.p2p_gates_rules.specs.declared.reply.Reply.{Reply as GatesReply}
+use Rattle.p2p_gates_rules.specs.declared.reply.Reply.TheVariants as gates
+use Rattle.p2p_gates.specs.Gates.{has_place, places_after, reply_to}
+use Rattle.p2p_gates.specs.Listening.{Listening as Actor, StandsFor}
+use Rattle.p2p_gates.specs.ListenerTurns.{ListenerTurn, listener_turn, update_turn, line_turn, arrival_turn}
+use Rattle.p2p_gates.specs.declared.arrival.Arrival.{Arrival}
+use Rattle.p2p_log.specs.declared.config.Config.{Config}
+use Rattle.p2p_log.specs.declared.queue.Queue.{Queue}
+use Rattle.p2p_log.specs.declared.queue.Queue.TheVariants as queue
+use Rattle.p2p_log.specs.declared.item.Item.{Item}
+use Rattle.p2p_log.specs.declared.item.Item.TheVariants as item
+use Rattle.p2p_log.specs.declared.item.Envelope.{Envelope}
+use Rattle.p2p_log.specs.declared.entry.Entry.{Entry}
+use Rattle.p2p_log.specs.declared.entry.Reply.TheVariants as reply
+use Rattle.p2p_log.specs.declared.event.Event.{Event}
+use Rattle.p2p_log.specs.declared.event.Act.TheVariants as act
+use Rattle.p2p_log.specs.QueueCode.{same_queue}
+use Rattle.p2p_log.specs.Lines.{name_of, goes, line, live, stays, stands_in}
+use Rattle.p2p_log.proofs.Names.{AreApart-live_from, filter_stays-first}
+use Rattle.p2p_log.proofs.QueueNames.{queue_from_same}
+use Rattle.p2p_log.proofs.Queues.{same_queue-refl}
+use Rattle.p2p_log_rules.specs.declared.row.Row.{Row}
+use Rattle.p2p_log_rules.specs.Facts.{is_up, taken}
+use Rattle.p2p_log_rules.specs.Effect.{only, row, effect, entry_of}
+use Rattle.p2p_log_rules.specs.Handshakes.{with_admitted, handshakes_of, source_of, source_in, source_at}
+use Rattle.p2p_log_rules.specs.Listening as log_rule
+use Rattle.p2p_log_rules.specs.Listening.{gate_rules_at, most_handshakes_at, took_known, known_of, gates_puts, told_row}
+use Rattle.p2p_net_queues.specs.Board.{held}
+use Rattle.p2p_net_queues.proofs.Going.{put_in, line-append}
+use Rattle.p2p_net_listener.specs.Listening as listening
+use Rattle.p2p_net_listener.specs.Stands.{arrival_item, ListenerStands}
+use Rattle.p2p_net_listener.specs.declared.listening.Took.{Took}
+use Rattle.p2p_net_listener.specs.declared.listening.Took.TheVariants as takes
+use Rattle.p2p_net_listener.proofs.Changes.{listener_moved}
+use Rattle.p2p_net_links.specs.Stands.{LinksStand}
+use Rattle.p2p_net_links.specs.declared.links.Links.{Links}
+use Rattle.p2p_net_tracker.specs.Dialed.{taken_names}
+use Rattle.p2p_net_tracker.specs.Stands.{is_told, HeardStands, TrackerStands}
+use Rattle.p2p_net_tracker.proofs.Changes.{told_apart, tracker_frame, kept_open}
+use Rattle.p2p_net_tracker.proofs.ListenerSteps.{tracker_updated, tracker_asked}
+use Rattle.p2p_net_tracker.proofs.Steps.{none_taken, first_taken}
+use Rattle.p2p_net.specs.Places as place
+use Rattle.p2p_net.specs.Ready.{is_started}
+use Rattle.p2p_net.specs.Acts.{ListenedBy, ListenerStepsBy}
+use Rattle.p2p_net.specs.Stands.{NodeStands}
+use Rattle.p2p_net.specs.declared.node.Node.{Node}
+use Rattle.p2p_net.proofs.EachPart.{each_part, not_among}
+use Rattle.p2p_net.proofs.Frames.{links_kept}
+use Rattle.p2p_net.proofs.Performing.{asked, Performs, IsStill, line-still, part_still, stays_performs}
+use Rattle.p2p_net.proofs.Readying.{started_is}
+
+-- the oldest of a queue is taken
+first_left : (log : List Entry) (q : Queue) (x : Envelope) (rest : List Envelope) → line log q ≡ x ∷ rest → (p : Queue)
+    → filter (stands_in p) (filter (stays (name_of x ∷ [])) (live log)) ≡ cond (same_queue q p) rest (line log p)
+unfolding line
+first_left log q x rest first p = filter_stays-first (live log) q p x rest (AreApart-live_from 0 log) first
+
+-- a queue in which a tracker tells something is no listener's
+told_no_arrivals : (n m : ℕ) (q : Queue) → is_told n q ≡ true → same_queue (queue.Arrivals m) q ≡ false
+told_no_arrivals n m (queue.Update j) h = refl
+told_no_arrivals n m (queue.Dialer j) h = refl
+told_no_arrivals n m (queue.Control j c) h = refl
+told_no_arrivals n m (queue.Answer j c) h = refl
+told_no_arrivals n m (queue.Updates j c) h = refl
+told_no_arrivals n m (queue.Blocked j c) h = refl
+told_no_arrivals n m (queue.Handshake j c) h = refl
+told_no_arrivals n m _ h = cc
+
+-- the source of the arrival that the last entry took
+last_there : {X : Type 0} (xs : List X) (x : X) → slice_get (xs ++ x ∷ []) (length xs) ≡ Some x
+last_there [] x = refl
+last_there (y ∷ ys) x = last_there ys x
+
+take_all : {X : Type 0} (xs : List X) (x : X) → take (length xs) (xs ++ x ∷ []) ≡ xs
+take_all [] x = refl
+take_all (y ∷ ys) x = ap (λ l. y ∷ l) (take_all ys x)
+
+source_last : (log : List Entry) (e : Entry) (from : SocketAddr) (key : Key) (link : ℕ) → taken log e ≡ item.Arrival from key link ∷ [] → source_at (log ++ e ∷ []) (length log) ≡ Some from.ip
+unfolding source_at
+source_last log e from key link is =
+    ap (source_in (take (length log) (log ++ e ∷ []))) (last_there log e) ∙ (ap (λ l. source_in l (Some e)) (take_all log e) ∙ ap source_of is)
+
+-- what was asked for a handshake that begins, as an item
+abbrev asked_for : ℕ → Key → GatesReply → Option Item
+asked_for k key gates.Admitted = Some (item.AskAcceptable k key)
+asked_for k key _ = None
+
+module _ (configs : List Config) (log : List Entry) (moment seed n : ℕ) (x y : Node) (l ls : Links) (r : Row) (s : NodeStands configs log n x) (t : LinksStand log l) (up : is_up log n ≡ true)
+    (rest : y ≡ record x { tracker = y.tracker; listening = y.listening }) (kept : ls ≡ l) (what : Option Took)
+    (steps : listening.Steps (length log) moment x.listening y.listening x.tracker.mailbox y.tracker.mailbox what) where
+  abbrev ev : Event
+  ev = asked moment seed (act.Listener n)
+
+  abbrev k : ℕ
+  k = length log
+
+  abbrev m : Mailbox Key
+  m = x.tracker.mailbox
+
+  abbrev actor : Actor Key
+  actor = x.listening.actor
+
+  abbrev rules : GateRules
+  rules = gate_rules_at configs n
+
+  abbrev known : Known
+  known = known_of configs log n
+
+  abbrev hs : List ℕ
+  hs = handshakes_of log n
+
+  abbrev place_free : Bool
+  place_free = log_rule.has_place configs log n
+
+  abbrev updates : List Envelope
+  updates = line log (queue.Update n)
+
+  abbrev arrivals : List Envelope
+  arrivals = line log (queue.Arrivals n)
+
+  tracked : TrackerStands configs log n x.tracker
+  tracked = s.each place.tracker
+
+  listens : ListenerStands configs log n x.listening
+  listens = s.each place.listener
+
+  abbrev turn : ListenerTurn Key
+  turn = listener_turn actor known m k moment
+
+  abbrev e : Row → Entry
+  e due = entry_of ev due
+
+  row_by : (us zs : List Envelope) → updates ≡ us → arrivals ≡ zs → row configs log moment seed (act.Listener n) ≡ log_rule.listener_turn rules known place_free n k moment us zs
+  unfolding row
+  row_by us zs u z =
+      ap (λ b. cond b (log_rule.listener_turn rules known place_free n k moment updates arrivals) (only reply.Gone)) up
+      ∙ (ap (λ q. log_rule.listener_turn rules known place_free n k moment q arrivals) u ∙ ap (log_rule.listener_turn rules known place_free n k moment us) z)
+
+  effect_is : (due : Row) → row configs log moment seed (act.Listener n) ≡ due → e due ≡ effect configs log ev
+  unfolding effect
+  effect_is due is = ap e (sym is)
+
+  -- where both parts stand for the log with this entry
+  performs : (due : Row) → row configs log moment seed (act.Listener n) ≡ due → r ≡ due → TrackerStands configs (log ++ e due ∷ []) n y.tracker → ListenerStands configs (log ++ e due ∷ []) n y.listening
+      → Performs configs log ev n y ls r
+  performs due row_is r_is tracks hears =
+      let same = effect_is due row_is in
+      record {
+        row_is = r_is ∙ sym row_is;
+        node =
+            each_part configs log ev n x y (place.tracker ∷ place.listener ∷ []) s rest (λ p out. not_among (place.tracker ∷ place.listener ∷ []) p n n out) (
+              subst (λ (d : Entry). TrackerStands configs (log ++ d ∷ []) n y.tracker) same tracks,
+              (subst (λ (d : Entry). ListenerStands configs (log ++ d ∷ []) n y.listening) same hears, tt),
+            );
+        linked = subst (LinksStand (log ++ effect configs log ev ∷ [])) (sym kept) (links_kept configs log ev l t refl);
+      }
+
+  -- what a turn makes of the listener, which took these
+  hears_by : (due : Row) (T : ListenerTurn Key) (items : List Item) → turn ≡ T → taken log (e due) ≡ items
+      → listening.names_after T.stepped x.listening.names ≡ map name_of (line (log ++ e due ∷ []) (queue.Arrivals n))
+      → map (λ (z : Envelope). z.item) (line (log ++ e due ∷ []) (queue.Arrivals n)) ≡ map arrival_item T.arrivals
+      → T.known ≡ took_known rules moment items known
+      → T.places ≡ record { held = length (with_admitted k due.reply hs); max = most_handshakes_at configs n }
+      → ListenerStands configs (log ++ e due ∷ []) n y.listening
+  hears_by due T items is took_is names waits knows places =
+      listener_moved configs log (e due) n x.listening y.listening items listens
+      (record {
+        steps = eq-eqb n n refl;
+        took = took_is;
+        names = steps.names known listens.known ∙ (ap (λ (u : ListenerTurn Key). listening.names_after u.stepped x.listening.names) is ∙ names);
+        waits = waits ∙ sym (ap (map arrival_item) (steps.arrivals known listens.known ∙ ap (λ (u : ListenerTurn Key). u.arrivals) is));
+        known = subst (StandsFor y.listening.actor) (ap (λ (u : ListenerTurn Key). u.known) is ∙ knows) (steps.stands known listens.known);
+        places = steps.places known listens.known ∙ (ap (λ (u : ListenerTurn Key). u.places) is ∙ places);
+        rest = steps.rest;
+        rates = steps.rates;
+      })
+
+  what_is : (T : ListenerTurn Key) → turn ≡ T → what ≡ listening.took_by T.stepped (slice_get x.listening.names 0)
+  what_is T is = steps.took known listens.known ∙ ap (λ (u : ListenerTurn Key). listening.took_by u.stepped (slice_get x.listening.names 0)) is
+
+  way_is : (T : ListenerTurn Key) → turn ≡ T → y.tracker.mailbox ≡ T.way
+  way_is T is = steps.mailbox known listens.known ∙ ap (λ (u : ListenerTurn Key). u.way) is
+
+  abbrev Tracks : Option Took → Type 0
+  Tracks d = ListenedBy d k n x.tracker y.tracker r
+
+  -- ---- an update is taken
+
+  module _ (ips : List IpAddr) (z : Envelope) (heard : m.heard ≡ Some ips) (one : updates ≡ z ∷ []) (is : z.item ≡ item.Addresses ips) where
+    abbrev due_update : Row
+    due_update = record { reply = reply.Ok; takes = name_of z ∷ []; puts = []; ends = [] }
+
+    abbrev T_update : ListenerTurn Key
+    T_update = update_turn actor known m k moment (Some ips)
+
+    turn_update : turn ≡ T_update
+    turn_update = ap (update_turn actor known m k moment) heard
+
+    line_update : (p : Queue) → line (log ++ e due_update ∷ []) p ≡ cond (same_queue (queue.Update n) p) [] (line log p)
+    line_update p =
+        line-append log (e due_update) p
+        ∙ (ap (λ xs. xs ++ []) (first_left log (queue.Update n) z [] one p) ∙ append-nil (cond (same_queue (queue.Update n) p) [] (line log p)))
+
+    -- the only one is the first
+    dropped : (p : Queue) (b : Bool) → same_queue (queue.Update n) p ≡ b → cond b [] (line log p) ≡ cond b (drop 1 (line log p)) (line log p)
+    dropped p true same = sym (ap (drop 1) (ap (line log) (queue_from_same (queue.Update n) p same) ∙ one))
+    dropped p false other = refl
+
+    updated : Tracks (Some takes.Update) → Performs configs log ev n y ls r
+    updated tracks =
+        let row_is : row configs log moment seed (act.Listener n) ≡ due_update = row_by (z ∷ []) arrivals one refl in
+        let told : held x.tracker.told (queue.Update n) ≡ z ∷ [] = tracked.told (queue.Update n) (eq-eqb n n refl) ∙ one in
+        let took_is : taken log (e due_update) ≡ item.Addresses ips ∷ [] = first_taken log (e due_update) (queue.Update n) z [] one refl ∙ ap (λ i. i ∷ []) is in
+        performs due_update row_is (tracks.0 ∙ ap (λ (xs : List Envelope). record { reply = reply.Ok; takes = taken_names true xs; puts = []; ends = [] }) told)
+        (tracker_updated configs log (e due_update) n x.tracker y.tracker tracked
+        (record {
+          no_step = refl;
+          no_question = refl;
+          no_answer = λ d. refl;
+          no_admission = ap (λ b. cond b hs hs) (eq-eqb n n refl);
+          rest = tracks.1.1 ∙ ap (λ w. record x.tracker { mailbox = w; told = y.tracker.told }) (way_is T_update turn_update);
+          mailbox = line_update (queue.Tracker n);
+          lines = λ p own. line_update p ∙ dropped p (same_queue (queue.Update n) p) refl;
+          told = tracks.1.0;
+        }))
+        (hears_by due_update T_update (item.Addresses ips ∷ []) turn_update took_is
+        (listens.names ∙ ap (map name_of) (sym (line_update (queue.Arrivals n)))) (ap (map (λ (w : Envelope). w.item)) (line_update (queue.Arrivals n)) ∙ listens.items) refl listens.places)
+
+    update_performs : Tracks what → Performs configs log ev n y ls r
+    update_performs tracks = updated (subst Tracks (what_is T_update turn_update) tracks)
+
+  -- ---- no update waits
+
+  module _ (heard : m.heard ≡ None) (quiet : updates ≡ []) where
+    turn_received : (o : Option (Arrival Key)) → slice_get actor.arrivals 0 ≡ o → turn ≡ line_turn actor known m k moment o
+    turn_received o is = ap (update_turn actor known m k moment) heard ∙ ap (line_turn actor known m k moment) is
+
+    -- nobody has arrived
+    idle : arrivals ≡ [] → slice_get actor.arrivals 0 ≡ None → Tracks what → Performs configs log ev n y ls r
+    idle none nobody tracks =
+        let T : ListenerTurn Key = line_turn actor known m k moment None in
+        let turn_is : turn ≡ T = turn_received None nobody in
+        let nothing : Tracks None = subst Tracks (what_is T turn_is) tracks in
+        let due : Row = only reply.Idle in
+        let same : y.tracker ≡ x.tracker = nothing.1 ∙ ap (λ w. record x.tracker { mailbox = w }) (way_is T turn_is) in
+        let still : IsStill (e due) reply.Idle = record { reply = refl; takes = refl; puts = refl; ends = refl } in
+        let line_same : line (log ++ e due ∷ []) (queue.Arrivals n) ≡ arrivals = line-still log (e due) reply.Idle (queue.Arrivals n) still in
+        performs due (row_by [] [] quiet none) nothing.0
+        (subst (TrackerStands configs (log ++ e due ∷ []) n) (sym same) (part_still place.tracker configs log (e due) n x (act.Listener n) reply.Idle tracked refl refl still))
+        (hears_by due T [] turn_is (none_taken log (e due) refl) (listens.names ∙ ap (map name_of) (sym line_same)) (ap (map (λ (w : Envelope). w.item)) line_same ∙ listens.items) refl listens.places)
+
+    -- the oldest arrival is taken
+    module _ (z : Envelope) (zs : List Envelope) (a : Arrival Key) (cs : List (Arrival Key)) (first : arrivals ≡ z ∷ zs) (came : actor.arrivals ≡ a ∷ cs) (is : z.item ≡ arrival_item a)
+        (others : map (λ (w : Envelope). w.item) zs ≡ map arrival_item cs) where
+      abbrev told_by : GatesReply
+      told_by = rule.reply_to rules known place_free a.from.ip moment
+
+      -- what the actor tells is what the log says
+      told_is : reply_to actor known a.from.ip moment ≡ told_by
+      told_is =
+          ap (λ g. rule.reply_to g known (has_place actor.places) a.from.ip moment) listens.rules
+          ∙ ap (λ (p : Places). rule.reply_to rules known (has_place p) a.from.ip moment) listens.places
+
+      abbrev due : GatesReply → Row
+      due told = told_row n k (name_of z) a.key told
+
+      row_is : row configs log moment seed (act.Listener n) ≡ due told_by
+      row_is = row_by [] (z ∷ zs) quiet first ∙ ap (log_rule.arrived_row rules known place_free n k moment (name_of z)) is
+
+      abbrev T_told : GatesReply → ListenerTurn Key
+      T_told told = arrival_turn actor known m k moment told a
+
+      turn_is : turn ≡ T_told told_by
+      turn_is = turn_received (Some a) (ap (λ xs. slice_get xs 0) came) ∙ ap (λ g. T_told g) told_is
+
+      name_is : slice_get x.listening.names 0 ≡ Some (name_of z)
+      name_is = ap (λ xs. slice_get xs 0) listens.names ∙ ap (λ (xs : List Envelope). slice_get (map name_of xs) 0) first
+
+      took_is : (told : GatesReply) → taken log (e (due told)) ≡ item.Arrival a.from a.key a.link ∷ []
+      took_is told = first_taken log (e (due told)) (queue.Arrivals n) z zs first refl ∙ ap (λ i. i ∷ []) is
+
+      -- what it asks goes to the tracker alone
+      put_away : (told : GatesReply) (p : Queue) → same_queue p (queue.Tracker n) ≡ false → put_in log (e (due told)) p ≡ []
+      put_away gates.Admitted p other = ap (λ b. cond b (record { entry = k; place = 0; queue = queue.Tracker n; item = item.AskAcceptable k a.key } ∷ []) []) other
+      put_away gates.Private p other = refl
+      put_away gates.Unregistered p other = refl
+      put_away (gates.Limited i j) p other = refl
+      put_away gates.TooMany p other = refl
+
+      line_told : (told : GatesReply) (p : Queue) → line (log ++ e (due told) ∷ []) p ≡ cond (same_queue (queue.Arrivals n) p) zs (line log p) ++ put_in log (e (due told)) p
+      line_told told p = line-append log (e (due told)) p ∙ ap (λ xs. xs ++ put_in log (e (due told)) p) (first_left log (queue.Arrivals n) z zs first p)
+
+      line_away : (told : GatesReply) (p : Queue) → same_queue p (queue.Tracker n) ≡ false → line (log ++ e (due told) ∷ []) p ≡ cond (same_queue (queue.Arrivals n) p) zs (line log p)
+      line_away told p other =
+          line_told told p ∙ (ap (λ xs. cond (same_queue (queue.Arrivals n) p) zs (line log p) ++ xs) (put_away told p other) ∙ append-nil (cond (same_queue (queue.Arrivals n) p) zs (line log p)))
+
+      arrivals_left : (told : GatesReply) → line (log ++ e (due told) ∷ []) (queue.Arrivals n) ≡ zs
+      arrivals_left told = line_away told (queue.Arrivals n) refl ∙ ap (λ b. cond b zs arrivals) (same_queue-refl (queue.Arrivals n))
+
+      -- a queue in which the tracker tells something is not the listener's
+      not_arrivals : (p : Queue) → is_told n p ≡ true → same_queue (queue.Arrivals n) p ≡ false
+      not_arrivals p own = told_no_arrivals n n p own
+
+      told_lines : (told : GatesReply) (p : Queue) → is_told n p ≡ true → line (log ++ e (due told) ∷ []) p ≡ line log p
+      told_lines told p own = line_away told p (told_apart n n p own) ∙ ap (λ b. cond b zs (line log p)) (not_arrivals p own)
+
+      -- the places of handshakes
+      places_told : (told : GatesReply) → places_after told actor.places ≡ record { held = length (with_admitted k (reply.Gates told) hs); max = most_handshakes_at configs n }
+      places_told gates.Admitted =
+          ap (λ (p : Places). record { held = p.held + 1; max = p.max }) listens.places ∙ ap (λ c. record { held = c; max = most_handshakes_at configs n }) (sym (length-append hs (k ∷ [])))
+      places_told gates.Private = listens.places
+      places_told gates.Unregistered = listens.places
+      places_told (gates.Limited i j) = listens.places
+      places_told gates.TooMany = listens.places
+
+      -- the arrival's name is taken, whatever it is told
+      names_told : (told : GatesReply) → listening.names_after (T_told told).stepped x.listening.names ≡ drop 1 x.listening.names
+      names_told gates.Admitted = refl
+      names_told gates.Private = refl
+      names_told gates.Unregistered = refl
+      names_told (gates.Limited i j) = refl
+      names_told gates.TooMany = refl
+
+      took_told : (told : GatesReply) (name : Option (ℕ × ℕ)) → name ≡ Some (name_of z) → listening.took_by (T_told told).stepped name ≡ Some (takes.Arrival (name_of z) told (asked_for k a.key told))
+      took_told gates.Admitted name there = ap (listening.took_by (T_told gates.Admitted).stepped) there
+      took_told gates.Private name there = ap (listening.took_by (T_told gates.Private).stepped) there
+      took_told gates.Unregistered name there = ap (listening.took_by (T_told gates.Unregistered).stepped) there
+      took_told (gates.Limited i j) name there = ap (listening.took_by (T_told (gates.Limited i j)).stepped) there
+      took_told gates.TooMany name there = ap (listening.took_by (T_told gates.TooMany).stepped) there
+
+      hears : (told : GatesReply) → turn ≡ T_told told → ListenerStands configs (log ++ e (due told) ∷ []) n y.listening
+      hears told so =
+          hears_by (due told) (T_told told) (item.Arrival a.from a.key a.link ∷ []) so (took_is told)
+          (names_told told ∙ (ap (drop 1) (listens.names ∙ ap (map name_of) first) ∙ ap (map name_of) (sym (arrivals_left told))))
+          (ap (map (λ (w : Envelope). w.item)) (arrivals_left told) ∙ (others ∙ sym (ap (λ xs. map arrival_item (drop 1 xs)) came)))
+          (ap (λ g. rule.known_after g known a.from.ip moment) listens.rules) (places_told told)
+
+      tracks_told : (told : GatesReply) → turn ≡ T_told told → Tracks what → Tracks (Some (takes.Arrival (name_of z) told (asked_for k a.key told)))
+      tracks_told told so tracks = subst Tracks (what_is (T_told told) so ∙ took_told told (slice_get x.listening.names 0) name_is) tracks
+
+      -- one that a gate refuses: the tracker isn't asked
+      refused : (told : GatesReply) → turn ≡ T_told told → told_by ≡ told → (T_told told).way ≡ m → asked_for k a.key told ≡ None → gates_puts n k a.key told ≡ [] → with_admitted k (reply.Gates told) hs ≡ hs
+          → Tracks what → Performs configs log ev n y ls r
+      refused told so by way nothing none nobody tracks =
+          let it : Tracks (Some (takes.Arrival (name_of z) told None)) = subst (λ o. Tracks (Some (takes.Arrival (name_of z) told o))) nothing (tracks_told told so tracks) in
+          let same : y.tracker ≡ x.tracker =
+          it.1
+          ∙ (ap (λ w. record x.tracker { mailbox = w; names = x.tracker.names ++ [] }) (way_is (T_told told) so ∙ way) ∙ ap (λ w. record x.tracker { names = w }) (append-nil x.tracker.names)) in
+          let alone : put_in log (e (due told)) (queue.Tracker n) ≡ [] = ap (λ ps. put_in log (e (record (due told) { puts = ps })) (queue.Tracker n)) none in
+          performs (due told) (row_is ∙ ap due by) (it.0 ∙ ap (λ ps. record { reply = reply.Gates told; takes = name_of z ∷ []; puts = ps; ends = [] }) (sym none))
+          (subst (TrackerStands configs (log ++ e (due told) ∷ []) n) (sym same)
+          (tracker_frame configs log (e (due told)) n x.tracker tracked
+          (record {
+            no_step = refl;
+            no_question = refl;
+            no_answer = λ d is_asked. refl;
+            no_late_answer = λ d past. refl;
+            mailbox = line_told told (queue.Tracker n) ∙ (ap (λ xs. line log (queue.Tracker n) ++ xs) alone ∙ append-nil (line log (queue.Tracker n)));
+            told = told_lines told;
+            handshakes = ap (λ b. cond b (with_admitted k (reply.Gates told) hs) hs) (eq-eqb n n refl) ∙ nobody;
+          })))
+          (hears told so)
+
+      -- one that is admitted
+      open_mailbox : m.desk.messages.closed ≡ false
+      open_mailbox = tracked.is_open
+
+      admitted : turn ≡ T_told gates.Admitted → told_by ≡ gates.Admitted → Tracks what → Performs configs log ev n y ls r
+      admitted so by tracks =
+          let it : Tracks (Some (takes.Arrival (name_of z) gates.Admitted (Some (item.AskAcceptable k a.key)))) = tracks_told gates.Admitted so tracks in
+          let w : y.tracker.mailbox ≡ (T_told gates.Admitted).way = way_is (T_told gates.Admitted) so in
+          let asked_envelope : Envelope = record { entry = k; place = 0; queue = queue.Tracker n; item = item.AskAcceptable k a.key } in
+          let d : Row = due gates.Admitted in
+          performs d (row_is ∙ ap due by) it.0
+          (tracker_asked configs log (e d) n x.tracker y.tracker a.key a.from.ip tracked
+          (record {
+            no_step = refl;
+            no_question = refl;
+            no_answer = λ q. refl;
+            admits = ap (λ b. cond b (hs ++ k ∷ []) hs) (eq-eqb n n refl);
+            source_is = source_last log (e d) a.from a.key a.link (took_is gates.Admitted);
+            rest = it.1 ∙ ap (λ (u : Mailbox Key). record x.tracker { mailbox = u; names = x.tracker.names ++ (k, 0) ∷ [] }) (w ∙ sym (mailbox_now w));
+            items = ap (λ (u : Mailbox Key). u.desk.messages.items) w ∙ kept_open m.desk.messages.closed (has_room m.desk.messages) m.desk.messages.items (message.Acceptable a.key a.from.ip k) open_mailbox;
+            closed = ap (λ (u : Mailbox Key). u.desk.messages.closed) w;
+            capacity = ap (λ (u : Mailbox Key). u.desk.messages.capacity) w;
+            questions = ap (λ (u : Mailbox Key). length u.desk.questions) w;
+            updates = ap (λ (u : Mailbox Key). length u.desk.updates) w;
+            sets = ap (λ (u : Mailbox Key). length u.desk.sets) w;
+            waits = line_told gates.Admitted (queue.Tracker n) ∙ ap (λ b. line log (queue.Tracker n) ++ cond b (asked_envelope ∷ []) []) (same_queue-refl (queue.Tracker n));
+            lines = told_lines gates.Admitted;
+          }))
+          (hears gates.Admitted so)
+        where
+          mailbox_now : y.tracker.mailbox ≡ (T_told gates.Admitted).way → record m { desk = y.tracker.mailbox.desk; handshakes = begun m.handshakes k } ≡ (T_told gates.Admitted).way
+          mailbox_now w = ap (λ (u : Mailbox Key). record m { desk = u.desk; handshakes = begun m.handshakes k }) w
+
+      by_told : (told : GatesReply) → turn ≡ T_told told → told_by ≡ told → Tracks what → Performs configs log ev n y ls r
+      by_told gates.Admitted so by tracks = admitted so by tracks
+      by_told gates.Private so by tracks = refused gates.Private so by refl refl refl refl tracks
+      by_told gates.Unregistered so by tracks = refused gates.Unregistered so by refl refl refl refl tracks
+      by_told (gates.Limited i j) so by tracks = refused (gates.Limited i j) so by refl refl refl refl tracks
+      by_told gates.TooMany so by tracks = refused gates.TooMany so by refl refl refl refl tracks
+
+      arrival_performs : Tracks what → Performs configs log ev n y ls r
+      arrival_performs tracks = by_told told_by turn_is refl tracks
+
+    by_line : (zs : List Envelope) (cs : List (Arrival Key)) → arrivals ≡ zs → actor.arrivals ≡ cs → map (λ (w : Envelope). w.item) zs ≡ map arrival_item cs → Tracks what → Performs configs log ev n y ls r
+    by_line [] [] none nobody same tracks = idle none (ap (λ xs. slice_get xs 0) nobody) tracks
+    by_line (z ∷ zs) (a ∷ cs) first came same tracks = arrival_performs z zs a cs first came (same_Some z.item (arrival_item a) (ap (λ xs. slice_get xs 0) same)) (ap (drop 1) same) tracks
+    by_line [] (a ∷ cs) none came same tracks = cc
+    by_line (z ∷ zs) [] first nobody same tracks = cc
+
+  by_heard : (o : Option (List IpAddr)) → m.heard ≡ o → HeardStands o updates → Tracks what → Performs configs log ev n y ls r
+  by_heard None heard quiet tracks = by_line heard quiet arrivals actor.arrivals refl refl listens.items tracks
+  by_heard (Some ips) heard one tracks = update_performs ips one.0 heard one.1 one.2 tracks
+
+  steps_performs : Tracks what → Performs configs log ev n y ls r
+  steps_performs tracks = by_heard m.heard refl tracked.heard tracks
+
+pub listener_performs : (configs : List Config) (log : List Entry) (moment seed n : ℕ) (x y : Node) (l ls : Links) (r : Row) → NodeStands configs log n x → LinksStand log l
+    → ListenerStepsBy (is_started x) (length log) n moment x y r → ls ≡ l → Performs configs log (asked moment seed (act.Listener n)) n y ls r
+unfolding row
+listener_performs configs log moment seed n x y l ls r s t steps kept = by (is_started x) (sym (started_is configs log n x s)) steps
+  where
+    by : (b : Bool) → is_up log n ≡ b → ListenerStepsBy b (length log) n moment x y r → Performs configs log (asked moment seed (act.Listener n)) n y ls r
+    by true up h = steps_performs configs log moment seed n x y l ls r s t up h.rest kept h.took h.steps h.tracks
+    by false down h =
+        stays_performs configs log (asked moment seed (act.Listener n)) n x y l ls r reply.Gone s t
+        (ap (λ b. cond b (log_rule.listener_turn (gate_rules_at configs n) (known_of configs log n) (log_rule.has_place configs log n) n (length log) moment (line log (queue.Update n)) (line log (queue.Arrivals n))) (only reply.Gone)) down)
+        refl h.0 h.1 kept
