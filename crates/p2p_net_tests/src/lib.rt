@@ -1,15 +1,17 @@
 //! The tests of the router, of the parts of a node and of the world, through their public names alone. They stand together so
 //! that the gate proves each of those crates once.
 //!
-//! Of `p2p_router` is `router`, of `p2p_net_queues` is `queues`, of `p2p_net_router` is `routers`, of `p2p_net_channels` and
-//! `p2p_net_links` is `parts`, and of `p2p_net` are `world` and, with the parts of these names, `tracker`, `dialer` and
-//! `attempts`.
+//! Of `p2p_router` are `router` and `lists`, over the stand of `routing`; of `p2p_net_queues` is `queues`, of `p2p_net_router`
+//! `routers`, of `p2p_net_channels` and `p2p_net_links` `parts`. Of `p2p_net` are `world` and, with the parts of these names,
+//! `tracker`, `dialer` and `attempts`: they are scripts, which `scripts` runs, and `seen` has what an event shows.
 #![tactic(auto)]
 
 #[cfg(test)]
 mod attempts;
 #[cfg(test)]
 mod dialer;
+#[cfg(test)]
+mod lists;
 #[cfg(test)]
 mod parts;
 #[cfg(test)]
@@ -18,6 +20,12 @@ mod queues;
 mod router;
 #[cfg(test)]
 mod routers;
+#[cfg(test)]
+mod routing;
+#[cfg(test)]
+mod scripts;
+#[cfg(test)]
+mod seen;
 #[cfg(test)]
 mod tracker;
 #[cfg(test)]

@@ -8,14 +8,34 @@ use p2p_log::Item;
 use p2p_log_rules::Row;
 use p2p_net_queues::Turn;
 use p2p_net_router::Router;
-use std::alloc::Global;
-use std::test::Fail;
+use std::alloc::{AllocError, Global};
 
-// How many items a row takes, puts and ends.
-type Counts = (usize, usize, usize);
+// What a script does with a router.
+#[derive(Clone, Copy)]
+enum Do {
+    Step,
+    // Sends a message with priority: to the key 5, to the keys 5 and 6, or to the keys 5, 6 and 5.
+    SendToOne,
+    SendToTwo,
+    SendToThree,
+    // Takes the oldest frame of connection 2, with priority or without.
+    Take(bool),
+}
 
-fn counts(row: &Row) -> Counts {
-    (row.takes.len(), row.puts.len(), row.ends.len())
+// What a step of a script shows.
+#[derive(Clone, Copy, PartialEq)]
+enum Seen {
+    // How many items were taken, put and ended.
+    Moved(usize, usize, usize),
+    // The name of a frame, and of its copy.
+    Frame((u64, u64), (u64, u64)),
+    // No frame waits, or one that is no copy.
+    Nothing,
+    NoCopy,
+}
+
+fn moved(row: &Row) -> Seen {
+    Seen::Moved(row.takes.len(), row.puts.len(), row.ends.len())
 }
 
 // The turn of an entry at node 3.
@@ -28,122 +48,111 @@ fn turn(alloc: Global, entry: u64) -> Turn {
 }
 
 // Starts a router with one channel, and tells it of a connection 2 with the key 5.
-fn start(alloc: Global, router: &mut Router) -> Result<(), Fail>
+fn start(alloc: Global, router: &mut Router) -> Result<(), AllocError>
     requires { IsTrue (is_unbound router.old.messenger.binding) }
 {
     router.subscribe(alloc, 7)?;
     router.start(turn(alloc, 1), 4)?;
-    router.ready(turn(alloc, 2), 0, Key(5), 1)?;
-    Ok(())
+    router.ready(turn(alloc, 2), 0, Key(5), 1)
 }
 
-// A router that was started so.
-fn started(alloc: Global) -> Result<Router, Fail> {
-    let mut router = Router::new(alloc, 3);
-    start(alloc, &mut router)?;
-    Ok(router)
+fn step(alloc: Global, router: &mut Router, entry: u64) -> Result<Seen, AllocError> {
+    Ok(moved(&router.step(turn(alloc, entry))?))
 }
 
-// What a step takes, puts and ends.
-fn stepped(alloc: Global, router: &mut Router, entry: u64) -> Result<Counts, Fail> {
-    Ok(counts(&router.step(turn(alloc, entry))?))
-}
-
-// What a send to these keys takes, puts and ends.
-fn sent(alloc: Global, router: &mut Router, entry: u64, to: &[Key]) -> Result<Counts, Fail> {
+fn send(alloc: Global, router: &mut Router, entry: u64, to: &[Key]) -> Result<Seen, AllocError> {
     let to = List::from_slice(alloc, to)?;
     let bytes = Bytes::from_static(b"hi");
-    Ok(counts(&router.send(turn(alloc, entry), 7, true, &bytes, to)?))
+    Ok(moved(&router.send(turn(alloc, entry), 7, true, &bytes, to)?))
 }
 
-// The name of the copy whose frame this is.
-fn copy_of(item: Item) -> Option<(u64, u64)> {
-    match item {
-        Item::Frame { copy, .. } => copy,
-        _ => None,
+fn take(router: &mut Router, priority: bool) -> Seen {
+    match router.take(2, priority) {
+        Some(
+            (
+                name,
+                Item::Frame {
+                    copy: Some(copy),
+                    ..
+                },
+            ),
+        ) => Seen::Frame(name, copy),
+        Some(_) => Seen::NoCopy,
+        None => Seen::Nothing,
     }
 }
 
-// The name of the oldest frame of connection 2, and of its copy.
-fn taken(router: &mut Router, priority: bool) -> Option<((u64, u64), (u64, u64))> {
-    let (name, item) = router.take(2, priority)?;
-    Some((name, copy_of(item)?))
+// Does one step of a script, under this number of its entry.
+fn act(alloc: Global, router: &mut Router, entry: u64, act: Do) -> Result<Seen, AllocError> {
+    match act {
+        Do::Step => step(alloc, router, entry),
+        Do::SendToOne => send(alloc, router, entry, &[Key(5)]),
+        Do::SendToTwo => send(alloc, router, entry, &[Key(5), Key(6)]),
+        Do::SendToThree => send(alloc, router, entry, &[Key(5), Key(6), Key(5)]),
+        Do::Take(priority) => Ok(take(router, priority)),
+    }
 }
 
-// What two steps, a send to three keys and two more steps take, put and end.
-fn run(alloc: Global, router: &mut Router) -> Result<[Counts; 5], Fail> {
-    let subscribed = stepped(alloc, router, 3)?;
-    let connected = stepped(alloc, router, 4)?;
-    let sent = sent(alloc, router, 5, &[Key(5), Key(6), Key(5)])?;
-    let spread = stepped(alloc, router, 6)?;
-    Ok([
-        subscribed,
-        connected,
-        sent,
-        spread,
-        stepped(alloc, router, 7)?,
-    ])
+// The place of the first step of a script that shows another thing. `None` where each shows what is written.
+fn first_other(
+    alloc: Global,
+    router: &mut Router,
+    script: &[(u64, Do, Seen)],
+) -> Result<Option<usize>, AllocError> {
+    for (i, row) in script.iter().enumerate() {
+        if act(alloc, router, row.0, row.1)? != row.2 {
+            return Ok(Some(i));
+        }
+    }
+    Ok(None)
 }
 
-// The names of a frame and of its copy, where one waits.
-type Names = Option<((u64, u64), (u64, u64))>;
-
-// That run, and what is taken without priority, and twice with it, after it.
-fn run_and_taken(alloc: Global) -> Result<([Counts; 5], [Names; 3]), Fail> {
-    let mut router = started(alloc)?;
-    let counts = run(alloc, &mut router)?;
-    let low = taken(&mut router, false);
-    let high = taken(&mut router, true);
-    Ok((counts, [low, high, taken(&mut router, true)]))
-}
-
-#[test]
-fn each_copy_waits_in_a_relay_or_ends(rt: HostRuntime) -> Result<(), Fail> {
-    let counts = [
-        // The subscription is told.
-        (1, 1, 0),
-        // The connection is answered, and a newer list overwrites the one that waits.
-        (1, 2, 1),
-        // The message is put.
-        (0, 1, 0),
-        // One copy finds room in the relay, one has no connection, and one finds the relay full.
-        (1, 1, 2),
-        // Nothing waits.
-        (0, 0, 0),
-    ];
-    let taken = [None, Some(((6, 0), (5, 0))), None];
-    assert_eq!(rt; run_and_taken(rt.alloc())?, (counts, taken));
-    Ok(())
-}
-
-// What three sends take, put and end.
-fn send_three_times(alloc: Global, router: &mut Router) -> Result<[Counts; 3], Fail> {
-    let first = sent(alloc, router, 3, &[Key(5)])?;
-    let second = sent(alloc, router, 4, &[Key(5)])?;
-    Ok([first, second, sent(alloc, router, 5, &[Key(5)])?])
-}
-
-// The same of a new router.
-fn sent_three_times(alloc: Global) -> Result<[Counts; 3], Fail> {
-    let mut router = started(alloc)?;
-    send_three_times(alloc, &mut router)
-}
-
-#[test]
-fn a_full_mailbox_refuses_a_message(rt: HostRuntime) -> Result<(), Fail> {
-    let wanted = [(0, 1, 0), (0, 1, 0), (0, 0, 0)];
-    assert_eq!(rt; sent_three_times(rt.alloc())?, wanted);
-    Ok(())
-}
-
-// What a send without a mailbox takes, puts and ends.
-fn sent_unbound(alloc: Global) -> Result<Counts, Fail> {
+// The same at a router that was started.
+fn first_other_started(
+    alloc: Global,
+    script: &[(u64, Do, Seen)],
+) -> Result<Option<usize>, AllocError> {
     let mut router = Router::new(alloc, 3);
-    sent(alloc, &mut router, 0, &[Key(5), Key(6)])
+    start(alloc, &mut router)?;
+    first_other(alloc, &mut router, script)
 }
 
+const ROUTED: &[(u64, Do, Seen)] = &[
+    // The subscription is told.
+    (3, Do::Step, Seen::Moved(1, 1, 0)),
+    // The connection is answered, and a newer list overwrites the one that waits.
+    (4, Do::Step, Seen::Moved(1, 2, 1)),
+    // The message is put.
+    (5, Do::SendToThree, Seen::Moved(0, 1, 0)),
+    // One copy finds room in the relay, one has no connection, and one finds the relay full.
+    (6, Do::Step, Seen::Moved(1, 1, 2)),
+    // Nothing waits.
+    (7, Do::Step, Seen::Moved(0, 0, 0)),
+    (8, Do::Take(false), Seen::Nothing),
+    (8, Do::Take(true), Seen::Frame((6, 0), (5, 0))),
+    (8, Do::Take(true), Seen::Nothing),
+];
+
 #[test]
-fn a_router_without_a_mailbox_loses_all_copies(rt: HostRuntime) -> Result<(), Fail> {
-    assert_eq!(rt; sent_unbound(rt.alloc())?, (0, 0, 2));
-    Ok(())
+fn each_copy_waits_in_a_relay_or_ends(rt: HostRuntime) {
+    assert_eq!(rt; first_other_started(rt.alloc(), ROUTED), Ok(None));
+}
+
+const FULL: &[(u64, Do, Seen)] = &[
+    (3, Do::SendToOne, Seen::Moved(0, 1, 0)),
+    (4, Do::SendToOne, Seen::Moved(0, 1, 0)),
+    (5, Do::SendToOne, Seen::Moved(0, 0, 0)),
+];
+
+#[test]
+fn a_full_mailbox_refuses_a_message(rt: HostRuntime) {
+    assert_eq!(rt; first_other_started(rt.alloc(), FULL), Ok(None));
+}
+
+const UNBOUND: &[(u64, Do, Seen)] = &[(0, Do::SendToTwo, Seen::Moved(0, 0, 2))];
+
+#[test]
+fn a_router_without_a_mailbox_loses_all_copies(rt: HostRuntime) {
+    let mut router = Router::new(rt.alloc(), 3);
+    assert_eq!(rt; first_other(rt.alloc(), &mut router, UNBOUND), Ok(None));
 }
