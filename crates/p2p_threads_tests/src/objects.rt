@@ -1,5 +1,5 @@
 //! A limiter and a messenger that threads share.
-ghost use Rattle.std.specs.Prelude.{◌≡◌, IfOk, IsTrue};
+ghost use Rattle.std.specs.Prelude.{◌≡◌};
 ghost use Rattle.p2p_threads.specs.Account.{IsMadeBy};
 
 use p2p_base::{Feedback, Key, Unreliable};
@@ -11,32 +11,37 @@ use p2p_threads_shared::{
 };
 use std::alloc::{AllocError, Global};
 use std::sync::Wait;
-use std::test::Fail;
+
+// The place of a check and its answer.
+type Checked = (u64, Result<(), u128>);
 
 // The answers of two checks of one key, with their places.
-fn two_checks(
+fn check_twice(
     rt: &impl Wait,
-    alloc: Global,
-    quota: Quota,
-) -> Result<[(u64, Result<(), u128>); 2], AllocError> {
-    let limiter = KeyedRateLimiter::new(alloc, quota);
-    let (shared, mut pass) = Shared::new(alloc, LimiterObject::new(limiter))?;
+    shared: &Shared<LimiterObject<Key>>,
+    pass: &mut Pass<LimiterObject<Key>>,
+) -> Result<[Checked; 2], AllocError>
+    requires { IsMadeBy shared.now pass.old }
+{
     let key = Key(1);
-    let first = shared.call(rt, &mut pass, CheckCall { key, now: 5 })?;
-    let second = shared.call(rt, &mut pass, CheckCall { key, now: 3 })?;
-    Ok([first, second])
+    let first = shared.call(rt, pass, CheckCall { key, now: 5 })?;
+    Ok([first, shared.call(rt, pass, CheckCall { key, now: 3 })?])
+}
+
+// The same of a new limiter, which admits one check in ten nanoseconds.
+fn checked_twice(rt: &impl Wait, alloc: Global) -> Result<[Checked; 2], AllocError> {
+    let Some(quota) = Quota::new(1, 10) else {
+        return Err(AllocError);
+    };
+    let limiter = LimiterObject::new(KeyedRateLimiter::new(alloc, quota));
+    let (shared, mut pass) = Shared::new(alloc, limiter)?;
+    check_twice(rt, &shared, &mut pass)
 }
 
 #[test]
-fn a_shared_limiter_counts_each_check(rt: HostRuntime) -> Result<(), Fail> {
-    let Some(quota) = Quota::new(1, 10) else {
-        return Err(Fail::new("quota"));
-    };
-    assert_eq!(rt;
-        two_checks(&rt, rt.alloc(), quota),
-        Ok([(0, Ok(())), (1, Err(15))])
-    );
-    Ok(())
+fn a_shared_limiter_counts_each_check(rt: HostRuntime) {
+    let wanted = [(0, Ok(())), (1, Err(15))];
+    assert_eq!(rt; checked_twice(&rt, rt.alloc()), Ok(wanted));
 }
 
 const CONTENT: MessengerCall<Key> = MessengerCall::Content {
@@ -65,35 +70,55 @@ fn told(
     Ok([first, second, third])
 }
 
-#[test]
-fn a_shared_messenger_that_is_unbound(rt: HostRuntime) -> Result<(), Fail> {
-    let alloc = rt.alloc();
-    let messenger = Messenger::unbound(alloc);
+// The same at this messenger.
+fn told_by(
+    rt: &impl Wait,
+    alloc: Global,
+    messenger: Messenger<Key>,
+    calls: [MessengerCall<Key>; 3],
+) -> Result<[MessengerReply; 3], AllocError> {
     let (shared, mut pass) = Shared::new(alloc, MessengerObject::new(messenger))?;
+    told(rt, &shared, &mut pass, calls)
+}
+
+#[test]
+fn a_shared_messenger_that_is_unbound(rt: HostRuntime) {
+    let messenger = Messenger::unbound(rt.alloc());
     let calls = [CONTENT, MessengerCall::Close, CONTENT];
-    let want = [
+    let wanted = [
         outcome(Feedback::Ok),
         MessengerReply::Closed,
         outcome(Feedback::Closed),
     ];
-    assert_eq!(rt; told(&rt, &shared, &mut pass, calls), Ok(want));
-    Ok(())
+    assert_eq!(rt; told_by(&rt, rt.alloc(), messenger, calls), Ok(wanted));
+}
+
+// A messenger that is bound to this mailbox.
+fn bound_to(alloc: Global, mailbox: Mailbox<Key>) -> Result<Messenger<Key>, AllocError> {
+    let mut messenger = Messenger::unbound(alloc);
+    if messenger.bind(mailbox).is_err() {
+        return Err(AllocError);
+    }
+    Ok(messenger)
+}
+
+// What three calls are told at a messenger that is bound to a mailbox of one place.
+fn told_by_bound(
+    rt: &impl Wait,
+    alloc: Global,
+    calls: [MessengerCall<Key>; 3],
+) -> Result<[MessengerReply; 3], AllocError> {
+    let messenger = bound_to(alloc, Mailbox::new(alloc, 1)?)?;
+    told_by(rt, alloc, messenger, calls)
 }
 
 #[test]
-fn a_shared_messenger_that_is_bound(rt: HostRuntime) -> Result<(), Fail> {
-    let alloc = rt.alloc();
-    let mut messenger = Messenger::unbound(alloc);
-    if messenger.bind(Mailbox::new(alloc, 1)?).is_err() {
-        return Err(Fail::new("room"));
-    }
-    let (shared, mut pass) = Shared::new(alloc, MessengerObject::new(messenger))?;
+fn a_shared_messenger_that_is_bound(rt: HostRuntime) {
     let calls = [CONTENT, CONTENT, MessengerCall::Subscribe];
-    let want = [
+    let wanted = [
         outcome(Feedback::Ok),
         MessengerReply::Outcome(Unreliable::Rejected),
         MessengerReply::Subscription(0),
     ];
-    assert_eq!(rt; told(&rt, &shared, &mut pass, calls), Ok(want));
-    Ok(())
+    assert_eq!(rt; told_by_bound(&rt, rt.alloc(), calls), Ok(wanted));
 }

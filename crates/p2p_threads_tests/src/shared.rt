@@ -1,5 +1,5 @@
 //! A counter that threads share.
-ghost use Rattle.std.specs.Prelude.{◌+◌, ◌%◌, ◌^◌, IfOk};
+ghost use Rattle.std.specs.Prelude.{◌+◌, ◌%◌, ◌^◌};
 ghost use Rattle.p2p_threads.specs.Account.{IsMadeBy, IsAlike};
 
 use p2p_threads::{Out, Pass, Served, Shared};
@@ -36,24 +36,38 @@ impl Served for Counter {
     }
 }
 
-// The places and the replies of two calls with one pass, and of a third with one that is split off it, which comes back.
-fn three_calls(
+// The places and the replies of two calls.
+fn call_twice(
     rt: &impl Wait,
     shared: &Shared<Counter>,
-    one: &mut Pass<Counter>,
-) -> Result<([(u64, u64); 3], Pass<Counter>), AllocError>
-    requires { IsMadeBy shared.now one.old }
-    ensures one { IsAlike one.old one.new }
-    ensures two { IfOk result (λ r. IsAlike one.old r.1) }
+    pass: &mut Pass<Counter>,
+) -> Result<[(u64, u64); 2], AllocError>
+    requires { IsMadeBy shared.now pass.old }
+    ensures { IsAlike pass.old pass.new }
 {
-    let first = shared.call(rt, one, Add(2))?;
-    let second = shared.call(rt, one, Add(3))?;
-    let mut two = shared.split(one)?;
-    let third = shared.call(rt, &mut two, Add(4))?;
-    Ok(([first, second, third], two))
+    let first = shared.call(rt, pass, Add(2))?;
+    Ok([first, shared.call(rt, pass, Add(3))?])
 }
 
-// The sum, and whether the history is that of the three calls, where one pass alone does not close and both do.
+// The sum once both passes are joined, and whether the history is that of the three calls.
+fn closed_by_both(
+    rt: &impl Wait,
+    shared: Shared<Counter>,
+    mut one: Pass<Counter>,
+    two: Pass<Counter>,
+) -> Option<(u64, bool)>
+    requires one { IsMadeBy shared one }
+    requires two { IsMadeBy shared two }
+{
+    shared.join(&mut one, two);
+    let wanted = [(Add(2), 2), (Add(3), 5), (Add(4), 9)];
+    match shared.close(rt, one) {
+        Ok((counter, history)) => Some((counter.sum, history.as_slice() == wanted.as_slice())),
+        Err(_) => None,
+    }
+}
+
+// The same where one pass alone does not close.
 fn closed(
     rt: &impl Wait,
     shared: Shared<Counter>,
@@ -63,31 +77,35 @@ fn closed(
     requires one { IsMadeBy shared one }
     requires two { IsMadeBy shared two }
 {
-    let Err(Out(shared, mut one)) = shared.close(rt, one) else {
-        return None;
-    };
-    shared.join(&mut one, two);
-    let Ok((counter, history)) = shared.close(rt, one) else {
-        return None;
-    };
-    let wanted = [(Add(2), 2), (Add(3), 5), (Add(4), 9)];
-    Some((counter.sum, history.as_slice() == wanted.as_slice()))
+    match shared.close(rt, one) {
+        Err(Out(shared, one)) => closed_by_both(rt, shared, one, two),
+        Ok(_) => None,
+    }
 }
 
-// What three calls with two passes are told, and what both passes close with.
-fn called(
-    rt: &impl Wait,
-    alloc: Global,
-) -> Result<([(u64, u64); 3], Option<(u64, bool)>), AllocError> {
+// The answers of two calls with one pass and of a third with another, and what both passes close with.
+type Called = (
+    Result<[(u64, u64); 2], AllocError>,
+    Result<(u64, u64), AllocError>,
+    Option<(u64, bool)>,
+);
+
+// The same where the other pass is split off the first after its calls.
+fn called(rt: &impl Wait, alloc: Global) -> Result<Called, AllocError> {
     let (shared, mut one) = Shared::new(alloc, Counter { sum: 0 })?;
-    let (answers, two) = three_calls(rt, &shared, &mut one)?;
-    Ok((answers, closed(rt, shared, one, two)))
+    let twice = call_twice(rt, &shared, &mut one);
+    let Ok(mut two) = shared.split(&mut one) else {
+        unreachable!()
+    };
+    let third = shared.call(rt, &mut two, Add(4));
+    Ok((twice, third, closed(rt, shared, one, two)))
 }
 
 #[test]
 fn two_passes_make_one_history(rt: HostRuntime) {
-    let answers = [(0, 2), (1, 5), (2, 9)];
-    assert_eq!(rt; called(&rt, rt.alloc()), Ok((answers, Some((9, true)))));
+    let twice = [(0, 2), (1, 5)];
+    let wanted = (Ok(twice), Ok((2, 9)), Some((9, true)));
+    assert_eq!(rt; called(&rt, rt.alloc()), Ok(wanted));
 }
 
 // One caller's calls, in order.
@@ -96,15 +114,20 @@ fn adds(
     shared: &Shared<Counter>,
     mut pass: Pass<Counter>,
     from: u64,
-) -> Result<Pass<Counter>, AllocError>
+) -> (Pass<Counter>, Result<(), AllocError>)
     requires { IsMadeBy shared.now pass }
-    ensures { IfOk result (λ p. IsAlike pass p) }
+    ensures { IsAlike pass result.0 }
 {
     for i in 0..CALLS {
-        shared.call(rt, &mut pass, Add(from.wrapping_add(i)))?;
+        if shared
+            .call(rt, &mut pass, Add(from.wrapping_add(i)))
+            .is_err()
+        {
+            return (pass, Err(AllocError));
+        }
         yield_now();
     }
-    Ok(pass)
+    (pass, Ok(()))
 }
 
 // Two callers at once.
@@ -113,25 +136,28 @@ fn two_add<R: Threads + Wait + Sync>(
     shared: &Shared<Counter>,
     mut pass: Pass<Counter>,
     from: u64,
-) -> Result<Pass<Counter>, AllocError>
+) -> (Pass<Counter>, Result<(), AllocError>)
     requires { IsMadeBy shared.now pass }
-    ensures { IfOk result (λ p. IsAlike pass p) }
+    ensures { IsAlike pass result.0 }
 {
-    let other = shared.split(&mut pass)?;
+    let Ok(other) = shared.split(&mut pass) else {
+        unreachable!()
+    };
     let (one, two) = thread::join(
         rt,
-        move ||
+        move || -> (Pass<Counter>, Result<(), AllocError>)
             requires { IsMadeBy shared.now pass }
-            ensures { IfOk result (λ p. IsAlike pass p) }
+            ensures { IsAlike pass result.0 }
         { adds(rt, shared, pass, from) },
-        move ||
+        move || -> (Pass<Counter>, Result<(), AllocError>)
             requires { IsMadeBy shared.now other }
-            ensures { IfOk result (λ p. IsAlike other p) }
+            ensures { IsAlike other result.0 }
         { adds(rt, shared, other, from.wrapping_add(CALLS)) },
     );
-    let mut pass = one?;
-    shared.join(&mut pass, two?);
-    Ok(pass)
+    let (mut pass, told) = one;
+    let (other, other_told) = two;
+    shared.join(&mut pass, other);
+    (pass, told.and(other_told))
 }
 
 // Four callers at once.
@@ -139,25 +165,28 @@ fn four_add<R: Threads + Wait + Sync>(
     rt: &R,
     shared: &Shared<Counter>,
     mut pass: Pass<Counter>,
-) -> Result<Pass<Counter>, AllocError>
+) -> (Pass<Counter>, Result<(), AllocError>)
     requires { IsMadeBy shared.now pass }
-    ensures { IfOk result (λ p. IsAlike pass p) }
+    ensures { IsAlike pass result.0 }
 {
-    let other = shared.split(&mut pass)?;
+    let Ok(other) = shared.split(&mut pass) else {
+        unreachable!()
+    };
     let (one, two) = thread::join(
         rt,
-        move ||
+        move || -> (Pass<Counter>, Result<(), AllocError>)
             requires { IsMadeBy shared.now pass }
-            ensures { IfOk result (λ p. IsAlike pass p) }
+            ensures { IsAlike pass result.0 }
         { two_add(rt, shared, pass, 0) },
-        move ||
+        move || -> (Pass<Counter>, Result<(), AllocError>)
             requires { IsMadeBy shared.now other }
-            ensures { IfOk result (λ p. IsAlike other p) }
+            ensures { IsAlike other result.0 }
         { two_add(rt, shared, other, 2 * CALLS) },
     );
-    let mut pass = one?;
-    shared.join(&mut pass, two?);
-    Ok(pass)
+    let (mut pass, told) = one;
+    let (other, other_told) = two;
+    shared.join(&mut pass, other);
+    (pass, told.and(other_told))
 }
 
 // Whether each caller's calls stand in its order, each once, with the sum up to it.
@@ -177,20 +206,27 @@ fn is_in_order(history: &[(Add, u64)]) -> bool {
     calls == [CALLS; CALLERS]
 }
 
-// Whether the history of four callers at once is in order, where no call is out.
-fn are_in_order<R: Threads + Wait + Sync>(
+// Whether the history of a counter is in order. False also where a call is out.
+fn has_order(rt: &impl Wait, shared: Shared<Counter>, pass: Pass<Counter>) -> bool
+    requires { IsMadeBy shared pass }
+{
+    match shared.close(rt, pass) {
+        Ok((_, history)) => is_in_order(history.as_slice()),
+        Err(_) => false,
+    }
+}
+
+// What four callers at once are told, and whether their history is in order.
+fn four_added<R: Threads + Wait + Sync>(
     rt: &R,
     alloc: Global,
-) -> Result<Option<bool>, AllocError> {
+) -> Result<(Result<(), AllocError>, bool), AllocError> {
     let (shared, pass) = Shared::new(alloc, Counter { sum: 0 })?;
-    let pass = four_add(rt, &shared, pass)?;
-    let Ok((_, history)) = shared.close(rt, pass) else {
-        return Ok(None);
-    };
-    Ok(Some(is_in_order(history.as_slice())))
+    let (pass, told) = four_add(rt, &shared, pass);
+    Ok((told, has_order(rt, shared, pass)))
 }
 
 #[test]
 fn four_callers_keep_their_order(rt: HostRuntime) {
-    assert_eq!(rt; are_in_order(&rt, rt.alloc()), Ok(Some(true)));
+    assert_eq!(rt; four_added(&rt, rt.alloc()), Ok((Ok(()), true)));
 }
