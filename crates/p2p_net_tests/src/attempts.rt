@@ -3,7 +3,7 @@ use crate::scripts::{Do, first_other};
 use crate::seen::{Put, Puts, Said, Seen};
 
 // A started node, whose dialer dials one of two peers.
-const DIALING: &[Do] = &[
+pub const DIALING: &[Do] = &[
     Do::Start,
     Do::Track(3, 2),
     Do::Tracker,
@@ -19,7 +19,7 @@ const STEP: Do = Do::Attempt(7);
 
 const REFUSE: Do = Do::Refuse(7);
 
-const LINK: Do = Do::Link(7);
+const LINK: Do = Do::Link(7, 1);
 
 const IDLE: Seen = Seen(Said::Idle, 0, Puts::Nothing);
 

@@ -52,14 +52,15 @@ pub enum Do {
     Answer(u64),
     // or what comes next for the subscription that it made.
     Next(u64),
-    // A step of its tracker, of its dialer, or of the attempt that this event began.
+    // A step of its tracker, of its dialer, of its listener, or of the attempt that this event began.
     Tracker,
     Dialer,
+    Listener,
     Attempt(u64),
     // The attempt is told that there is no link,
     Refuse(u64),
-    // or it is linked to the listener of its own node.
-    Link(u64),
+    // or it is linked to the listener of its own node, at which it arrives from this host.
+    Link(u64, u8),
 }
 
 // A started node, whose tracker took one set of two peers.
@@ -95,10 +96,10 @@ fn of_first(asked: Asked) -> Act {
     Act::Ask { asked, node: 0 }
 }
 
-// The attempt is linked.
-fn link(attempt: u64) -> Act {
+// The attempt is linked, and arrives from this host.
+fn link(attempt: u64, host: u8) -> Act {
     let from = SocketAddr {
-        ip: IpAddr::V4([10, 0, 0, 1]),
+        ip: IpAddr::V4([10, 0, 0, host]),
         port: 40_000,
     };
     Act::Connect {
@@ -121,9 +122,10 @@ fn act(alloc: Global, what: Do) -> Result<Act, AllocError> {
         Do::Next(question) => Ok(Act::Next { question }),
         Do::Tracker => Ok(Act::Tracker { node: 0 }),
         Do::Dialer => Ok(Act::Dialer { node: 0 }),
+        Do::Listener => Ok(Act::Listener { node: 0 }),
         Do::Attempt(attempt) => Ok(Act::Attempt { attempt, node: 0 }),
         Do::Refuse(attempt) => Ok(Act::Refuse { attempt, node: 0 }),
-        Do::Link(attempt) => Ok(link(attempt)),
+        Do::Link(attempt, host) => Ok(link(attempt, host)),
     }
 }
 

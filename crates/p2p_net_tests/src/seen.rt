@@ -1,5 +1,6 @@
 //! What the entries of a world show, in plain data.
 use p2p_base::Feedback;
+use p2p_gates_rules::Reply as GatesReply;
 use p2p_net::{Entry, Item, Reply};
 
 // What an entry shows: its reply, how many items it took, and what it put.
@@ -23,6 +24,8 @@ pub enum Said {
     Update(u64, usize),
     // How many keys are blocked.
     Blocked(usize),
+    // What the gates of a listener told who arrived.
+    Gates(GatesReply),
     Other,
 }
 
@@ -49,6 +52,8 @@ pub enum Put {
     Linked,
     NoLink,
     Arrival,
+    WhetherAcceptable,
+    Acceptable(bool),
     PeerSet,
     Update,
     Blocked,
@@ -67,6 +72,7 @@ fn said_by(reply: &Reply) -> Said {
         Reply::PeerSet(Some(peers)) => Said::Set(peers.primary.len(), peers.secondary.len()),
         Reply::Update(update) => Said::Update(update.index, update.all.primary.len()),
         Reply::Blocked(keys) => Said::Blocked(keys.len()),
+        Reply::Gates(told) => Said::Gates(*told),
         _ => Said::Other,
     }
 }
@@ -84,6 +90,8 @@ fn put_of(item: &Item) -> Put {
         Item::Linked => Put::Linked,
         Item::Refused => Put::NoLink,
         Item::Arrival { .. } => Put::Arrival,
+        Item::AskAcceptable { .. } => Put::WhetherAcceptable,
+        Item::Acceptable(accepts) => Put::Acceptable(*accepts),
         Item::PeerSet(_) => Put::PeerSet,
         Item::Update(_) => Put::Update,
         Item::Blocked(_) => Put::Blocked,
