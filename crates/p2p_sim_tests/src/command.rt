@@ -8,12 +8,11 @@ use p2p_runtime::{
 use p2p_sim::sim;
 use p2p_sim_command::{Fault, LIMIT, Refusal, Status};
 use std::alloc::{AllocError, Global};
-use std::test::Fail;
 
 // A stream that moves at most so many bytes a call.
 #[derive(Drop)]
-struct Slow<T> {
-    inner: T,
+pub struct Slow<T> {
+    pub inner: T,
     most: usize,
     ghost some: { 0 < most },
 }
@@ -48,14 +47,67 @@ fn strings(alloc: Global, words: &[&str]) -> Result<Vec<String>, AllocError> {
     Ok(all)
 }
 
+// How the command ends with these words, and whether there is a world then.
+pub fn ended<S: Source, K: Sink>(
+    alloc: Global,
+    words: &[&str],
+    source: &mut S,
+    sink: &mut K,
+) -> Result<(Status, bool), AllocError> {
+    let words = strings(alloc, words)?;
+    let mut end = None;
+    let status = sim(alloc, &words, source, sink, &mut end);
+    Ok((status, end.is_some()))
+}
+
+// An input of which at most so many bytes are read a call, and these calls fail.
+pub fn source(
+    alloc: Global,
+    input: &[u8],
+    failing: &[u64],
+    most: usize,
+) -> Result<FailingSource<Slow<MemorySource>>, AllocError>
+    requires { 0 < most }
+{
+    let inner = MemorySource::new(Vec::from_slice(alloc, input)?);
+    let failing = List::from_slice(alloc, failing)?;
+    Ok(FailingSource {
+        inner: Slow { inner, most },
+        failing,
+        calls: 0,
+        faults: 0,
+    })
+}
+
+// An empty sink, to which at most so many bytes are written a call, and these calls fail.
+pub fn sink(
+    alloc: Global,
+    failing: &[u64],
+    most: usize,
+) -> Result<FailingSink<Slow<MemorySink>>, AllocError>
+    requires { 0 < most }
+{
+    let failing = List::from_slice(alloc, failing)?;
+    let inner = MemorySink::new(alloc);
+    Ok(FailingSink {
+        inner: Slow { inner, most },
+        failing,
+        calls: 0,
+        faults: 0,
+    })
+}
+
 const NOTHING: &[u8] = b"{\"configs\":[],\"script\":[]}";
 
 const JSON: &str = "{\"error\":\"json\"}\n";
 
 const SCRIPT: &str = "{\"error\":\"script\"}\n";
 
-// An input, the reads and the writes that fail, the status, and what the sink then holds.
+const EMPTY: &str = "{\"copies\":0,\"entries\":0}\n";
+
+// Words, an input, the reads and the writes that fail, the status, and what the sink then holds.
 type Row = (
+    &'static [&'static str],
     &'static [u8],
     &'static [u64],
     &'static [u64],
@@ -63,93 +115,76 @@ type Row = (
     &'static str,
 );
 
-// The calls are of one byte each.
-const ROWS: [Row; 13] = [
+const RUN: &[&str] = &["run"];
+
+const INPUTS: &[Row] = &[
+    (RUN, NOTHING, &[], &[], Status::Ok, EMPTY),
     (
-        NOTHING,
-        &[],
-        &[],
-        Status::Ok,
-        "{\"copies\":0,\"entries\":0}\n",
-    ),
-    (
+        RUN,
         b" {\"script\":[],\n\"configs\":[]} ",
         &[],
         &[],
         Status::Ok,
-        "{\"copies\":0,\"entries\":0}\n",
+        EMPTY,
     ),
-    (b"", &[], &[], Status::NotJson, JSON),
-    (b"{\"configs\":[", &[], &[], Status::NotJson, JSON),
-    (b"7 7", &[], &[], Status::NotJson, JSON),
-    (b"\"\xff\"", &[], &[], Status::NotJson, JSON),
-    (b"8", &[], &[], Status::NotScript, SCRIPT),
-    (b"[7]", &[], &[], Status::NotScript, SCRIPT),
-    (NOTHING, &[0], &[], Status::ReadFault, ""),
-    (NOTHING, &[1], &[], Status::ReadFault, ""),
-    (NOTHING, &[], &[0], Status::WriteFault, ""),
-    (NOTHING, &[], &[2], Status::WriteFault, "{\""),
-    (b"x", &[], &[3], Status::WriteFault, "{\"e"),
+    (RUN, b"", &[], &[], Status::NotJson, JSON),
+    (RUN, b"{\"configs\":[", &[], &[], Status::NotJson, JSON),
+    (RUN, b"7 7", &[], &[], Status::NotJson, JSON),
+    (RUN, b"\"\xff\"", &[], &[], Status::NotJson, JSON),
+    (RUN, b"8", &[], &[], Status::NotScript, SCRIPT),
+    (RUN, b"[7]", &[], &[], Status::NotScript, SCRIPT),
 ];
 
-// The status, whether there is a world, and what the sink holds, where a call moves at most so many bytes.
-pub fn outcome(
-    alloc: Global,
-    words: &[&str],
-    row: &Row,
-    most: usize,
-) -> Result<(Status, bool, Vec<u8>), AllocError>
+// The calls are of one byte each.
+const FAULTS: &[Row] = &[
+    (RUN, NOTHING, &[0], &[], Status::ReadFault, ""),
+    (RUN, NOTHING, &[1], &[], Status::ReadFault, ""),
+    (RUN, NOTHING, &[], &[0], Status::WriteFault, ""),
+    (RUN, NOTHING, &[], &[2], Status::WriteFault, "{\""),
+    (RUN, b"x", &[], &[3], Status::WriteFault, "{\"e"),
+];
+
+// Whether a row has its outcome, and a world where its status is `Ok` alone, where a call moves at most so many bytes.
+fn has_outcome(alloc: Global, row: &Row, most: usize) -> Result<bool, AllocError>
     requires { 0 < most }
 {
-    let mut source = FailingSource {
-        inner: Slow {
-            inner: MemorySource::new(Vec::from_slice(alloc, row.0)?),
-            most,
-        },
-        failing: List::from_slice(alloc, row.1)?,
-        calls: 0,
-        faults: 0,
-    };
-    let mut sink = FailingSink {
-        inner: Slow {
-            inner: MemorySink::new(alloc),
-            most,
-        },
-        failing: List::from_slice(alloc, row.2)?,
-        calls: 0,
-        faults: 0,
-    };
-    let mut end = None;
-    let words = strings(alloc, words)?;
-    let status = sim(alloc, &words, &mut source, &mut sink, &mut end);
-    let held = Vec::from_slice(alloc, sink.inner.inner.as_slice())?;
-    Ok((status, end.is_some(), held))
+    let mut source = source(alloc, row.1, row.2, most)?;
+    let mut sink = sink(alloc, row.3, most)?;
+    let ended = ended(alloc, row.0, &mut source, &mut sink)?;
+    Ok(ended == (row.4, row.4 == Status::Ok) && sink.inner.inner.as_slice() == row.5.as_bytes())
+}
+
+// The place of the first row with another outcome. `None` where each has what is written.
+fn first_other(alloc: Global, rows: &[Row], most: usize) -> Result<Option<usize>, AllocError>
+    requires { 0 < most }
+{
+    for (i, row) in rows.iter().enumerate() {
+        if !has_outcome(alloc, row, most)? {
+            return Ok(Some(i));
+        }
+    }
+    Ok(None)
 }
 
 #[test]
-fn an_input_has_one_outcome(rt: HostRuntime) -> Result<(), Fail> {
-    for row in &ROWS {
-        let (status, ran, held) = outcome(rt.alloc(), &["run"], row, 1)?;
-        assert_eq!(rt; status, row.3);
-        assert_eq!(rt; held.as_slice(), row.4.as_bytes());
-        assert_eq!(rt; ran, status == Status::Ok);
-    }
-    for row in &ROWS[..8] {
-        let (status, _, held) = outcome(rt.alloc(), &["run"], row, 1000)?;
-        assert_eq!(rt; status, row.3);
-        assert_eq!(rt; held.as_slice(), row.4.as_bytes());
-    }
-    Ok(())
+fn an_input_has_one_outcome(rt: HostRuntime) {
+    let alloc = rt.alloc();
+    assert_eq!(rt; first_other(alloc, INPUTS, 1), Ok(None));
+    assert_eq!(rt; first_other(alloc, FAULTS, 1), Ok(None));
+    assert_eq!(rt; first_other(alloc, INPUTS, 1000), Ok(None));
 }
 
+const OTHER_WORDS: &[Row] = &[
+    (&[], NOTHING, &[], &[], Status::Usage, ""),
+    (&["Run"], NOTHING, &[], &[], Status::Usage, ""),
+    (&["run", ""], NOTHING, &[], &[], Status::Usage, ""),
+    (&["--help"], NOTHING, &[], &[], Status::Usage, ""),
+    (&["gen", "1", "7"], NOTHING, &[], &[], Status::Usage, ""),
+];
+
 #[test]
-fn other_words_are_refused(rt: HostRuntime) -> Result<(), Fail> {
-    let rows: [&[&str]; 5] = [&[], &["Run"], &["run", ""], &["--help"], &["gen", "1", "7"]];
-    for words in rows {
-        let (status, ran, held) = outcome(rt.alloc(), words, &ROWS[0], 1)?;
-        assert_eq!(rt; (status, ran, held.len()), (Status::Usage, false, 0));
-    }
-    Ok(())
+fn other_words_are_refused(rt: HostRuntime) {
+    assert_eq!(rt; first_other(rt.alloc(), OTHER_WORDS, 1), Ok(None));
 }
 
 // A script of nothing and then so many spaces.
@@ -160,46 +195,44 @@ fn padded(alloc: Global, spaces: usize) -> Result<MemorySource, AllocError> {
     Ok(MemorySource::new(bytes))
 }
 
-#[test]
-fn an_input_has_a_limit(rt: HostRuntime) -> Result<(), Fail> {
-    let alloc = rt.alloc();
-    let words = strings(alloc, &["run"])?;
-    for (spaces, wanted) in [
-        (LIMIT - 26, Status::Ok),
-        (LIMIT - 25, Status::TooLong),
-        (LIMIT + 9, Status::TooLong),
-    ] {
-        let mut source = padded(alloc, spaces)?;
-        let mut sink = MemorySink::new(alloc);
-        let mut end = None;
-        let status = sim(alloc, &words, &mut source, &mut sink, &mut end);
-        assert_eq!(rt; status, wanted);
-        assert_eq!(rt; end.is_some(), status == Status::Ok);
-    }
-    Ok(())
+// How the command ends with it.
+fn ended_padded(alloc: Global, spaces: usize) -> Result<(Status, bool), AllocError> {
+    let mut source = padded(alloc, spaces)?;
+    let mut sink = MemorySink::new(alloc);
+    ended(alloc, RUN, &mut source, &mut sink)
 }
 
 #[test]
-fn a_writer_that_takes_nothing_is_a_fault(rt: HostRuntime) -> Result<(), Fail> {
+fn an_input_has_a_limit(rt: HostRuntime) {
     let alloc = rt.alloc();
-    let words = strings(alloc, &["run"])?;
+    let too_long = Ok((Status::TooLong, false));
+    assert_eq!(rt; ended_padded(alloc, LIMIT - 26), Ok((Status::Ok, true)));
+    assert_eq!(rt; ended_padded(alloc, LIMIT - 25), too_long);
+    assert_eq!(rt; ended_padded(alloc, LIMIT + 9), too_long);
+}
+
+// How the command ends with a writer that takes three bytes.
+fn ended_cut_off(alloc: Global) -> Result<(Status, bool), AllocError> {
     let mut held = [0u8; 3];
-    let mut source = MemorySource::new(Vec::from_slice(alloc, NOTHING)?);
+    let mut source = padded(alloc, 0)?;
     let mut sink = StdSink::new(held.as_mut_slice());
-    let mut end = None;
-    let status = sim(alloc, &words, &mut source, &mut sink, &mut end);
-    assert_eq!(rt; (status, end.is_some()), (Status::WriteFault, false));
-    Ok(())
+    ended(alloc, RUN, &mut source, &mut sink)
 }
 
 #[test]
-fn a_refusal_has_its_line(rt: HostRuntime) -> Result<(), Fail> {
-    let rows = [
-        (Refusal::Config(1), "{\"config\":1,\"error\":\"config\"}\n"),
-        (Refusal::Event(20), "{\"error\":\"event\",\"event\":20}\n"),
-    ];
-    for (refusal, line) in rows {
-        assert_eq!(rt; Fault::Refused(refusal).line(rt.alloc())?.as_str(), line);
-    }
-    Ok(())
+fn a_writer_that_takes_nothing_is_a_fault(rt: HostRuntime) {
+    assert_eq!(rt; ended_cut_off(rt.alloc()), Ok((Status::WriteFault, false)));
+}
+
+// Whether a refusal has this line.
+fn has_line(alloc: Global, refusal: Refusal, line: &str) -> Result<bool, AllocError> {
+    Ok(Fault::Refused(refusal).line(alloc)?.as_str() == line)
+}
+
+#[test]
+fn a_refusal_has_its_line(rt: HostRuntime) {
+    let config = "{\"config\":1,\"error\":\"config\"}\n";
+    let event = "{\"error\":\"event\",\"event\":20}\n";
+    assert_eq!(rt; has_line(rt.alloc(), Refusal::Config(1), config), Ok(true));
+    assert_eq!(rt; has_line(rt.alloc(), Refusal::Event(20), event), Ok(true));
 }

@@ -1,49 +1,60 @@
 //! Worked scripts, each with its whole report.
-use crate::command::outcome;
-use crate::reports::is_text;
+use crate::command::{ended, sink, source};
+use crate::entries::is_text;
 use crate::rows::{
     HELLO, HELLO_REPORT, RELAY, RELAY_REPORT, SUBSCRIPTION, SUBSCRIPTION_REPORT, UNBOUND,
     UNBOUND_REPORT,
 };
 use p2p_sim_command::Status;
 use std::alloc::{AllocError, Global};
-use std::test::Fail;
 
-// What the command answers to an input of which nothing fails: its status, whether a world is left, and what is written.
-fn run(alloc: Global, input: &'static str) -> Result<(Status, bool, String), Fail> {
-    let row = (
-        input.as_bytes(),
-        [].as_slice(),
-        [].as_slice(),
-        Status::Ok,
-        "",
-    );
-    let (status, ran, held) = outcome(alloc, &["run"], &row, 1000)?;
-    Ok((status, ran, String::from_utf8(held)?))
+// Whether the command ends so with a script, of which nothing fails, leaves a world where that is `Ok` alone, and writes these lines.
+fn has_outcome(
+    alloc: Global,
+    script: &str,
+    status: Status,
+    lines: &[&str],
+) -> Result<bool, AllocError> {
+    let mut source = source(alloc, script.as_bytes(), &[], 1000)?;
+    let mut sink = sink(alloc, &[], 1000)?;
+    if ended(alloc, &["run"], &mut source, &mut sink)? != (status, status == Status::Ok) {
+        return Ok(false);
+    }
+    is_text(alloc, sink.inner.inner.as_slice(), lines)
 }
 
-// Whether a script runs, and its report has these lines.
-fn has_report(alloc: Global, script: &'static str, lines: &[&str]) -> Result<bool, Fail> {
-    let (status, ran, report) = run(alloc, script)?;
-    Ok(status == Status::Ok && ran && is_text(alloc, report.as_str(), lines)?)
+const SCRIPTS: &[(&str, Status, &[&str])] = &[
+    (HELLO, Status::Ok, HELLO_REPORT),
+    (UNBOUND, Status::Ok, UNBOUND_REPORT),
+    (SUBSCRIPTION, Status::Ok, SUBSCRIPTION_REPORT),
+    (RELAY, Status::Ok, RELAY_REPORT),
+];
+
+// The place of the first script with another outcome. `None` where each has what is written.
+fn first_other(
+    alloc: Global,
+    scripts: &[(&str, Status, &[&str])],
+) -> Result<Option<usize>, AllocError> {
+    for (i, script) in scripts.iter().enumerate() {
+        if !has_outcome(alloc, script.0, script.1, script.2)? {
+            return Ok(Some(i));
+        }
+    }
+    Ok(None)
 }
 
 #[test]
-fn worked_scripts_have_their_reports(rt: HostRuntime) -> Result<(), Fail> {
-    assert!(rt; has_report(rt.alloc(), HELLO, HELLO_REPORT)?);
-    assert!(rt; has_report(rt.alloc(), UNBOUND, UNBOUND_REPORT)?);
-    assert!(rt; has_report(rt.alloc(), SUBSCRIPTION, SUBSCRIPTION_REPORT)?);
-    assert!(rt; has_report(rt.alloc(), RELAY, RELAY_REPORT)?);
-    Ok(())
+fn worked_scripts_have_their_reports(rt: HostRuntime) {
+    assert_eq!(rt; first_other(rt.alloc(), SCRIPTS), Ok(None));
 }
 
+const NO_WHOLE_MOMENT: &str = r#"{"configs":[
+    {"key":1,"preset":"local","max_peers_per_set":2,"max_message_size":1024,"mailbox_size":4}],
+    "script":[{"node":0,"at":1.5,"do":"start"}]}"#;
+
 #[test]
-fn a_moment_that_is_no_whole_number_is_no_script(rt: HostRuntime) -> Result<(), Fail> {
-    let script = r#"{"configs":[
-        {"key":1,"preset":"local","max_peers_per_set":2,"max_message_size":1024,"mailbox_size":4}],
-        "script":[{"node":0,"at":1.5,"do":"start"}]}"#;
-    let (status, ran, line) = run(rt.alloc(), script)?;
-    assert_eq!(rt; (status, ran), (Status::NotScript, false));
-    assert_eq!(rt; line.as_str(), "{\"error\":\"script\"}\n");
-    Ok(())
+fn a_moment_that_is_no_whole_number_is_no_script(rt: HostRuntime) {
+    let line = [r#"{"error":"script"}"#];
+    let found = has_outcome(rt.alloc(), NO_WHOLE_MOMENT, Status::NotScript, &line);
+    assert_eq!(rt; found, Ok(true));
 }

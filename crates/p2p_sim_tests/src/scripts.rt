@@ -1,10 +1,9 @@
 //! Which texts are scripts, and which of them are of the first form.
+use crate::texts::{Read, first_other, read};
 use p2p_base::Key;
 use p2p_log::{Act, Config, Event, Recipients};
-use p2p_sim_script::{ScriptError, is_first_form, read_script};
-use serde_json::Value;
-use std::alloc::Global;
-use std::test::Fail;
+use p2p_sim_script::{ScriptError, is_first_form};
+use std::alloc::{AllocError, Global};
 
 // A message of one node to another, on a channel that both register.
 const HELLO: &str = r#"{"configs":[
@@ -22,116 +21,72 @@ const HELLO: &str = r#"{"configs":[
     {"at":4999999999,"channel":7,"do":"recv","node":1},
     {"at":0,"channel":7,"do":"register","node":1,"quota":{"burst":4294967295,"period":18446744073709551615}}]}"#;
 
-// Whether a text is a script.
-fn kind(alloc: Global, text: &str) -> Result<&'static str, Fail> {
-    let tree = Value::from_str(alloc, text)?;
-    match read_script(alloc, &tree) {
-        Ok(_) => Ok("a script"),
-        Err(ScriptError::NotScript) => Ok("none"),
-        Err(ScriptError::Memory) => Ok("no memory"),
-    }
-}
-
-// Whether a text is a script of the first form, or another script, or none.
-fn form(alloc: Global, text: &str) -> Result<&'static str, Fail> {
-    let tree = Value::from_str(alloc, text)?;
-    match read_script(alloc, &tree) {
-        Ok((configs, script)) => {
-            if is_first_form(alloc, configs.as_slice(), script.as_slice())? {
-                Ok("first form")
-            } else {
-                Ok("another form")
-            }
-        }
-        Err(_) => Ok("none"),
-    }
-}
-
-// The kind of the text above with one place changed.
-fn kind_with(alloc: Global, from: &str, to: &str) -> Result<&'static str, Fail> {
-    let text = HELLO.replacen(alloc, from, to, 1)?;
-    kind(alloc, text.as_str())
-}
-
-// Changes of the text above in one place, and of which kind it is then.
-const CHANGES_OF_KIND: &[(&str, &str, &str)] = &[
-    (r#""a":0"#, r#""a":0"#, "a script"),
-    (r#"{"one":2}"#, r#"{"some":[2]}"#, "a script"),
+// Changes of the text above in one place, and whether it is a script then.
+const CHANGES_OF_KIND: &[(&str, &str, bool)] = &[
+    (r#""a":0"#, r#""a":0"#, true),
+    (r#"{"one":2}"#, r#"{"some":[2]}"#, true),
     (
         r#""max_message_size":1024"#,
         r#""max_message_size":4294967295"#,
-        "a script",
+        true,
     ),
     (
         r#""max_message_size":1024"#,
         r#""max_message_size":4294967296"#,
-        "none",
+        false,
     ),
     (
         r#""max_peers_per_set":2"#,
         r#""max_peers_per_set":0"#,
-        "none",
+        false,
     ),
-    (r#""mailbox_size":4"#, r#""mailbox_size":0"#, "none"),
-    (
-        r#""preset":"local""#,
-        r#""preset":"recommended""#,
-        "a script",
-    ),
-    (r#""preset":"local","#, r#""#, "none"),
-    (r#""key":1"#, r#""key":1,"ping_frequency":1"#, "none"),
-    (r#""burst":1"#, r#""burst":0"#, "none"),
-    (r#""burst":4294967295"#, r#""burst":4294967296"#, "none"),
+    (r#""mailbox_size":4"#, r#""mailbox_size":0"#, false),
+    (r#""preset":"local""#, r#""preset":"recommended""#, true),
+    (r#""preset":"local","#, r#""#, false),
+    (r#""key":1"#, r#""key":1,"ping_frequency":1"#, false),
+    (r#""burst":1"#, r#""burst":0"#, false),
+    (r#""burst":4294967295"#, r#""burst":4294967296"#, false),
     (
         r#""period":18446744073709551615"#,
         r#""period":18446744073709551616"#,
-        "none",
+        false,
     ),
-    (r#""period":1000000000"#, r#""period":0"#, "none"),
+    (r#""period":1000000000"#, r#""period":0"#, false),
     (
         r#""period":1000000000"#,
         r#""period":1000000000,"more":1"#,
-        "none",
+        false,
     ),
-    (r#""seed":9"#, r#""seed":null"#, "none"),
-    (r#""seed":9"#, r#""seed":18446744073709551615"#, "a script"),
-    (r#""seed":9"#, r#""speed":9"#, "none"),
-    (r#""at":0"#, r#""at":0.0"#, "none"),
-    (r#""at":0"#, r#""at":-1"#, "none"),
-    (r#""at":0,"#, r#""#, "none"),
-    (r#""conn":3"#, r#""conn":"3""#, "none"),
-    (r#""do":"router""#, r#""do":"route""#, "none"),
-    (r#""do":"router""#, r#""do":"router","conn":3"#, "none"),
-    (r#""do":"start""#, r#""do":"start","bind":true"#, "none"),
-    (r#"{"one":2}"#, r#""all""#, "none"),
-    (r#"{"one":2}"#, r#"{"one":2,"some":[]}"#, "none"),
-    (r#"{"one":2}"#, r#"{"some":[2,null]}"#, "none"),
-    (r#""bytes":"68656c6C6f""#, r#""bytes":"68656c6C6""#, "none"),
-    (r#""bytes":"68656c6C6f""#, r#""bytes":"68656c6C6g""#, "none"),
-    (r#""priority":false"#, r#""priority":0"#, "none"),
-    (r#""configs":["#, r#""configs":[[],"#, "none"),
-    (r#""script":["#, r#""script":{},"events":["#, "none"),
+    (r#""seed":9"#, r#""seed":null"#, false),
+    (r#""seed":9"#, r#""seed":18446744073709551615"#, true),
+    (r#""seed":9"#, r#""speed":9"#, false),
+    (r#""at":0"#, r#""at":0.0"#, false),
+    (r#""at":0"#, r#""at":-1"#, false),
+    (r#""at":0,"#, r#""#, false),
+    (r#""conn":3"#, r#""conn":"3""#, false),
+    (r#""do":"router""#, r#""do":"route""#, false),
+    (r#""do":"router""#, r#""do":"router","conn":3"#, false),
+    (r#""do":"start""#, r#""do":"start","bind":true"#, false),
+    (r#"{"one":2}"#, r#""all""#, false),
+    (r#"{"one":2}"#, r#"{"one":2,"some":[]}"#, false),
+    (r#"{"one":2}"#, r#"{"some":[2,null]}"#, false),
+    (r#""bytes":"68656c6C6f""#, r#""bytes":"68656c6C6""#, false),
+    (r#""bytes":"68656c6C6f""#, r#""bytes":"68656c6C6g""#, false),
+    (r#""priority":false"#, r#""priority":0"#, false),
+    (r#""configs":["#, r#""configs":[[],"#, false),
+    (r#""script":["#, r#""script":{},"events":["#, false),
 ];
 
 #[test]
-fn kinds(rt: HostRuntime) -> Result<(), Fail> {
-    for &(from, to, expected) in CHANGES_OF_KIND {
-        assert_eq!(rt; kind_with(rt.alloc(), from, to)?, expected, "{to}");
-    }
-    Ok(())
+fn kinds(rt: HostRuntime) {
+    assert_eq!(rt; first_other(rt.alloc(), HELLO, CHANGES_OF_KIND), Ok(None));
 }
 
-// The form of the text above with two places changed.
-fn form_with(
-    alloc: Global,
-    from: &str,
-    to: &str,
-    also_from: &str,
-    also_to: &str,
-) -> Result<&'static str, Fail> {
-    let text = HELLO.replacen(alloc, from, to, 1)?;
-    let text = text.as_str().replacen(alloc, also_from, also_to, 1)?;
-    form(alloc, text.as_str())
+#[derive(Clone, Copy, PartialEq)]
+enum Form {
+    First,
+    Another,
+    None,
 }
 
 const ROUTER: &str = r#"{"at":0,"do":"router","node":0}"#;
@@ -142,104 +97,137 @@ const SEND: &str =
 const OTHER: &str = r#""channel":7,"do":"register","node":1"#;
 
 // Changes of the text above in one or two places, and of which form it is then.
-const CHANGES_OF_FORM: &[(&str, &str, &str, &str, &str)] = &[
-    ("", "", "", "", "first form"),
+const CHANGES_OF_FORM: &[(&str, &str, &str, &str, Form)] = &[
+    ("", "", "", "", Form::First),
     (
         r#""priority":false"#,
         r#""priority":true"#,
         "",
         "",
-        "another form",
+        Form::Another,
     ),
-    (r#"{"one":2}"#, r#"{"some":[2]}"#, "", "", "another form"),
-    (ROUTER, SEND, "", "", "another form"),
-    (ROUTER, SEND, r#""burst":1"#, r#""burst":2"#, "first form"),
+    (r#"{"one":2}"#, r#"{"some":[2]}"#, "", "", Form::Another),
+    (ROUTER, SEND, "", "", Form::Another),
+    (ROUTER, SEND, r#""burst":1"#, r#""burst":2"#, Form::First),
     (
         ROUTER,
         SEND,
         r#""burst":4294967295"#,
         r#""burst":2"#,
-        "another form",
+        Form::Another,
     ),
-    (
-        r#""burst":4294967295"#,
-        r#""burst":1"#,
-        "",
-        "",
-        "first form",
-    ),
+    (r#""burst":4294967295"#, r#""burst":1"#, "", "", Form::First),
     (
         OTHER,
         r#""channel":8,"do":"register","node":1"#,
         "",
         "",
-        "another form",
+        Form::Another,
     ),
     (
         OTHER,
         r#""channel":7,"do":"register","node":0"#,
         "",
         "",
-        "another form",
+        Form::Another,
     ),
     (
         OTHER,
         r#""channel":7,"do":"register","node":2"#,
         "",
         "",
-        "another form",
+        Form::Another,
     ),
     (
         r#""channel":7,"do":"send""#,
         r#""channel":8,"do":"send""#,
         "",
         "",
-        "another form",
+        Form::Another,
     ),
     (
         r#""bytes":"68656c6C6f""#,
         r#""bytes":"68656c6C6f00""#,
         "",
         "",
-        "another form",
+        Form::Another,
     ),
     (
         r#""max_message_size":1024"#,
         r#""max_message_size":4"#,
         "",
         "",
-        "another form",
+        Form::Another,
     ),
     (
         r#""at":4999999999"#,
         r#""at":5000000000"#,
         "",
         "",
-        "another form",
+        Form::Another,
     ),
     (
         r#""at":4999999999"#,
         r#""at":5000000000"#,
         r#"{"a":0,"at":0,"b":1,"do":"join"},"#,
         "",
-        "first form",
+        Form::First,
     ),
     (
         r#"{"a":0,"at":0,"b":1,"do":"join"},"#,
         "",
         "",
         "",
-        "first form",
+        Form::First,
     ),
 ];
 
-#[test]
-fn forms(rt: HostRuntime) -> Result<(), Fail> {
-    for &(from, to, also_from, also_to, expected) in CHANGES_OF_FORM {
-        let found = form_with(rt.alloc(), from, to, also_from, also_to)?;
-        assert_eq!(rt; found, expected, "{to} {also_to}");
+// The form of what was read.
+fn form_of(alloc: Global, read: &Read) -> Result<Form, AllocError> {
+    match read {
+        Ok((configs, script)) => {
+            if is_first_form(alloc, configs.as_slice(), script.as_slice())? {
+                Ok(Form::First)
+            } else {
+                Ok(Form::Another)
+            }
+        }
+        Err(ScriptError::NotScript) => Ok(Form::None),
+        Err(ScriptError::Memory) => Err(AllocError),
     }
-    Ok(())
+}
+
+// The form of a text with one place changed.
+fn form_with(alloc: Global, text: &str, from: &str, to: &str) -> Result<Form, AllocError> {
+    let text = text.replacen(alloc, from, to, 1)?;
+    form_of(alloc, &read(alloc, text.as_str())?)
+}
+
+// The form of the text above with two places changed.
+fn form_with_both(
+    alloc: Global,
+    from: &str,
+    to: &str,
+    also_from: &str,
+    also_to: &str,
+) -> Result<Form, AllocError> {
+    let text = HELLO.replacen(alloc, from, to, 1)?;
+    form_with(alloc, text.as_str(), also_from, also_to)
+}
+
+// The place of the first change after which it is of another form. `None` where it is of those that are written.
+fn first_other_form(alloc: Global) -> Result<Option<usize>, AllocError> {
+    for (i, change) in CHANGES_OF_FORM.iter().enumerate() {
+        if form_with_both(alloc, change.0, change.1, change.2, change.3)? != change.4 {
+            return Ok(Some(i));
+        }
+    }
+    Ok(None)
+}
+
+#[test]
+fn forms(rt: HostRuntime) {
+    assert_eq!(rt; first_other_form(rt.alloc()), Ok(None));
 }
 
 // A script without events asks for nothing.
@@ -289,19 +277,23 @@ type Contents = (
     Option<(u64, u64, Sending)>,
 );
 
-fn read(alloc: Global) -> Result<Contents, Fail> {
-    let tree = Value::from_str(alloc, HELLO)?;
-    let (configs, script) = read_script(alloc, &tree)?;
-    let config = second_config(configs.as_slice());
-    let event = fifth_event(script.as_slice());
-    Ok(((configs.len(), script.len()), config, event))
+fn contents_of(configs: &[Config], script: &[Event]) -> Contents {
+    let config = second_config(configs);
+    ((configs.len(), script.len()), config, fifth_event(script))
+}
+
+fn contents(alloc: Global) -> Result<Option<Contents>, AllocError> {
+    match read(alloc, HELLO)? {
+        Ok((configs, script)) => Ok(Some(contents_of(configs.as_slice(), script.as_slice()))),
+        Err(_) => Ok(None),
+    }
 }
 
 // The fields go where they belong.
 #[test]
-fn fields(rt: HostRuntime) -> Result<(), Fail> {
+fn fields(rt: HostRuntime) {
     let config = Some((Key(2), 5, [2, 4, 4, 8]));
     let event = Some((0, 9, Some((7, 0, false, Key(2)))));
-    assert_eq!(rt; read(rt.alloc())?, ((2, 10), config, event));
-    Ok(())
+    let wanted = Some(((2, 10), config, event));
+    assert_eq!(rt; contents(rt.alloc()), Ok(wanted));
 }
