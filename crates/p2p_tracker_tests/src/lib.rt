@@ -2,9 +2,12 @@
 //! those crates once.
 //!
 //! Of `p2p_tracker_mailbox` are `handshakes`, `oracle` and `tracking`, of `p2p_tracker_directory` is `directory`, and of `p2p_tracker` are
-//! `grants`, `polls` and `tracker`.
+//! `grants`, `polls` and `tracker`. Most are scripts, of which `mailboxes`, `directing` and `stand` do each step. `outcomes` has what a
+//! step of a tracker shows; `plain` and `taking` have keys, hosts and messages in plain data.
 #![tactic(auto)]
 
+#[cfg(test)]
+mod directing;
 #[cfg(test)]
 mod directory;
 #[cfg(test)]
@@ -12,9 +15,19 @@ mod grants;
 #[cfg(test)]
 mod handshakes;
 #[cfg(test)]
+mod mailboxes;
+#[cfg(test)]
 mod oracle;
 #[cfg(test)]
+mod outcomes;
+#[cfg(test)]
+mod plain;
+#[cfg(test)]
 mod polls;
+#[cfg(test)]
+mod stand;
+#[cfg(test)]
+mod taking;
 #[cfg(test)]
 mod tracker;
 #[cfg(test)]
