@@ -105,35 +105,46 @@ impl<P: PublicKey> Blocker for Stub<P> {
     ghost closed_once_ended = { λ m w s. elim w.has_ended as (λ b. ((if b then feedback.Closed else feedback.Ok) ≡ feedback.Closed) ↔ IsTrue b) [ true ↦ (λ _. refl, λ _. refl) | false ↦ (λ e. Prim.cc, λ h. Prim.cc) ] };
 }
 
-// A wall without subscriptions, which has ended or not, and its blocker.
-fn walled(alloc: Global, ended: bool) -> (Wall<Key>, Stub<Key>) {
-    let sets = Vec::new(alloc);
-    (Wall { ended, sets }, Stub { of: PhantomData })
+// How a subscription stands.
+#[derive(Clone, Copy, PartialEq)]
+enum Standing {
+    Waits,
+    Ended,
+    HasSet,
 }
 
-// What a blocker says of a key, and whether a new subscription waits for a set.
-fn waits(alloc: Global) -> Result<(Feedback, bool), AllocError> {
-    let (mut wall, mut blocker) = walled(alloc, false);
-    let told = blocker.block(alloc, &mut wall, Key(2))?;
-    let (number, _) = blocker.blocked(alloc, &mut wall)?;
-    let polled = BlockedSubscription::new(number).poll(&mut blocker, &mut wall);
-    Ok((told, matches!(polled, Ok(Polled::Pending))))
+fn stands(polled: Result<Polled<Set<Key>>, Ended>) -> Standing {
+    match polled {
+        Ok(Polled::Pending) => Standing::Waits,
+        Ok(Polled::Ready(_)) => Standing::HasSet,
+        Err(Ended) => Standing::Ended,
+    }
+}
+
+// What a blocker says of a key and of a new subscription, and how that stands.
+fn shown(alloc: Global, wall: &mut Wall<Key>) -> Result<([Feedback; 2], Standing), AllocError> {
+    let mut blocker = Stub { of: PhantomData };
+    let blocked = blocker.block(alloc, wall, Key(2))?;
+    let (number, subscribed) = blocker.blocked(alloc, wall)?;
+    let polled = BlockedSubscription::new(number).poll(&mut blocker, wall);
+    Ok(([blocked, subscribed], stands(polled)))
+}
+
+// The same of a wall without subscriptions, which has ended or not.
+fn shown_of(alloc: Global, ended: bool) -> Result<([Feedback; 2], Standing), AllocError> {
+    let sets = Vec::new(alloc);
+    let mut wall = Wall { ended, sets };
+    shown(alloc, &mut wall)
 }
 
 #[test]
 fn a_subscription_waits_for_a_set(rt: HostRuntime) {
-    assert_eq!(rt; waits(rt.alloc()), Ok((Feedback::Ok, true)));
-}
-
-// What a subscription is told once the tracker has ended, and whether it is at its end.
-fn ends(alloc: Global) -> Result<(Feedback, bool), AllocError> {
-    let (mut wall, mut blocker) = walled(alloc, true);
-    let (number, told) = blocker.blocked(alloc, &mut wall)?;
-    let polled = BlockedSubscription::new(number).poll(&mut blocker, &mut wall);
-    Ok((told, polled == Err(Ended)))
+    let wanted = ([Feedback::Ok, Feedback::Ok], Standing::Waits);
+    assert!(rt; shown_of(rt.alloc(), false) == Ok(wanted));
 }
 
 #[test]
 fn nothing_comes_after_the_end(rt: HostRuntime) {
-    assert_eq!(rt; ends(rt.alloc()), Ok((Feedback::Closed, true)));
+    let wanted = ([Feedback::Closed, Feedback::Closed], Standing::Ended);
+    assert!(rt; shown_of(rt.alloc(), true) == Ok(wanted));
 }

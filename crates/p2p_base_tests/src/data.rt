@@ -1,10 +1,9 @@
-//! Lists, texts and keys: how they compare and print, and the bytes of a key.
+//! Lists, texts and keys: how they compare, and the bytes of a key.
 ghost use Rattle.std.specs.Prelude.{◌≡◌, IfOk, [], ◌∷◌};
 ghost use Rattle.p2p_base_tests.specs.declared.data.Sample.TheVariants as sample;
 
 use p2p_base::{Key, List, PublicKey, Text};
 use std::alloc::{AllocError, Global};
-use std::fmt::Debug;
 
 #[derive(Drop, PartialEq, Eq)]
 enum Sample {
@@ -18,97 +17,86 @@ fn one_number(alloc: Global, n: u64) -> Result<Sample, AllocError>
     Ok(Sample::Numbers(List::from_slice(alloc, &[n])?))
 }
 
-// Whether two lists of one number are equal.
-fn are_equal(alloc: Global, m: u64, n: u64) -> Result<bool, AllocError> {
-    let first = one_number(alloc, m)?;
-    Ok(first == one_number(alloc, n)?)
-}
-
-// A named list of two keys.
+// A list named like this, of two keys.
 fn named_keys(alloc: Global, name: &str) -> Result<Sample, AllocError> {
     let name = Text::from_str(alloc, name)?;
     let keys = List::from_slice(alloc, &[Key(1), Key(2)])?;
     Ok(Sample::Named { name, keys })
 }
 
-// Whether a list named "a" equals one of another name.
-fn names_are_equal(alloc: Global, name: &str) -> Result<bool, AllocError> {
-    let first = named_keys(alloc, "a")?;
-    Ok(first == named_keys(alloc, name)?)
+// Which sample.
+#[derive(Clone, Copy)]
+enum Which {
+    Number(u64),
+    Name(&'static str),
 }
 
-// Whether a named list equals one of one number.
-fn kinds_are_equal(alloc: Global) -> Result<bool, AllocError> {
-    let first = named_keys(alloc, "a")?;
-    Ok(first == one_number(alloc, 7)?)
+fn sample_of(alloc: Global, which: Which) -> Result<Sample, AllocError> {
+    match which {
+        Which::Number(n) => one_number(alloc, n),
+        Which::Name(name) => named_keys(alloc, name),
+    }
 }
 
-// Each comparison once.
-fn comparisons(alloc: Global) -> Result<[bool; 5], AllocError> {
-    Ok([
-        are_equal(alloc, 7, 7)?,
-        are_equal(alloc, 7, 8)?,
-        names_are_equal(alloc, "a")?,
-        names_are_equal(alloc, "b")?,
-        kinds_are_equal(alloc)?,
-    ])
+fn are_equal(alloc: Global, first: Which, second: Which) -> Result<bool, AllocError> {
+    let first = sample_of(alloc, first)?;
+    Ok(first == sample_of(alloc, second)?)
+}
+
+// Two samples, and whether they are equal.
+const COMPARED: &[(Which, Which, bool)] = &[
+    (Which::Number(7), Which::Number(7), true),
+    (Which::Number(7), Which::Number(8), false),
+    (Which::Name("a"), Which::Name("a"), true),
+    (Which::Name("a"), Which::Name("b"), false),
+    (Which::Name("a"), Which::Number(7), false),
+];
+
+// The place of the first two that compare otherwise. `None` where all compare so.
+fn first_other(alloc: Global) -> Result<Option<usize>, AllocError> {
+    for (i, row) in COMPARED.iter().enumerate() {
+        if are_equal(alloc, row.0, row.1)? != row.2 {
+            return Ok(Some(i));
+        }
+    }
+    Ok(None)
 }
 
 #[test]
 fn plain_data_compares(rt: HostRuntime) {
-    let wanted = [true, false, true, false, false];
-    assert_eq!(rt; comparisons(rt.alloc()), Ok(wanted));
+    assert_eq!(rt; first_other(rt.alloc()), Ok(None));
 }
 
-// Whether a value prints so.
-fn prints<T: Debug>(alloc: Global, value: &T, text: &str) -> Result<bool, AllocError> {
-    Ok(format!(in alloc; "{value:?}")?.as_str() == text)
-}
-
-// Whether copies of a text are equal to it, and whether it prints in quotes.
-fn text_is_copied(alloc: Global) -> Result<(bool, bool, bool), AllocError> {
+// Whether copies of a text are equal to it.
+fn text_is_copied(alloc: Global) -> Result<[bool; 2], AllocError> {
     let text = Text::from_str(alloc, "a")?;
-    let cloned = text.clone()? == text;
-    let copied = text.try_clone(alloc)? == text;
-    Ok((cloned, copied, prints(alloc, &text, "\"a\"")?))
+    let is_cloned = text.clone()? == text;
+    Ok([is_cloned, text.try_clone(alloc)? == text])
 }
 
-// Whether copies of a list are equal to it, and whether it prints as a slice.
-fn list_is_copied(alloc: Global) -> Result<(bool, bool, bool), AllocError> {
+// Whether copies of a list are equal to it.
+fn list_is_copied(alloc: Global) -> Result<[bool; 2], AllocError> {
     let list = List::from_slice(alloc, &[Key(1), Key(2)])?;
-    let cloned = list.clone()? == list;
-    let copied = list.try_clone(alloc)? == list;
-    Ok((cloned, copied, prints(alloc, &list, "[Key(1), Key(2)]")?))
+    let is_cloned = list.clone()? == list;
+    Ok([is_cloned, list.try_clone(alloc)? == list])
 }
 
 #[test]
-fn a_text_equals_its_copies_and_prints_in_quotes(rt: HostRuntime) {
-    assert_eq!(rt; text_is_copied(rt.alloc()), Ok((true, true, true)));
+fn a_text_and_a_list_equal_their_copies(rt: HostRuntime) {
+    assert!(rt; text_is_copied(rt.alloc()) == Ok([true, true]));
+    assert!(rt; list_is_copied(rt.alloc()) == Ok([true, true]));
+}
+
+// The bytes of the key 300.
+const BYTES: [u8; 8] = [0, 0, 0, 0, 0, 0, 1, 44];
+
+fn key_is_written(alloc: Global) -> Result<bool, AllocError> {
+    Ok(Key(300).to_bytes(alloc)?.as_slice() == BYTES.as_slice())
 }
 
 #[test]
-fn a_list_equals_its_copies_and_prints_as_a_slice(rt: HostRuntime) {
-    assert_eq!(rt; list_is_copied(rt.alloc()), Ok((true, true, true)));
-}
-
-// Whether a key prints as 300, and whether its bytes are these.
-fn key_is_written(alloc: Global, key: Key, bytes: &[u8]) -> Result<(bool, bool), AllocError> {
-    let printed = format!(in alloc; "{key}")?.as_str() == "300";
-    Ok((printed, key.to_bytes(alloc)?.as_slice() == bytes))
-}
-
-#[test]
-fn a_key_prints_in_decimal_and_has_eight_bytes_high_byte_first(rt: HostRuntime) {
-    let bytes = [0, 0, 0, 0, 0, 0, 1, 44];
-    assert_eq!(rt;
-        key_is_written(rt.alloc(), Key(300), &bytes),
-        Ok((true, true))
-    );
-}
-
-#[test]
-fn eight_bytes_make_a_key_and_seven_none(rt: HostRuntime) {
-    let bytes = [0, 0, 0, 0, 0, 0, 1, 44];
-    let found = [Key::from_bytes(&bytes), Key::from_bytes(&bytes[1..])];
-    assert_eq!(rt; found, [Some(Key(300)), None]);
+fn a_key_has_eight_bytes_high_byte_first(rt: HostRuntime) {
+    assert_eq!(rt; key_is_written(rt.alloc()), Ok(true));
+    let found = [Key::from_bytes(&BYTES), Key::from_bytes(&BYTES[1..])];
+    assert!(rt; found == [Some(Key(300)), None]);
 }

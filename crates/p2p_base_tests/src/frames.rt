@@ -36,30 +36,42 @@ fn data_is_carried(alloc: Global) -> Result<(bool, bool), AllocError> {
 
 #[test]
 fn frames(rt: HostRuntime) {
-    assert_eq!(rt; data_is_carried(rt.alloc()), Ok((true, true)));
+    assert!(rt; data_is_carried(rt.alloc()) == Ok((true, true)));
     let ping = is_carried(rt.alloc(), &Message::Ping, &[1], 0);
-    assert_eq!(rt; ping, Ok((true, true)));
+    assert!(rt; ping == Ok((true, true)));
 }
+
+// Bytes that are no frame of at most four bytes, and why.
+const REFUSED: &[(&[u8], CodecError)] = &[
+    (
+        &[0x00, 0x09, 0x05, 0x68, 0x65, 0x6C, 0x6C, 0x6F],
+        CodecError::InvalidLength(5),
+    ),
+    (&[0x00, 0x80, 0x00], CodecError::InvalidVarint(8)),
+    (&[0x01, 0x00], CodecError::ExtraData(1)),
+    (&[0x02], CodecError::InvalidEnum(2)),
+    (&[], CodecError::EndOfBuffer),
+    (&[0x00, 0x07, 0x04, 0x70], CodecError::EndOfBuffer),
+];
 
 // Why bytes are no frame of at most four bytes.
 fn refusal(alloc: Global, bytes: &[u8]) -> Result<Option<CodecError>, AllocError> {
     Ok(Message::decode(Bytes::copy_from_slice(alloc, bytes)?, 4).err())
 }
 
+// The place of the first of them that are refused for another reason, or not. `None` where each is for its own.
+fn first_other(alloc: Global) -> Result<Option<usize>, AllocError> {
+    for (i, row) in REFUSED.iter().enumerate() {
+        if refusal(alloc, row.0)? != Some(row.1) {
+            return Ok(Some(i));
+        }
+    }
+    Ok(None)
+}
+
 #[test]
 fn refusals(rt: HostRuntime) {
-    let long = [0x00, 0x09, 0x05, 0x68, 0x65, 0x6C, 0x6C, 0x6F];
-    let rows = [
-        (long.as_slice(), CodecError::InvalidLength(5)),
-        ([0x00, 0x80, 0x00].as_slice(), CodecError::InvalidVarint(8)),
-        ([0x01, 0x00].as_slice(), CodecError::ExtraData(1)),
-        ([0x02].as_slice(), CodecError::InvalidEnum(2)),
-        ([].as_slice(), CodecError::EndOfBuffer),
-        ([0x00, 0x07, 0x04, 0x70].as_slice(), CodecError::EndOfBuffer),
-    ];
-    for (bytes, error) in rows {
-        assert_eq!(rt; refusal(rt.alloc(), bytes), Ok(Some(error)));
-    }
+    assert_eq!(rt; first_other(rt.alloc()), Ok(None));
 }
 
 // Whether a number is written before a message as these bytes.
@@ -86,7 +98,7 @@ fn prefixes(rt: HostRuntime) {
         parsed(rt.alloc(), &[0xAC, 0x02, 0x68, 0x69], b"hi"),
         prefixed(2),
     );
-    assert_eq!(rt; found, (Ok(true), Ok(Ok((300, true))), 12));
+    assert!(rt; found == (Ok(true), Ok(Ok((300, true))), 12));
 }
 
 // The channel of a message that is encoded once, and whether its bytes are those of its frame.
@@ -108,28 +120,5 @@ fn sizes(rt: HostRuntime) {
         [max_message_size(&[]), max_message_size(&[4, 9])],
     );
     let wanted = (Ok((7, true)), [None, Some(0)], [Some(0), Some(9)]);
-    assert_eq!(rt; found, wanted);
-}
-
-// Whether an error has this text.
-fn is_told(alloc: Global, error: CodecError, text: &str) -> Result<bool, AllocError> {
-    Ok(format!(in alloc; "{error}")?.as_str() == text)
-}
-
-#[test]
-fn texts(rt: HostRuntime) {
-    let rows = [
-        (CodecError::EndOfBuffer, "the bytes end early"),
-        (CodecError::InvalidEnum(2), "2 is no known kind"),
-        (
-            CodecError::InvalidLength(5),
-            "a length of 5 is above the limit",
-        ),
-        (CodecError::InvalidVarint(8), "no varint of 8 bytes"),
-        (CodecError::ExtraData(1), "1 bytes too many"),
-        (CodecError::Memory, "out of memory"),
-    ];
-    for (error, text) in rows {
-        assert_eq!(rt; is_told(rt.alloc(), error, text), Ok(true), "{text}");
-    }
+    assert!(rt; found == wanted);
 }

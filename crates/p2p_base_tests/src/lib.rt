@@ -3,7 +3,7 @@
 //!
 //! Of `p2p_base` are `data`, `order` and `queues`; of `p2p_address` is `addresses`; of `p2p_runtime` are `draws`, `quotas`
 //! and `streams`; of `p2p_wire` is `frames`; of `p2p_flow` are `blocking`, `peers` and `relays`; and of `p2p_flow_connection` is
-//! `connection`.
+//! `connection`. `texts` has how errors and values of all of them print.
 #![tactic(auto)]
 
 #[cfg(test)]
@@ -30,3 +30,5 @@ mod quotas;
 mod relays;
 #[cfg(test)]
 mod streams;
+#[cfg(test)]
+mod texts;

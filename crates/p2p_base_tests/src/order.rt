@@ -6,7 +6,7 @@ use std::alloc::{AllocError, Global};
 const KEYS: [Key; 3] = [Key(2), Key(5), Key(9)];
 
 // The set of these keys, through the bound alone.
-pub fn set_of<P: PublicKey>(alloc: Global, keys: &[P]) -> Result<Set<P>, SetError> {
+fn set_of<P: PublicKey>(alloc: Global, keys: &[P]) -> Result<Set<P>, SetError> {
     Set::try_from(Vec::from_slice(alloc, keys)?)
 }
 
@@ -30,7 +30,7 @@ fn deduplicated(alloc: Global) -> Result<([Told; 2], bool), AllocError> {
 #[test]
 fn a_set_has_each_key_once(rt: HostRuntime) {
     let wanted = [(3, false, Some(1), None), (0, true, None, None)];
-    assert_eq!(rt; deduplicated(rt.alloc()), Ok((wanted, true)));
+    assert!(rt; deduplicated(rt.alloc()) == Ok((wanted, true)));
 }
 
 // What is told of the set of these keys.
@@ -50,7 +50,7 @@ fn a_set_takes_no_repeated_key(rt: HostRuntime) {
         Err(SetError::Duplicate),
         Ok((0, true, None, None)),
     ];
-    assert_eq!(rt; found, wanted);
+    assert!(rt; found == wanted);
 }
 
 // Whether copies of a set are equal to it, and an empty one is.
@@ -62,7 +62,7 @@ fn compares(alloc: Global) -> Result<(bool, bool, bool), SetError> {
 
 #[test]
 fn a_set_equals_its_copies(rt: HostRuntime) {
-    assert_eq!(rt; compares(rt.alloc()), Ok((true, true, false)));
+    assert!(rt; compares(rt.alloc()) == Ok((true, true, false)));
 }
 
 const PAIRS: [(Key, char); 3] = [(Key(5), 'b'), (Key(2), 'a'), (Key(9), 'c')];
@@ -72,14 +72,21 @@ fn map_of<P: PublicKey>(alloc: Global, pairs: &[(P, char)]) -> Result<Map<P, cha
     Map::try_from(Vec::from_slice(alloc, pairs)?)
 }
 
-// The place of a key, and its value.
-fn found(map: &Map<Key, char>, key: u64) -> (Option<usize>, Option<char>) {
-    (map.position(&Key(key)), map.get(&Key(key)).copied())
-}
+// Keys with their place and their value in the map of the pairs.
+const FOUND: [(Key, Option<usize>, Option<char>); 3] = [
+    (Key(5), Some(1), Some('b')),
+    (Key(9), Some(2), Some('c')),
+    (Key(1), None, None),
+];
 
-// The same of 5, 9 and 1.
-fn found_each(map: &Map<Key, char>) -> [(Option<usize>, Option<char>); 3] {
-    [found(map, 5), found(map, 9), found(map, 1)]
+// The first of these keys that is found otherwise.
+fn other(map: &Map<Key, char>) -> Option<Key> {
+    for (key, place, value) in FOUND {
+        if map.position(&key) != place || map.get(&key).copied() != value {
+            return Some(key);
+        }
+    }
+    None
 }
 
 // Whether it has these keys in order, with their values in the same places.
@@ -88,26 +95,19 @@ fn columns(map: &Map<Key, char>) -> (bool, bool) {
     (keys, map.values() == ['a', 'b', 'c'].as_slice())
 }
 
-// What is found in the map of the pairs, in each way.
-fn found_in_each_way(
-    alloc: Global,
-) -> Result<
-    (
-        [(Option<usize>, Option<char>); 3],
-        (bool, bool),
-        (usize, bool),
-    ),
-    SetError,
-> {
+// What is told of a map.
+type MapTold = (Option<Key>, (bool, bool), (usize, bool));
+
+// What is told of the map of the pairs: the first key that is found otherwise, its columns, how many keys it has, and whether none.
+fn map_told(alloc: Global) -> Result<MapTold, SetError> {
     let map = map_of(alloc, &PAIRS)?;
-    Ok((found_each(&map), columns(&map), (map.len(), map.is_empty())))
+    Ok((other(&map), columns(&map), (map.len(), map.is_empty())))
 }
 
 #[test]
 fn a_map_has_a_value_under_each_key(rt: HostRuntime) {
-    let found = [(Some(1), Some('b')), (Some(2), Some('c')), (None, None)];
-    let wanted = (found, (true, true), (3, false));
-    assert_eq!(rt; found_in_each_way(rt.alloc()), Ok(wanted));
+    let wanted = (None, (true, true), (3, false));
+    assert!(rt; map_told(rt.alloc()) == Ok(wanted));
 }
 
 #[test]
@@ -125,58 +125,78 @@ fn map_is_copied(alloc: Global) -> Result<(bool, bool), SetError> {
 
 #[test]
 fn a_map_equals_its_copy_and_gives_its_keys(rt: HostRuntime) {
-    assert_eq!(rt; map_is_copied(rt.alloc()), Ok((true, true)));
+    assert!(rt; map_is_copied(rt.alloc()) == Ok((true, true)));
 }
 
-const PUTS: [(u64, u128); 7] = [
-    (7, 40),
-    (3, 20),
-    (9, 20),
-    (1, 30),
-    (7, 10),
-    (1, 50),
-    (3, 20),
-];
+// What is done with a priority set.
+#[derive(Clone, Copy)]
+enum Do {
+    // Puts a key with its moment.
+    Put(u64, u128),
+    // Asks for the moment of a key.
+    Get(u64),
+    // Looks at the least entry, and takes it out.
+    Pop,
+}
 
-// A set in which the keys of `PUTS` were put.
-fn put_all(alloc: Global) -> Result<PrioritySet<Key>, AllocError> {
-    let mut set = PrioritySet::new(alloc);
-    for (key, at) in PUTS {
-        set.put(Key(key), at)?;
+// What that shows.
+#[derive(Clone, Copy, PartialEq)]
+enum Seen {
+    Done,
+    // The moment of a key.
+    At(Option<u128>),
+    // The entry that was looked at, and the one that was taken out.
+    Popped(Option<(Key, u128)>, Option<(Key, u128)>),
+}
+
+fn popped(key: u64, at: u128) -> Seen {
+    let entry = Some((Key(key), at));
+    Seen::Popped(entry, entry)
+}
+
+fn act(set: &mut PrioritySet<Key>, act: Do) -> Result<Seen, AllocError> {
+    match act {
+        Do::Put(key, at) => {
+            set.put(Key(key), at)?;
+            Ok(Seen::Done)
+        }
+        Do::Get(key) => Ok(Seen::At(set.get(&Key(key)))),
+        Do::Pop => {
+            let least = set.peek();
+            Ok(Seen::Popped(least, set.pop()))
+        }
     }
-    Ok(set)
 }
 
-// A key with its moment.
-type Entry = Option<(Key, u128)>;
-
-// The least entry, looked at and then taken out.
-fn next(set: &mut PrioritySet<Key>) -> (Entry, Entry) {
-    (set.peek(), set.pop())
-}
-
-// The least entries, in turn.
-fn emptied(set: &mut PrioritySet<Key>) -> [(Entry, Entry); 5] {
-    [next(set), next(set), next(set), next(set), next(set)]
-}
-
-// The same of the set of `PUTS`, with what it says of 7, of 8, and at last of 9.
-fn ordered(alloc: Global) -> Result<([(Entry, Entry); 5], [Option<u128>; 3]), AllocError> {
-    let mut set = put_all(alloc)?;
-    let found = (set.get(&Key(7)), set.get(&Key(8)));
-    let order = emptied(&mut set);
-    Ok((order, [found.0, found.1, set.get(&Key(9))]))
+// The place of the first step of a script that shows another thing, at a new priority set. `None` where each shows what is written.
+fn first_other(alloc: Global, script: &[(Do, Seen)]) -> Result<Option<usize>, AllocError> {
+    let mut set = PrioritySet::new(alloc);
+    for (i, step) in script.iter().enumerate() {
+        if act(&mut set, step.0)? != step.1 {
+            return Ok(Some(i));
+        }
+    }
+    Ok(None)
 }
 
 #[test]
 fn a_priority_set_gives_the_least_moment(rt: HostRuntime) {
-    let order = [
-        Some((Key(7), 10)),
-        Some((Key(3), 20)),
-        Some((Key(9), 20)),
-        Some((Key(1), 50)),
-        None,
-    ]
-    .map(|entry| (entry, entry));
-    assert_eq!(rt; ordered(rt.alloc()), Ok((order, [Some(10), None, None])));
+    let script = [
+        (Do::Put(7, 40), Seen::Done),
+        (Do::Put(3, 20), Seen::Done),
+        (Do::Put(9, 20), Seen::Done),
+        (Do::Put(1, 30), Seen::Done),
+        (Do::Put(7, 10), Seen::Done),
+        (Do::Put(1, 50), Seen::Done),
+        (Do::Put(3, 20), Seen::Done),
+        (Do::Get(7), Seen::At(Some(10))),
+        (Do::Get(8), Seen::At(None)),
+        (Do::Pop, popped(7, 10)),
+        (Do::Pop, popped(3, 20)),
+        (Do::Pop, popped(9, 20)),
+        (Do::Pop, popped(1, 50)),
+        (Do::Pop, Seen::Popped(None, None)),
+        (Do::Get(9), Seen::At(None)),
+    ];
+    assert_eq!(rt; first_other(rt.alloc(), &script), Ok(None));
 }

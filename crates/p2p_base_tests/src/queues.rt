@@ -4,7 +4,7 @@ use p2p_base::{
 };
 use std::alloc::{AllocError, Global};
 
-#[derive(Clone, Copy, Debug, PartialEq)]
+#[derive(Clone, Copy, PartialEq)]
 struct Note(Keep, u8);
 
 impl UnreliablePolicy for Note {
@@ -15,103 +15,136 @@ impl UnreliablePolicy for Note {
     }
 }
 
-// The answer in one letter, and a message that was handed back.
-pub fn told<T: Drop>(answer: Result<Sent<T>, NoRoom<T>>) -> (char, Option<T>) {
-    match answer {
-        Ok(Sent::Ok) => ('o', None),
-        Ok(Sent::Backoff) => ('b', None),
-        Ok(Sent::Rejected(message)) => ('r', Some(message)),
-        Ok(Sent::Closed(message)) => ('c', Some(message)),
-        Err(NoRoom(message)) => ('m', Some(message)),
+// What is done with a mailbox.
+#[derive(Clone, Copy)]
+enum Do {
+    // Puts a note.
+    Put(Note),
+    // Takes a note.
+    Take,
+    Close,
+    // Asks for its length and its capacity.
+    Measure,
+}
+
+// What that shows.
+#[derive(Clone, Copy, PartialEq)]
+enum Seen {
+    Done,
+    Kept,
+    Backoff,
+    // A note that is handed back.
+    Rejected(Note),
+    Closed(Note),
+    // The note that is taken.
+    Taken(Option<Note>),
+    Sizes(usize, usize),
+}
+
+// Puts a note.
+fn put_note(mailbox: &mut Mailbox<Note>, note: Note) -> Result<Seen, AllocError> {
+    match mailbox.enqueue(note) {
+        Ok(Sent::Ok) => Ok(Seen::Kept),
+        Ok(Sent::Backoff) => Ok(Seen::Backoff),
+        Ok(Sent::Rejected(note)) => Ok(Seen::Rejected(note)),
+        Ok(Sent::Closed(note)) => Ok(Seen::Closed(note)),
+        Err(_) => Err(AllocError),
     }
 }
 
-// The answer to a note, and the number of one that was handed back.
-fn sent(mailbox: &mut Mailbox<Note>, keep: Keep, number: u8) -> (char, Option<u8>) {
-    let (answer, note) = told(mailbox.enqueue(Note(keep, number)));
-    (answer, note.map(|n| n.1))
+// Does one step of a script.
+fn act(mailbox: &mut Mailbox<Note>, act: Do) -> Result<Seen, AllocError> {
+    match act {
+        Do::Put(note) => put_note(mailbox, note),
+        Do::Take => Ok(Seen::Taken(mailbox.take())),
+        Do::Close => {
+            mailbox.close();
+            Ok(Seen::Done)
+        }
+        Do::Measure => Ok(Seen::Sizes(mailbox.len(), mailbox.capacity())),
+    }
 }
 
-// The answers to six notes.
-fn overflow(mailbox: &mut Mailbox<Note>) -> [(char, Option<u8>); 6] {
-    [
-        sent(mailbox, Keep::Refuse, 0),
-        sent(mailbox, Keep::Refuse, 1),
-        sent(mailbox, Keep::Append, 2),
-        sent(mailbox, Keep::Append, 3),
-        sent(mailbox, Keep::Replace, 4),
-        sent(mailbox, Keep::Refuse, 5),
-    ]
-}
-
-// The same at a mailbox of one place, and what it gives then.
-fn overflowed(alloc: Global) -> Result<([(char, Option<u8>); 6], [Option<Note>; 3]), AllocError> {
+// The place of the first step of a script that shows another thing, at a new mailbox of one place. `None` where each shows what is
+// written.
+fn first_other(alloc: Global, script: &[(Do, Seen)]) -> Result<Option<usize>, AllocError> {
     let mut mailbox = Mailbox::new(alloc, 1)?;
-    let answers = overflow(&mut mailbox);
-    Ok((answers, [mailbox.take(), mailbox.take(), mailbox.take()]))
+    for (i, step) in script.iter().enumerate() {
+        if act(&mut mailbox, step.0)? != step.1 {
+            return Ok(Some(i));
+        }
+    }
+    Ok(None)
 }
+
+const OVERFLOW: &[(Do, Seen)] = &[
+    (Do::Put(Note(Keep::Refuse, 0)), Seen::Kept),
+    (
+        Do::Put(Note(Keep::Refuse, 1)),
+        Seen::Rejected(Note(Keep::Refuse, 1)),
+    ),
+    (Do::Put(Note(Keep::Append, 2)), Seen::Backoff),
+    (Do::Put(Note(Keep::Append, 3)), Seen::Backoff),
+    (Do::Put(Note(Keep::Replace, 4)), Seen::Backoff),
+    (
+        Do::Put(Note(Keep::Refuse, 5)),
+        Seen::Rejected(Note(Keep::Refuse, 5)),
+    ),
+    (Do::Take, Seen::Taken(Some(Note(Keep::Refuse, 0)))),
+    (Do::Take, Seen::Taken(Some(Note(Keep::Replace, 4)))),
+    (Do::Take, Seen::Taken(None)),
+];
 
 #[test]
 fn a_mailbox_overflows_by_policy(rt: HostRuntime) {
-    let answers = [
-        ('o', None),
-        ('r', Some(1)),
-        ('b', None),
-        ('b', None),
-        ('b', None),
-        ('r', Some(5)),
-    ];
-    let taken = [
-        Some(Note(Keep::Refuse, 0)),
-        Some(Note(Keep::Replace, 4)),
-        None,
-    ];
-    assert_eq!(rt; overflowed(rt.alloc()), Ok((answers, taken)));
+    assert_eq!(rt; first_other(rt.alloc(), OVERFLOW), Ok(None));
 }
 
-// The answers of a mailbox before and after it is closed, with its length and its capacity then.
-fn closed(alloc: Global) -> Result<([(char, Option<u8>); 2], usize, usize), AllocError> {
-    let mut mailbox = Mailbox::new(alloc, 1)?;
-    let open = sent(&mut mailbox, Keep::Append, 9);
-    mailbox.close();
-    let answers = [open, sent(&mut mailbox, Keep::Append, 9)];
-    Ok((answers, mailbox.len(), mailbox.capacity()))
-}
+const CLOSED: &[(Do, Seen)] = &[
+    (Do::Put(Note(Keep::Append, 9)), Seen::Kept),
+    (Do::Close, Seen::Done),
+    (
+        Do::Put(Note(Keep::Append, 9)),
+        Seen::Closed(Note(Keep::Append, 9)),
+    ),
+    (Do::Measure, Seen::Sizes(0, 1)),
+];
 
 #[test]
 fn a_closed_mailbox_hands_messages_back(rt: HostRuntime) {
-    let answers = [('o', None), ('c', Some(9))];
-    assert_eq!(rt; closed(rt.alloc()), Ok((answers, 0, 1)));
+    assert_eq!(rt; first_other(rt.alloc(), CLOSED), Ok(None));
 }
 
-// What a ring does with an item, in one letter, and an item that it lets go.
-fn pushed(ring: &mut Ring<u8>, item: u8) -> (char, Option<u8>) {
+// What a ring does with an item, and an item that it lets go.
+#[derive(Clone, Copy, PartialEq)]
+enum Rung {
+    Kept,
+    Replaced(u8),
+    Closed(u8),
+}
+
+fn push(ring: &mut Ring<u8>, item: u8) -> Rung {
     match ring.send_lossy(item) {
-        Pushed::Kept => ('k', None),
-        Pushed::Replaced(oldest) => ('r', Some(oldest)),
-        Pushed::Closed(item) => ('c', Some(item)),
+        Pushed::Kept => Rung::Kept,
+        Pushed::Replaced(oldest) => Rung::Replaced(oldest),
+        Pushed::Closed(item) => Rung::Closed(item),
     }
 }
 
-// What a ring of two places does with three items, and with a fourth once it gave all and is closed.
-fn rung(alloc: Global) -> Result<([(char, Option<u8>); 4], [Option<u8>; 3]), AllocError> {
+// What a ring of two places does with three items, what it gives then, and what it does with a fourth once it is closed.
+fn overwritten(alloc: Global) -> Result<([Rung; 3], [Option<u8>; 3], Rung), AllocError> {
     let mut ring = Ring::new(alloc, 2)?;
-    let open = [
-        pushed(&mut ring, 1),
-        pushed(&mut ring, 2),
-        pushed(&mut ring, 3),
-    ];
+    let open = [push(&mut ring, 1), push(&mut ring, 2), push(&mut ring, 3)];
     let received = [ring.try_recv(), ring.try_recv(), ring.try_recv()];
     ring.close();
-    let closed = pushed(&mut ring, 4);
-    Ok(([open[0], open[1], open[2], closed], received))
+    Ok((open, received, push(&mut ring, 4)))
 }
 
 #[test]
 fn a_ring_overwrites_the_oldest(rt: HostRuntime) {
-    let answers = [('k', None), ('k', None), ('r', Some(1)), ('c', Some(4))];
-    let received = [Some(2), Some(3), None];
-    assert_eq!(rt; rung(rt.alloc()), Ok((answers, received)));
+    let open = [Rung::Kept, Rung::Kept, Rung::Replaced(1)];
+    let wanted = (open, [Some(2), Some(3), None], Rung::Closed(4));
+    assert!(rt; overwritten(rt.alloc()) == Ok(wanted));
 }
 
 #[derive(Drop)]

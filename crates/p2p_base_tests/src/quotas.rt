@@ -1,28 +1,59 @@
 //! Quotas, and the limiters by rate, by key and by places.
 use p2p_runtime::{KeyedRateLimiter, Limiter, Quota, RateLimiter};
-use std::alloc::AllocError;
-use std::test::Fail;
+use std::alloc::{AllocError, Global};
+
+// How a quota is made.
+#[derive(Clone, Copy)]
+enum Make {
+    New(u32, u64),
+    PerSecond(u32),
+    PerHour(u32),
+    Period(u64),
+}
+
+fn quota(make: Make) -> Option<Quota> {
+    match make {
+        Make::New(burst, period) => Quota::new(burst, period),
+        Make::PerSecond(often) => Quota::per_second(often),
+        Make::PerHour(often) => Quota::per_hour(often),
+        Make::Period(period) => Quota::with_period(period),
+    }
+}
+
+// The burst and the period of a quota, if there is one.
+fn terms(make: Make) -> Option<(u32, u64)> {
+    let quota = quota(make)?;
+    Some((quota.burst_size(), quota.period()))
+}
+
+const TERMS: &[(Make, Option<(u32, u64)>)] = &[
+    (Make::New(3, 7), Some((3, 7))),
+    (Make::New(0, 7), None),
+    (Make::New(3, 0), None),
+    (Make::PerSecond(1), Some((1, 1_000_000_000))),
+    (Make::PerSecond(3), Some((3, 333_333_333))),
+    (Make::PerSecond(4_000_000_000), Some((4_000_000_000, 1))),
+    (Make::PerSecond(0), None),
+    (Make::PerHour(100), Some((100, 36_000_000_000))),
+    (Make::PerHour(u32::MAX), Some((u32::MAX, 838))),
+    (Make::PerHour(0), None),
+    (Make::Period(7), Some((1, 7))),
+    (Make::Period(0), None),
+];
+
+// The place of the first quota that has other terms.
+fn other_terms() -> Option<usize> {
+    for (i, row) in TERMS.iter().enumerate() {
+        if terms(row.0) != row.1 {
+            return Some(i);
+        }
+    }
+    None
+}
 
 #[test]
 fn terms_of_quotas(rt: HostRuntime) {
-    let cases = [
-        (Quota::new(3, 7), Some((3, 7))),
-        (Quota::new(0, 7), None),
-        (Quota::new(3, 0), None),
-        (Quota::per_second(1), Some((1, 1_000_000_000))),
-        (Quota::per_second(3), Some((3, 333_333_333))),
-        (Quota::per_second(4_000_000_000), Some((4_000_000_000, 1))),
-        (Quota::per_second(0), None),
-        (Quota::per_hour(100), Some((100, 36_000_000_000))),
-        (Quota::per_hour(u32::MAX), Some((u32::MAX, 838))),
-        (Quota::per_hour(0), None),
-        (Quota::with_period(7), Some((1, 7))),
-        (Quota::with_period(0), None),
-    ];
-    for (quota, want) in cases {
-        let terms = quota.map(|q| (q.burst_size(), q.period()));
-        assert_eq!(rt; terms, want);
-    }
+    assert_eq!(rt; other_terms(), None);
 }
 
 // Checks at these moments, in turn, with what each answers.
@@ -102,7 +133,7 @@ const KEYED_CHECKS: [(u64, u64, Result<(), u128>); 8] = [
 
 // The key and the moment of the first check that a limiter answers otherwise, which is pruned after each or never.
 fn keyed_otherwise(
-    mut limiter: KeyedRateLimiter<u64>,
+    limiter: &mut KeyedRateLimiter<u64>,
     pruned: bool,
 ) -> Result<Option<(u64, u64)>, AllocError> {
     for (key, now, want) in KEYED_CHECKS {
@@ -116,23 +147,33 @@ fn keyed_otherwise(
     Ok(None)
 }
 
+// The same of a new limiter.
+fn any_keyed_otherwise(alloc: Global, pruned: bool) -> Result<Option<(u64, u64)>, AllocError> {
+    let Some(quota) = Quota::new(1, 10) else {
+        return Err(AllocError);
+    };
+    let mut limiter = KeyedRateLimiter::new(alloc, quota);
+    keyed_otherwise(&mut limiter, pruned)
+}
+
 #[test]
-fn checks_of_keys(rt: HostRuntime) -> Result<(), Fail> {
-    let quota = Quota::new(1, 10).ok_or("a quota of nothing")?;
-    for pruned in [false, true] {
-        let limiter = KeyedRateLimiter::new(rt.alloc(), quota);
-        assert_eq!(rt; keyed_otherwise(limiter, pruned), Ok(None));
-    }
-    Ok(())
+fn checks_of_keys(rt: HostRuntime) {
+    assert_eq!(rt; any_keyed_otherwise(rt.alloc(), false), Ok(None));
+    assert_eq!(rt; any_keyed_otherwise(rt.alloc(), true), Ok(None));
+}
+
+// Whether each of three places is taken of two, and whether another one is, once one was given back.
+fn acquired() -> [bool; 4] {
+    let mut limiter = Limiter::new(2);
+    let first = limiter.try_acquire();
+    let second = limiter.try_acquire();
+    let third = limiter.try_acquire();
+    limiter.release();
+    [first, second, third, limiter.try_acquire()]
 }
 
 #[test]
 fn places_are_taken_and_given_back(rt: HostRuntime) {
-    let mut limiter = Limiter::new(2);
-    assert!(rt; limiter.try_acquire());
-    assert!(rt; limiter.try_acquire());
-    assert!(rt; !limiter.try_acquire());
-    limiter.release();
-    assert!(rt; limiter.try_acquire());
+    assert!(rt; acquired() == [true, true, false, true]);
     assert!(rt; !Limiter::new(0).try_acquire());
 }

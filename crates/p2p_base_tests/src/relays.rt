@@ -1,87 +1,141 @@
 //! Each call of a relay, with the answers that are wanted, and the comparisons of plain data.
-use crate::queues::told;
-use p2p_base::{Key, List};
+use p2p_base::{Key, List, Sent};
 use p2p_flow::{Polled, Recipients, Relay};
 use std::alloc::{AllocError, Global};
 
-// What two lanes give, the one of priority first.
-type Taken = (Option<u8>, Option<u8>);
-
-fn taken(relay: &mut Relay<u8>) -> Taken {
-    (relay.take_high(), relay.take_low())
+// What is done with a relay.
+#[derive(Clone, Copy)]
+enum Do {
+    // Sends a message in the lane of priority, or in the other one.
+    Send(u8, bool),
+    // Takes a message of each lane, of the one of priority first.
+    Take,
+    Close,
+    // Asks whether it is closed.
+    AskClosed,
+    // Asks for its capacity, and how much waits in each lane.
+    Measure,
 }
 
-// The answer to a message.
-fn sent(relay: &mut Relay<u8>, message: u8, priority: bool) -> (char, Option<u8>) {
-    told(relay.send(message, priority))
+// What that shows.
+#[derive(Clone, Copy, PartialEq)]
+enum Seen {
+    Done,
+    Kept,
+    Backoff,
+    // A message that is handed back.
+    Rejected(u8),
+    Closed(u8),
+    // What both lanes give.
+    Taken(Option<u8>, Option<u8>),
+    IsClosed(bool),
+    Sizes(usize, usize, usize),
 }
 
-// What the lanes give once one message of each was sent alone.
-fn lanes(alloc: Global) -> Result<[Taken; 2], AllocError> {
+// Sends a message.
+fn send(relay: &mut Relay<u8>, message: u8, priority: bool) -> Result<Seen, AllocError> {
+    match relay.send(message, priority) {
+        Ok(Sent::Ok) => Ok(Seen::Kept),
+        Ok(Sent::Backoff) => Ok(Seen::Backoff),
+        Ok(Sent::Rejected(message)) => Ok(Seen::Rejected(message)),
+        Ok(Sent::Closed(message)) => Ok(Seen::Closed(message)),
+        Err(_) => Err(AllocError),
+    }
+}
+
+// Does one step of a script.
+fn act(relay: &mut Relay<u8>, act: Do) -> Result<Seen, AllocError> {
+    match act {
+        Do::Send(message, priority) => send(relay, message, priority),
+        Do::Take => {
+            let high = relay.take_high();
+            Ok(Seen::Taken(high, relay.take_low()))
+        }
+        Do::Close => {
+            relay.close();
+            Ok(Seen::Done)
+        }
+        Do::AskClosed => Ok(Seen::IsClosed(relay.is_closed())),
+        Do::Measure => Ok(Seen::Sizes(relay.capacity(), relay.high_len(), relay.low_len())),
+    }
+}
+
+// The place of the first step of a script that shows another thing, at a new relay whose lanes have one place. `None` where each shows
+// what is written.
+fn first_other(alloc: Global, script: &[(Do, Seen)]) -> Result<Option<usize>, AllocError> {
     let mut relay = Relay::new(alloc, 1)?;
-    sent(&mut relay, 123, true);
-    let high = taken(&mut relay);
-    sent(&mut relay, 45, false);
-    Ok([high, taken(&mut relay)])
+    for (i, step) in script.iter().enumerate() {
+        if act(&mut relay, step.0)? != step.1 {
+            return Ok(Some(i));
+        }
+    }
+    Ok(None)
 }
+
+const LANES: &[(Do, Seen)] = &[
+    (Do::Send(123, true), Seen::Kept),
+    (Do::Take, Seen::Taken(Some(123), None)),
+    (Do::Send(45, false), Seen::Kept),
+    (Do::Take, Seen::Taken(None, Some(45))),
+];
 
 #[test]
 fn a_relay_has_two_lanes(rt: HostRuntime) {
-    let wanted = [(Some(123), None), (None, Some(45))];
-    assert_eq!(rt; lanes(rt.alloc()), Ok(wanted));
+    assert_eq!(rt; first_other(rt.alloc(), LANES), Ok(None));
 }
 
-// The answers to two messages of the low lane and one of the high lane.
-fn fill(relay: &mut Relay<u8>) -> [(char, Option<u8>); 3] {
-    [
-        sent(relay, 1, false),
-        sent(relay, 2, false),
-        sent(relay, 3, true),
-    ]
-}
-
-// The same at a relay of one place, its capacity, and how much waits in each lane then.
-fn filled(alloc: Global) -> Result<([(char, Option<u8>); 3], [usize; 3]), AllocError> {
-    let mut relay = Relay::new(alloc, 1)?;
-    let answers = fill(&mut relay);
-    Ok((
-        answers,
-        [relay.capacity(), relay.high_len(), relay.low_len()],
-    ))
-}
+// A full lane hands messages back, and so does a closed relay.
+const HANDED_BACK: &[(Do, Seen)] = &[
+    (Do::Send(1, false), Seen::Kept),
+    (Do::Send(2, false), Seen::Rejected(2)),
+    (Do::Send(3, true), Seen::Kept),
+    (Do::Measure, Seen::Sizes(1, 1, 1)),
+    (Do::Close, Seen::Done),
+    (Do::Send(4, true), Seen::Closed(4)),
+    (Do::AskClosed, Seen::IsClosed(true)),
+    (Do::Take, Seen::Taken(None, None)),
+];
 
 #[test]
-fn a_full_lane_hands_messages_back(rt: HostRuntime) {
-    let answers = [('o', None), ('r', Some(2)), ('o', None)];
-    assert_eq!(rt; filled(rt.alloc()), Ok((answers, [1, 1, 1])));
+fn a_full_lane_and_a_closed_relay_hand_messages_back(rt: HostRuntime) {
+    assert_eq!(rt; first_other(rt.alloc(), HANDED_BACK), Ok(None));
 }
 
-// Whether a filled relay is closed, once it is, with its answer to a message and what its lanes give.
-fn closed(alloc: Global) -> Result<(bool, (char, Option<u8>), Taken), AllocError> {
-    let mut relay = Relay::new(alloc, 1)?;
-    fill(&mut relay);
-    relay.close();
-    let answer = sent(&mut relay, 4, true);
-    Ok((relay.is_closed(), answer, taken(&mut relay)))
+// To whom a message goes: to all, to key 2, and to lists of key 2 alone.
+#[derive(Clone, Copy)]
+enum Whom {
+    All,
+    One,
+    ListOfOne,
+    ListOfTwo,
 }
 
-#[test]
-fn a_closed_relay_hands_messages_back(rt: HostRuntime) {
-    let wanted = (true, ('c', Some(4)), (None, None));
-    assert_eq!(rt; closed(rt.alloc()), Ok(wanted));
+fn recipients(alloc: Global, whom: Whom) -> Result<Recipients<Key>, AllocError> {
+    match whom {
+        Whom::All => Ok(Recipients::All),
+        Whom::One => Ok(Recipients::One(Key(2))),
+        Whom::ListOfOne => Ok(Recipients::Some(List::from_slice(alloc, &[Key(2)])?)),
+        Whom::ListOfTwo => Ok(Recipients::Some(List::from_slice(alloc, &[Key(2), Key(2)])?)),
+    }
 }
 
-// Whether recipients are equal to themselves, and to others.
-fn recipients_compare(alloc: Global) -> Result<[bool; 3], AllocError> {
-    let twice = Recipients::Some(List::from_slice(alloc, &[Key(2), Key(2)])?);
-    let once = Recipients::Some(List::from_slice(alloc, &[Key(2)])?);
-    let one = Recipients::One(Key(2));
-    Ok([twice == twice, twice == once, one == Recipients::All])
+fn are_equal(alloc: Global, first: Whom, second: Whom) -> Result<bool, AllocError> {
+    let first = recipients(alloc, first)?;
+    Ok(first == recipients(alloc, second)?)
 }
 
 #[test]
 fn plain_data_compares(rt: HostRuntime) {
-    assert_eq!(rt; recipients_compare(rt.alloc()), Ok([true, false, false]));
+    let alloc = rt.alloc();
+    assert_eq!(rt;
+        are_equal(alloc, Whom::ListOfTwo, Whom::ListOfTwo),
+        Ok(true)
+    );
+    assert_eq!(rt;
+        are_equal(alloc, Whom::ListOfTwo, Whom::ListOfOne),
+        Ok(false)
+    );
+    assert_eq!(rt; are_equal(alloc, Whom::One, Whom::All), Ok(false));
     assert_eq!(rt; Polled::Ready(7), Polled::Ready(7));
     assert!(rt; Polled::Ready(7) != Polled::Pending);
 }
