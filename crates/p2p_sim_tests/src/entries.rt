@@ -2,6 +2,7 @@
 use crate::items::{Thing, blocked, item_of, tracked, update};
 use bytes::Bytes;
 use p2p_base::{Feedback, Key, List};
+use p2p_gates_rules::Reply as GatesReply;
 use p2p_log::{Act, End, Entry, Event, Item, Queue, Rate, Recipients, Reply, Report};
 use p2p_sim_report::write_report;
 use std::alloc::{AllocError, Global};
@@ -45,6 +46,7 @@ pub enum Said {
     Set,
     Update,
     Blocked,
+    Gates(GatesReply),
 }
 
 fn register() -> Act {
@@ -102,6 +104,7 @@ fn reply_of(alloc: Global, said: Said) -> Result<Reply, AllocError> {
         Said::Set => Ok(Reply::PeerSet(Some(tracked(alloc, &[], &[Key(2)])?))),
         Said::Update => Ok(Reply::Update(update(alloc)?)),
         Said::Blocked => Ok(Reply::Blocked(blocked(alloc)?)),
+        Said::Gates(told) => Ok(Reply::Gates(told)),
     }
 }
 

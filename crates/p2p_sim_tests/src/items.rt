@@ -22,6 +22,7 @@ pub enum Thing {
     Connect,
     AskDialable,
     AskDial,
+    AskAcceptable,
     Release,
     Addresses(&'static [IpAddr]),
     // From when on others may be dialed, and who may.
@@ -34,6 +35,7 @@ pub enum Thing {
     Linked,
     Refused,
     Arrival,
+    Acceptable(bool),
     Kill,
     NoSet,
     // Its one primary peer.
@@ -146,12 +148,17 @@ pub fn item_of(alloc: Global, thing: Thing) -> Result<Item, AllocError> {
         }),
         Thing::AskDialable => Ok(Item::AskDialable),
         Thing::AskDial => Ok(Item::AskDial(Key(2))),
+        Thing::AskAcceptable => Ok(Item::AskAcceptable {
+            handshake: 9,
+            key: Key(3),
+        }),
         Thing::Release => Ok(Item::Release(Key(2))),
         Thing::NoGrant => Ok(Item::Dial(None)),
         Thing::GrantOfAddress => Ok(Item::Dial(Some((Key(2), Ingress::Socket(SOCKET))))),
         Thing::Linked => Ok(Item::Linked),
         Thing::Refused => Ok(Item::Refused),
         Thing::Arrival => Ok(ARRIVAL),
+        Thing::Acceptable(accepts) => Ok(Item::Acceptable(accepts)),
         Thing::Kill => Ok(Item::Kill),
         Thing::NoSet => Ok(Item::PeerSet(None)),
         other => listed(alloc, other),

@@ -1,8 +1,9 @@
-//! The text of a report with each queue, item and reply of a node's tracker.
+//! The text of a report with each queue, item and reply of a node's tracker, its dialer and its listener.
 use crate::entries::{Do, Row, Said, is_written};
 use crate::items::Thing;
 use p2p_address::IpAddr;
 use p2p_base::{Feedback, Key};
+use p2p_gates_rules::Reply as GatesReply;
 use p2p_log::Queue;
 
 const PAST_64_BITS: u128 = 18_446_744_073_709_551_616;
@@ -32,11 +33,17 @@ const ATTEMPT: Queue = Queue::Attempt {
     attempt: 6,
 };
 
+const HANDSHAKE: Queue = Queue::Handshake {
+    node: 7,
+    handshake: 9,
+};
+
 const PUTS: &[(Queue, Thing)] = &[
     (Queue::Tracker(7), Thing::Call),
     (Queue::Tracker(7), Thing::Connect),
     (Queue::Tracker(7), Thing::AskDialable),
     (Queue::Tracker(7), Thing::AskDial),
+    (Queue::Tracker(7), Thing::AskAcceptable),
     (Queue::Tracker(7), Thing::Release),
     (Queue::Update(7), Thing::Addresses(ADDRESSES)),
     (Queue::Update(7), Thing::Addresses(&[])),
@@ -57,7 +64,19 @@ const PUTS: &[(Queue, Thing)] = &[
     (ATTEMPT, Thing::Linked),
     (ATTEMPT, Thing::Refused),
     (Queue::Arrivals(7), Thing::Arrival),
+    (HANDSHAKE, Thing::Acceptable(true)),
+    (HANDSHAKE, Thing::Acceptable(false)),
 ];
+
+const BY_ADDRESS: GatesReply = GatesReply::Limited {
+    ip: true,
+    subnet: false,
+};
+
+const BY_SUBNET: GatesReply = GatesReply::Limited {
+    ip: false,
+    subnet: true,
+};
 
 // A log that no run makes: it is about the text alone.
 const ROWS: &[Row] = &[
@@ -124,10 +143,52 @@ const ROWS: &[Row] = &[
         puts: &[],
         ends: &[],
     },
+    Row {
+        asked: Do::Tracker,
+        said: Said::Gates(GatesReply::Private),
+        takes: &[],
+        puts: &[],
+        ends: &[],
+    },
+    Row {
+        asked: Do::Tracker,
+        said: Said::Gates(GatesReply::Unregistered),
+        takes: &[],
+        puts: &[],
+        ends: &[],
+    },
+    Row {
+        asked: Do::Tracker,
+        said: Said::Gates(BY_ADDRESS),
+        takes: &[],
+        puts: &[],
+        ends: &[],
+    },
+    Row {
+        asked: Do::Tracker,
+        said: Said::Gates(BY_SUBNET),
+        takes: &[],
+        puts: &[],
+        ends: &[],
+    },
+    Row {
+        asked: Do::Tracker,
+        said: Said::Gates(GatesReply::TooMany),
+        takes: &[],
+        puts: &[],
+        ends: &[],
+    },
+    Row {
+        asked: Do::Tracker,
+        said: Said::Gates(GatesReply::Admitted),
+        takes: &[],
+        puts: &[],
+        ends: &[],
+    },
 ];
 
 const LINES: &[&str] = &[
-    r#"{"end":[],"n":0,"put":[["tracker:7",{"call":3}],["tracker:7",{"connect":{"conn":4,"key":2}}],["tracker:7",{"dialable":true}],["tracker:7",{"dial":2}],["tracker:7",{"release":2}],["update:7",[[10,0,0,255],[0,1,2,3,4,5,6,7,8,9,10,11,12,13,14,255]]],["update:7",[]],["dialer:7",{"dialable":{"next":"18446744073709551616","peers":[2,3]}}],["dialer:7",{"dialable":{"next":null,"peers":[]}}],["dialer:7",{"dial":null}],["dialer:7",{"dial":{"ingress":{"ip":[10,0,0,2],"port":3000},"key":2}}],["dialer:7",{"dial":{"ingress":{"host":"a\"\\/\n\r\t\b\f\u0000\u001fé","port":65535},"key":3}}],["control:7:4","kill"],["answer:5",null],["answer:5",{"primary":[1],"secondary":[]}],["updates:5",{"all":{"primary":[1,2,4],"secondary":[3]},"index":6,"latest":{"primary":[1,2],"secondary":[3]}}],["blocked:5",[8,9]],["attempt:7:6",{"addresses":[{"ip":[10,0,0,2],"port":3000}]}],["attempt:7:6","linked"],["attempt:7:6","refused"],["arrivals:7",{"from":{"ip":[10,0,0,3],"port":40000},"key":3,"link":8}]],"reply":"ok","take":[]}"#,
+    r#"{"end":[],"n":0,"put":[["tracker:7",{"call":3}],["tracker:7",{"connect":{"conn":4,"key":2}}],["tracker:7",{"dialable":true}],["tracker:7",{"dial":2}],["tracker:7",{"acceptable":{"handshake":9,"key":3}}],["tracker:7",{"release":2}],["update:7",[[10,0,0,255],[0,1,2,3,4,5,6,7,8,9,10,11,12,13,14,255]]],["update:7",[]],["dialer:7",{"dialable":{"next":"18446744073709551616","peers":[2,3]}}],["dialer:7",{"dialable":{"next":null,"peers":[]}}],["dialer:7",{"dial":null}],["dialer:7",{"dial":{"ingress":{"ip":[10,0,0,2],"port":3000},"key":2}}],["dialer:7",{"dial":{"ingress":{"host":"a\"\\/\n\r\t\b\f\u0000\u001fé","port":65535},"key":3}}],["control:7:4","kill"],["answer:5",null],["answer:5",{"primary":[1],"secondary":[]}],["updates:5",{"all":{"primary":[1,2,4],"secondary":[3]},"index":6,"latest":{"primary":[1,2],"secondary":[3]}}],["blocked:5",[8,9]],["attempt:7:6",{"addresses":[{"ip":[10,0,0,2],"port":3000}]}],["attempt:7:6","linked"],["attempt:7:6","refused"],["arrivals:7",{"from":{"ip":[10,0,0,3],"port":40000},"key":3,"link":8}],["handshake:7:9",{"acceptable":true}],["handshake:7:9",{"acceptable":false}]],"reply":"ok","take":[]}"#,
     r#"{"end":[],"n":1,"put":[],"reply":{"feedback":"ok"},"take":[]}"#,
     r#"{"end":[],"n":2,"put":[],"reply":{"feedback":"backoff"},"take":[]}"#,
     r#"{"end":[],"n":3,"put":[],"reply":{"feedback":"closed"},"take":[]}"#,
@@ -136,10 +197,16 @@ const LINES: &[&str] = &[
     r#"{"end":[],"n":6,"put":[],"reply":{"peer_set":{"primary":[],"secondary":[2]}},"take":[]}"#,
     r#"{"end":[],"n":7,"put":[],"reply":{"update":{"all":{"primary":[1,2,4],"secondary":[3]},"index":6,"latest":{"primary":[1,2],"secondary":[3]}}},"take":[]}"#,
     r#"{"end":[],"n":8,"put":[],"reply":{"blocked":[8,9]},"take":[]}"#,
-    r#"{"copies":0,"entries":9}"#,
+    r#"{"end":[],"n":9,"put":[],"reply":"private","take":[]}"#,
+    r#"{"end":[],"n":10,"put":[],"reply":"unregistered","take":[]}"#,
+    r#"{"end":[],"n":11,"put":[],"reply":{"limited":[true,false]},"take":[]}"#,
+    r#"{"end":[],"n":12,"put":[],"reply":{"limited":[false,true]},"take":[]}"#,
+    r#"{"end":[],"n":13,"put":[],"reply":"too_many","take":[]}"#,
+    r#"{"end":[],"n":14,"put":[],"reply":"admitted","take":[]}"#,
+    r#"{"copies":0,"entries":15}"#,
 ];
 
 #[test]
-fn what_trackers_do_has_its_text(rt: HostRuntime) {
+fn what_trackers_dialers_and_listeners_do_has_its_text(rt: HostRuntime) {
     assert_eq!(rt; is_written(rt.alloc(), ROWS, LINES), Ok(true));
 }

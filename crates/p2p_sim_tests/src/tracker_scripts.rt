@@ -1,4 +1,4 @@
-//! Which texts about a node's tracker, its dialer and its attempts are scripts, and what they say.
+//! Which texts about a node's tracker, its dialer, its attempts and its listener are scripts, and what they say.
 use crate::texts::{first_other, read};
 use p2p_address::{Address, Ingress, IpAddr, SocketAddr};
 use p2p_base::{Key, Map, Text};
@@ -6,7 +6,7 @@ use p2p_flow::AddressableTrackedPeers;
 use p2p_log::{Act, Asked, Config, Event};
 use std::alloc::{AllocError, Global};
 
-// Each act about a tracker, a dialer or an attempt, and each form of an address.
+// Each act about a tracker, a dialer, an attempt or a listener, and each form of an address.
 const TRACKING: &str = r#"{"configs":[
     {"key":1,"preset":"local","max_peers_per_set":2,"max_message_size":9,"mailbox_size":4},
     {"key":2,"preset":"recommended","max_peers_per_set":2,"max_message_size":9,"mailbox_size":4},
@@ -35,7 +35,8 @@ const TRACKING: &str = r#"{"configs":[
     {"at":0,"do":"attempt","attempt":10,"node":5},
     {"at":0,"do":"refuse","attempt":11,"node":6},
     {"at":0,"do":"resolve","addresses":[{"ip":[10,0,0,5],"port":3001}],"attempt":12,"node":7},
-    {"at":0,"do":"connect","attempt":13,"from":{"ip":[10,0,0,6],"port":3002},"node":8,"to":9}]}"#;
+    {"at":0,"do":"connect","attempt":13,"from":{"ip":[10,0,0,6],"port":3002},"node":8,"to":9},
+    {"at":0,"do":"listener","node":10}]}"#;
 
 // ---- what is a script
 
@@ -105,6 +106,9 @@ const CHANGES_OF_NAMES: &[(&str, &str, bool)] = &[
     (r#""node":4"#, r#""node":4,"index":0"#, false),
     (r#""node":4"#, r#""key":4"#, false),
     (r#""do":"dialer""#, r#""do":"dial""#, false),
+    (r#""node":10"#, r#""node":10,"link":0"#, false),
+    (r#""node":10"#, r#""to":10"#, false),
+    (r#""do":"listener""#, r#""do":"listen""#, false),
     (r#""attempt":10,"#, "", false),
     (r#""attempt":10"#, r#""attempt":10,"ok":true"#, false),
     (r#""attempt":11"#, r#""dialer":11"#, false),
@@ -200,8 +204,8 @@ fn acts_and_configurations_have_their_names_alone(rt: HostRuntime) {
 
 // ---- what it says
 
-// The word of an act about a tracker, a dialer or an attempt, and its numbers: its node, and its index, its key, its question or
-// its attempt.
+// The word of an act about a tracker, a dialer, an attempt or a listener, and its numbers: its node, and its index, its key, its
+// question or its attempt.
 fn numbers_of(act: &Act) -> (&'static str, u64, u64) {
     match act {
         Act::Ask { asked, node } => match asked {
@@ -216,6 +220,7 @@ fn numbers_of(act: &Act) -> (&'static str, u64, u64) {
         Act::Next { question } => ("next", 0, *question),
         Act::Tracker { node } => ("tracker", *node, 0),
         Act::Dialer { node } => ("dialer", *node, 0),
+        Act::Listener { node } => ("listener", *node, 0),
         Act::Attempt { attempt, node } => ("attempt", *node, *attempt),
         Act::Refuse { attempt, node } => ("refuse", *node, *attempt),
         Act::Connect {
@@ -251,6 +256,7 @@ const NUMBERS: &[(&str, u64, u64)] = &[
     ("refuse", 6, 11),
     ("resolve", 7, 12),
     ("connect", 8, 13),
+    ("listener", 10, 0),
 ];
 
 fn have_numbers(script: &[Event]) -> bool {
