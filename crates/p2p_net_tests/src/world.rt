@@ -143,11 +143,12 @@ fn step_twice(alloc: Global, node: &mut Node, failed: bool) -> Result<u64, NodeE
 // The same of a node whose peer sets have at most so many peers. `None` where there is no such node.
 fn second_step(alloc: Global, max_peers: usize, failed: bool) -> Result<Option<u64>, NodeError> {
     let config = config(max_peers);
-    if !fits(&config) {
-        return Ok(None);
+    if fits(&config) {
+        let mut node = Node::new(alloc, 0, config)?;
+        Ok(Some(step_twice(alloc, &mut node, failed)?))
+    } else {
+        Ok(None)
     }
-    let mut node = Node::new(alloc, 0, config)?;
-    Ok(Some(step_twice(alloc, &mut node, failed)?))
 }
 
 #[test]
