@@ -36,8 +36,6 @@ pub enum Do {
     Block(u64),
     // The set of this index is asked for, and then its answer.
     AskSet(u64),
-    // The set of this index is asked for, and its answer before and after two answers, of which the first is an empty set.
-    AnswerTwice(u64),
     // One subscribes to updates, is put one, and asks for it.
     PutUpdate,
     // One subscribes to the blocked keys, is put none and then the key 2, and asks for them.
@@ -82,8 +80,6 @@ pub enum Seen {
     Told(Feedback),
     // What became of a question, and how it stands.
     Asked(Feedback, Standing),
-    // The number of a question, what became of it, and how it stands before and after.
-    Answered(u64, Feedback, Standing, Standing),
     // Whether a subscription is given the update that was put.
     IsUpdated(bool),
     // What made way for each of two sets at a subscription to the blocked keys, and what it is given.
@@ -228,25 +224,24 @@ fn new_stand(alloc: Global, places: usize) -> Result<Stand, AllocError>
     Ok(Stand { way, oracle })
 }
 
+// Whether the first of two answers to a question is the one that stands.
+pub fn is_answered_once(alloc: Global) -> Result<bool, AllocError> {
+    let mut way: Mailbox<Key> = Mailbox::new(alloc, 4)?;
+    let mut oracle = Oracle::new(Key(1), 2);
+    let (ticket, told) = oracle.peer_set(alloc, &mut way.desk, 7)?;
+    let before = stands(alloc, oracle.poll_peer_set(&mut way.desk, ticket));
+    way.answer_peer_set(ticket, Some(TrackedPeers::empty(alloc)));
+    way.answer_peer_set(ticket, None);
+    let after = stands(alloc, oracle.poll_peer_set(&mut way.desk, ticket));
+    Ok(ticket == 0 && told == Feedback::Ok && before == Standing::Waits && after == Standing::Empty)
+}
+
 impl Stand {
     // Asks for a set, and then for its answer.
     fn ask_set(&mut self, alloc: Global, index: u64) -> Result<Seen, AllocError> {
         let (ticket, told) = self.oracle.peer_set(alloc, &mut self.way.desk, index)?;
         let polled = self.oracle.poll_peer_set(&mut self.way.desk, ticket);
         Ok(Seen::Asked(told, stands(alloc, polled)))
-    }
-
-    // Asks for a set, and answers twice.
-    fn answer_twice(&mut self, alloc: Global, index: u64) -> Result<Seen, AllocError> {
-        let (ticket, told) = self.oracle.peer_set(alloc, &mut self.way.desk, index)?;
-        let polled = self.oracle.poll_peer_set(&mut self.way.desk, ticket);
-        let before = stands(alloc, polled);
-        self.way
-            .answer_peer_set(ticket, Some(TrackedPeers::empty(alloc)));
-        self.way.answer_peer_set(ticket, None);
-        let polled = self.oracle.poll_peer_set(&mut self.way.desk, ticket);
-        let after = stands(alloc, polled);
-        Ok(Seen::Answered(ticket, told, before, after))
     }
 
     // Subscribes to updates, and puts one.
@@ -325,7 +320,6 @@ impl Stand {
             Do::Listen(key, handshake) => told(self.way.listen(Key(key), ip(7), handshake)),
             Do::Block(key) => told(self.oracle.block(alloc, &mut self.way.desk, Key(key))),
             Do::AskSet(index) => self.ask_set(alloc, index),
-            Do::AnswerTwice(index) => self.answer_twice(alloc, index),
             Do::PutUpdate => self.put_update(alloc),
             Do::PutBlocked => self.put_blocked(alloc, key_two(alloc)?),
             Do::TrackApart(first, second) => self.track_apart(alloc, first, second),

@@ -1,5 +1,5 @@
 //! What those who ask the tracker are told, and what they are given.
-use crate::mailboxes::{Do, Seen, Standing, first_other};
+use crate::mailboxes::{Do, Seen, Standing, first_other, is_answered_once};
 use crate::plain::Listed;
 use crate::taking::Taken;
 use p2p_base::Feedback;
@@ -27,14 +27,9 @@ fn a_closed_mailbox_says_so(rt: HostRuntime) {
     assert_eq!(rt; first_other(rt.alloc(), 4, ENDED), Ok(None));
 }
 
-const ANSWERED: &[(Do, Seen)] = &[(
-    Do::AnswerTwice(7),
-    Seen::Answered(0, Feedback::Ok, Standing::Waits, Standing::Empty),
-)];
-
 #[test]
 fn a_question_is_answered_once(rt: HostRuntime) {
-    assert_eq!(rt; first_other(rt.alloc(), 4, ANSWERED), Ok(None));
+    assert_eq!(rt; is_answered_once(rt.alloc()), Ok(true));
 }
 
 const ORDERED: &[(Do, Seen)] = &[
