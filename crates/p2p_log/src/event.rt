@@ -93,6 +93,11 @@ pub enum Act {
     Listener {
         node: u64,
     },
+    /// One step of the handshake that a step of a node's listener began.
+    Handshake {
+        handshake: u64,
+        node: u64,
+    },
     /// One step of the attempt that a step of a node's dialer began.
     Attempt {
         attempt: u64,
@@ -207,6 +212,10 @@ impl Act {
             Act::Tracker { node } => Ok(Act::Tracker { node: *node }),
             Act::Dialer { node } => Ok(Act::Dialer { node: *node }),
             Act::Listener { node } => Ok(Act::Listener { node: *node }),
+            Act::Handshake { handshake, node } => Ok(Act::Handshake {
+                handshake: *handshake,
+                node: *node,
+            }),
             Act::Attempt { attempt, node } => Ok(Act::Attempt {
                 attempt: *attempt,
                 node: *node,

@@ -23,7 +23,7 @@ use Rattle.p2p_log_rules.specs.Rows.{only}
 use Rattle.p2p_log_rules.proofs.Moves.{stands_first}
 use Rattle.p2p_log_laws.specs.Grants.{one}
 use Rattle.p2p_log_laws.specs.NodeGrants.{is_attempt_of, puts_grant, puts_release}
-use Rattle.p2p_log_laws.proofs.AttemptShape.{left_gone, whole_taken, in_line, parts}
+use Rattle.p2p_log_laws.proofs.LineShape.{left_gone, whole_taken, in_line, parts}
 use Rattle.p2p_log_laws.proofs.Plain.{IsAside, StandsPlain, stand_aside}
 use Rattle.p2p_log_laws.proofs.Shape.{no_moves}
 use Rattle.p2p_log_laws.proofs.Weighing.{count_by-one}

@@ -1,7 +1,6 @@
 -- The shapes of what attempts are told, and of their steps: none moves a copy.
-use Rattle.std.proofs.Common.{◌≡◌, ℕ, Bool, true, false, cond, List, [], ◌∷◌, ◌++◌, map, length, Option, Some, None, refl, ap, subst, ◌∙◌}
-use Rattle.std.specs.Prelude.{◌||◌, nat_le, flat_map}
-use Rattle.std.specs.List.{AllByRecursion as Each}
+use Rattle.std.proofs.Common.{◌≡◌, ℕ, Bool, true, false, cond, List, [], ◌∷◌, ◌++◌, map, length, Option, Some, None, refl, ap, ◌∙◌}
+use Rattle.std.specs.Prelude.{◌||◌, nat_le}
 use Rattle.p2p_base.specs.declared.key.Key.{Key}
 use Rattle.p2p_address.specs.declared.ip.SocketAddr.{SocketAddr}
 use Rattle.p2p_address.specs.declared.peer.Ingress.{Ingress}
@@ -18,58 +17,20 @@ use Rattle.p2p_log.specs.declared.entry.Reply.TheVariants as reply
 use Rattle.p2p_log.specs.declared.event.Act.{Act}
 use Rattle.p2p_log.specs.declared.event.Act.TheVariants as act
 use Rattle.p2p_log.specs.QueueCode.{same_queue}
-use Rattle.p2p_log.specs.Lines.{name_of, ended_item, stands_in, live, line}
+use Rattle.p2p_log.specs.Lines.{name_of, line}
 use Rattle.p2p_log.specs.Sending.{keys_sent, sending_of}
-use Rattle.p2p_log.specs.Taken.{AreTaken}
-use Rattle.p2p_log.proofs.Each.{Each-filter, Each-weaker}
-use Rattle.p2p_log.proofs.Names.{AreApart-live_from}
-use Rattle.p2p_log.proofs.QueueNames.{Each-in_queue}
 use Rattle.p2p_log.proofs.Queues.{same_queue-refl}
-use Rattle.p2p_log.proofs.Taken.{line_taken}
 use Rattle.p2p_log_rules.specs.declared.row.Row.{Row}
 use Rattle.p2p_log_rules.specs.Facts.{is_up, key_at}
-use Rattle.p2p_log_rules.specs.Moves.{Moves}
 use Rattle.p2p_log_rules.specs.Rows.{only}
-use Rattle.p2p_log_rules.specs.Attempting.{Attempt, dial_rules_at, attempts_of, resolved, left_ends, given_up_row, gone_on_row, resolved_row, took_row, attempt_turn, attempt_by, attempt_row, told_row, resolve_by, resolve_row, link_item, answered_row, refuse_row, connected_row, connect_row}
-use Rattle.p2p_log_rules.proofs.Touches.{reads, writes}
-use Rattle.p2p_log_laws.proofs.Fitting.{StandsFit, fits, is_bare, holds_bare, is_item_end, bare_there}
-use Rattle.p2p_log_laws.proofs.Shape.{Shape, IsQuiet, quiet_laws, still, no_moves, one_move, first_in}
-
-pub left_gone : (xs : List Envelope) → flat_map ended_item (left_ends xs) ≡ map name_of xs
-left_gone [] = refl
-left_gone (x ∷ xs) = ap (λ l. name_of x ∷ l) (left_gone xs)
-
-left_items : (xs : List Envelope) → Each (λ d. is_item_end d ≡ true) (left_ends xs)
-left_items [] = tt
-left_items (x ∷ xs) = (refl, left_items xs)
-
-pub parts : {X : Type 0} (P : X → Type 0) (xs ys : List X) → Each P (xs ++ ys) → Each P xs × Each P ys
-parts P [] ys h = (tt, h)
-parts P (x ∷ xs) ys h = let more = parts P xs ys h.1 in ((h.0, more.0), more.1)
+use Rattle.p2p_log_rules.specs.Attempting.{Attempt, dial_rules_at, attempts_of, resolved, given_up_row, gone_on_row, resolved_row, took_row, attempt_turn, attempt_by, attempt_row, told_row, resolve_by, resolve_row, link_item, answered_row, refuse_row, connected_row, connect_row}
+use Rattle.p2p_log_rules.proofs.Touches.{writes}
+use Rattle.p2p_log_laws.proofs.LineShape.{ended_shape, gone_on_shape}
+use Rattle.p2p_log_laws.proofs.Shape.{Shape, IsQuiet, quiet_laws, still, no_moves}
 
 or_true : (b : Bool) → (b || true) ≡ true
 or_true true = refl
 or_true false = refl
-
-module _ (log : List Entry) (q : Queue) where
-  pub whole_taken : AreTaken (live log) (line log q)
-  unfolding line
-  whole_taken = line_taken (live log) q (line log q) (AreApart-live_from 0 log) refl
-
-  pub in_line : Each (λ x. x.queue ≡ q) (line log q)
-  unfolding line
-  in_line = Each-in_queue q (live log)
-
-  line_fits : Each StandsFit (live log) → Each StandsFit (line log q)
-  unfolding line
-  line_fits h = Each-filter StandsFit (stands_in q) (live log) h
-
-  line_bare : holds_bare q ≡ true → Each StandsFit (live log) → Each (λ x. is_bare x.item ≡ true) (line log q)
-  line_bare bare stand = both (line log q) in_line (line_fits stand)
-    where
-      both : (xs : List Envelope) → Each (λ x. x.queue ≡ q) xs → Each StandsFit xs → Each (λ x. is_bare x.item ≡ true) xs
-      both [] in_queue fit = tt
-      both (x ∷ xs) in_queue fit = (bare_there q x.item bare (subst (λ p. fits p x.item ≡ true) in_queue.0 fit.0), both xs in_queue.1 fit.1)
 
 -- ---- its step
 
@@ -80,39 +41,19 @@ module _ (configs : List Config) (log : List Entry) (e n : ℕ) where
   abbrev q : Queue
   q = queue.Attempt n e
 
-  split : (took left : List Envelope) → line log q ≡ took ++ left → (P : Envelope → Type 0) → Each P (line log q) → Each P took × Each P left
-  split took left first P h = parts P took left (subst (Each P) first h)
+  written : writes configs log a q ≡ true
+  written = ap (λ b. same_queue (queue.Tracker n) q || b) (same_queue-refl q) ∙ or_true (same_queue (queue.Tracker n) q)
+
+  asks : writes configs log a (queue.Tracker n) ≡ true
+  asks = ap (λ b. b || same_queue q (queue.Tracker n)) (same_queue-refl (queue.Tracker n))
 
   -- it takes these, of which it is left these, and ends
   given_up_shape : (took left : List Envelope) → line log q ≡ took ++ left → (key : Key) → Shape configs log a (given_up_row n key (map name_of took) left)
-  given_up_shape took left first key =
-      let r : Row = given_up_row n key (map name_of took) left in
-      let m : Moves log r = record { taken = took; ended = left; names = refl; gone = left_gone left; stood = subst (AreTaken (live log)) first (whole_taken log q) } in
-      let here = split took left first (λ x. x.queue ≡ q) (in_line log q) in
-      record {
-        moves = m;
-        reach = record {
-          taken = Each-weaker (λ x. x.queue ≡ q) (λ x. reads configs log a x.queue ≡ true) (λ x is. ap (same_queue q) is ∙ same_queue-refl q) took here.0;
-          ended = Each-weaker (λ x. x.queue ≡ q) (λ x. writes configs log a x.queue ≡ true)
-              (λ x is. ap (λ p. same_queue (queue.Tracker n) p || same_queue q p) is ∙ (ap (λ b. same_queue (queue.Tracker n) q || b) (same_queue-refl q) ∙ or_true (same_queue (queue.Tracker n) q))) left here.1;
-          puts = (ap (λ b. b || same_queue q (queue.Tracker n)) (same_queue-refl (queue.Tracker n)), tt);
-        };
-        laws = λ stand.
-            let bare = split took left first (λ x. is_bare x.item ≡ true) (line_bare log q refl stand.fitting) in
-            quiet_laws configs log a r m refl refl bare.0 bare.1 (left_items left) ((refl, refl), tt);
-      }
+  given_up_shape took left first key = ended_shape configs log a q (same_queue-refl q) written refl (λ r. refl) took left first ((queue.Tracker n, item.Release key) ∷ []) ((refl, refl), tt) (asks, tt)
 
   -- it takes this, and goes on
   taken_shape : (x : Envelope) (rest : List Envelope) → line log q ≡ x ∷ rest → Shape configs log a (gone_on_row (name_of x))
-  taken_shape x rest first =
-      let r : Row = gone_on_row (name_of x) in
-      record {
-        moves = one_move log q x rest first r refl refl;
-        reach = record { taken = (first_in (reads configs log a) log q x rest first (same_queue-refl q), tt); ended = tt; puts = tt };
-        laws = λ stand.
-            let bare = split (x ∷ []) rest first (λ y. is_bare y.item ≡ true) (line_bare log q refl stand.fitting) in
-            quiet_laws configs log a r (one_move log q x rest first r refl refl) refl refl bare.0 tt tt tt;
-      }
+  taken_shape x rest first = gone_on_shape configs log a q (same_queue-refl q) written refl (λ r. refl) x rest first
 
   resolved_shape : (o : Option Attempt) (key : Key) (x : Envelope) (rest : List Envelope) → line log q ≡ x ∷ rest → Shape configs log a (resolved_row o n key (name_of x) rest)
   resolved_shape None key x rest first = given_up_shape (x ∷ []) rest first key

@@ -26,6 +26,8 @@ pub mod HeldPeers
 pub mod Joins
 pub mod Leads
 pub mod Leaving
+pub mod HandshakeShape
+pub mod LineShape
 pub mod ListenerShape
 pub mod Ledger
 pub mod Marks

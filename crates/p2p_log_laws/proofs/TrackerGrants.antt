@@ -33,7 +33,7 @@ use Rattle.p2p_log_rules.specs.Rows.{only}
 use Rattle.p2p_log_rules.specs.Tracking.{key_cmp, rules_at, asked_by, item_calls, step_calls, grants_dial, calls_of, update_subscriptions, blocked_subscriptions}
 use Rattle.p2p_log_rules.specs.TrackerPuts as puts
 use Rattle.p2p_tracker_calls.specs.Allows.{is_acceptable}
-use Rattle.p2p_log_rules.specs.Handshakes.{is_shaking, source_at}
+use Rattle.p2p_log_rules.specs.Handshakes.{is_handshaking, source_at}
 use Rattle.p2p_log_rules.specs.TrackerPuts.{Put, dial_grant, acceptable_puts, item_puts}
 use Rattle.p2p_log_rules.specs.TrackerRows as rows
 use Rattle.p2p_log_rules.proofs.Moves.{one_taken, rings, rings_in}
@@ -137,7 +137,7 @@ module _ (n : ℕ) (key : Key) (rules : Rules Key) where
         let xs = puts_of item.AskDialable in
         plain_turn xs false (is_held key_cmp calls key) (is_held key_cmp calls key) (plain_item n key (queue.Dialer n) (item.Dialable (query_again_at key_cmp rules calls at) (dialable_keys key_cmp rules calls at)) refl refl, tt) refl
     item_turn (item.AskDial k) = dial_turn k at jitter calls (dial_grant rules n at us bs calls k) (λ g e. dial_free rules n at us bs calls k g e)
-    item_turn (item.AskAcceptable name k) = acceptable_turn name k (is_shaking log n name) (source_at log name)
+    item_turn (item.AskAcceptable name k) = acceptable_turn name k (is_handshaking log n name) (source_at log name)
     item_turn (item.Release k) =
         plain_turn [] (k.0 == key.0) (is_held key_cmp calls key) (is_held key_cmp (call.Release k ∷ calls) key) tt (held_released k calls key)
     item_turn _ = plain_turn [] false (is_held key_cmp calls key) (is_held key_cmp calls key) tt refl

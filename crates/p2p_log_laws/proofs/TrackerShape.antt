@@ -28,7 +28,7 @@ use Rattle.p2p_log_rules.specs.Facts.{is_up}
 use Rattle.p2p_log_rules.specs.Reading.{is_read}
 use Rattle.p2p_log_rules.specs.Rows.{only}
 use Rattle.p2p_log_rules.specs.Tracking.{key_cmp, rules_at, asked_by, calls_of, update_subscriptions, blocked_subscriptions}
-use Rattle.p2p_log_rules.specs.Handshakes.{is_shaking, source_at}
+use Rattle.p2p_log_rules.specs.Handshakes.{is_handshaking, source_at}
 use Rattle.p2p_log_rules.specs.TrackerPuts as puts
 use Rattle.p2p_log_rules.specs.TrackerPuts.{Put}
 use Rattle.p2p_log_rules.specs.TrackerRows as rows
@@ -153,7 +153,7 @@ module _ (n : ℕ) (rules : Rules Key) (at : ℕ) (updates sets : List ℕ) (cal
   item_told log (item.Connect conn key) = each_connected n (IsTold n) (kinds_told n) rules at updates sets calls conn key
   item_told log item.AskDialable = (((refl, refl), eq-eqb n n refl), tt)
   item_told log (item.AskDial key) = (((refl, refl), eq-eqb n n refl), tt)
-  item_told log (item.AskAcceptable name key) = acceptable_told name key (is_shaking log n name) (source_at log name)
+  item_told log (item.AskAcceptable name key) = acceptable_told name key (is_handshaking log n name) (source_at log name)
   item_told log _ = tt
 
 -- a ring of the tracker takes items that carry no copy

@@ -81,6 +81,7 @@ reads configs log (act.Next e) q = is_told_to (asked_by log e) e q
 reads configs log (act.Tracker n) q = same_queue (queue.Tracker n) q
 reads configs log (act.Dialer n) q = same_queue (queue.Dialer n) q
 reads configs log (act.Listener n) q = same_queue (queue.Update n) q || same_queue (queue.Arrivals n) q
+reads configs log (act.Handshake e n) q = same_queue (queue.Handshake n e) q
 reads configs log (act.Attempt e n) q = same_queue (queue.Attempt n e) q
 reads configs log a q = elim (reading_of configs log a) [ None ↦ false | Some p ↦ same_queue p q ]
 
@@ -96,6 +97,7 @@ writes configs log (act.Ask what n) q = same_queue (queue.Tracker n) q
 writes configs log (act.Tracker n) q = in_tracker n q
 writes configs log (act.Dialer n) q = same_queue (queue.Tracker n) q
 writes configs log (act.Listener n) q = same_queue (queue.Tracker n) q
+writes configs log (act.Handshake e n) q = same_queue (queue.Handshake n e) q
 writes configs log (act.Attempt e n) q = same_queue (queue.Tracker n) q || same_queue (queue.Attempt n e) q
 writes configs log (act.Resolve addresses e n) q = same_queue (queue.Attempt n e) q
 writes configs log (act.Connect e from n to) q = same_queue (queue.Attempt n e) q || same_queue (queue.Arrivals to) q

@@ -30,6 +30,7 @@ use Rattle.p2p_log_rules.specs.Frames.{frame_of, message_in}
 pub use Rattle.p2p_log_rules.specs.Rows.{only, mailbox_size_at, overwritten, ring_ends}
 use Rattle.p2p_log_rules.specs.Attempting.{attempt_row, resolve_row, refuse_row, connect_row}
 use Rattle.p2p_log_rules.specs.Dialing.{dialer_row}
+use Rattle.p2p_log_rules.specs.Handshaking.{handshake_row}
 use Rattle.p2p_log_rules.specs.Listening.{listener_row}
 use Rattle.p2p_log_rules.specs.TrackerRows.{ask_row, answer_row, next_row, tracker_row}
 
@@ -274,6 +275,7 @@ row configs log at seed (act.Answer question) = answer_row log question
 row configs log at seed (act.Next question) = next_row log question
 row configs log at seed (act.Dialer n) = dialer_row configs log n at seed
 row configs log at seed (act.Listener n) = listener_row configs log n at
+row configs log at seed (act.Handshake e n) = handshake_row configs log e n at
 row configs log at seed (act.Attempt e n) = attempt_row configs log e n at seed
 row configs log at seed (act.Resolve addresses e n) = resolve_row configs log addresses e n
 row configs log at seed (act.Connect e from n to) = connect_row configs log e from n to

@@ -1,5 +1,5 @@
 -- The handshakes of a node that have not ended, and from where their peers came, by the log.
-use Rattle.std.specs.Prelude.{ℕ, ◌==◌, Bool, false, cond, List, [], ◌∷◌, ◌++◌, length, take, Option, Some, None, slice_get}
+use Rattle.std.specs.Prelude.{ℕ, ◌==◌, Bool, true, false, not, cond, List, [], ◌∷◌, ◌++◌, filter, length, take, Option, Some, None, slice_get}
 use Rattle.std.specs.List.{list_any}
 use Rattle.p2p_address.specs.declared.ip.IpAddr.{IpAddr}
 use Rattle.p2p_gates_rules.specs.declared.reply.Reply.TheVariants as gates
@@ -21,17 +21,37 @@ abbrev pub steps_listener : ℕ → Act → Bool
 steps_listener n (act.Listener m) = m == n
 steps_listener n _ = false
 
+-- a handshake ends at a step of this reply that took these: by all but word that its peer may connect
+abbrev pub ends_handshake : Reply → List Item → Bool
+ends_handshake reply.Ok (item.Acceptable true ∷ items) = false
+ends_handshake reply.Ok _ = true
+ends_handshake _ items = false
+
+abbrev pub without_name : ℕ → List ℕ → List ℕ
+without_name name names = filter (λ k. not (k == name)) names
+
+-- without the handshake that may have ended
+abbrev pub unless_ended : Bool → ℕ → List ℕ → List ℕ
+unless_ended true name names = without_name name names
+unless_ended false name names = names
+
+-- after an act of this name and reply, which took these
+abbrev pub acted_handshakes : ℕ → ℕ → Reply → List Item → Act → List ℕ → List ℕ
+acted_handshakes n name r items (act.Listener m) names = cond (m == n) (with_admitted name r names) names
+acted_handshakes n name r items (act.Handshake h m) names = cond (m == n) (unless_ended (ends_handshake r items) h names) names
+acted_handshakes n name r items _ names = names
+
 -- after an entry, given those before it
 abbrev pub handshakes_by : ℕ → List Entry → Entry → List ℕ → List ℕ
-handshakes_by n before e names = cond (steps_listener n e.event.act) (with_admitted (length before) e.reply names) names
+handshakes_by n before e names = acted_handshakes n (length before) e.reply (taken before e) e.event.act names
 
 -- the handshakes of a node that have not ended, by the events that began them, the oldest first
 unfoldable pub handshakes_of : List Entry → ℕ → List ℕ
 handshakes_of log n = state_from (handshakes_by n) [] log []
 
 -- whether a handshake has begun and has not ended
-abbrev pub is_shaking : List Entry → ℕ → ℕ → Bool
-is_shaking log n name = list_any (λ k. name == k) (handshakes_of log n)
+abbrev pub is_handshaking : List Entry → ℕ → ℕ → Bool
+is_handshaking log n name = list_any (λ k. name == k) (handshakes_of log n)
 
 -- the address of the arrival among these
 abbrev pub source_of : List Item → Option IpAddr

@@ -4,6 +4,7 @@ pub mod Effect
 pub mod Facts
 pub mod Frames
 pub mod Handshakes
+pub mod Handshaking
 pub mod Lawful
 pub mod Listening
 pub mod Moves

@@ -29,7 +29,7 @@ use Rattle.p2p_log.specs.declared.entry.Entry.{Entry}
 use Rattle.p2p_log.specs.declared.asked.Asked.TheVariants as ask
 use Rattle.p2p_log.specs.declared.event.Act.{Act}
 use Rattle.p2p_log.specs.declared.event.Act.TheVariants as act
-use Rattle.p2p_log_rules.specs.Handshakes.{is_shaking, source_at}
+use Rattle.p2p_log_rules.specs.Handshakes.{is_handshaking, source_at}
 use Rattle.p2p_log_rules.specs.Tracking.{key_cmp, asked_by}
 
 abbrev pub Put : Type 0
@@ -114,5 +114,5 @@ module _ (rules : Rules Key) (n at : ℕ) (updates sets : List ℕ) (calls : Lis
   item_puts log (item.Connect conn key) = cond (accepts key_cmp rules calls key (Some at)) [] (kill_put n (Some conn))
   item_puts log item.AskDialable = (queue.Dialer n, item.Dialable (query_again_at key_cmp rules calls at) (dialable_keys key_cmp rules calls at)) ∷ []
   item_puts log (item.AskDial key) = (queue.Dialer n, item.Dial (dial_grant key)) ∷ []
-  item_puts log (item.AskAcceptable name key) = acceptable_puts name key (is_shaking log n name) (source_at log name)
+  item_puts log (item.AskAcceptable name key) = acceptable_puts name key (is_handshaking log n name) (source_at log name)
   item_puts log _ = []

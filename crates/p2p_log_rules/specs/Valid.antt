@@ -1,5 +1,5 @@
 -- Valid input: configurations and events that may be asked for. It reads the input alone.
-use Rattle.std.specs.Prelude.{ℕ, ◌+◌, ◌*◌, ◌^◌, Bool, false, ◌==◌, ◌&&◌, ◌||◌, not, cond, nat_le, nat_lt, List, [], ◌∷◌, ◌++◌, length, Option, Some, None, slice_get, is_some}
+use Rattle.std.specs.Prelude.{ℕ, ◌+◌, ◌*◌, ◌^◌, Bool, true, false, ◌==◌, ◌&&◌, ◌||◌, not, cond, nat_le, nat_lt, List, [], ◌∷◌, ◌++◌, length, Option, Some, None, slice_get, is_some}
 use Rattle.std.specs.List.{list_any}
 use Rattle.p2p_base.specs.declared.key.Key.{Key}
 use Rattle.p2p_log.specs.declared.config.Config.{Config}
@@ -75,6 +75,15 @@ dials_node n (Some v) = elim v.act [ act.Dialer m ↦ m == n | _ ↦ false ]
 abbrev pub names_dialer : List Event → ℕ → ℕ → Bool
 names_dialer events n e = dials_node n (slice_get events e)
 
+-- whether an act is a step of a listener
+abbrev pub is_listened : Option Event → Bool
+is_listened None = false
+is_listened (Some v) = elim v.act [ act.Listener m ↦ true | _ ↦ false ]
+
+-- whether an earlier event is a step of a listener
+abbrev pub names_listener : List Event → ℕ → Bool
+names_listener events e = is_listened (slice_get events e)
+
 -- a channel is registered once, before the start, and its capacity and their sum can be counted
 abbrev pub may_register : List Config → List Event → ℕ → ℕ → Rate → Bool
 may_register configs events c n rate =
@@ -122,6 +131,7 @@ may_act configs events (act.Next e) = is_node configs (subscribed_at (slice_get 
 may_act configs events (act.Tracker n) = nat_lt n (length configs)
 may_act configs events (act.Dialer n) = nat_lt n (length configs)
 may_act configs events (act.Listener n) = nat_lt n (length configs)
+may_act configs events (act.Handshake e n) = nat_lt n (length configs) && names_listener events e
 may_act configs events (act.Attempt e n) = nat_lt n (length configs) && names_dialer events n e
 may_act configs events (act.Resolve addresses e n) = nat_lt n (length configs) && names_dialer events n e
 may_act configs events (act.Connect e from n to) = nat_lt n (length configs) && (nat_lt to (length configs) && names_dialer events n e)

@@ -37,6 +37,7 @@ use Rattle.p2p_net.proofs.Readying.{key_is}
 use Rattle.p2p_net.proofs.Resolving.{resolve_performs}
 use Rattle.p2p_net.proofs.Calling.{register_performs, start_performs, send_performs, read_performs}
 use Rattle.p2p_net.proofs.Dialing.{dialer_performs}
+use Rattle.p2p_net.proofs.Handshaking.{handshake_performs}
 use Rattle.p2p_net.proofs.Listening.{listener_performs}
 use Rattle.p2p_net.proofs.Stepping.{route_performs}
 use Rattle.p2p_net.proofs.Trying.{attempt_performs}
@@ -63,6 +64,7 @@ node_performs configs log moment seed (act.Next e) x y l links r s t valid one d
 node_performs configs log moment seed (act.Tracker n) x y l links r s t valid one d = tracker_performs configs log moment seed n x y l links r s t d.0 d.1
 node_performs configs log moment seed (act.Dialer n) x y l links r s t valid one d = dialer_performs configs log moment seed n x y l links r s t d.0 d.1
 node_performs configs log moment seed (act.Listener n) x y l links r s t valid one d = listener_performs configs log moment seed n x y l links r s t d.0 d.1
+node_performs configs log moment seed (act.Handshake e n) x y l links r s t valid one d = handshake_performs configs log moment seed e n x y l links r s t d.0 d.1
 node_performs configs log moment seed (act.Attempt e n) x y l links r s t valid one d = attempt_performs configs log moment seed e n x y l links r s t d.0 d.1
 node_performs configs log moment seed (act.Resolve addresses e n) x y l links r s t valid one d = resolve_performs configs log moment seed addresses e n x y l links r s t d.0.0 d.0.1 d.1
 node_performs configs log moment seed (act.Refuse e n) x y l links r s t valid one d = refuse_performs configs log moment seed e n x y l links r s t d.0.0 d.0.1 d.1

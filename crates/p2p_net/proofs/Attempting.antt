@@ -30,7 +30,8 @@ use Rattle.p2p_log_rules.proofs.Touches.{reads, writes}
 use Rattle.p2p_log_laws.proofs.Untouched.{line-untouched}
 use Rattle.p2p_net_queues.specs.Tables as table
 use Rattle.p2p_net_queues.proofs.Going.{line-append, line-kept}
-use Rattle.p2p_net_dialer.specs.Attempts.{with_told, AreBut}
+use Rattle.p2p_net_queues.specs.Tables.{AreBut}
+use Rattle.p2p_net_dialer.specs.Attempts.{with_told}
 use Rattle.p2p_net_dialer.specs.Stands.{gates_at, told_item, attempt_of, AttemptStands, DialerStands}
 use Rattle.p2p_net_dialer.specs.declared.attempt.RunningAttempt.{RunningAttempt}
 use Rattle.p2p_net_dialer.specs.declared.dialing.Dialing.{Dialing}

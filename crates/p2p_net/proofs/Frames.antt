@@ -19,7 +19,6 @@ use Rattle.p2p_log.specs.Lines.{live, line, stands_in}
 use Rattle.p2p_log_rules.specs.declared.row.Half.{Half}
 use Rattle.p2p_log_rules.specs.Facts.{starts, registers_at, capacity_for, taken, steps_router, steps_sender, is_answer, half_of, key_at, answers_by, joins}
 use Rattle.p2p_log_rules.specs.Effect.{row, effect}
-use Rattle.p2p_log_rules.specs.Handshakes.{steps_listener}
 use Rattle.p2p_log_rules.specs.Tracking.{asked_by, steps_tracker}
 use Rattle.p2p_log_rules.specs.TrackerRows.{answers, is_answer as gives_answer, answer_by}
 use Rattle.p2p_net_tracker.specs.declared.question.Question.{Question}
@@ -28,6 +27,7 @@ use Rattle.p2p_net_tracker.specs.Stands.{kind_of, asks_of, asks_at, is_told}
 use Rattle.p2p_net_tracker.proofs.Changes.{tracker_frame}
 use Rattle.p2p_net_dialer.specs.Stands.{is_of_dialer}
 use Rattle.p2p_net_dialer.proofs.Changes.{dialer_frame, dialer_unmoved}
+use Rattle.p2p_net_listener.specs.Stands.{is_of_listener}
 use Rattle.p2p_net_listener.proofs.Changes.{listener_frame, listener_unmoved, handshakes_unmoved}
 use Rattle.p2p_net_router.specs.Names.{is_routers}
 use Rattle.p2p_net_router.specs.Stands.{IsBeside}
@@ -242,13 +242,15 @@ dials_none log n _ h = refl
 
 -- ---- the listener
 
-listens_none : (log : List Entry) (n : ℕ) (a : Act) → names log a (at listener n) ≡ false → steps_listener n a ≡ false
+listens_none : (log : List Entry) (n : ℕ) (a : Act) → names log a (at listener n) ≡ false → is_of_listener n a ≡ false
 listens_none log n (act.Listener m) h = grind (arith, nat_tests)
+listens_none log n (act.Handshake e m) h = grind (arith, nat_tests)
 listens_none log n _ h = refl
 
--- a step of it names its tracker too
-admits_none : (log : List Entry) (n : ℕ) (a : Act) → names log a (at tracker n) ≡ false → steps_listener n a ≡ false
+-- a step of it, or of a handshake of it, names its tracker too
+admits_none : (log : List Entry) (n : ℕ) (a : Act) → names log a (at tracker n) ≡ false → is_of_listener n a ≡ false
 admits_none log n (act.Listener m) h = grind (arith, nat_tests)
+admits_none log n (act.Handshake e m) h = grind (arith, nat_tests)
 admits_none log n _ h = refl
 
 -- ---- all parts
@@ -279,7 +281,7 @@ part_frame tracker configs log ev n x s h =
       no_late_answer = λ d past. late_answer configs log ev d past;
       mailbox = line-unnamed configs log ev (queue.Tracker n) h;
       told = λ q own. line-unnamed configs log ev q (ap (names log ev.act) (told_home n q own) ∙ h);
-      handshakes = handshakes_unmoved log e n (ap (steps_listener n) (effect-act configs log ev) ∙ admits_none log n ev.act h);
+      handshakes = handshakes_unmoved log e n (ap (is_of_listener n) (effect-act configs log ev) ∙ admits_none log n ev.act h);
     })
 part_frame dialer configs log ev n x s h =
     let e = effect configs log ev in
@@ -289,7 +291,7 @@ part_frame dialer configs log ev n x s h =
 part_frame listener configs log ev n x s h =
     let e = effect configs log ev in
     listener_frame configs log e n x.listening s
-    (listener_unmoved configs log e n (ap (steps_listener n) (effect-act configs log ev) ∙ listens_none log n ev.act h) (line-unnamed configs log ev (queue.Arrivals n) h))
+    (listener_unmoved configs log e n (ap (is_of_listener n) (effect-act configs log ev) ∙ listens_none log n ev.act h) (line-unnamed configs log ev (queue.Arrivals n) h))
 
 -- the links, where an act does not name them
 pub links_kept : (configs : List Config) (log : List Entry) (ev : Event) (l : Links) → LinksStand log l → names log ev.act links ≡ false → LinksStand (log ++ effect configs log ev ∷ []) l

@@ -11,6 +11,7 @@ pub mod Frames
 pub mod Joined
 pub mod Keys
 pub mod Linked
+pub mod Handshaking
 pub mod Listening
 pub mod Nodes
 pub mod Performing

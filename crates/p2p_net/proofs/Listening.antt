@@ -15,6 +15,7 @@ use Rattle.p2p_gates_rules.specs.Gates.{GateRules, Known}
 use Rattle.p2p_gates_rules.specs.declared.reply.Reply.{Reply as GatesReply}
 use Rattle.p2p_gates_rules.specs.declared.reply.Reply.TheVariants as gates
 use Rattle.p2p_gates.specs.Gates.{has_place, places_after, reply_to}
+use Rattle.p2p_gates.specs.Handshaking.{new_handshake}
 use Rattle.p2p_gates.specs.Listening.{Listening as Actor, StandsFor}
 use Rattle.p2p_gates.specs.ListenerTurns.{ListenerTurn, listener_turn, update_turn, line_turn, arrival_turn}
 use Rattle.p2p_gates.specs.declared.arrival.Arrival.{Arrival}
@@ -36,7 +37,7 @@ use Rattle.p2p_log.proofs.Queues.{same_queue-refl}
 use Rattle.p2p_log_rules.specs.declared.row.Row.{Row}
 use Rattle.p2p_log_rules.specs.Facts.{is_up, taken}
 use Rattle.p2p_log_rules.specs.Effect.{only, row, effect, entry_of}
-use Rattle.p2p_log_rules.specs.Handshakes.{with_admitted, handshakes_of, source_of, source_in, source_at}
+use Rattle.p2p_log_rules.specs.Handshakes.{with_admitted, handshakes_by, handshakes_of, source_of, source_in, source_at}
 use Rattle.p2p_log_rules.specs.Listening as log_rule
 use Rattle.p2p_log_rules.specs.Listening.{gate_rules_at, most_handshakes_at, took_known, known_of, gates_puts, told_row}
 use Rattle.p2p_net_queues.specs.Board.{held}
@@ -46,6 +47,7 @@ use Rattle.p2p_net_listener.specs.Stands.{arrival_item, ListenerStands}
 use Rattle.p2p_net_listener.specs.declared.listening.Took.{Took}
 use Rattle.p2p_net_listener.specs.declared.listening.Took.TheVariants as takes
 use Rattle.p2p_net_listener.proofs.Changes.{listener_moved}
+use Rattle.p2p_net_listener.proofs.Handshakes.{AreKept, handshakes_kept, handshakes_begun}
 use Rattle.p2p_net_links.specs.Stands.{LinksStand}
 use Rattle.p2p_net_links.specs.declared.links.Links.{Links}
 use Rattle.p2p_net_tracker.specs.Dialed.{taken_names}
@@ -64,7 +66,7 @@ use Rattle.p2p_net.proofs.Performing.{asked, Performs, IsStill, line-still, part
 use Rattle.p2p_net.proofs.Readying.{started_is}
 
 -- the oldest of a queue is taken
-first_left : (log : List Entry) (q : Queue) (x : Envelope) (rest : List Envelope) → line log q ≡ x ∷ rest → (p : Queue)
+pub first_left : (log : List Entry) (q : Queue) (x : Envelope) (rest : List Envelope) → line log q ≡ x ∷ rest → (p : Queue)
     → filter (stands_in p) (filter (stays (name_of x ∷ [])) (live log)) ≡ cond (same_queue q p) rest (line log p)
 unfolding line
 first_left log q x rest first p = filter_stays-first (live log) q p x rest (AreApart-live_from 0 log) first
@@ -175,8 +177,9 @@ module _ (configs : List Config) (log : List Entry) (moment seed n : ℕ) (x y :
       → map (λ (z : Envelope). z.item) (line (log ++ e due ∷ []) (queue.Arrivals n)) ≡ map arrival_item T.arrivals
       → T.known ≡ took_known rules moment items known
       → T.places ≡ record { held = length (with_admitted k due.reply hs); max = most_handshakes_at configs n }
+      → AreKept configs log (e due) n (log ++ e due ∷ []) (listening.handshakes_after T.stepped k x.listening.handshakes)
       → ListenerStands configs (log ++ e due ∷ []) n y.listening
-  hears_by due T items is took_is names waits knows places =
+  hears_by due T items is took_is names waits knows places kept_now =
       listener_moved configs log (e due) n x.listening y.listening items listens
       (record {
         steps = eq-eqb n n refl;
@@ -185,6 +188,7 @@ module _ (configs : List Config) (log : List Entry) (moment seed n : ℕ) (x y :
         waits = waits ∙ sym (ap (map arrival_item) (steps.arrivals known listens.known ∙ ap (λ (u : ListenerTurn Key). u.arrivals) is));
         known = subst (StandsFor y.listening.actor) (ap (λ (u : ListenerTurn Key). u.known) is ∙ knows) (steps.stands known listens.known);
         places = steps.places known listens.known ∙ (ap (λ (u : ListenerTurn Key). u.places) is ∙ places);
+        handshakes = subst (AreKept configs log (e due) n (log ++ e due ∷ [])) (sym (steps.handshakes known listens.known ∙ ap (λ (u : ListenerTurn Key). listening.handshakes_after u.stepped k x.listening.handshakes) is)) kept_now;
         rest = steps.rest;
         rates = steps.rates;
       })
@@ -238,7 +242,8 @@ module _ (configs : List Config) (log : List Entry) (moment seed n : ℕ) (x y :
           told = tracks.1.0;
         }))
         (hears_by due_update T_update (item.Addresses ips ∷ []) turn_update took_is
-        (listens.names ∙ ap (map name_of) (sym (line_update (queue.Arrivals n)))) (ap (map (λ (w : Envelope). w.item)) (line_update (queue.Arrivals n)) ∙ listens.items) refl listens.places)
+        (listens.names ∙ ap (map name_of) (sym (line_update (queue.Arrivals n)))) (ap (map (λ (w : Envelope). w.item)) (line_update (queue.Arrivals n)) ∙ listens.items) refl listens.places
+        (handshakes_kept configs log (e due_update) n x.listening.handshakes (ap (λ b. cond b hs hs) (eq-eqb n n refl)) listens.handshakes))
 
     update_performs : Tracks what → Performs configs log ev n y ls r
     update_performs tracks = updated (subst Tracks (what_is T_update turn_update) tracks)
@@ -261,7 +266,8 @@ module _ (configs : List Config) (log : List Entry) (moment seed n : ℕ) (x y :
         let line_same : line (log ++ e due ∷ []) (queue.Arrivals n) ≡ arrivals = line-still log (e due) reply.Idle (queue.Arrivals n) still in
         performs due (row_by [] [] quiet none) nothing.0
         (subst (TrackerStands configs (log ++ e due ∷ []) n) (sym same) (part_still place.tracker configs log (e due) n x (act.Listener n) reply.Idle tracked refl refl still))
-        (hears_by due T [] turn_is (none_taken log (e due) refl) (listens.names ∙ ap (map name_of) (sym line_same)) (ap (map (λ (w : Envelope). w.item)) line_same ∙ listens.items) refl listens.places)
+        (hears_by due T [] turn_is (none_taken log (e due) refl) (listens.names ∙ ap (map name_of) (sym line_same)) (ap (map (λ (w : Envelope). w.item)) line_same ∙ listens.items) refl listens.places
+        (handshakes_kept configs log (e due) n x.listening.handshakes (ap (λ b. cond b hs hs) (eq-eqb n n refl)) listens.handshakes))
 
     -- the oldest arrival is taken
     module _ (z : Envelope) (zs : List Envelope) (a : Arrival Key) (cs : List (Arrival Key)) (first : arrivals ≡ z ∷ zs) (came : actor.arrivals ≡ a ∷ cs) (is : z.item ≡ arrival_item a)
@@ -342,12 +348,25 @@ module _ (configs : List Config) (log : List Entry) (moment seed n : ℕ) (x y :
       took_told (gates.Limited i j) name there = ap (listening.took_by (T_told (gates.Limited i j)).stepped) there
       took_told gates.TooMany name there = ap (listening.took_by (T_told gates.TooMany).stepped) there
 
+      -- the handshakes then
+      admits_told : (told : GatesReply) → handshakes_by n log (e (due told)) hs ≡ with_admitted k (reply.Gates told) hs
+      admits_told told = ap (λ b. cond b (with_admitted k (reply.Gates told) hs) hs) (eq-eqb n n refl)
+
+      kept_told : (told : GatesReply) → AreKept configs log (e (due told)) n (log ++ e (due told) ∷ []) (listening.handshakes_after (T_told told).stepped k x.listening.handshakes)
+      kept_told gates.Admitted =
+          handshakes_begun configs log (e (due gates.Admitted)) n x.listening.handshakes (new_handshake k a actor.handshake_timeout moment) (admits_told gates.Admitted)
+          (record { name = refl; deadline = ap (λ t. moment + t) listens.timeout; exchanging = refl; runs = refl; works = refl }) listens.handshakes
+      kept_told gates.Private = handshakes_kept configs log (e (due gates.Private)) n x.listening.handshakes (admits_told gates.Private) listens.handshakes
+      kept_told gates.Unregistered = handshakes_kept configs log (e (due gates.Unregistered)) n x.listening.handshakes (admits_told gates.Unregistered) listens.handshakes
+      kept_told (gates.Limited i j) = handshakes_kept configs log (e (due (gates.Limited i j))) n x.listening.handshakes (admits_told (gates.Limited i j)) listens.handshakes
+      kept_told gates.TooMany = handshakes_kept configs log (e (due gates.TooMany)) n x.listening.handshakes (admits_told gates.TooMany) listens.handshakes
+
       hears : (told : GatesReply) → turn ≡ T_told told → ListenerStands configs (log ++ e (due told) ∷ []) n y.listening
       hears told so =
           hears_by (due told) (T_told told) (item.Arrival a.from a.key a.link ∷ []) so (took_is told)
           (names_told told ∙ (ap (drop 1) (listens.names ∙ ap (map name_of) first) ∙ ap (map name_of) (sym (arrivals_left told))))
           (ap (map (λ (w : Envelope). w.item)) (arrivals_left told) ∙ (others ∙ sym (ap (λ xs. map arrival_item (drop 1 xs)) came)))
-          (ap (λ g. rule.known_after g known a.from.ip moment) listens.rules) (places_told told)
+          (ap (λ g. rule.known_after g known a.from.ip moment) listens.rules) (places_told told) (kept_told told)
 
       tracks_told : (told : GatesReply) → turn ≡ T_told told → Tracks what → Tracks (Some (takes.Arrival (name_of z) told (asked_for k a.key told)))
       tracks_told told so tracks = subst Tracks (what_is (T_told told) so ∙ took_told told (slice_get x.listening.names 0) name_is) tracks
@@ -371,7 +390,7 @@ module _ (configs : List Config) (log : List Entry) (moment seed n : ℕ) (x y :
             no_late_answer = λ d past. refl;
             mailbox = line_told told (queue.Tracker n) ∙ (ap (λ xs. line log (queue.Tracker n) ++ xs) alone ∙ append-nil (line log (queue.Tracker n)));
             told = told_lines told;
-            handshakes = ap (λ b. cond b (with_admitted k (reply.Gates told) hs) hs) (eq-eqb n n refl) ∙ nobody;
+            handshakes = admits_told told ∙ nobody;
           })))
           (hears told so)
 
@@ -391,7 +410,7 @@ module _ (configs : List Config) (log : List Entry) (moment seed n : ℕ) (x y :
             no_step = refl;
             no_question = refl;
             no_answer = λ q. refl;
-            admits = ap (λ b. cond b (hs ++ k ∷ []) hs) (eq-eqb n n refl);
+            admits = admits_told gates.Admitted;
             source_is = source_last log (e d) a.from a.key a.link (took_is gates.Admitted);
             rest = it.1 ∙ ap (λ (u : Mailbox Key). record x.tracker { mailbox = u; names = x.tracker.names ++ (k, 0) ∷ [] }) (w ∙ sym (mailbox_now w));
             items = ap (λ (u : Mailbox Key). u.desk.messages.items) w ∙ kept_open m.desk.messages.closed (has_room m.desk.messages) m.desk.messages.items (message.Acceptable a.key a.from.ip k) open_mailbox;

@@ -19,7 +19,7 @@ use Rattle.p2p_net_dialer.proofs.Changes.{dialer_frame}
 use Rattle.p2p_net_listener.proofs.Changes.{listener_frame}
 use Rattle.p2p_log_rules.specs.Facts.{starts, registers_at, taken, item_named, steps_router, steps_sender, is_answer, half_of, joins}
 use Rattle.p2p_log_rules.specs.Effect.{only, row, effect}
-use Rattle.p2p_log_rules.specs.Handshakes.{steps_listener, with_admitted, handshakes_by, handshakes_of}
+use Rattle.p2p_log_rules.specs.Handshakes.{steps_listener, acted_handshakes, handshakes_by, handshakes_of}
 use Rattle.p2p_log_rules.specs.Listening.{gate_rules_at, took_known, known_of}
 use Rattle.p2p_log_rules.specs.Tracking.{steps_tracker}
 use Rattle.p2p_log_rules.specs.TrackerRows.{answers}
@@ -69,6 +69,9 @@ is_quiet (act.Dialer n) r = false
 is_quiet (act.Listener n) reply.Idle = true
 is_quiet (act.Listener n) reply.Gone = true
 is_quiet (act.Listener n) r = false
+is_quiet (act.Handshake e n) reply.Idle = true
+is_quiet (act.Handshake e n) reply.Gone = true
+is_quiet (act.Handshake e n) r = false
 is_quiet (act.Attempt e n) r = false
 is_quiet (act.Resolve addresses e n) r = false
 is_quiet (act.Connect e from n to) r = false
@@ -121,18 +124,21 @@ quiet_dials pace n (act.Dialer m) at seed reply.Gone items puts d h = either_sam
 quiet_dials pace n (act.Dialer m) at seed _ items puts d h = cc
 quiet_dials pace n _ at seed r items puts d h = refl
 
--- nobody is admitted
-quiet_handshakes : (n name : ℕ) (a : Act) (r : Reply) (names : List ℕ) → is_quiet a r ≡ true → cond (steps_listener n a) (with_admitted name r names) names ≡ names
-quiet_handshakes n name (act.Listener m) reply.Idle names h = either_same (m == n) names
-quiet_handshakes n name (act.Listener m) reply.Gone names h = either_same (m == n) names
-quiet_handshakes n name (act.Listener m) _ names h = cc
-quiet_handshakes n name _ r names h = refl
+-- nobody is admitted, and no handshake ends
+quiet_handshakes : (n name : ℕ) (r : Reply) (items : List Item) (a : Act) (names : List ℕ) → is_quiet a r ≡ true → acted_handshakes n name r items a names ≡ names
+quiet_handshakes n name reply.Idle items (act.Listener m) names h = either_same (m == n) names
+quiet_handshakes n name reply.Gone items (act.Listener m) names h = either_same (m == n) names
+quiet_handshakes n name _ items (act.Listener m) names h = cc
+quiet_handshakes n name reply.Idle items (act.Handshake e m) names h = either_same (m == n) names
+quiet_handshakes n name reply.Gone items (act.Handshake e m) names h = either_same (m == n) names
+quiet_handshakes n name _ items (act.Handshake e m) names h = cc
+quiet_handshakes n name r items _ names h = refl
 
 handshakes_still : (log : List Entry) (e : Entry) (n : ℕ) (a : Act) (rep : Reply) → e.event.act ≡ a → e.reply ≡ rep → is_quiet a rep ≡ true → handshakes_by n log e (handshakes_of log n) ≡ handshakes_of log n
 handshakes_still log e n a rep is told q =
     let names = handshakes_of log n in
-    ap (λ b. cond (steps_listener n b) (with_admitted (length log) e.reply names) names) is
-    ∙ (ap (λ r. cond (steps_listener n a) (with_admitted (length log) r names) names) told ∙ quiet_handshakes n (length log) a rep names q)
+    ap (λ b. acted_handshakes n (length log) e.reply (taken log e) b names) is
+    ∙ (ap (λ r. acted_handshakes n (length log) r (taken log e) a names) told ∙ quiet_handshakes n (length log) rep (taken log e) a names q)
 
 -- nothing is taken, so nothing is begun
 quiet_tries : (rules : DialRules) (n name at seed : ℕ) (a : Act) (r s : Reply) (attempts : ℕ → Option Attempt) (k : ℕ) → is_quiet a r ≡ true → acted_attempts rules n name at seed s [] a attempts k ≡ attempts k

@@ -23,8 +23,9 @@ use Rattle.p2p_net_channels.specs.Stands.{ChannelsStand}
 use Rattle.p2p_net_links.specs.declared.links.Links.{Links}
 use Rattle.p2p_net.specs.Places as place
 use Rattle.p2p_net_tracker.proofs.Begins.{may_take}
+use Rattle.p2p_net_listener.proofs.Changes.{place_held}
 use Rattle.p2p_net.specs.Places.{asked_node, or_first, node_asked, node_of, other_of}
-use Rattle.p2p_net.specs.Ready.{is_started, capacity_by, may_register, names_node, asks_set, subscribes, may_ask, may_at, may_act, IsReady, MayPerform, names_dialer}
+use Rattle.p2p_net.specs.Ready.{is_started, capacity_by, may_register, names_node, asks_set, subscribes, may_ask, may_at, may_act, IsReady, MayPerform, names_dialer, names_listener}
 use Rattle.p2p_net.specs.Meetings.{meeting_of, ends_in}
 use Rattle.p2p_net.specs.Stands.{RouterStands, OwnStands, NodeStands, WorldStands}
 use Rattle.p2p_net.specs.declared.meeting.Meeting.{Meeting}
@@ -103,6 +104,11 @@ dialed_is : (log : List Entry) (n e : ℕ) → names_dialer n (slice_get log e) 
 dialed_is [] n e = refl
 dialed_is (d ∷ ds) n zero = refl
 dialed_is (d ∷ ds) n (suc i) = dialed_is ds n i
+
+listened_is : (log : List Entry) (e : ℕ) → names_listener (slice_get log e) ≡ valid.names_listener (events_of log) e
+listened_is [] e = refl
+listened_is (d ∷ ds) zero = refl
+listened_is (d ∷ ds) (suc i) = listened_is ds i
 
 -- by whether the node is there
 there : (b : Bool) (at rest : Bool) → (b ≡ true → at ≡ rest) → (b && (b && at)) ≡ (b && rest)
@@ -183,6 +189,10 @@ module _ (configs : List Config) (log : List Entry) (nodes : List Node) (links :
       let n = node_asked (slice_get log e) in
       there (nat_lt n (length nodes)) (may_at (slice_get nodes n) log (act.Next e)) (subscribes (slice_get log e)) (λ lt. asks (act.Next e) (subscribes (slice_get log e)) lt (λ x t. refl))
       ∙ (ap (λ b. b && subscribes (slice_get log e)) (counted n) ∙ subscription_is configs log e)
+  may_by (act.Handshake e n) =
+      there (nat_lt n (length nodes)) (may_at (slice_get nodes n) log (act.Handshake e n)) (valid.names_listener (events_of log) e)
+      (λ lt. asks (act.Handshake e n) (valid.names_listener (events_of log) e) lt (λ x t. listened_is log e))
+      ∙ ap (λ b. b && valid.names_listener (events_of log) e) (counted n)
   may_by (act.Attempt e n) = of_dialer n e (act.Attempt e n) (λ x. refl)
   may_by (act.Resolve addresses e n) = of_dialer n e (act.Resolve addresses e n) (λ x. refl)
   may_by (act.Connect e from n to) =
@@ -242,6 +252,7 @@ ready_by configs log n (act.Start m) x s released fit may =
     )
 ready_by configs log n (act.Send bytes c m priority to) x s released fit may = short (length bytes) x.config.max_message_size may (short_message x.config fit)
 ready_by configs log n (act.Tracker m) x s released fit may = λ now. may_take configs log n now x.tracker (s.each place.tracker) released
+ready_by configs log n (act.Handshake e m) x s released fit may = λ there. place_held configs log n e x.listening (s.each place.listener) there
 ready_by configs log n _ x s released fit may = tt
 
 -- in a lawful log a release that the tracker is to take is of a key that is held

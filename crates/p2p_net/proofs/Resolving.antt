@@ -22,7 +22,8 @@ use Rattle.p2p_log_rules.specs.declared.row.Row.{Row}
 use Rattle.p2p_log_rules.specs.Attempting.{Attempt, dial_rules_at, told_addresses, with_attempt, acted_attempts, attempts_of, told_row, resolve_by}
 use Rattle.p2p_log_rules.specs.Effect.{only, row}
 use Rattle.p2p_net_queues.specs.Tables as table
-use Rattle.p2p_net_dialer.specs.Attempts.{resolved, AreBut, Resolves}
+use Rattle.p2p_net_queues.specs.Tables.{AreBut}
+use Rattle.p2p_net_dialer.specs.Attempts.{resolved, Resolves}
 use Rattle.p2p_net_dialer.specs.Stands.{gates_at, attempt_of, AttemptStands, DialerStands}
 use Rattle.p2p_net_dialer.specs.declared.attempt.RunningAttempt.{RunningAttempt}
 use Rattle.p2p_net_links.specs.Stands.{LinksStand}

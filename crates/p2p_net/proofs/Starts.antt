@@ -112,6 +112,7 @@ node_new configs n x config retained works small number stands none ch cs tr di 
     | place.listener ↦
         listener_new configs n (gates_of x.config) x.listening li (sym (ap (λ (o : Option Config). elim o [ None ↦ no_gates | Some c ↦ gate_rules_of c ]) config))
         (sym (ap (λ (o : Option Config). elim o [ None ↦ 0 | Some c ↦ c.max_concurrent_handshakes ]) config))
+        (sym (ap (λ (o : Option Config). elim o [ None ↦ 0 | Some c ↦ c.handshake_timeout ]) config))
   ];
 }
 

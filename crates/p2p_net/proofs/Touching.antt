@@ -62,6 +62,9 @@ answers_queue n q h = same_queue-sym (queue.Dialer n) q ∙ away (λ r. same_pla
 update_queue : (n : ℕ) (q : Queue) → same_place (at tracker n) (home q) ≡ false → same_queue (queue.Update n) q ≡ false
 update_queue n q h = same_queue-sym (queue.Update n) q ∙ away (λ r. same_place (at tracker n) (home r)) q (queue.Update n) h (eqb-refl n)
 
+handshake_queue : (n e : ℕ) (q : Queue) → same_place (at tracker n) (home q) ≡ false → same_queue (queue.Handshake n e) q ≡ false
+handshake_queue n e q h = same_queue-sym (queue.Handshake n e) q ∙ away (λ r. same_place (at tracker n) (home r)) q (queue.Handshake n e) h (eqb-refl n)
+
 attempt_queue : (n e : ℕ) (q : Queue) → same_place (at dialer n) (home q) ≡ false → same_queue (queue.Attempt n e) q ≡ false
 attempt_queue n e q h = same_queue-sym (queue.Attempt n e) q ∙ away (λ r. same_place (at dialer n) (home r)) q (queue.Attempt n e) h (eqb-refl n)
 
@@ -133,6 +136,7 @@ reads-named configs log (act.Listener n) q h =
     both_false (same_queue (queue.Update n) q) (same_queue (queue.Arrivals n) q)
     (update_queue n q (first_false (same_place (at tracker n) (home q)) (same_place (at listener n) (home q) || false) h))
     (arrivals_queue n q (second_of_two (same_place (at tracker n) (home q)) (same_place (at listener n) (home q)) h))
+reads-named configs log (act.Handshake e n) q h = handshake_queue n e q (first_false (same_place (at tracker n) (home q)) (same_place (at listener n) (home q) || false) h)
 reads-named configs log (act.Attempt e n) q h = attempt_queue n e q (second_of_two (same_place (at tracker n) (home q)) (same_place (at dialer n) (home q)) h)
 reads-named configs log _ q h = refl
 
@@ -154,6 +158,7 @@ writes-named configs log (act.Ask what n) q h = tracker_queue n q (first_false (
 writes-named configs log (act.Tracker n) q h = tracker_kinds n q (first_false (same_place (at tracker n) (home q)) false h)
 writes-named configs log (act.Dialer n) q h = tracker_queue n q (first_false (same_place (at tracker n) (home q)) (same_place (at dialer n) (home q) || false) h)
 writes-named configs log (act.Listener n) q h = tracker_queue n q (first_false (same_place (at tracker n) (home q)) (same_place (at listener n) (home q) || false) h)
+writes-named configs log (act.Handshake e n) q h = reads-named configs log (act.Handshake e n) q h
 writes-named configs log (act.Attempt e n) q h =
     both_false (same_queue (queue.Tracker n) q) (same_queue (queue.Attempt n e) q)
     (tracker_queue n q (first_false (same_place (at tracker n) (home q)) (same_place (at dialer n) (home q) || false) h))

@@ -38,13 +38,14 @@ use Rattle.p2p_log_rules.specs.declared.row.Row.{Row}
 use Rattle.p2p_log_rules.specs.Attempting.{Attempt, DialRules, dial_rules_at, linked, stepped_attempt, drawn_address, dialing, resolved, with_attempt, and_then, attempts_of, left_ends, given_up_row, resolved_row, took_row, attempt_turn, attempt_by}
 use Rattle.p2p_log_rules.specs.Effect.{only, row, effect, entry_of}
 use Rattle.p2p_log_rules.specs.Facts.{taken}
-use Rattle.p2p_log_laws.proofs.AttemptShape.{left_gone}
+use Rattle.p2p_log_laws.proofs.LineShape.{left_gone}
 use Rattle.p2p_log_laws.proofs.Emptying.{line_gone}
 use Rattle.p2p_net_queues.specs.Board.{held}
 use Rattle.p2p_net_queues.specs.Rows.{item_ends}
 use Rattle.p2p_net_queues.specs.Tables as table
 use Rattle.p2p_net_queues.proofs.Going.{put_in, line-append, line-kept, line-taken}
-use Rattle.p2p_net_dialer.specs.Attempts.{tried, after_turn, unless_ended, AreBut, Tries}
+use Rattle.p2p_net_queues.specs.Tables.{AreBut}
+use Rattle.p2p_net_dialer.specs.Attempts.{tried, after_turn, unless_ended, Tries}
 use Rattle.p2p_net_dialer.specs.Stands.{gates_at, told_item, attempt_of, AttemptStands, DialerStands}
 use Rattle.p2p_net_dialer.specs.declared.attempt.RunningAttempt.{RunningAttempt}
 use Rattle.p2p_net_dialer.specs.declared.attempt.Tried.{Tried}
@@ -83,7 +84,7 @@ ends_are [] = refl
 ends_are (x ∷ xs) = ap (λ l. end.Item x.entry x.place ∷ l) (ends_are xs)
 
 -- where a whole line goes, the others stay
-whole_left : (log : List Entry) (q p : Queue) → filter (stands_in p) (filter (stays (map name_of (line log q))) (live log)) ≡ cond (same_queue q p) [] (line log p)
+pub whole_left : (log : List Entry) (q p : Queue) → filter (stands_in p) (filter (stays (map name_of (line log q))) (live log)) ≡ cond (same_queue q p) [] (line log p)
 unfolding line
 whole_left log q p = by (same_queue q p) refl
   where

@@ -36,10 +36,14 @@ use Rattle.p2p_net_dialer.specs.declared.attempt.Tried.{Tried}
 use Rattle.p2p_net_dialer.specs.declared.dialing.Dialed.{Dialed}
 use Rattle.p2p_net_tracker.specs.Asking.{ask_answer, after_asking}
 use Rattle.p2p_net_listener.specs.Listening as listening
+use Rattle.p2p_net_listener.specs.Handshaking.{StepsHandshake}
+use Rattle.p2p_net_listener.specs.declared.handshake.HandshakeStep.{HandshakeStep}
+use Rattle.p2p_net_listener.specs.declared.handshake.HandshakeStep.TheVariants as handshake
 use Rattle.p2p_net_listener.specs.declared.listening.Took.{Took}
 use Rattle.p2p_net_listener.specs.declared.listening.Took.TheVariants as takes
 use Rattle.p2p_net_tracker.specs.Dialed.{updated_row, asked_puts, names_asked, dialed_row}
 use Rattle.p2p_net_tracker.specs.Reading.{Answers, Continues}
+use Rattle.p2p_net_tracker.specs.Handshaking.{left_of, handshake_step_row}
 use Rattle.p2p_net_tracker.specs.Stepping as tracking
 use Rattle.p2p_net_tracker.specs.declared.tracker.Tracker.{Tracker}
 use Rattle.p2p_net.specs.Ready.{is_started, capacity_by}
@@ -235,6 +239,24 @@ abbrev pub ListenerStepsBy : Bool → ℕ → ℕ → ℕ → Node → Node → 
 ListenerStepsBy false k n at old new r = Stays old new r (only reply.Gone)
 ListenerStepsBy true k n at old new r = ListenerSteps k n at old new r
 
+-- ---- the listener's handshakes
+
+-- what one did, at the tracker
+abbrev pub HandshakeStepBy : HandshakeStep → ℕ → ℕ → Tracker → Tracker → Row → Type 0
+HandshakeStepBy handshake.Gone n name old new r = (r ≡ only reply.Gone) × (new ≡ record old { mailbox = new.mailbox })
+HandshakeStepBy handshake.Idle n name old new r = (r ≡ only reply.Idle) × (new ≡ record old { mailbox = new.mailbox })
+HandshakeStepBy (handshake.Served took ended) n name old new r =
+    (r ≡ handshake_step_row took ended (held old.told (queue.Handshake n name)))
+    × (((q : Queue) → held new.told q ≡ (if same_queue (queue.Handshake n name) q then left_of took ended (held old.told q) else held old.told q))
+    × (new ≡ record old { mailbox = new.mailbox; told = new.told }))
+
+-- a step of the handshake of this name, for which items wait in the tracker's mailbox
+pub record HandshakeSteps (n name at : ℕ) (old new : Node) (r : Row) : Type 0 where
+  pub step : HandshakeStep
+  pub steps : StepsHandshake (table.at old.listening.handshakes name) name at old.listening new.listening old.tracker.mailbox new.tracker.mailbox step
+  pub tracks : HandshakeStepBy step n name old.tracker new.tracker r
+  pub rest : new ≡ record old { tracker = new.tracker; listening = new.listening }
+
 -- ---- the dialer's attempts
 
 -- what gives the reservation of a key back
@@ -274,6 +296,7 @@ NodeDoes k n at seed (act.Next e) old new l links r = (Continues n e old.tracker
 NodeDoes k n at seed (act.Tracker m) old new l links r = TrackerStepsBy (is_started old) k n at seed old new r × (links ≡ l)
 NodeDoes k n at seed (act.Dialer m) old new l links r = DialerStepsBy (is_started old) k n at seed old new r × (links ≡ l)
 NodeDoes k n at seed (act.Listener m) old new l links r = ListenerStepsBy (is_started old) k n at old new r × (links ≡ l)
+NodeDoes k n at seed (act.Handshake e m) old new l links r = HandshakeSteps n e at old new r × (links ≡ l)
 NodeDoes k n at seed (act.Attempt e m) old new l links r = AttemptSteps k n e at seed old new r × (links ≡ l)
 NodeDoes k n at seed (act.Resolve addresses e m) old new l links r =
     (Resolves (table.at old.dialing.attempts e) k n e addresses old.dialing.attempts new.dialing.attempts r × TellsAttempt old new) × (links ≡ l)

@@ -8,6 +8,7 @@ use Rattle.p2p_log.specs.declared.event.Act.TheVariants as act
 use Rattle.p2p_log_rules.specs.Valid.{fits_usize, is_quota, set_asked_by, subscribed_by}
 use Rattle.p2p_router.specs.Messenger.{is_unbound, is_bound}
 use Rattle.p2p_net_channels.specs.Channels.{capacity_at}
+use Rattle.p2p_net_queues.specs.Tables as table
 use Rattle.p2p_log_rules.specs.Tracking.{key_cmp}
 use Rattle.p2p_tracker_mailbox.specs.Desk.{next_message}
 use Rattle.p2p_tracker.specs.Serving.{MayTake}
@@ -45,6 +46,14 @@ abbrev pub names_dialer : ℕ → Option Entry → Bool
 names_dialer n None = false
 names_dialer n (Some e) = is_dial_of n e.event.act
 
+abbrev pub is_listened : Act → Bool
+is_listened a = elim a [ act.Listener m ↦ true | _ ↦ false ]
+
+-- whether this entry is of a step of a listener
+abbrev pub names_listener : Option Entry → Bool
+names_listener None = false
+names_listener (Some e) = is_listened e.event.act
+
 -- whether this entry is of a question for a peer set
 abbrev pub asks_set : Option Entry → Bool
 asks_set None = false
@@ -64,13 +73,14 @@ may_ask log x (act.SendStep conn n) = names_node n (slice_get log conn)
 may_ask log x (act.RecvStep conn n) = names_node n (slice_get log conn)
 may_ask log x (act.Answer e) = asks_set (slice_get log e)
 may_ask log x (act.Next e) = subscribes (slice_get log e)
+may_ask log x (act.Handshake e n) = names_listener (slice_get log e)
 may_ask log x (act.Attempt e n) = names_dialer n (slice_get log e)
 may_ask log x (act.Resolve addresses e n) = names_dialer n (slice_get log e)
 may_ask log x (act.Connect e from n to) = names_dialer n (slice_get log e)
 may_ask log x (act.Refuse e n) = names_dialer n (slice_get log e)
 may_ask log x _ = true
 
--- the sizes of a node, where it is asked for an act, and that its tracker may take what waits for it
+-- the sizes of a node, where it is asked for an act, that its tracker may take what waits for it, and that a handshake holds a place
 abbrev pub IsReady : Act → Node → Type 0
 IsReady (act.Register c n rate) x = x.channels.total + capacity_by x rate < 2 ^ 64
 IsReady (act.Start n) x =
@@ -80,6 +90,7 @@ IsReady (act.Start n) x =
     × ((is_quota x.config.allowed_handshake_rate_per_ip ≡ true) × (is_quota x.config.allowed_handshake_rate_per_subnet ≡ true))))
 IsReady (act.Send bytes c n priority to) x = length bytes < 2 ^ 32
 IsReady (act.Tracker n) x = (now : ℕ) → IfSome (next_message x.tracker.mailbox.desk) (λ m. MayTake key_cmp x.tracker.actor.directory m now)
+IsReady (act.Handshake e n) x = is_some (table.at x.listening.handshakes e) ≡ true → 0 < x.listening.actor.places.held
 IsReady _ x = Unit {0}
 
 abbrev pub may_at : Option Node → List Entry → Act → Bool

@@ -115,6 +115,7 @@ pub fn node_of(log: &[Entry], act: &Act) -> u64
         Act::Tracker { node } => *node,
         Act::Dialer { node } => *node,
         Act::Listener { node } => *node,
+        Act::Handshake { node, .. } => *node,
         Act::Attempt { node, .. } => *node,
         Act::Resolve { node, .. } => *node,
         Act::Connect { node, .. } => *node,
@@ -247,6 +248,9 @@ impl Node {
             Act::Tracker { .. } => Ok(self.track_step(turn, event.at, event.seed)?),
             Act::Dialer { .. } => Ok(self.dial_step(turn, event.at, event.seed)?),
             Act::Listener { .. } => Ok(self.listen_step(turn, event.at)?),
+            Act::Handshake { handshake, .. } => {
+                Ok(self.handshake_step(turn, *handshake, event.at)?)
+            }
             Act::Attempt { attempt, .. } => {
                 Ok(self.attempt_step(turn, *attempt, event.at, event.seed)?)
             }

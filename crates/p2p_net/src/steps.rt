@@ -1,13 +1,15 @@
-//! The steps of a node: of its router, its tracker, its dialer and attempts, its listener, and of the two halves of each connection.
-ghost use Rattle.std.specs.Prelude.{◌≡◌, ℕ, IfOk, OnOk, IfSome, Option, slice_get};
+//! The steps of a node: of its router, its tracker, its dialer and attempts, its listener and handshakes, and of the two halves of
+//! each connection.
+ghost use Rattle.std.specs.Prelude.{◌≡◌, ◌<◌, ℕ, true, is_some, IfOk, OnOk, IfSome, Option, slice_get};
 ghost use Rattle.p2p_log_rules.specs.Effect.{other_side as other_side_of};
 ghost use Rattle.p2p_log.specs.Lines.{name_of};
 ghost use Rattle.p2p_net_channels.specs.Arrivals.{arrival_in};
+ghost use Rattle.p2p_net_queues.specs.Tables as table;
 ghost use Rattle.p2p_log_rules.specs.Tracking.{key_cmp};
 ghost use Rattle.p2p_tracker_mailbox.specs.Desk.{next_message};
 ghost use Rattle.p2p_tracker.specs.Serving.{MayTake};
 ghost use Rattle.p2p_net.specs.Ready.{is_started as is_started_test};
-ghost use Rattle.p2p_net.specs.Acts.{TrackerStepsBy, DialerStepsBy, ListenerStepsBy, AttemptSteps, release_item, Routes, Writes, Begins, SendSteps, Receives, RecvSteps, arrived_row, arrived_into, arrived_off, accepted_row, accepted_into, accepted_off, first_in, frame_in};
+ghost use Rattle.p2p_net.specs.Acts.{TrackerStepsBy, DialerStepsBy, ListenerStepsBy, HandshakeSteps, AttemptSteps, release_item, Routes, Writes, Begins, SendSteps, Receives, RecvSteps, arrived_row, arrived_into, arrived_off, accepted_row, accepted_into, accepted_off, first_in, frame_in};
 
 use crate::node::Node;
 use p2p_base::Key;
@@ -16,7 +18,7 @@ use p2p_log_rules::Row;
 use p2p_net_channels::{Arrived, open};
 use p2p_net_dialer::{Dialed, Tried};
 use p2p_net_links::Links;
-use p2p_net_listener::Took;
+use p2p_net_listener::{HandshakeStep, Took};
 use p2p_net_queues::{Turn, only, taking};
 use std::alloc::AllocError;
 
@@ -120,6 +122,28 @@ impl Node {
                 row.reply = Reply::Gates(told);
                 self.tracker.put_message(turn, asked, &mut row)?;
                 Ok(row)
+            }
+        }
+    }
+
+    /// One step of a handshake of the listener, at a moment.
+    pub(crate) fn handshake_step(
+        &mut self,
+        turn: Turn,
+        handshake: u64,
+        at: u64,
+    ) -> Result<Row, AllocError>
+        requires places { is_some (table.at self.old.listening.handshakes handshake) ≡ true
+            → 0 < self.old.listening.actor.places.held }
+        ensures does { IfOk result (λ r. HandshakeSteps turn.node handshake at self.old self.new r) }
+        ensures failed { OnOk result (self.new.failed ≡ self.old.failed) }
+    {
+        let way = &mut self.tracker.mailbox;
+        match self.listening.handshake(handshake, way, at)? {
+            HandshakeStep::Gone => Ok(only(turn.alloc, Reply::Gone)),
+            HandshakeStep::Idle => Ok(only(turn.alloc, Reply::Idle)),
+            HandshakeStep::Served { took, ended } => {
+                Ok(self.tracker.handshake_step(turn, handshake, took, ended)?)
             }
         }
     }

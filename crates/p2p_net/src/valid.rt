@@ -1,6 +1,6 @@
 //! Whether an event may be asked for, after those before it.
 ghost use Rattle.std.specs.Prelude.{◌≡◌, ◌<◌, ◌^◌, ◌&&◌, Some, slice_get, length, nat_le};
-ghost use Rattle.p2p_net.specs.Ready.{capacity_by, is_join_of as is_join_of_test, names_node, names_dialer, asks_set as asks_set_test, subscribes as subscribes_test, may_register as may_register_test, may_ask as may_ask_test, may_at as may_at_test, may_act as may_act_test};
+ghost use Rattle.p2p_net.specs.Ready.{capacity_by, is_join_of as is_join_of_test, names_node, names_dialer, names_listener, asks_set as asks_set_test, subscribes as subscribes_test, may_register as may_register_test, may_ask as may_ask_test, may_at as may_at_test, may_act as may_act_test};
 
 use crate::node::{Node, node_of, other_of};
 use p2p_log::{Act, Asked, Entry, Event, Rate};
@@ -76,6 +76,16 @@ fn is_dialed(log: &[Entry], attempt: u64, number: u64) -> bool
     }
 }
 
+/// Whether the entry of this number is of a step of a listener.
+fn is_listened(log: &[Entry], handshake: u64) -> bool
+    ensures { result ≡ names_listener (slice_get log.now handshake) }
+{
+    match log.get(handshake as usize) {
+        Some(entry) => matches!(&entry.event.act, Act::Listener { .. }),
+        None => false,
+    }
+}
+
 /// Whether a node may be asked for an act, after these entries.
 fn may_ask(log: &[Entry], node: &Node, act: &Act) -> bool
     ensures { result ≡ may_ask_test log.now node.now act.now }
@@ -88,6 +98,7 @@ fn may_ask(log: &[Entry], node: &Node, act: &Act) -> bool
         Act::RecvStep { conn, node } => is_named(log, *conn, *node),
         Act::Answer { question } => asks_set(log, *question),
         Act::Next { question } => subscribes(log, *question),
+        Act::Handshake { handshake, .. } => is_listened(log, *handshake),
         Act::Attempt { attempt, node } => is_dialed(log, *attempt, *node),
         Act::Resolve { attempt, node, .. } => is_dialed(log, *attempt, *node),
         Act::Connect { attempt, node, .. } => is_dialed(log, *attempt, *node),

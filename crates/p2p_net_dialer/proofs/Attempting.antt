@@ -1,9 +1,6 @@
 -- The attempts of a node's dialer after an entry that changes one of them.
-use Rattle.std.proofs.Common.{◌≡◌, ℕ, Bool, true, false, cond, List, [], ◌∷◌, ◌++◌, refl, ap, sym, subst, ◌∙◌, eqb-true, arith, Option, Some, None}
+use Rattle.std.proofs.Common.{◌≡◌, ℕ, Bool, true, false, cond, List, [], ◌∷◌, ◌++◌, refl, sym, subst, ◌∙◌, eqb-true, Option}
 use Rattle.std.specs.Prelude.{◌==◌}
-use Rattle.std.specs.BTreeMap.{is_at, insert_entry}
-use Rattle.std.specs.Ordering.{nat_cmp}
-use Rattle.std.proofs.lemmas.Bool.Decides.{nat_tests}
 use Rattle.p2p_gates.specs.declared.config.Config.{Config as Gates}
 use Rattle.p2p_log.specs.declared.config.Config.{Config}
 use Rattle.p2p_log.specs.declared.queue.Queue.TheVariants as queue
@@ -15,33 +12,11 @@ use Rattle.p2p_log_rules.specs.Dialing.{dials_by, dials_of}
 use Rattle.p2p_log_rules.specs.Facts.{starts}
 use Rattle.p2p_log_rules.proofs.Attempts.{attempts_of-append}
 use Rattle.p2p_net_queues.specs.Tables as table
-use Rattle.p2p_net_queues.proofs.Tables.{lookup-insert_entry}
-use Rattle.p2p_net_dialer.specs.Attempts.{has_ended, unless_ended, kept_with, AreBut}
+use Rattle.p2p_net_queues.specs.Tables.{AreBut}
 use Rattle.p2p_net_dialer.specs.Stands.{gates_at, AttemptStands, DialerStands}
 use Rattle.p2p_net_dialer.specs.declared.attempt.RunningAttempt.{RunningAttempt}
 use Rattle.p2p_net_dialer.specs.declared.dialing.Dialing.{Dialing}
 use Rattle.p2p_net_dialer.proofs.Changes.{actor_kept}
-
--- ---- an attempt that is taken out, and put back
-
-same_key : (k name : ℕ) → is_at (nat_cmp k) name ≡ (k == name)
-same_key k name = grind (arith, nat_tests)
-
-pub AreBut-inserted : (name : ℕ) (a : RunningAttempt) (old mid new : List (ℕ × RunningAttempt)) → AreBut name None old mid → new ≡ insert_entry nat_cmp mid name a → AreBut name (Some a) old new
-AreBut-inserted name a old mid new out is k =
-    ap (λ l. table.at l k) is
-    ∙ (lookup-insert_entry name k a mid ∙ (ap (λ b. cond b (Some a) (table.at mid k)) (same_key k name) ∙ (ap (λ o. cond (k == name) (Some a) o) (out k) ∙ over (k == name))))
-  where
-    over : (b : Bool) → cond b (Some a) (cond b None (table.at old k)) ≡ cond b (Some a) (table.at old k)
-    over true = refl
-    over false = refl
-
-pub AreBut-kept : (name : ℕ) (a : RunningAttempt) (old mid new : List (ℕ × RunningAttempt)) → AreBut name None old mid → new ≡ kept_with a name mid → AreBut name (unless_ended a) old new
-AreBut-kept name a old mid new out is = by (has_ended a.actor) is
-  where
-    by : (b : Bool) → new ≡ cond b mid (insert_entry nat_cmp mid name a) → AreBut name (cond b None (Some a)) old new
-    by true same = λ k. ap (λ l. table.at l k) same ∙ out k
-    by false same = AreBut-inserted name a old mid new out same
 
 -- ---- after an entry
 

@@ -1,7 +1,5 @@
 -- The attempts of a node's dialer as values: what they are told, and what a step of one comes to.
-use Rattle.std.specs.Prelude.{◌≡◌, ℕ, ◌==◌, Bool, true, false, not, cond, is_some, drop, take, List, [], ◌∷◌, ◌++◌, Option, Some, None}
-use Rattle.std.specs.BTreeMap.{insert_entry}
-use Rattle.std.specs.Ordering.{nat_cmp}
+use Rattle.std.specs.Prelude.{◌≡◌, ℕ, Bool, true, false, not, cond, is_some, drop, take, List, [], ◌∷◌, ◌++◌, Option, Some, None}
 use Rattle.p2p_base.specs.declared.key.Key.{Key}
 use Rattle.p2p_address.specs.declared.ip.SocketAddr.{SocketAddr}
 use Rattle.p2p_address.specs.declared.peer.Ingress.{Ingress}
@@ -25,7 +23,7 @@ use Rattle.p2p_log_rules.specs.declared.row.Row.{Row}
 use Rattle.p2p_log_rules.specs.Attempting.{resolve_by, answered_row}
 use Rattle.p2p_log_rules.specs.Rows.{only}
 use Rattle.p2p_net_queues.specs.Rows.{item_ends}
-use Rattle.p2p_net_queues.specs.Tables as table
+use Rattle.p2p_net_queues.specs.Tables.{AreBut}
 use Rattle.p2p_net_dialer.specs.declared.attempt.RunningAttempt.{RunningAttempt}
 use Rattle.p2p_net_dialer.specs.declared.attempt.Tried.{Tried}
 
@@ -105,13 +103,6 @@ after_turn turn a = record a { actor = turn.actor; names = names_by turn.stepped
 -- one that has ended is forgotten
 abbrev pub unless_ended : RunningAttempt → Option RunningAttempt
 unless_ended a = cond (has_ended a.actor) None (Some a)
-
-abbrev pub kept_with : RunningAttempt → ℕ → List (ℕ × RunningAttempt) → List (ℕ × RunningAttempt)
-kept_with a name attempts = cond (has_ended a.actor) attempts (insert_entry nat_cmp attempts name a)
-
--- the attempts are these, but for what this one is now
-abbrev pub AreBut : ℕ → Option RunningAttempt → List (ℕ × RunningAttempt) → List (ℕ × RunningAttempt) → Type 0
-AreBut name now old new = (k : ℕ) → table.at new k ≡ cond (k == name) now (table.at old k)
 
 -- what a step of the attempt of this name comes to
 abbrev pub Tries : Option RunningAttempt → ℕ → ℕ → ℕ → List (ℕ × RunningAttempt) → List (ℕ × RunningAttempt) → Mailbox Key → Mailbox Key → Tried → Type 0

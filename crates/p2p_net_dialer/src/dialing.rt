@@ -2,7 +2,8 @@
 ghost use Rattle.std.specs.Prelude.{◌≡◌, [], None, Some, true, ◌&&◌, IfOk, OnOk};
 ghost use Rattle.p2p_log_rules.specs.Valid.{is_quota};
 ghost use Rattle.p2p_net_queues.specs.Tables as table;
-ghost use Rattle.p2p_net_dialer.specs.Attempts.{Tries, Resolves, AnswersDial, kept_with};
+ghost use Rattle.p2p_net_queues.specs.Tables.{kept_with};
+ghost use Rattle.p2p_net_dialer.specs.Attempts.{Tries, Resolves, AnswersDial, has_ended};
 ghost use Rattle.p2p_net_dialer.specs.Dialing.{gates_of, no_dialing, started, asked_item, is_answer as answer_test, begun_by, Steps};
 
 use crate::attempt::{RunningAttempt, Tried};
@@ -178,7 +179,7 @@ impl Dialing {
 
     /// Keeps an attempt, unless it has ended.
     fn keep(&mut self, name: u64, running: RunningAttempt) -> Result<(), AllocError>
-        ensures { OnOk result (self.new ≡ record self.old { attempts = kept_with running name self.old.attempts }) }
+        ensures { OnOk result (self.new ≡ record self.old { attempts = kept_with (has_ended running.actor) name running self.old.attempts }) }
     {
         if !running.actor.has_ended() {
             self.attempts.insert(name, running)?;

@@ -1,10 +1,14 @@
 -- The listener of a node after one more entry.
-use Rattle.std.proofs.Common.{◌≡◌, ℕ, Bool, true, false, cond, List, [], ◌∷◌, ◌++◌, map, length, ap, sym, subst, ◌∙◌}
+use Rattle.std.proofs.Common.{◌≡◌, ℕ, ◌+◌, Bool, true, false, cond, List, [], ◌∷◌, ◌++◌, map, length, refl, ap, sym, subst, ◌∙◌, arith, Option, Some, None}
+use Rattle.std.specs.Prelude.{◌-◌, ◌<◌, ◌==◌, not, is_some}
+use Rattle.std.specs.List.{list_any}
 use Rattle.std.proofs.lemmas.List.{map-append}
 use Rattle.p2p_base.specs.declared.key.Key.{Key}
 use Rattle.p2p_address.specs.declared.ip.SocketAddr.{SocketAddr}
-use Rattle.p2p_gates_rules.specs.Gates.{GateRules, nothing_known}
+use Rattle.p2p_runtime.specs.QuotaPlaces.{Places}
+use Rattle.p2p_gates_rules.specs.Gates.{GateRules, Known, nothing_known}
 use Rattle.p2p_gates.specs.Gates.{rules_of}
+use Rattle.p2p_gates.specs.Handshaking.{Handshaking}
 use Rattle.p2p_gates.specs.Listening.{Listening as Actor, StandsFor, with_arrival, with_rest}
 use Rattle.p2p_gates.specs.Quotas.{KeepsRates}
 use Rattle.p2p_gates.specs.declared.arrival.Arrival.{Arrival}
@@ -15,15 +19,23 @@ use Rattle.p2p_log.specs.declared.item.Item.{Item}
 use Rattle.p2p_log.specs.declared.item.Item.TheVariants as item
 use Rattle.p2p_log.specs.declared.item.Envelope.{Envelope}
 use Rattle.p2p_log.specs.declared.entry.Entry.{Entry}
+use Rattle.p2p_log.specs.declared.entry.Reply.{Reply}
+use Rattle.p2p_log.specs.declared.event.Act.{Act}
+use Rattle.p2p_log.specs.declared.event.Act.TheVariants as act
 use Rattle.p2p_log.specs.Lines.{name_of, live_from, line}
 use Rattle.p2p_log_rules.specs.Facts.{state_from, taken}
-use Rattle.p2p_log_rules.specs.Handshakes.{steps_listener, with_admitted, handshakes_by, handshakes_of}
+use Rattle.p2p_log_rules.specs.Handshakes.{steps_listener, with_admitted, without_name, ends_handshake, unless_ended, acted_handshakes, handshakes_by, handshakes_of, is_handshaking}
+use Rattle.p2p_log_rules.specs.Handshaking.{handshake_timeout_at, handshake_deadline}
 use Rattle.p2p_log_rules.specs.Listening.{gate_rules_at, most_handshakes_at, took_known, known_by, known_of}
 use Rattle.p2p_log_rules.proofs.Facts.{state_from-append}
-use Rattle.p2p_log_rules.proofs.Handshakes.{handshakes_of-append}
+use Rattle.p2p_log_rules.proofs.Handshakes.{handshakes_of-append, handshaking_early, one_less}
+use Rattle.p2p_net_queues.specs.Tables as table
+use Rattle.p2p_net_queues.specs.Tables.{AreBut}
 use Rattle.p2p_net_listener.specs.Listening.{IsNew, arrived}
-use Rattle.p2p_net_listener.specs.Stands.{arrival_item, ListenerStands, LeavesListener}
+use Rattle.p2p_net_listener.specs.Handshaking.{one_freed, freed_if}
+use Rattle.p2p_net_listener.specs.Stands.{arrival_item, HandshakeIs, ListenerStands, is_of_listener, LeavesListener}
 use Rattle.p2p_net_listener.specs.declared.listening.Listening.{Listening}
+use Rattle.p2p_net_listener.proofs.Handshakes.{deadline-longer, by_deadline, handshakes_kept, handshakes_changed, handshaking-others, handshaking-itself}
 
 -- ---- what the log tells, after one more entry
 
@@ -31,15 +43,32 @@ pub known_of-append : (configs : List Config) (log : List Entry) (e : Entry) (n 
 unfolding known_of
 known_of-append configs log e n = state_from-append (known_by configs n) [] log e nothing_known
 
-module _ (log : List Entry) (e : Entry) (n : ℕ) (b : Bool) (steps : steps_listener n e.event.act ≡ b) where
-  known_after : (configs : List Config) → known_of configs (log ++ e ∷ []) n
-      ≡ cond b (took_known (gate_rules_at configs n) e.event.at (taken log e) (known_of configs log n)) (known_of configs log n)
-  known_after configs =
-      known_of-append configs log e n
-      ∙ ap (λ c. cond c (took_known (gate_rules_at configs n) e.event.at (taken log e) (known_of configs log n)) (known_of configs log n)) steps
+known_after : (configs : List Config) (log : List Entry) (e : Entry) (n : ℕ) (b : Bool) → steps_listener n e.event.act ≡ b → known_of configs (log ++ e ∷ []) n
+    ≡ cond b (took_known (gate_rules_at configs n) e.event.at (taken log e) (known_of configs log n)) (known_of configs log n)
+known_after configs log e n b steps =
+    known_of-append configs log e n
+    ∙ ap (λ c. cond c (took_known (gate_rules_at configs n) e.event.at (taken log e) (known_of configs log n)) (known_of configs log n)) steps
 
-  handshakes_after : handshakes_of (log ++ e ∷ []) n ≡ cond b (with_admitted (length log) e.reply (handshakes_of log n)) (handshakes_of log n)
-  handshakes_after = handshakes_of-append log e n ∙ ap (λ c. cond c (with_admitted (length log) e.reply (handshakes_of log n)) (handshakes_of log n)) steps
+-- whom a step admits
+acted-admitted : (n name : ℕ) (r : Reply) (items : List Item) (a : Act) (names : List ℕ) → steps_listener n a ≡ true → acted_handshakes n name r items a names ≡ with_admitted name r names
+acted-admitted n name r items (act.Listener m) names h = ap (λ b. cond b (with_admitted name r names) names) h
+acted-admitted n name r items _ names h = cc
+
+handshakes-admitted : (log : List Entry) (e : Entry) (n : ℕ) → steps_listener n e.event.act ≡ true → handshakes_of (log ++ e ∷ []) n ≡ with_admitted (length log) e.reply (handshakes_of log n)
+handshakes-admitted log e n steps = handshakes_of-append log e n ∙ acted-admitted n (length log) e.reply (taken log e) e.event.act (handshakes_of log n) steps
+
+-- an act of another begins and ends none
+acted-unmoved : (n name : ℕ) (r : Reply) (items : List Item) (a : Act) (names : List ℕ) → is_of_listener n a ≡ false → acted_handshakes n name r items a names ≡ names
+acted-unmoved n name r items (act.Listener m) names h = ap (λ b. cond b (with_admitted name r names) names) h
+acted-unmoved n name r items (act.Handshake e m) names h = ap (λ b. cond b (unless_ended (ends_handshake r items) e names) names) h
+acted-unmoved n name r items _ names h = refl
+
+pub handshakes_unmoved : (log : List Entry) (e : Entry) (n : ℕ) → is_of_listener n e.event.act ≡ false → handshakes_by n log e (handshakes_of log n) ≡ handshakes_of log n
+handshakes_unmoved log e n none = acted-unmoved n (length log) e.reply (taken log e) e.event.act (handshakes_of log n) none
+
+steps_none : (n : ℕ) (a : Act) → is_of_listener n a ≡ false → steps_listener n a ≡ false
+steps_none n (act.Listener m) h = h
+steps_none n _ h = refl
 
 -- ---- a listener that was made
 
@@ -66,15 +95,17 @@ rules_made cfg l new =
     }) new.subnet_rate)
 
 pub listener_new : (configs : List Config) (n : ℕ) (cfg : Gates) (l : Listening) → IsNew cfg l → rules_by cfg ≡ gate_rules_at configs n → cfg.max_concurrent_handshakes ≡ most_handshakes_at configs n
-    → ListenerStands configs [] n l
+    → cfg.handshake_timeout ≡ handshake_timeout_at configs n → ListenerStands configs [] n l
 unfolding line live_from known_of handshakes_of state_from
-listener_new configs n cfg l new rules most = record {
+listener_new configs n cfg l new rules most until = record {
   names = new.names;
   items = sym (ap (λ (a : Actor Key). map arrival_item a.arrivals) new.actor);
   rules = rules_made cfg l new ∙ rules;
   known = new.stands;
   places = ap (λ (a : Actor Key). a.places) new.actor ∙ ap (λ m. record { held = 0; max = m }) most;
   works = ap (λ (a : Actor Key). a.has_failed) new.actor;
+  timeout = ap (λ (a : Actor Key). a.handshake_timeout) new.actor ∙ until;
+  handshakes = λ k. subst (HandshakeIs (handshake_deadline configs [] k n) k false) (sym (ap (λ (hs : List (ℕ × Handshaking Key)). table.at hs k) new.handshakes)) refl;
 }
 
 -- ---- an entry that leaves it alone
@@ -87,15 +118,14 @@ listener_frame configs log e n l s left = record {
   known = subst (StandsFor l.actor) (sym (known_of-append configs log e n ∙ left.known)) s.known;
   places = s.places ∙ ap (λ (names : List ℕ). record { held = length names; max = most_handshakes_at configs n }) (sym (handshakes_of-append log e n ∙ left.handshakes));
   works = s.works;
+  timeout = s.timeout;
+  handshakes = handshakes_kept configs log e n l.handshakes left.handshakes s.handshakes;
 }
 
--- as one in which it does no step
-pub handshakes_unmoved : (log : List Entry) (e : Entry) (n : ℕ) → steps_listener n e.event.act ≡ false → handshakes_by n log e (handshakes_of log n) ≡ handshakes_of log n
-handshakes_unmoved log e n none = ap (λ b. cond b (with_admitted (length log) e.reply (handshakes_of log n)) (handshakes_of log n)) none
-
-pub listener_unmoved : (configs : List Config) (log : List Entry) (e : Entry) (n : ℕ) → steps_listener n e.event.act ≡ false → line (log ++ e ∷ []) (queue.Arrivals n) ≡ line log (queue.Arrivals n) → LeavesListener configs log e n
+-- as one of another act
+pub listener_unmoved : (configs : List Config) (log : List Entry) (e : Entry) (n : ℕ) → is_of_listener n e.event.act ≡ false → line (log ++ e ∷ []) (queue.Arrivals n) ≡ line log (queue.Arrivals n) → LeavesListener configs log e n
 listener_unmoved configs log e n none same = record {
-  known = ap (λ b. cond b (took_known (gate_rules_at configs n) e.event.at (taken log e) (known_of configs log n)) (known_of configs log n)) none;
+  known = ap (λ b. cond b (took_known (gate_rules_at configs n) e.event.at (taken log e) (known_of configs log n)) (known_of configs log n)) (steps_none n e.event.act none);
   handshakes = handshakes_unmoved log e n none;
   arrivals = same;
 }
@@ -103,7 +133,7 @@ listener_unmoved configs log e n none same = record {
 -- ---- one at which a peer arrives
 
 pub listener_arrived : (configs : List Config) (log : List Entry) (e : Entry) (n k place : ℕ) (from : SocketAddr) (key : Key) (l : Listening) → ListenerStands configs log n l
-    → steps_listener n e.event.act ≡ false
+    → is_of_listener n e.event.act ≡ false
     → line (log ++ e ∷ []) (queue.Arrivals n)
     ≡ line log (queue.Arrivals n) ++ record { entry = k; place = place; queue = queue.Arrivals n; item = item.Arrival from key k } ∷ []
     → ListenerStands configs (log ++ e ∷ []) n (arrived k place from key l)
@@ -117,9 +147,11 @@ listener_arrived configs log e n k place from key l s no_step more =
           ∙ (map-append (λ (y : Envelope). y.item) before (x ∷ [])
           ∙ (ap (λ l. l ++ item.Arrival from key k ∷ []) s.items ∙ sym (map-append arrival_item l.actor.arrivals (a ∷ []))));
       rules = s.rules;
-      known = subst (StandsFor (with_arrival l.actor a)) (sym (known_after log e n false no_step configs)) (record { addresses = s.known.addresses; passed = s.known.passed });
-      places = s.places ∙ ap (λ (names : List ℕ). record { held = length names; max = most_handshakes_at configs n }) (sym (handshakes_after log e n false no_step));
+      known = subst (StandsFor (with_arrival l.actor a)) (sym (known_after configs log e n false (steps_none n e.event.act no_step))) (record { addresses = s.known.addresses; passed = s.known.passed });
+      places = s.places ∙ ap (λ (names : List ℕ). record { held = length names; max = most_handshakes_at configs n }) (sym (handshakes_of-append log e n ∙ handshakes_unmoved log e n no_step));
       works = s.works;
+      timeout = s.timeout;
+      handshakes = handshakes_kept configs log e n l.handshakes (handshakes_unmoved log e n no_step) s.handshakes;
     }
 
 -- ---- its step
@@ -138,6 +170,7 @@ pub record ListenerMoves (configs : List Config) (log : List Entry) (e : Entry) 
   pub waits : map (λ x. x.item) (line (log ++ e ∷ []) (queue.Arrivals n)) ≡ map arrival_item u.actor.arrivals
   pub known : StandsFor u.actor (took_known (gate_rules_at configs n) e.event.at items (known_of configs log n))
   pub places : u.actor.places ≡ record { held = length (with_admitted (length log) e.reply (handshakes_of log n)); max = most_handshakes_at configs n }
+  pub handshakes : (k : ℕ) → HandshakeIs (handshake_deadline configs (log ++ e ∷ []) k n) k (is_handshaking (log ++ e ∷ []) n k) (table.at u.handshakes k)
   pub rest : u.actor ≡ with_rest l.actor u.actor
   pub rates : KeepsRates l.actor.quotas u.actor.quotas
 
@@ -147,8 +180,92 @@ listener_moved configs log e n l u items s m = record {
   names = m.names;
   items = m.waits;
   rules = rules_kept l.actor u.actor m.rest m.rates ∙ s.rules;
-  known = subst (StandsFor u.actor) (sym (known_after log e n true m.steps configs))
+  known = subst (StandsFor u.actor) (sym (known_after configs log e n true m.steps))
       (subst (λ i. StandsFor u.actor (took_known (gate_rules_at configs n) e.event.at i (known_of configs log n))) (sym m.took) m.known);
-  places = m.places ∙ ap (λ (names : List ℕ). record { held = length names; max = most_handshakes_at configs n }) (sym (handshakes_after log e n true m.steps));
+  places = m.places ∙ ap (λ (names : List ℕ). record { held = length names; max = most_handshakes_at configs n }) (sym (handshakes-admitted log e n m.steps));
   works = ap (λ (a : Actor Key). a.has_failed) m.rest ∙ s.works;
+  timeout = ap (λ (a : Actor Key). a.handshake_timeout) m.rest ∙ s.timeout;
+  handshakes = m.handshakes;
 }
+
+-- ---- a step of a handshake
+
+-- one that is kept holds a place
+pub place_held : (configs : List Config) (log : List Entry) (n k : ℕ) (l : Listening) → ListenerStands configs log n l → is_some (table.at l.handshakes k) ≡ true → 0 < l.actor.places.held
+place_held configs log n k l s there = subst (λ c. 0 < c) (sym (ap (λ (p : Places). p.held) s.places)) (by (table.at l.handshakes k) (s.handshakes k) there)
+  where
+    some : (names : List ℕ) → list_any (λ j. k == j) names ≡ true → 0 < length names
+    some [] h = cc
+    some (j ∷ names) h = omega arith
+
+    by : (o : Option (Handshaking Key)) → HandshakeIs (handshake_deadline configs log k n) k (is_handshaking log n k) o → is_some o ≡ true → 0 < length (handshakes_of log n)
+    by None h there = cc
+    by (Some a) h there = some (handshakes_of log n) h.0
+
+-- of a step that did nothing, the handshakes are the same
+pub listener_same : (configs : List Config) (log : List Entry) (n : ℕ) (l u : Listening) → ListenerStands configs log n l → u ≡ record l { handshakes = u.handshakes } → ((k : ℕ) → table.at u.handshakes k ≡ table.at l.handshakes k)
+    → ListenerStands configs log n u
+listener_same configs log n l u s rest same =
+    subst (ListenerStands configs log n) (sym rest) (record {
+      names = s.names;
+      items = s.items;
+      rules = s.rules;
+      known = s.known;
+      places = s.places;
+      works = s.works;
+      timeout = s.timeout;
+      handshakes = λ k. subst (HandshakeIs (handshake_deadline configs log k n) k (is_handshaking log n k)) (sym (same k)) (s.handshakes k);
+    })
+
+-- what a step makes of it, in which the handshake of this name may have ended, and which is this then
+pub record HandshakeMoves (configs : List Config) (log : List Entry) (e : Entry) (n name : ℕ) (l u : Listening) (ended : Bool) (now : Option (Handshaking Key)) : Type 0 where
+  pub no_step : steps_listener n e.event.act ≡ false
+  pub names : handshakes_by n log e (handshakes_of log n) ≡ unless_ended ended name (handshakes_of log n)
+  pub runs : is_handshaking log n name ≡ true
+  pub arrivals : line (log ++ e ∷ []) (queue.Arrivals n) ≡ line log (queue.Arrivals n)
+  pub rest : u ≡ record l { actor = freed_if ended l.actor; handshakes = u.handshakes }
+  pub others : AreBut name now l.handshakes u.handshakes
+  pub stands : HandshakeIs (handshake_deadline configs log name n) name (not ended) now
+
+rules_freed : (b : Bool) (l : Actor Key) → rules_of (freed_if b l) ≡ rules_of l
+rules_freed true l = refl
+rules_freed false l = refl
+
+known_freed : (b : Bool) (l : Actor Key) (k : Known) → StandsFor l k → StandsFor (freed_if b l) k
+known_freed true l k h = record { addresses = h.addresses; passed = h.passed }
+known_freed false l k h = h
+
+kept_freed : (b : Bool) (l : Actor Key) → ((freed_if b l).arrivals ≡ l.arrivals) × (((freed_if b l).has_failed ≡ l.has_failed) × ((freed_if b l).handshake_timeout ≡ l.handshake_timeout))
+kept_freed true l = (refl, (refl, refl))
+kept_freed false l = (refl, (refl, refl))
+
+pub listener_after_handshake : (configs : List Config) (log : List Entry) (e : Entry) (n name : ℕ) (l u : Listening) (ended : Bool) (now : Option (Handshaking Key)) → ListenerStands configs log n l
+    → HandshakeMoves configs log e n name l u ended now → ListenerStands configs (log ++ e ∷ []) n u
+listener_after_handshake configs log e n name l u ended now s m =
+    let actor : Actor Key = freed_if ended l.actor in
+    let kept = kept_freed ended l.actor in
+    subst (ListenerStands configs (log ++ e ∷ []) n) (sym m.rest) (record {
+      names = s.names ∙ ap (map name_of) (sym m.arrivals);
+      items = ap (map (λ (x : Envelope). x.item)) m.arrivals ∙ (s.items ∙ ap (map arrival_item) (sym kept.0));
+      rules = rules_freed ended l.actor ∙ s.rules;
+      known = subst (StandsFor actor) (sym (known_after configs log e n false m.no_step)) (known_freed ended l.actor (known_of configs log n) s.known);
+      places = places ended ∙ ap (λ (names : List ℕ). record { held = length names; max = most_handshakes_at configs n }) (sym (handshakes_of-append log e n ∙ m.names));
+      works = kept.1.0 ∙ s.works;
+      timeout = kept.1.1 ∙ s.timeout;
+      handshakes = handshakes_changed configs log e n name now l.handshakes u.handshakes (handshaking-others configs log e n name ended m.names) m.others
+          (subst (λ b. HandshakeIs (handshake_deadline configs (log ++ e ∷ []) name n) name b now) (sym (handshaking-itself configs log e n name ended m.names m.runs)) stays) s.handshakes;
+    })
+  where
+    stays : HandshakeIs (handshake_deadline configs (log ++ e ∷ []) name n) name (not ended) now
+    stays =
+        by_deadline (handshake_deadline configs log name n) (handshake_deadline configs (log ++ e ∷ []) name n) name (not ended) now
+        (λ runs. sym (deadline-longer configs log e name n (handshaking_early log n name m.runs))) m.stands
+
+    less : (a b : ℕ) → a + 1 ≡ b → b - 1 ≡ a
+    less a b is = omega (arith, is)
+
+    places : (b : Bool) → (freed_if b l.actor).places ≡ record { held = length (unless_ended b name (handshakes_of log n)); max = most_handshakes_at configs n }
+    places true =
+        ap one_freed s.places
+        ∙ ap (λ c. record { held = c; max = most_handshakes_at configs n }) (less (length (without_name name (handshakes_of log n))) (length (handshakes_of log n)) (one_less log n name m.runs))
+    places false = s.places

@@ -1,2 +1,3 @@
+pub mod Handshaking
 pub mod Listening
 pub mod Stands

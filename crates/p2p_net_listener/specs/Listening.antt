@@ -1,11 +1,14 @@
 -- The listener of a node as values: what it is made with, and what a step of it comes to.
 use Rattle.std.specs.Prelude.{◌≡◌, ℕ, List, [], ◌∷◌, ◌++◌, drop, Option, Some, None, slice_get}
+use Rattle.std.specs.BTreeMap.{insert_entry}
+use Rattle.std.specs.Ordering.{nat_cmp}
 use Rattle.p2p_base.specs.declared.key.Key.{Key}
 use Rattle.p2p_address.specs.declared.ip.SocketAddr.{SocketAddr}
 use Rattle.p2p_tracker_mailbox.specs.declared.mailbox.Mailbox.{Mailbox}
 use Rattle.p2p_gates_rules.specs.Gates.{Known, nothing_known}
 use Rattle.p2p_gates_rules.specs.declared.reply.Reply.{Reply}
 use Rattle.p2p_gates_rules.specs.declared.reply.Reply.TheVariants as gates
+use Rattle.p2p_gates.specs.Handshaking.{Handshaking}
 use Rattle.p2p_gates.specs.Listening.{StandsFor, new_listener, with_arrival, with_rest}
 use Rattle.p2p_gates.specs.ListenerTurns.{listener_turn}
 use Rattle.p2p_gates.specs.Quotas.{KeepsRates}
@@ -29,10 +32,11 @@ pub record IsNew (cfg : Gates) (l : Listening) : Type 0 where
   pub ip_rate : l.actor.quotas.addresses.rate ≡ cfg.allowed_handshake_rate_per_ip
   pub subnet_rate : l.actor.quotas.subnets.rate ≡ cfg.allowed_handshake_rate_per_subnet
   pub names : l.names ≡ []
+  pub handshakes : l.handshakes ≡ []
 
 -- a peer with this key has arrived from an address over the link k, as the put of this place
 abbrev pub arrived : ℕ → ℕ → SocketAddr → Key → Listening → Listening
-arrived k place from key l = record {
+arrived k place from key l = record l {
   actor = with_arrival l.actor (record { from = from; key = key; link = k });
   names = l.names ++ (k, place) ∷ [];
 }
@@ -67,10 +71,20 @@ abbrev pub names_after : Stepped Key → List (ℕ × ℕ) → List (ℕ × ℕ)
 names_after stepped.Idle names = names
 names_after (stepped.Served took p left o) names = names_left (told_in o) names
 
+-- the handshakes, with the one that a step began
+abbrev pub begun_by : Outcome Key → ℕ → List (ℕ × Handshaking Key) → List (ℕ × Handshaking Key)
+begun_by (outcome.Admitted h) name handshakes = insert_entry nat_cmp handshakes name h
+begun_by _ name handshakes = handshakes
+
+abbrev pub handshakes_after : Stepped Key → ℕ → List (ℕ × Handshaking Key) → List (ℕ × Handshaking Key)
+handshakes_after stepped.Idle name handshakes = handshakes
+handshakes_after (stepped.Served took p left o) name handshakes = begun_by o name handshakes
+
 -- a step of the listener at a moment, whatever its gates go by
 pub record Steps (name at : ℕ) (old new : Listening) (way after : Mailbox Key) (o : Option Took) : Type 0 where
   pub took : (k : Known) → StandsFor old.actor k → o ≡ took_by (listener_turn old.actor k way name at).stepped (slice_get old.names 0)
   pub names : (k : Known) → StandsFor old.actor k → new.names ≡ names_after (listener_turn old.actor k way name at).stepped old.names
+  pub handshakes : (k : Known) → StandsFor old.actor k → new.handshakes ≡ handshakes_after (listener_turn old.actor k way name at).stepped name old.handshakes
   pub stands : (k : Known) → StandsFor old.actor k → StandsFor new.actor (listener_turn old.actor k way name at).known
   pub arrivals : (k : Known) → StandsFor old.actor k → new.actor.arrivals ≡ (listener_turn old.actor k way name at).arrivals
   pub places : (k : Known) → StandsFor old.actor k → new.actor.places ≡ (listener_turn old.actor k way name at).places

@@ -1,6 +1,8 @@
-//! The listener of a node, and the peers that arrive at it.
+//! The listener of a node, the peers that arrive at it, and the handshakes of those that its gates admit.
 #![tactic(auto)]
 
+mod handshake;
 mod listening;
 
+pub use handshake::HandshakeStep;
 pub use listening::{Listening, Took};

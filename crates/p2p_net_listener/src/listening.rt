@@ -2,15 +2,15 @@
 ghost use Rattle.std.specs.Prelude.{◌≡◌, ◌++◌, ◌∷◌, [], length, slice_get, IfOk, OnOk};
 ghost use Rattle.p2p_log.specs.declared.queue.Queue.TheVariants as queue;
 ghost use Rattle.p2p_log.specs.declared.item.Item.TheVariants as item;
-ghost use Rattle.p2p_net_listener.specs.Listening.{IsNew, arrived, Steps, told_in, asked_item, took_by, names_after};
+ghost use Rattle.p2p_net_listener.specs.Listening.{IsNew, arrived, Steps, told_in, asked_item, took_of, took_by, names_left, names_after, begun_by, handshakes_after};
 
 use p2p_address::SocketAddr;
 use p2p_base::Key;
-use p2p_gates::{Arrival, Config as GatesConfig, Listener, Outcome, Put, Stepped};
+use p2p_gates::{Arrival, Config as GatesConfig, Handshake, Listener, Outcome, Put, Stepped};
 use p2p_gates_rules::Reply;
 use p2p_log::{Item, Queue};
 use p2p_log_rules::Row;
-use p2p_net_queues::{Deque, Turn};
+use p2p_net_queues::{Deque, Table, Turn};
 use p2p_tracker_mailbox::Mailbox;
 use std::alloc::{AllocError, Global};
 
@@ -21,6 +21,8 @@ pub struct Listening {
     pub actor: Listener<Key>,
     /// The names of these, the oldest first.
     pub names: Deque<(u64, u64)>,
+    /// The handshakes that have not ended, by the events that began them.
+    pub handshakes: Table<Handshake<Key>>,
 }
 
 /// What a listener took in a step.
@@ -79,6 +81,7 @@ impl Listening {
         Ok(Listening {
             actor: Listener::new(alloc, gates)?,
             names: Deque::new(alloc),
+            handshakes: Table::new(alloc),
         })
     }
 
@@ -117,28 +120,56 @@ impl Listening {
         ensures { IfOk result (λ o. Steps name at self.old self.new way.old way.new o) }
     {
         let stepped = self.actor.step(way, name, at)?;
-        Ok(self.note(stepped))
+        Ok(self.note(name, stepped)?)
     }
 
-    /// What was done in a step, by the name of the arrival that was taken.
-    fn note(&mut self, stepped: Stepped<Key>) -> Option<Took>
-        ensures took { result ≡ took_by stepped (slice_get self.old.names 0) }
-        ensures names { self.new.names ≡ names_after stepped self.old.names }
-        ensures actor { self.new.actor ≡ self.old.actor }
+    /// What was done in a step of this name, by the name of the arrival that was taken. A handshake that it began is kept.
+    fn note(&mut self, name: u64, stepped: Stepped<Key>) -> Result<Option<Took>, AllocError>
+        ensures took { IfOk result (λ o. o ≡ took_by stepped (slice_get self.old.names 0)) }
+        ensures names { OnOk result (self.new.names ≡ names_after stepped self.old.names) }
+        ensures handshakes { OnOk result (self.new.handshakes ≡ handshakes_after stepped name self.old.handshakes) }
+        ensures actor { OnOk result (self.new.actor ≡ self.old.actor) }
     {
         match stepped {
-            Stepped::Idle => None,
-            Stepped::Served { put, outcome, .. } => match told(&outcome) {
-                None => Some(Took::Update),
-                Some(told) => {
-                    let name = self.names.pop()?;
-                    Some(Took::Arrival {
-                        name,
-                        told,
-                        asked: asked(put),
-                    })
-                }
-            },
+            Stepped::Idle => Ok(None),
+            Stepped::Served { put, outcome, .. } => {
+                let told = told(&outcome);
+                self.begin(name, outcome)?;
+                Ok(self.took(told, put))
+            }
+        }
+    }
+
+    /// Keeps the handshake that a step of this name began, if it began one.
+    fn begin(&mut self, name: u64, outcome: Outcome<Key>) -> Result<(), AllocError>
+        ensures { OnOk result (self.new ≡ record self.old { handshakes = begun_by outcome name self.old.handshakes }) }
+    {
+        match outcome {
+            Outcome::Admitted(handshake) => Ok(self.handshakes.insert(name, handshake)?),
+            // Each of these is moved out too, since no proof follows what is moved in part.
+            Outcome::Dialed(_attempt) => Ok(()),
+            Outcome::Ready(_reservation) => Ok(()),
+            Outcome::GoesOn => Ok(()),
+            Outcome::Refused { .. } => Ok(()),
+            Outcome::Ended => Ok(()),
+        }
+    }
+
+    /// What was taken: an arrival, where the gates told it something.
+    fn took(&mut self, told: Option<Reply>, put: Option<Put<Key>>) -> Option<Took>
+        ensures took { result ≡ took_of told put (slice_get self.old.names 0) }
+        ensures names { self.new ≡ record self.old { names = names_left told self.old.names } }
+    {
+        match told {
+            None => Some(Took::Update),
+            Some(told) => {
+                let name = self.names.pop()?;
+                Some(Took::Arrival {
+                    name,
+                    told,
+                    asked: asked(put),
+                })
+            }
         }
     }
 }

@@ -1,5 +1,6 @@
 -- What a map of lines holds after a change.
 use Rattle.std.proofs.Common.{◌≡◌, Bool, true, false, cond, List, [], ◌∷◌, ◌++◌, refl, ap, sym, ◌∙◌, append-nil, Option, Some, None}
+use Rattle.std.specs.Prelude.{if◌then◌else◌}
 use Rattle.std.specs.Map.{lookup}
 use Rattle.std.specs.BTreeMap.{get, BTreeMap}
 use Rattle.std.specs.Ordering.{is_eq}
@@ -42,3 +43,11 @@ held-new_line l m n p q line x same h absent e =
     (h ∙ (ap (λ b. cond b (Some line) (get queue_cmp l q)) (is_eq-queue_cmp p q)
     ∙ ap (λ k. cond (same_queue p q) (Some line) (get queue_cmp k q)) same))
     (λ s. sym (get-same_queue m p q s) ∙ absent) e
+
+-- nothing stands in a queue whose line was taken out
+pub none_there : {T : Type 0} {b c : Bool} (old : Option (VecDeque T Global)) → b ≡ c → items_in (cond b None old) ≡ (if c then [] else items_in old)
+none_there {T} {b} {c} old same = ap (λ d. items_in (cond d None old)) same ∙ by c
+  where
+    by : (c : Bool) → items_in (cond c None old) ≡ (if c then [] else items_in old)
+    by true = refl
+    by false = refl

@@ -1,13 +1,13 @@
 -- What a table gives after a change.
 use Rattle.std.proofs.Common.{◌≡◌, ℕ, zero, suc, Bool, true, false, cond, List, [], ◌∷◌, ◌++◌, drop, refl, ap, sym, ◌∙◌, arith, Option, Some, None}
-use Rattle.std.specs.Prelude.{◌&&◌}
+use Rattle.std.specs.Prelude.{◌==◌, ◌&&◌}
 use Rattle.std.specs.declared.cmp.Ordering.TheVariants.{Less, Equal, Greater}
 use Rattle.std.specs.Map.{lookup, set_value}
 use Rattle.std.specs.BTreeMap.{is_at, insert_entry}
 use Rattle.std.specs.Ordering.{nat_cmp, is_eq, match_ordering}
 use Rattle.std.proofs.lemmas.Bool.Decides.{nat_tests}
 use Rattle.std.specs.List.{remove}
-use Rattle.p2p_net_queues.specs.Tables.{items_in, waiting, pushed_on, pushed_at, popped_on, popped_at, cleared_on, cleared_at, without_on, without_at}
+use Rattle.p2p_net_queues.specs.Tables.{at, AreBut, kept_with, items_in, waiting, pushed_on, pushed_at, popped_on, popped_at, cleared_on, cleared_at, without_on, without_at}
 
 same_at : (q k x : ℕ) → nat_cmp k x ≡ Equal → is_eq (nat_cmp q x) ≡ is_eq (nat_cmp q k)
 same_at q k x h = grind (arith, nat_tests)
@@ -109,3 +109,24 @@ module _ {T : Type 0} where
 
   pub waiting-without_at : (k q i : ℕ) (m : List (ℕ × List T)) → waiting (without_at m k i) q ≡ cond (is_at (nat_cmp q) k) (remove (waiting m q) i) (waiting m q)
   waiting-without_at k q i m = without_by k q i m (lookup (is_at (nat_cmp k)) m) refl ∙ changed q k m (λ l. remove l i)
+
+-- ---- a value that is taken out, and put back
+
+same_name : (k name : ℕ) → is_at (nat_cmp k) name ≡ (k == name)
+same_name k name = grind (arith, nat_tests)
+
+module _ {V : Type 0} where
+  pub at-inserted : (name k : ℕ) (v : V) (m : List (ℕ × V)) → at (insert_entry nat_cmp m name v) k ≡ cond (k == name) (Some v) (at m k)
+  at-inserted name k v m = lookup-insert_entry name k v m ∙ ap (λ b. cond b (Some v) (at m k)) (same_name k name)
+
+  pub AreBut-inserted : (name : ℕ) (v : V) (old mid new : List (ℕ × V)) → AreBut name None old mid → new ≡ insert_entry nat_cmp mid name v → AreBut name (Some v) old new
+  AreBut-inserted name v old mid new out is k =
+      ap (λ (m : List (ℕ × V)). at m k) is ∙ (at-inserted name k v mid ∙ (ap (λ o. cond (k == name) (Some v) o) (out k) ∙ twice (k == name)))
+    where
+      twice : (b : Bool) → cond b (Some v) (cond b None (at old k)) ≡ cond b (Some v) (at old k)
+      twice true = refl
+      twice false = refl
+
+  pub AreBut-kept : (ended : Bool) (name : ℕ) (v : V) (old mid new : List (ℕ × V)) → AreBut name None old mid → new ≡ kept_with ended name v mid → AreBut name (cond ended None (Some v)) old new
+  AreBut-kept true name v old mid new out is = λ k. ap (λ (m : List (ℕ × V)). at m k) is ∙ out k
+  AreBut-kept false name v old mid new out is = AreBut-inserted name v old mid new out is

@@ -1,5 +1,5 @@
 -- Tables, as the lists of their entries.
-use Rattle.std.specs.Prelude.{ℕ, List, [], ◌∷◌, ◌++◌, drop, Option, Some, None}
+use Rattle.std.specs.Prelude.{◌≡◌, ◌==◌, ℕ, Bool, cond, List, [], ◌∷◌, ◌++◌, drop, Option, Some, None}
 use Rattle.std.specs.List.{remove}
 use Rattle.std.specs.Map.{lookup, set_value}
 use Rattle.std.specs.BTreeMap.{is_at, insert_entry}
@@ -8,6 +8,15 @@ use Rattle.std.specs.Ordering.{nat_cmp}
 -- the value of a key
 abbrev pub at : {V : Type 0} → List (ℕ × V) → ℕ → Option V
 at m k = lookup (is_at (nat_cmp k)) m
+
+module _ {V : Type 0} where
+  -- the table is the other, but for what this key has now
+  abbrev pub AreBut : ℕ → Option V → List (ℕ × V) → List (ℕ × V) → Type 0
+  AreBut name now old new = (k : ℕ) → at new k ≡ cond (k == name) now (at old k)
+
+  -- with this value of a key, unless that has ended
+  abbrev pub kept_with : Bool → ℕ → V → List (ℕ × V) → List (ℕ × V)
+  kept_with ended name v m = cond ended m (insert_entry nat_cmp m name v)
 
 module _ {T : Type 0} where
   abbrev pub items_in : Option (List T) → List T

@@ -2,7 +2,7 @@
 ghost use Rattle.std.specs.Prelude.{◌≡◌, ℕ, ◌++◌, ◌∷◌, [], drop, length, slice_get, OnOk, if◌then◌else◌};
 ghost use Rattle.std.specs.Option.{option_copied};
 ghost use Rattle.p2p_log.specs.QueueCode.{same_queue};
-ghost use Rattle.p2p_net_queues.specs.Board.{held};
+ghost use Rattle.p2p_net_queues.specs.Board.{held, items_in};
 
 use p2p_log::Queue;
 use std::alloc::{AllocError, Global};
@@ -51,6 +51,14 @@ impl<T: Drop> Board<T> {
             Some(line) => line.pop_front(),
             None => None,
         }
+    }
+
+    /// Takes all items of a queue, the oldest first.
+    pub fn take_all(&mut self, queue: Queue) -> Option<VecDeque<T>>
+        ensures all { items_in result ≡ held self.old queue }
+        ensures rest { (q : _) → held self.new q ≡ (if same_queue queue q then [] else held self.old q) }
+    {
+        self.lines.remove(&queue)
     }
 
     /// The oldest item of a queue.

@@ -69,7 +69,7 @@ with_board configs log n t b s holds = record {
   dialer = s.dialer;
   heard = s.heard;
   handshakes = s.handshakes;
-  none_later = s.none_later;
+  distinct = s.distinct;
   told = holds;
 }
 

@@ -2,7 +2,7 @@
 use Rattle.std.proofs.Common.{◌≡◌, ℕ, Bool, true, false, cond, List, [], ◌∷◌, map, length, refl, ap, sym, subst, ◌∙◌, Option, Some, None}
 use Rattle.std.specs.Prelude.{slice_get, IfSome, not, ◌==◌}
 use Rattle.std.specs.BTreeMap.{is_at}
-use Rattle.std.specs.List.{list_any}
+use Rattle.std.specs.List.{list_any, IsDistinct}
 use Rattle.std.specs.Map.{lookup}
 use Rattle.std.specs.Option.{option_map}
 use Rattle.p2p_address.specs.declared.peer.Address.{Address}
@@ -32,14 +32,14 @@ use Rattle.p2p_log.specs.declared.item.Envelope.{Envelope}
 use Rattle.p2p_log.specs.declared.entry.Entry.{Entry}
 use Rattle.p2p_log.specs.Lines.{name_of, live_from, line}
 use Rattle.p2p_log_rules.specs.Facts.{history_from, state_from}
-use Rattle.p2p_log_rules.specs.Handshakes.{handshakes_of, is_shaking}
+use Rattle.p2p_log_rules.specs.Handshakes.{handshakes_of, is_handshaking}
 use Rattle.p2p_log_rules.specs.Tracking.{key_cmp, rules_of, no_rules, rules_at, calls_from, calls_of, update_subscriptions, blocked_subscriptions}
 use Rattle.p2p_log_rules.specs.TrackerRows.{was_answered}
 use Rattle.p2p_net_queues.specs.Board.{held}
 use Rattle.p2p_net_queues.specs.Tables as table
 use Rattle.p2p_net_tracker.specs.declared.tracker.Tracker.{Tracker}
 use Rattle.p2p_net_tracker.specs.Begins.{IsNew}
-use Rattle.p2p_net_tracker.specs.Stands.{Match, IsTicket, IsMessage, IsAnswer, HeardStands, HandshakeStands, IsHeldByPeer, ReleasesHeld, TrackerStands}
+use Rattle.p2p_net_tracker.specs.Stands.{Match, IsTicket, IsMessage, IsAnswer, HeardStands, HandshakeStands, AreDistinct, IsHeldByPeer, ReleasesHeld, TrackerStands}
 use Rattle.p2p_net_tracker.proofs.Serving.{MayRelease, item-may_take}
 
 no_calls : (configs : List Config) (n : ℕ) → calls_of configs [] n ≡ []
@@ -61,6 +61,10 @@ no_sets n = refl
 no_handshakes : (n : ℕ) → handshakes_of [] n ≡ []
 unfolding handshakes_of state_from
 no_handshakes n = refl
+
+none_distinct : AreDistinct []
+unfolding IsDistinct
+none_distinct = tt
 
 none_answered : (d : ℕ) → was_answered [] d ≡ false
 unfolding was_answered
@@ -98,9 +102,9 @@ tracker_new configs n c t is h =
           (subst (Match (λ (x : Envelope) a. IsAnswer x.item a) []) (sym (ap (λ (m : Mailbox Key). m.dialer) h.mailbox)) tt);
       heard = subst (λ o. HeardStands o (line [] (queue.Update n))) (sym (ap (λ (m : Mailbox Key). m.heard) h.mailbox)) (no_line (queue.Update n));
       handshakes = λ k.
-          subst (λ (m : Mailbox Key). HandshakeStands (line_of m.handshakes k) (is_shaking [] n k) (line [] (queue.Handshake n k))) (sym h.mailbox)
+          subst (λ (m : Mailbox Key). HandshakeStands (line_of m.handshakes k) (is_handshaking [] n k) (line [] (queue.Handshake n k))) (sym h.mailbox)
           (ap (list_any (λ j. k == j)) (no_handshakes n), no_line (queue.Handshake n k));
-      none_later = λ k past. ap (list_any (λ j. k == j)) (no_handshakes n);
+      distinct = subst AreDistinct (sym (ap (λ (m : Mailbox Key). m.handshakes) h.mailbox)) none_distinct;
       told = λ q own. h.told q ∙ sym (no_line q);
     }
 

@@ -34,7 +34,7 @@ use Rattle.p2p_net_queues.specs.Tables as table
 use Rattle.p2p_net_tracker.specs.declared.question.Question.{Question}
 use Rattle.p2p_net_tracker.specs.declared.question.Question.TheVariants as question
 use Rattle.p2p_net_tracker.specs.Stands.{asks_of, asks_at, AreFresh, is_told, Match, IsTicket, kind_of, HasTicket, Says, IsMessage, IsAnswer, HeardStands, TrackerStands, LeavesTracker}
-use Rattle.p2p_net_tracker.proofs.Facts.{asks_at-kept, fresh-longer, was_answered-kept, calls-kept, update_subscriptions-kept, blocked_subscriptions-kept, asked_by-longer, shaking-kept, NoneLater-kept, source_at-longer}
+use Rattle.p2p_net_tracker.proofs.Facts.{asks_at-kept, fresh-longer, was_answered-kept, calls-kept, update_subscriptions-kept, blocked_subscriptions-kept, asked_by-longer, handshaking-kept, source_at-longer}
 use Rattle.p2p_net_tracker.proofs.Matching.{Match-weaker, Match-last, slice_get-last}
 
 -- the tickets are these, and some more
@@ -56,13 +56,18 @@ Says-more : (old new : Tickets) → AreMore old new → (e : ℕ) (a : Act) (m :
 Says-more old new more e (act.Ask what n) m h = (h.0, h.1, ticket-more old new more (kind_of what) h.0 e h.2)
 Says-more old new more e _ m h = absurd h
 
-pub IsMessage-longer : (old new : Tickets) → AreMore old new → (log more : List Entry) (i : Item) (m : Message Key) → IsMessage old log i m → IsMessage new (log ++ more) i m
+IsMessage-longer : (old new : Tickets) → AreMore old new → (log more : List Entry) (i : Item) (m : Message Key) → IsMessage old log i m → IsMessage new (log ++ more) i m
 IsMessage-longer old new given log more (item.Call e) m h = (h.0, asked_by-longer log more e h.0 h.1, Says-more old new given e h.0 m h.2)
 IsMessage-longer old new given log more item.AskDialable m h = h
 IsMessage-longer old new given log more (item.AskDial key) m h = h
 IsMessage-longer old new given log more (item.AskAcceptable name key) m h = (h.0, source_at-longer log more name h.0 h.1, h.2)
 IsMessage-longer old new given log more (item.Release key) m h = h
 IsMessage-longer old new given log more _ m h = absurd h
+
+-- what waits stays what it was
+pub messages-longer : (old new : Tickets) → AreMore old new → (log more : List Entry) (xs : List Envelope) (ms : List (Message Key)) → Match (λ x m. IsMessage old log x.item m) xs ms → Match (λ x m. IsMessage new (log ++ more) x.item m) xs ms
+messages-longer old new given log more =
+    Match-weaker (λ (x : Envelope) m. IsMessage old log x.item m) (λ (x : Envelope) m. IsMessage new (log ++ more) x.item m) (λ x m h. IsMessage-longer old new given log more x.item m h)
 
 -- an entry that leaves it alone
 pub tracker_frame : (configs : List Config) (log : List Entry) (e : Entry) (n : ℕ) (t : Tracker) → TrackerStands configs log n t → LeavesTracker log e n → TrackerStands configs (log ++ e ∷ []) n t
@@ -77,8 +82,7 @@ tracker_frame configs log e n t s q = record {
   size = s.size;
   names = s.names ∙ ap (map name_of) (sym q.mailbox);
   messages = subst (λ l. Match (λ x m. IsMessage t.tickets (log ++ e ∷ []) x.item m) l t.mailbox.desk.messages.items) (sym q.mailbox)
-      (Match-weaker (λ (x : Envelope) m. IsMessage t.tickets log x.item m) (λ (x : Envelope) m. IsMessage t.tickets (log ++ e ∷ []) x.item m)
-      (λ (x : Envelope) m h. IsMessage-longer t.tickets t.tickets (same_tickets t.tickets) log (e ∷ []) x.item m h) (line log (queue.Tracker n)) t.mailbox.desk.messages.items s.messages);
+      (messages-longer t.tickets t.tickets (same_tickets t.tickets) log (e ∷ []) (line log (queue.Tracker n)) t.mailbox.desk.messages.items s.messages);
   questions = s.questions;
   updates = s.updates;
   sets = s.sets;
@@ -91,8 +95,8 @@ tracker_frame configs log e n t s q = record {
   fresh = fresh-longer log e t.answered s.fresh q.no_late_answer;
   dialer = subst (λ l. Match (λ x a. IsAnswer x.item a) l t.mailbox.dialer) (sym (q.told (queue.Dialer n) (eq-eqb n n refl))) s.dialer;
   heard = subst (HeardStands t.mailbox.heard) (sym (q.told (queue.Update n) (eq-eqb n n refl))) s.heard;
-  handshakes = shaking-kept log e n t.mailbox.handshakes q.handshakes (λ k. q.told (queue.Handshake n k) (eq-eqb n n refl)) s.handshakes;
-  none_later = NoneLater-kept log e n q.handshakes s.none_later;
+  handshakes = handshaking-kept log e n t.mailbox.handshakes q.handshakes (λ k. q.told (queue.Handshake n k) (eq-eqb n n refl)) s.handshakes;
+  distinct = s.distinct;
   told = λ p own. s.told p own ∙ sym (q.told p own);
 }
 
@@ -160,8 +164,7 @@ tracker_asked configs log e n t desk tickets questions_now m s q more put says q
       messages = subst (λ l. Match (λ y k. IsMessage tickets (log ++ e ∷ []) y.item k) l desk.messages.items) (sym longer)
           (subst (λ l. Match (λ y k. IsMessage tickets (log ++ e ∷ []) y.item k) (line log (queue.Tracker n) ++ x ∷ []) l) (sym items)
           (Match-last (λ (y : Envelope) k. IsMessage tickets (log ++ e ∷ []) y.item k) (line log (queue.Tracker n)) t.mailbox.desk.messages.items x m
-          (Match-weaker (λ (y : Envelope) k. IsMessage t.tickets log y.item k) (λ (y : Envelope) k. IsMessage tickets (log ++ e ∷ []) y.item k)
-          (λ (y : Envelope) k h. IsMessage-longer t.tickets tickets more log (e ∷ []) y.item k h) (line log (queue.Tracker n)) t.mailbox.desk.messages.items s.messages)
+          (messages-longer t.tickets tickets more log (e ∷ []) (line log (queue.Tracker n)) t.mailbox.desk.messages.items s.messages)
           (e.event.act, asked-now log e, says)));
       questions = questions;
       updates = updates;
@@ -175,8 +178,8 @@ tracker_asked configs log e n t desk tickets questions_now m s q more put says q
       fresh = fresh-longer log e t.answered s.fresh (λ d past. q.no_answer d);
       dialer = subst (λ l. Match (λ y a. IsAnswer y.item a) l t.mailbox.dialer) (sym (same (queue.Dialer n) (eq-eqb n n refl))) s.dialer;
       heard = subst (HeardStands t.mailbox.heard) (sym (same (queue.Update n) (eq-eqb n n refl))) s.heard;
-      handshakes = shaking-kept log e n t.mailbox.handshakes q.no_admission (λ k. same (queue.Handshake n k) (eq-eqb n n refl)) s.handshakes;
-      none_later = NoneLater-kept log e n q.no_admission s.none_later;
+      handshakes = handshaking-kept log e n t.mailbox.handshakes q.no_admission (λ k. same (queue.Handshake n k) (eq-eqb n n refl)) s.handshakes;
+      distinct = s.distinct;
       told = λ p own. s.told p own ∙ sym (same p own);
     }
 
@@ -208,8 +211,7 @@ tracker_read configs log e n t u q x rest answered s no_step no_question no_admi
       size = s.size;
       names = s.names ∙ ap (map name_of) (sym mailbox);
       messages = subst (λ l. Match (λ y m. IsMessage t.tickets (log ++ e ∷ []) y.item m) l t.mailbox.desk.messages.items) (sym mailbox)
-          (Match-weaker (λ (y : Envelope) m. IsMessage t.tickets log y.item m) (λ (y : Envelope) m. IsMessage t.tickets (log ++ e ∷ []) y.item m)
-          (λ (y : Envelope) m h. IsMessage-longer t.tickets t.tickets (same_tickets t.tickets) log (e ∷ []) y.item m h) (line log (queue.Tracker n)) t.mailbox.desk.messages.items s.messages);
+          (messages-longer t.tickets t.tickets (same_tickets t.tickets) log (e ∷ []) (line log (queue.Tracker n)) t.mailbox.desk.messages.items s.messages);
       questions = s.questions;
       updates = s.updates;
       sets = s.sets;
@@ -220,8 +222,8 @@ tracker_read configs log e n t u q x rest answered s no_step no_question no_admi
       fresh = fresh;
       dialer = subst (λ l. Match (λ y a. IsAnswer y.item a) l t.mailbox.dialer) (sym (other (queue.Dialer n) asker.no_dialer)) s.dialer;
       heard = subst (HeardStands t.mailbox.heard) (sym (other (queue.Update n) asker.no_listener)) s.heard;
-      handshakes = shaking-kept log e n t.mailbox.handshakes no_admission (λ k. other (queue.Handshake n k) (asker.no_handshake k)) s.handshakes;
-      none_later = NoneLater-kept log e n no_admission s.none_later;
+      handshakes = handshaking-kept log e n t.mailbox.handshakes no_admission (λ k. other (queue.Handshake n k) (asker.no_handshake k)) s.handshakes;
+      distinct = s.distinct;
       told = λ p here. pops p ∙ (left p here (same_queue q p) refl ∙ sym (after p));
     })
   where

@@ -1,9 +1,7 @@
 -- A node's dialer takes an answer, or none, and asks something, or nothing: the tracker stands for the log with that entry.
 use Rattle.std.proofs.Common.{◌≡◌, ℕ, Bool, true, false, cond, List, [], ◌∷◌, ◌++◌, map, drop, length, refl, ap, sym, subst, ◌∙◌, append-nil, eq-eqb, None}
 use Rattle.std.specs.Prelude.{filter, ◌&&◌, if◌then◌else◌}
-use Rattle.std.proofs.lemmas.List.{map-append}
 use Rattle.p2p_base.specs.declared.key.Key.{Key}
-use Rattle.p2p_tracker.specs.Following.{Follows}
 use Rattle.p2p_tracker_mailbox.specs.declared.message.Message.{Message}
 use Rattle.p2p_log.specs.declared.config.Config.{Config}
 use Rattle.p2p_log.specs.declared.queue.Queue.{Queue}
@@ -16,15 +14,16 @@ use Rattle.p2p_log.proofs.Names.{AreApart-live_from, filter_stays-first}
 use Rattle.p2p_log.proofs.QueueNames.{queue_from_same}
 use Rattle.p2p_log.proofs.Queues.{same_queue-refl}
 use Rattle.p2p_log_rules.specs.Handshakes.{handshakes_by, handshakes_of}
-use Rattle.p2p_log_rules.specs.Tracking.{key_cmp, steps_tracker}
+use Rattle.p2p_log_rules.specs.Tracking.{steps_tracker}
 use Rattle.p2p_log_rules.specs.TrackerRows.{answers}
 use Rattle.p2p_net_queues.specs.Board.{held}
 use Rattle.p2p_net_queues.proofs.Going.{put_in, line-append}
 use Rattle.p2p_net_tracker.specs.declared.tracker.Tracker.{Tracker}
-use Rattle.p2p_net_tracker.specs.Stands.{asks_of, is_told, Match, IsTicket, IsMessage, IsAnswer, HeardStands, TrackerStands}
-use Rattle.p2p_net_tracker.proofs.Changes.{same_tickets, IsMessage-longer}
-use Rattle.p2p_net_tracker.proofs.Facts.{asks_at-kept, fresh-longer, was_answered-kept, calls-kept, update_subscriptions-kept, blocked_subscriptions-kept, shaking-kept, NoneLater-kept}
-use Rattle.p2p_net_tracker.proofs.Matching.{Match-append, Match-drop, Match-weaker}
+use Rattle.p2p_net_tracker.specs.Stands.{asks_of, is_told, Match, IsMessage, IsAnswer, HeardStands, TrackerStands}
+use Rattle.p2p_net_tracker.proofs.Changes.{same_tickets, messages-longer}
+use Rattle.p2p_net_tracker.proofs.Facts.{handshaking-kept}
+use Rattle.p2p_net_tracker.proofs.Matching.{Match-drop}
+use Rattle.p2p_net_tracker.proofs.Moved.{tracker_moved, by_place}
 use Rattle.p2p_net_tracker.proofs.ToldLines.{away_none}
 
 -- the queue is the dialer's line, of which the first item is taken
@@ -91,43 +90,30 @@ module _ (log : List Entry) (e : Entry) (n : ℕ) (took : Bool) (xs : List Envel
 pub tracker_dialed : (configs : List Config) (log : List Entry) (e : Entry) (n : ℕ) (t u : Tracker) (took : Bool) (xs : List Envelope) (ms : List (Message Key)) → TrackerStands configs log n t → DialerMoves log e n t u took xs ms
     → TrackerStands configs (log ++ e ∷ []) n u
 tracker_dialed configs log e n t u took xs ms s q =
-    subst (TrackerStands configs (log ++ e ∷ []) n) (sym q.rest) (record {
-      follows = subst (Follows key_cmp t.actor.directory t.actor.controls) (sym (calls-kept configs log e n q.no_step)) s.follows;
-      rules = s.rules;
-      cooldown = s.cooldown;
-      works = s.works;
-      local = s.local;
-      most = s.most;
-      is_open = q.closed ∙ s.is_open;
-      size = q.capacity ∙ s.size;
-      names = ap (λ l. l ++ map name_of xs) s.names ∙ (sym (map-append name_of (line log (queue.Tracker n)) xs) ∙ ap (map name_of) (sym q.waits));
-      messages = subst (λ l. Match (λ x m. IsMessage t.tickets (log ++ e ∷ []) x.item m) l u.mailbox.desk.messages.items) (sym q.waits)
-          (subst (Match (λ (x : Envelope) m. IsMessage t.tickets (log ++ e ∷ []) x.item m) (line log (queue.Tracker n) ++ xs)) (sym q.items)
-          (Match-weaker (λ (x : Envelope) m. IsMessage t.tickets log x.item m) (λ (x : Envelope) m. IsMessage t.tickets (log ++ e ∷ []) x.item m)
-          (λ (x : Envelope) m h. IsMessage-longer t.tickets t.tickets (same_tickets t.tickets) log (e ∷ []) x.item m h) (line log (queue.Tracker n) ++ xs) (t.mailbox.desk.messages.items ++ ms)
-          (Match-append (λ (x : Envelope) m. IsMessage t.tickets log x.item m) (line log (queue.Tracker n)) xs t.mailbox.desk.messages.items ms s.messages q.each)));
-      questions = q.questions ∙ s.questions;
-      updates = q.updates ∙ s.updates;
-      sets = q.sets ∙ s.sets;
-      subscribed = subst (Match (IsTicket t.tickets.updates) t.actor.updates) (sym (update_subscriptions-kept log e n q.no_step)) s.subscribed;
-      subscribed_blocked = subst (Match (IsTicket t.tickets.blocked) t.actor.sets) (sym (blocked_subscriptions-kept log e n q.no_step)) s.subscribed_blocked;
-      asked = λ d. s.asked d ∙ sym (asks_at-kept log e n d q.no_question);
-      answered = λ d is. s.answered d (sym (asks_at-kept log e n d q.no_question) ∙ is) ∙ sym (was_answered-kept log e d (q.no_answer d));
-      fresh = fresh-longer log e t.answered s.fresh (λ d past. q.no_answer d);
+    let now : Tracker = record t { mailbox = record t.mailbox { desk = u.mailbox.desk; dialer = u.mailbox.dialer }; names = t.names ++ map name_of xs; told = u.told } in
+    subst (TrackerStands configs (log ++ e ∷ []) n) (sym q.rest) (tracker_moved configs log e n t now xs ms s (record {
+      no_step = q.no_step;
+      no_question = q.no_question;
+      no_answer = q.no_answer;
+      rest = refl;
+      items = q.items;
+      closed = q.closed;
+      capacity = q.capacity;
+      questions = q.questions;
+      updates = q.updates;
+      sets = q.sets;
+      each = messages-longer t.tickets t.tickets (same_tickets t.tickets) log (e ∷ []) xs ms q.each;
+      waits = q.waits;
       dialer = subst (λ l. Match (λ x a. IsAnswer x.item a) l u.mailbox.dialer) (sym (q.lines (queue.Dialer n) (eq-eqb n n refl)))
           (subst (Match (λ (x : Envelope) a. IsAnswer x.item a) (cond (is_taken_of took n (queue.Dialer n)) (drop 1 (line log (queue.Dialer n))) (line log (queue.Dialer n)))) (sym q.answered)
           (subst (λ b. Match (λ (x : Envelope) a. IsAnswer x.item a) (cond b (drop 1 (line log (queue.Dialer n))) (line log (queue.Dialer n))) (cond took (drop 1 t.mailbox.dialer) t.mailbox.dialer))
           (sym (and_true took (same_queue (queue.Dialer n) (queue.Dialer n)) (same_queue-refl (queue.Dialer n)))) (by_taken took)));
       heard = subst (HeardStands t.mailbox.heard) (sym (other (queue.Update n) (eq-eqb n n refl) refl)) s.heard;
-      handshakes = shaking-kept log e n t.mailbox.handshakes q.no_admission (λ k. other (queue.Handshake n k) (eq-eqb n n refl) refl) s.handshakes;
-      none_later = NoneLater-kept log e n q.no_admission s.none_later;
-      told = λ p own. q.told p ∙ (by_place (is_taken_of took n p) (held t.told p) (line log p) (s.told p own) ∙ sym (q.lines p own));
-    })
+      handshakes = handshaking-kept log e n t.mailbox.handshakes q.no_admission (λ k. other (queue.Handshake n k) (eq-eqb n n refl) refl) s.handshakes;
+      distinct = s.distinct;
+      told = λ p own. q.told p ∙ (by_place (drop 1) (is_taken_of took n p) (held t.told p) (line log p) (s.told p own) ∙ sym (q.lines p own));
+    }))
   where
-    by_place : (b : Bool) (h l : List Envelope) → h ≡ l → (if b then drop 1 h else h) ≡ cond b (drop 1 l) l
-    by_place true h l is = ap (drop 1) is
-    by_place false h l is = is
-
     other : (p : Queue) → is_told n p ≡ true → same_queue (queue.Dialer n) p ≡ false → line (log ++ e ∷ []) p ≡ line log p
     other p own apart = q.lines p own ∙ ap (λ b. cond b (drop 1 (line log p)) (line log p)) (ap (λ b. took && b) apart ∙ and_false took)
 

@@ -12,7 +12,7 @@ use Rattle.p2p_log.specs.declared.event.Act.{Act}
 use Rattle.p2p_log.specs.declared.queue.Queue.TheVariants as queue
 use Rattle.p2p_log.specs.Lines.{line}
 use Rattle.p2p_log_rules.specs.Facts.{taken}
-use Rattle.p2p_log_rules.specs.Handshakes.{handshakes_by, handshakes_of, is_shaking, source_in, source_at}
+use Rattle.p2p_log_rules.specs.Handshakes.{handshakes_by, handshakes_of, is_handshaking, source_in, source_at}
 use Rattle.p2p_log_rules.specs.Tracking.{asked_by, steps_tracker, rules_at, step_calls, grants_dial, call_where, calls_by, calls_from, calls_of, calls_taken, subscribes, subscribes_blocked, update_subscriptions, blocked_subscriptions}
 use Rattle.p2p_log_rules.proofs.Facts.{history_from-append}
 use Rattle.p2p_log_rules.specs.TrackerRows.{answers, was_answered}
@@ -23,7 +23,7 @@ use Rattle.std.proofs.lemmas.Bool.Decides.{nat_tests}
 use Rattle.std.proofs.lemmas.List.Folds.{list_any-append}
 use Rattle.p2p_tracker_mailbox.specs.Lines.{Lines, line_of}
 use Rattle.p2p_tracker_mailbox.specs.declared.answer.HandshakeItem.{HandshakeItem}
-use Rattle.p2p_net_tracker.specs.Stands.{asks_of, asks_at, AreFresh, HandshakeStands, NoneLater}
+use Rattle.p2p_net_tracker.specs.Stands.{asks_of, asks_at, AreFresh, HandshakeStands}
 use Rattle.p2p_net_tracker.proofs.Matching.{slice_get-longer}
 
 calls_from-append : (configs : List Config) (n : ℕ) (before es : List Entry) (e : Entry) (calls : List (Call Key))
@@ -135,19 +135,13 @@ was_answered-kept log e d h = was_answered-append log e d ∙ by (was_answered l
 -- ---- handshakes
 
 -- what waits for handshakes is their lines after an entry that begins and ends none, and leaves their lines
-pub shaking-kept : (log : List Entry) (e : Entry) (n : ℕ) (lines : Lines (HandshakeItem Key)) → handshakes_by n log e (handshakes_of log n) ≡ handshakes_of log n
+pub handshaking-kept : (log : List Entry) (e : Entry) (n : ℕ) (lines : Lines (HandshakeItem Key)) → handshakes_by n log e (handshakes_of log n) ≡ handshakes_of log n
     → ((k : ℕ) → line (log ++ e ∷ []) (queue.Handshake n k) ≡ line log (queue.Handshake n k))
-    → ((k : ℕ) → HandshakeStands (line_of lines k) (is_shaking log n k) (line log (queue.Handshake n k)))
-    → (k : ℕ) → HandshakeStands (line_of lines k) (is_shaking (log ++ e ∷ []) n k) (line (log ++ e ∷ []) (queue.Handshake n k))
-shaking-kept log e n lines h same stands k =
+    → ((k : ℕ) → HandshakeStands (line_of lines k) (is_handshaking log n k) (line log (queue.Handshake n k)))
+    → (k : ℕ) → HandshakeStands (line_of lines k) (is_handshaking (log ++ e ∷ []) n k) (line (log ++ e ∷ []) (queue.Handshake n k))
+handshaking-kept log e n lines h same stands k =
     subst (λ l. HandshakeStands (line_of lines k) (list_any (λ j. k == j) l) (line (log ++ e ∷ []) (queue.Handshake n k))) (sym (handshakes_of-kept log e n h))
-    (subst (HandshakeStands (line_of lines k) (is_shaking log n k)) (sym (same k)) (stands k))
-
--- and no handshake has the name of a later entry
-pub NoneLater-kept : (log : List Entry) (e : Entry) (n : ℕ) → handshakes_by n log e (handshakes_of log n) ≡ handshakes_of log n → NoneLater log n → NoneLater (log ++ e ∷ []) n
-NoneLater-kept log e n h none k past =
-    let long = length-append log (e ∷ []) in
-    ap (list_any (λ j. k == j)) (handshakes_of-kept log e n h) ∙ none k (omega (arith, long, past))
+    (subst (HandshakeStands (line_of lines k) (is_handshaking log n k)) (sym (same k)) (stands k))
 
 -- from where a peer came stays so
 take-longer : {X : Type 0} (xs ys : List X) (i : ℕ) (x : X) → slice_get xs i ≡ Some x → take i (xs ++ ys) ≡ take i xs

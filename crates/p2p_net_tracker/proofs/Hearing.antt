@@ -3,6 +3,7 @@ use Rattle.std.proofs.Common.{◌≡◌, ℕ, ◌+◌, Bool, true, false, cond, 
 use Rattle.std.specs.Prelude.{filter, count_by, slice_set, is_some, ◌==◌, ◌&&◌}
 use Rattle.std.specs.BTreeMap.{is_at}
 use Rattle.std.specs.List.{AllByRecursion as Each}
+use Rattle.std.specs.Map.{keys_of}
 use Rattle.std.specs.Option.{option_map}
 use Rattle.std.specs.Ordering.{nat_cmp}
 use Rattle.std.proofs.lemmas.Bool.Decides.{nat_tests}
@@ -52,7 +53,8 @@ use Rattle.p2p_log_rules.specs.TrackerRows.{rings_of}
 use Rattle.p2p_net_tracker.specs.declared.naming.Tickets.{Tickets}
 use Rattle.p2p_net_tracker.specs.Asking.{message_of}
 use Rattle.p2p_net_tracker.specs.Naming.{named_puts, event_at}
-use Rattle.p2p_net_tracker.specs.Stands.{Says, IsMessage, HeardStands, IsShaken, HandshakeStands}
+use Rattle.p2p_net_tracker.specs.Stands.{Says, IsMessage, HeardStands, IsToldHandshake, HandshakeStands}
+use Rattle.p2p_net_tracker.proofs.Distinct.{keys-with_line}
 use Rattle.p2p_net_tracker.proofs.Matching.{Match-last}
 use Rattle.p2p_net_tracker.proofs.Rings.{is_same, count-first}
 
@@ -213,10 +215,10 @@ runs_is None b l h = sym h.0
 runs_is (Some items) b l h = sym h.0
 
 -- one item more is told to a handshake that runs
-one_told : (o : Option (List (HandshakeItem Key))) (b : Bool) (l : List Envelope) (x : Envelope) (i : HandshakeItem Key) → is_some o ≡ true → IsShaken x.item i → HandshakeStands o b l
+one_told : (o : Option (List (HandshakeItem Key))) (b : Bool) (l : List Envelope) (x : Envelope) (i : HandshakeItem Key) → is_some o ≡ true → IsToldHandshake x.item i → HandshakeStands o b l
     → HandshakeStands (option_map (λ line. line ++ i ∷ []) o) b (l ++ x ∷ [])
 one_told None b l x i runs is h = cc
-one_told (Some items) b l x i runs is h = (h.0, Match-last (λ (y : Envelope) j. IsShaken y.item j) l items x i h.1 is)
+one_told (Some items) b l x i runs is h = (h.0, Match-last (λ (y : Envelope) j. IsToldHandshake y.item j) l items x i h.1 is)
 
 module _ (n : ℕ) (t : Tickets) (j : ℕ) where
   -- what the entry j puts in a queue, from this place on
@@ -242,19 +244,19 @@ module _ (n : ℕ) (t : Tickets) (j : ℕ) where
   aside_added p (put.Listen handshake grant ∷ ps) h = absurd h.0
   aside_added p (_ ∷ ps) h = aside_added (p + 1) ps h.1
 
-  aside_shaken : (k p : ℕ) (ps : List (Put Key)) → Each IsAside ps → added (queue.Handshake n k) p ps ≡ []
-  aside_shaken k p [] h = refl
-  aside_shaken k p (put.Listenable addresses dropped ∷ ps) h = absurd h.0
-  aside_shaken k p (put.Acceptable handshake acceptable ∷ ps) h = absurd h.0
-  aside_shaken k p (put.Listen handshake grant ∷ ps) h = absurd h.0
-  aside_shaken k p (_ ∷ ps) h = aside_shaken k (p + 1) ps h.1
+  aside_to_handshake : (k p : ℕ) (ps : List (Put Key)) → Each IsAside ps → added (queue.Handshake n k) p ps ≡ []
+  aside_to_handshake k p [] h = refl
+  aside_to_handshake k p (put.Listenable addresses dropped ∷ ps) h = absurd h.0
+  aside_to_handshake k p (put.Acceptable handshake acceptable ∷ ps) h = absurd h.0
+  aside_to_handshake k p (put.Listen handshake grant ∷ ps) h = absurd h.0
+  aside_to_handshake k p (_ ∷ ps) h = aside_to_handshake k (p + 1) ps h.1
 
-  once_shaken : (k p : ℕ) (ps : List (Put Key)) → HearsOnce ps → added (queue.Handshake n k) p ps ≡ []
-  once_shaken k p [] h = refl
-  once_shaken k p (put.Listenable addresses dropped ∷ ps) h = aside_shaken k (p + 1) ps h
-  once_shaken k p (put.Acceptable handshake acceptable ∷ ps) h = absurd h
-  once_shaken k p (put.Listen handshake grant ∷ ps) h = absurd h
-  once_shaken k p (_ ∷ ps) h = once_shaken k (p + 1) ps h
+  once_to_handshake : (k p : ℕ) (ps : List (Put Key)) → HearsOnce ps → added (queue.Handshake n k) p ps ≡ []
+  once_to_handshake k p [] h = refl
+  once_to_handshake k p (put.Listenable addresses dropped ∷ ps) h = aside_to_handshake k (p + 1) ps h
+  once_to_handshake k p (put.Acceptable handshake acceptable ∷ ps) h = absurd h
+  once_to_handshake k p (put.Listen handshake grant ∷ ps) h = absurd h
+  once_to_handshake k p (_ ∷ ps) h = once_to_handshake k (p + 1) ps h
 
   once_heard : (p : ℕ) (ps : List (Put Key)) (m : Mailbox Key) (l : List Envelope) → HearsOnce ps → HeardStands m.heard l
       → HeardStands (after_puts ps m).heard (drop (overwrites ps) l ++ added (queue.Update n) p ps)
@@ -302,18 +304,18 @@ module _ (n : ℕ) (t : Tickets) (j : ℕ) where
 
   -- what handshakes are told
   module _ (m : Mailbox Key) (runs : ℕ → Bool) (l : ℕ → List Envelope) (s : (k : ℕ) → HandshakeStands (line_of m.handshakes k) (runs k) (l k)) where
-    abbrev Shaken : ℕ → List (Put Key) → Type 0
-    Shaken k ds = HandshakeStands (line_of (after_puts ds m).handshakes k) (runs k) (l k ++ added (queue.Handshake n k) 0 ds)
+    abbrev HandshakeTold : ℕ → List (Put Key) → Type 0
+    HandshakeTold k ds = HandshakeStands (line_of (after_puts ds m).handshakes k) (runs k) (l k ++ added (queue.Handshake n k) 0 ds)
 
-    none_shaken : (k : ℕ) → Shaken k []
-    none_shaken k = subst (HandshakeStands (line_of m.handshakes k) (runs k)) (sym (append-nil (l k))) (s k)
+    none_to_handshake : (k : ℕ) → HandshakeTold k []
+    none_to_handshake k = subst (HandshakeStands (line_of m.handshakes k) (runs k)) (sym (append-nil (l k))) (s k)
 
-    once_stands : (k : ℕ) (ps : List (Put Key)) → HearsOnce ps → Shaken k ps
+    once_stands : (k : ℕ) (ps : List (Put Key)) → HearsOnce ps → HandshakeTold k ps
     once_stands k ps once =
         subst (λ d. HandshakeStands (line_of d k) (runs k) (l k ++ added (queue.Handshake n k) 0 ps)) (sym (once_handshakes ps m once))
-        (subst (λ d. HandshakeStands (line_of m.handshakes k) (runs k) (l k ++ d)) (sym (once_shaken k 0 ps once)) (none_shaken k))
+        (subst (λ d. HandshakeStands (line_of m.handshakes k) (runs k) (l k ++ d)) (sym (once_to_handshake k 0 ps once)) (none_to_handshake k))
 
-    told_one : (h k : ℕ) (b : Bool) → runs_in m h ≡ true → Shaken k (put.Acceptable h b ∷ [])
+    told_one : (h k : ℕ) (b : Bool) → runs_in m h ≡ true → HandshakeTold k (put.Acceptable h b ∷ [])
     told_one h k b there =
         let x : Envelope = record { entry = j; place = 0; queue = queue.Handshake n h; item = item.Acceptable b } in
         let line_is = line_of-with_line m.handshakes h k (λ line. line ++ shake.Acceptable b ∷ []) in
@@ -330,15 +332,25 @@ module _ (n : ℕ) (t : Tickets) (j : ℕ) where
         by : (x : Envelope) (c : Bool) → is_at (nat_cmp h) k ≡ c → x.item ≡ item.Acceptable b
             → HandshakeStands (cond c (option_map (λ line. line ++ shake.Acceptable b ∷ []) (line_of m.handshakes k)) (line_of m.handshakes k)) (runs k) (l k ++ cond c (x ∷ []) [])
         by x true is said =
-            one_told (line_of m.handshakes k) (runs k) (l k) x (shake.Acceptable b) (ap (runs_in m) (named h k is) ∙ there) (subst (λ i. IsShaken i (shake.Acceptable b)) (sym said) refl) (s k)
-        by x false is said = none_shaken k
+            one_told (line_of m.handshakes k) (runs k) (l k) x (shake.Acceptable b) (ap (runs_in m) (named h k is) ∙ there) (subst (λ i. IsToldHandshake i (shake.Acceptable b)) (sym said) refl) (s k)
+        by x false is said = none_to_handshake k
 
-    pub shaken-after : (ps : List (Put Key)) → TellsFew (runs_in m) ps → (k : ℕ) → Shaken k ps
-    shaken-after ps few k = elim few [ inl once ↦ once_stands k ps once | inr one ↦ told one.0 one.1 one.2 ]
+    pub handshakes-after : (ps : List (Put Key)) → TellsFew (runs_in m) ps → (k : ℕ) → HandshakeTold k ps
+    handshakes-after ps few k = elim few [ inl once ↦ once_stands k ps once | inr one ↦ told one.0 one.1 one.2 ]
       where
-        by_run : (h : ℕ) (b c : Bool) → runs_in m h ≡ c → Shaken k (cond c (put.Acceptable h b ∷ []) [])
+        by_run : (h : ℕ) (b c : Bool) → runs_in m h ≡ c → HandshakeTold k (cond c (put.Acceptable h b ∷ []) [])
         by_run h b true is = told_one h k b is
-        by_run h b false is = none_shaken k
+        by_run h b false is = none_to_handshake k
 
-        told : (h : ℕ) (b : Bool) → ps ≡ cond (runs_in m h) (put.Acceptable h b ∷ []) [] → Shaken k ps
-        told h b is = subst (Shaken k) (sym is) (by_run h b (runs_in m h) refl)
+        told : (h : ℕ) (b : Bool) → ps ≡ cond (runs_in m h) (put.Acceptable h b ∷ []) [] → HandshakeTold k ps
+        told h b is = subst (HandshakeTold k) (sym is) (by_run h b (runs_in m h) refl)
+
+-- what is put for handshakes begins and ends none
+pub keys-after : (ps : List (Put Key)) (m : Mailbox Key) → keys_of (after_puts ps m).handshakes ≡ keys_of m.handshakes
+keys-after [] m = refl
+keys-after (p ∷ ps) m = keys-after ps (after_put p m) ∙ one p
+  where
+    one : (p : Put Key) → keys_of (after_put p m).handshakes ≡ keys_of m.handshakes
+    one (put.Acceptable h b) = keys-with_line m.handshakes h (λ line. line ++ shake.Acceptable b ∷ [])
+    one (put.Listen h grant) = keys-with_line m.handshakes h (λ line. line ++ shake.Listen grant ∷ [])
+    one _ = refl

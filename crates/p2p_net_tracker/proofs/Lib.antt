@@ -4,10 +4,13 @@ pub mod Changes
 pub mod Desk
 pub mod DialerSteps
 pub mod Dialing
+pub mod Distinct
 pub mod Facts
+pub mod HandshakeSteps
 pub mod Hearing
 pub mod ListenerSteps
 pub mod Matching
+pub mod Moved
 pub mod Named
 pub mod Questions
 pub mod Rings

@@ -1,18 +1,15 @@
 -- A node's listener takes what it was told, or asks for a handshake whether its peer may connect: the tracker stands for the log with that entry.
-use Rattle.std.proofs.Common.{◌≡◌, ℕ, ◌+◌, ◌≤◌, Bool, true, false, cond, List, [], ◌∷◌, ◌++◌, map, drop, length, length-append, refl, ap, sym, subst, ◌∙◌, arith, eq-eqb, Option, Some, None}
+use Rattle.std.proofs.Common.{◌≡◌, ℕ, ◌≤◌, Bool, true, false, cond, List, [], ◌∷◌, ◌++◌, drop, length, refl, ap, sym, subst, ◌∙◌, arith, append-nil, eq-eqb, Option, Some, None}
 use Rattle.std.specs.Prelude.{◌==◌, ◌||◌, is_some, if◌then◌else◌}
 use Rattle.std.specs.BTreeMap.{is_at, insert_entry}
 use Rattle.std.specs.List.{list_any}
 use Rattle.std.specs.Ordering.{nat_cmp}
 use Rattle.std.proofs.lemmas.Bool.Decides.{nat_tests}
-use Rattle.std.proofs.lemmas.List.{map-append}
 use Rattle.std.proofs.lemmas.List.Folds.{list_any-append}
 use Rattle.p2p_address.specs.declared.ip.IpAddr.{IpAddr}
 use Rattle.p2p_base.specs.declared.key.Key.{Key}
-use Rattle.p2p_tracker.specs.Following.{Follows}
 use Rattle.p2p_tracker_mailbox.specs.Lines.{Lines, line_of, begun}
 use Rattle.p2p_tracker_mailbox.specs.declared.answer.HandshakeItem.{HandshakeItem}
-use Rattle.p2p_tracker_mailbox.specs.declared.message.Message.{Message}
 use Rattle.p2p_tracker_mailbox.specs.declared.message.Message.TheVariants as message
 use Rattle.p2p_log.specs.declared.config.Config.{Config}
 use Rattle.p2p_log.specs.declared.queue.Queue.{Queue}
@@ -21,20 +18,20 @@ use Rattle.p2p_log.specs.declared.item.Item.TheVariants as item
 use Rattle.p2p_log.specs.declared.item.Envelope.{Envelope}
 use Rattle.p2p_log.specs.declared.entry.Entry.{Entry}
 use Rattle.p2p_log.specs.QueueCode.{same_queue}
-use Rattle.p2p_log.specs.Lines.{name_of, line}
+use Rattle.p2p_log.specs.Lines.{line}
 use Rattle.p2p_log.proofs.Queues.{same_queue-refl}
-use Rattle.p2p_log_rules.specs.Handshakes.{handshakes_by, handshakes_of, is_shaking, source_at}
-use Rattle.p2p_log_rules.specs.Tracking.{key_cmp, steps_tracker}
+use Rattle.p2p_log_rules.specs.Handshakes.{handshakes_by, handshakes_of, is_handshaking, source_at}
+use Rattle.p2p_log_rules.specs.Tracking.{steps_tracker}
 use Rattle.p2p_log_rules.specs.TrackerRows.{answers}
-use Rattle.p2p_log_rules.proofs.Handshakes.{handshakes_of-append}
+use Rattle.p2p_log_rules.proofs.Handshakes.{handshakes_of-append, none_later}
 use Rattle.p2p_net_queues.specs.Board.{held}
 use Rattle.p2p_net_queues.proofs.Tables.{lookup-insert_entry}
 use Rattle.p2p_net_tracker.specs.declared.tracker.Tracker.{Tracker}
-use Rattle.p2p_net_tracker.specs.Stands.{asks_of, is_told, Match, IsTicket, IsMessage, IsAnswer, HeardStands, IsShaken, HandshakeStands, NoneLater, TrackerStands}
-use Rattle.p2p_net_tracker.proofs.Changes.{same_tickets, IsMessage-longer}
-use Rattle.p2p_net_tracker.proofs.Facts.{asks_at-kept, fresh-longer, was_answered-kept, calls-kept, update_subscriptions-kept, blocked_subscriptions-kept, shaking-kept, NoneLater-kept}
+use Rattle.p2p_net_tracker.specs.Stands.{asks_of, is_told, Match, IsAnswer, HeardStands, IsToldHandshake, HandshakeStands, TrackerStands}
+use Rattle.p2p_net_tracker.proofs.Distinct.{distinct-begun}
+use Rattle.p2p_net_tracker.proofs.Facts.{handshaking-kept}
 use Rattle.p2p_net_tracker.proofs.Hearing.{one_waits}
-use Rattle.p2p_net_tracker.proofs.Matching.{Match-last, Match-weaker}
+use Rattle.p2p_net_tracker.proofs.Moved.{tracker_moved, by_place}
 
 -- ---- it takes what it was told
 
@@ -51,39 +48,28 @@ pub record UpdateMoves (log : List Entry) (e : Entry) (n : ℕ) (t u : Tracker) 
 
 pub tracker_updated : (configs : List Config) (log : List Entry) (e : Entry) (n : ℕ) (t u : Tracker) → TrackerStands configs log n t → UpdateMoves log e n t u → TrackerStands configs (log ++ e ∷ []) n u
 tracker_updated configs log e n t u s q =
-    subst (TrackerStands configs (log ++ e ∷ []) n) (sym q.rest) (record {
-      follows = subst (Follows key_cmp t.actor.directory t.actor.controls) (sym (calls-kept configs log e n q.no_step)) s.follows;
-      rules = s.rules;
-      cooldown = s.cooldown;
-      works = s.works;
-      local = s.local;
-      most = s.most;
-      is_open = s.is_open;
-      size = s.size;
-      names = s.names ∙ ap (map name_of) (sym q.mailbox);
-      messages = subst (λ l. Match (λ x m. IsMessage t.tickets (log ++ e ∷ []) x.item m) l t.mailbox.desk.messages.items) (sym q.mailbox)
-          (Match-weaker (λ (x : Envelope) m. IsMessage t.tickets log x.item m) (λ (x : Envelope) m. IsMessage t.tickets (log ++ e ∷ []) x.item m)
-          (λ (x : Envelope) m h. IsMessage-longer t.tickets t.tickets (same_tickets t.tickets) log (e ∷ []) x.item m h) (line log (queue.Tracker n)) t.mailbox.desk.messages.items s.messages);
-      questions = s.questions;
-      updates = s.updates;
-      sets = s.sets;
-      subscribed = subst (Match (IsTicket t.tickets.updates) t.actor.updates) (sym (update_subscriptions-kept log e n q.no_step)) s.subscribed;
-      subscribed_blocked = subst (Match (IsTicket t.tickets.blocked) t.actor.sets) (sym (blocked_subscriptions-kept log e n q.no_step)) s.subscribed_blocked;
-      asked = λ d. s.asked d ∙ sym (asks_at-kept log e n d q.no_question);
-      answered = λ d is. s.answered d (sym (asks_at-kept log e n d q.no_question) ∙ is) ∙ sym (was_answered-kept log e d (q.no_answer d));
-      fresh = fresh-longer log e t.answered s.fresh (λ d past. q.no_answer d);
+    let now : Tracker = record t { mailbox = record t.mailbox { heard = None }; told = u.told } in
+    subst (TrackerStands configs (log ++ e ∷ []) n) (sym q.rest) (tracker_moved configs log e n t now [] [] s (record {
+      no_step = q.no_step;
+      no_question = q.no_question;
+      no_answer = q.no_answer;
+      rest = ap (λ l. record now { names = l }) (sym (append-nil t.names));
+      items = sym (append-nil t.mailbox.desk.messages.items);
+      closed = refl;
+      capacity = refl;
+      questions = refl;
+      updates = refl;
+      sets = refl;
+      each = tt;
+      waits = q.mailbox ∙ sym (append-nil (line log (queue.Tracker n)));
       dialer = subst (λ l. Match (λ x a. IsAnswer x.item a) l t.mailbox.dialer) (sym (q.lines (queue.Dialer n) (eq-eqb n n refl))) s.dialer;
       heard =
           q.lines (queue.Update n) (eq-eqb n n refl)
           ∙ (ap (λ b. cond b (drop 1 (line log (queue.Update n))) (line log (queue.Update n))) (same_queue-refl (queue.Update n)) ∙ one_waits t.mailbox.heard (line log (queue.Update n)) s.heard);
-      handshakes = shaking-kept log e n t.mailbox.handshakes q.no_admission (λ k. q.lines (queue.Handshake n k) (eq-eqb n n refl)) s.handshakes;
-      none_later = NoneLater-kept log e n q.no_admission s.none_later;
-      told = λ p own. q.told p ∙ (by_place (same_queue (queue.Update n) p) (held t.told p) (line log p) (s.told p own) ∙ sym (q.lines p own));
-    })
-  where
-    by_place : (b : Bool) (h l : List Envelope) → h ≡ l → (if b then drop 1 h else h) ≡ cond b (drop 1 l) l
-    by_place true h l is = ap (drop 1) is
-    by_place false h l is = is
+      handshakes = handshaking-kept log e n t.mailbox.handshakes q.no_admission (λ k. q.lines (queue.Handshake n k) (eq-eqb n n refl)) s.handshakes;
+      distinct = s.distinct;
+      told = λ p own. q.told p ∙ (by_place (drop 1) (same_queue (queue.Update n) p) (held t.told p) (line log p) (s.told p own) ∙ sym (q.lines p own));
+    }))
 
 -- ---- it asks for a handshake
 
@@ -127,7 +113,7 @@ begun_stands o b false l fresh h = subst (λ d. HandshakeStands o d l) (or_false
     or_false : (b : Bool) → b ≡ (b || false)
     or_false true = refl
     or_false false = refl
-begun_stands o b true l fresh h = (or_true b, subst (λ (k : List Envelope). Match (λ (x : Envelope) i. IsShaken x.item i) k []) (sym (none_waits o b l (fresh refl) h).1) tt)
+begun_stands o b true l fresh h = (or_true b, subst (λ (k : List Envelope). Match (λ (x : Envelope) i. IsToldHandshake x.item i) k []) (sym (none_waits o b l (fresh refl) h).1) tt)
   where
     or_true : (b : Bool) → (b || true) ≡ true
     or_true true = refl
@@ -137,37 +123,26 @@ pub tracker_asked : (configs : List Config) (log : List Entry) (e : Entry) (n : 
     → TrackerStands configs (log ++ e ∷ []) n u
 tracker_asked configs log e n t u key source s q =
     let x : Envelope = record { entry = length log; place = 0; queue = queue.Tracker n; item = item.AskAcceptable (length log) key } in
-    let m : Message Key = message.Acceptable key source (length log) in
-    subst (TrackerStands configs (log ++ e ∷ []) n) (sym q.rest) (record {
-      follows = subst (Follows key_cmp t.actor.directory t.actor.controls) (sym (calls-kept configs log e n q.no_step)) s.follows;
-      rules = s.rules;
-      cooldown = s.cooldown;
-      works = s.works;
-      local = s.local;
-      most = s.most;
-      is_open = q.closed ∙ s.is_open;
-      size = q.capacity ∙ s.size;
-      names = ap (λ l. l ++ (length log, 0) ∷ []) s.names ∙ (sym (map-append name_of (line log (queue.Tracker n)) (x ∷ [])) ∙ ap (map name_of) (sym q.waits));
-      messages = subst (λ l. Match (λ y k. IsMessage t.tickets (log ++ e ∷ []) y.item k) l u.mailbox.desk.messages.items) (sym q.waits)
-          (subst (Match (λ (y : Envelope) k. IsMessage t.tickets (log ++ e ∷ []) y.item k) (line log (queue.Tracker n) ++ x ∷ [])) (sym q.items)
-          (Match-last (λ (y : Envelope) k. IsMessage t.tickets (log ++ e ∷ []) y.item k) (line log (queue.Tracker n)) t.mailbox.desk.messages.items x m
-          (Match-weaker (λ (y : Envelope) k. IsMessage t.tickets log y.item k) (λ (y : Envelope) k. IsMessage t.tickets (log ++ e ∷ []) y.item k)
-          (λ (y : Envelope) k h. IsMessage-longer t.tickets t.tickets (same_tickets t.tickets) log (e ∷ []) y.item k h) (line log (queue.Tracker n)) t.mailbox.desk.messages.items s.messages)
-          (source, q.source_is, refl)));
-      questions = q.questions ∙ s.questions;
-      updates = q.updates ∙ s.updates;
-      sets = q.sets ∙ s.sets;
-      subscribed = subst (Match (IsTicket t.tickets.updates) t.actor.updates) (sym (update_subscriptions-kept log e n q.no_step)) s.subscribed;
-      subscribed_blocked = subst (Match (IsTicket t.tickets.blocked) t.actor.sets) (sym (blocked_subscriptions-kept log e n q.no_step)) s.subscribed_blocked;
-      asked = λ d. s.asked d ∙ sym (asks_at-kept log e n d q.no_question);
-      answered = λ d is. s.answered d (sym (asks_at-kept log e n d q.no_question) ∙ is) ∙ sym (was_answered-kept log e d (q.no_answer d));
-      fresh = fresh-longer log e t.answered s.fresh (λ d past. q.no_answer d);
+    let now : Tracker = record t { mailbox = record t.mailbox { desk = u.mailbox.desk; handshakes = begun t.mailbox.handshakes (length log) }; names = t.names ++ (length log, 0) ∷ [] } in
+    subst (TrackerStands configs (log ++ e ∷ []) n) (sym q.rest) (tracker_moved configs log e n t now (x ∷ []) (message.Acceptable key source (length log) ∷ []) s (record {
+      no_step = q.no_step;
+      no_question = q.no_question;
+      no_answer = q.no_answer;
+      rest = refl;
+      items = q.items;
+      closed = q.closed;
+      capacity = q.capacity;
+      questions = q.questions;
+      updates = q.updates;
+      sets = q.sets;
+      each = ((source, q.source_is, refl), tt);
+      waits = q.waits;
       dialer = subst (λ l. Match (λ y a. IsAnswer y.item a) l t.mailbox.dialer) (sym (q.lines (queue.Dialer n) (eq-eqb n n refl))) s.dialer;
       heard = subst (HeardStands t.mailbox.heard) (sym (q.lines (queue.Update n) (eq-eqb n n refl))) s.heard;
-      handshakes = shaking;
-      none_later = later;
+      handshakes = told_now;
+      distinct = distinct-begun t.mailbox.handshakes (length log) none s.distinct;
       told = λ p own. s.told p own ∙ sym (q.lines p own);
-    })
+    }))
   where
     here : (l : ℕ) → l ≤ l
     here l = omega arith
@@ -178,23 +153,15 @@ tracker_asked configs log e n t u key source s q =
     none : line_of t.mailbox.handshakes (length log) ≡ None
     none =
         let k = length log in
-        (none_waits (line_of t.mailbox.handshakes k) (is_shaking log n k) (line log (queue.Handshake n k)) (s.none_later k (here k)) (s.handshakes k)).0
+        (none_waits (line_of t.mailbox.handshakes k) (is_handshaking log n k) (line log (queue.Handshake n k)) (none_later log n k (here k)) (s.handshakes k)).0
 
-    running : (k : ℕ) → is_shaking (log ++ e ∷ []) n k ≡ (is_shaking log n k || ((k == length log) || false))
+    running : (k : ℕ) → is_handshaking (log ++ e ∷ []) n k ≡ (is_handshaking log n k || ((k == length log) || false))
     running k = ap (list_any (λ j. k == j)) (handshakes_of-append log e n ∙ q.admits) ∙ list_any-append (λ j. k == j) (handshakes_of log n) (length log ∷ [])
 
-    later : NoneLater (log ++ e ∷ []) n
-    later k past =
-        let long = length-append log (e ∷ []) in
-        running k ∙ (ap (λ b. b || ((k == length log) || false)) (s.none_later k (omega (arith, long, past))) ∙ ap (λ b. b || false) (other k (length log) (omega (arith, long, past))))
-      where
-        other : (k l : ℕ) → l + 1 ≤ k → (k == l) ≡ false
-        other k l h = grind (arith, nat_tests)
-
-    shaking : (k : ℕ) → HandshakeStands (line_of (begun t.mailbox.handshakes (length log)) k) (is_shaking (log ++ e ∷ []) n k) (line (log ++ e ∷ []) (queue.Handshake n k))
-    shaking k =
+    told_now : (k : ℕ) → HandshakeStands (line_of (begun t.mailbox.handshakes (length log)) k) (is_handshaking (log ++ e ∷ []) n k) (line (log ++ e ∷ []) (queue.Handshake n k))
+    told_now k =
         let before = line log (queue.Handshake n k) in
-        subst (HandshakeStands (line_of (begun t.mailbox.handshakes (length log)) k) (is_shaking (log ++ e ∷ []) n k)) (sym (q.lines (queue.Handshake n k) (eq-eqb n n refl)))
+        subst (HandshakeStands (line_of (begun t.mailbox.handshakes (length log)) k) (is_handshaking (log ++ e ∷ []) n k)) (sym (q.lines (queue.Handshake n k) (eq-eqb n n refl)))
         (subst (λ b. HandshakeStands (line_of (begun t.mailbox.handshakes (length log)) k) b before) (sym (running k))
-        (subst (λ (o : Option (List (HandshakeItem Key))). HandshakeStands o (is_shaking log n k || ((k == length log) || false)) before) (sym (line_of-begun t.mailbox.handshakes (length log) k none))
-        (begun_stands (line_of t.mailbox.handshakes k) (is_shaking log n k) (k == length log) before (λ same. s.none_later k (late k (length log) same)) (s.handshakes k))))
+        (subst (λ (o : Option (List (HandshakeItem Key))). HandshakeStands o (is_handshaking log n k || ((k == length log) || false)) before) (sym (line_of-begun t.mailbox.handshakes (length log) k none))
+        (begun_stands (line_of t.mailbox.handshakes k) (is_handshaking log n k) (k == length log) before (λ same. none_later log n k (late k (length log) same)) (s.handshakes k))))

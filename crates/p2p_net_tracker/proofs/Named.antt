@@ -34,7 +34,7 @@ use Rattle.p2p_log.specs.declared.entry.Entry.{Entry}
 use Rattle.p2p_log.specs.declared.asked.Asked.TheVariants as ask
 use Rattle.p2p_log.specs.declared.event.Act.{Act}
 use Rattle.p2p_log.specs.declared.event.Act.TheVariants as act
-use Rattle.p2p_log_rules.specs.Handshakes.{is_shaking}
+use Rattle.p2p_log_rules.specs.Handshakes.{is_handshaking}
 use Rattle.p2p_log_rules.specs.Tracking.{key_cmp}
 use Rattle.p2p_log_rules.specs.TrackerPuts as puts
 use Rattle.p2p_net_tracker.specs.declared.naming.Tickets.{Tickets}
@@ -159,11 +159,11 @@ module _ (n : ℕ) (t : Tickets) where
       named-message e _ m h = absurd h
 
       -- and so for the item that it waits under
-      pub named-item : (log : List Entry) (i : Item) (m : Message Key) → ((k : ℕ) → runs k ≡ is_shaking log n k) → IsMessage t log i m
+      pub named-item : (log : List Entry) (i : Item) (m : Message Key) → ((k : ℕ) → runs k ≡ is_handshaking log n k) → IsMessage t log i m
           → named_puts n t (puts_for key_cmp rules updates sets waiting heard runs calls now m) ≡ puts.item_puts rules n now us bs calls log i
-      named-item log (item.Call e) m shaking h = named-message e h.0 m h.2 ∙ ap (λ o. puts.asked_puts rules n now us bs calls e o) (sym h.1)
-      named-item log item.AskDialable m shaking h = ap (λ d. named_puts n t (puts_for key_cmp rules updates sets waiting heard runs calls now d)) h
-      named-item log (item.AskDial key) m shaking h =
+      named-item log (item.Call e) m runs_now h = named-message e h.0 m h.2 ∙ ap (λ o. puts.asked_puts rules n now us bs calls e o) (sym h.1)
+      named-item log item.AskDialable m runs_now h = ap (λ d. named_puts n t (puts_for key_cmp rules updates sets waiting heard runs calls now d)) h
+      named-item log (item.AskDial key) m runs_now h =
           ap (λ d. named_puts n t (puts_for key_cmp rules updates sets waiting heard runs calls now d)) h
           ∙ ap (λ o. (queue.Dialer n, item.Dial o) ∷ []) (granted (allows_dial key_cmp rules calls key now) (address_of key_cmp rules calls key))
         where
@@ -171,13 +171,13 @@ module _ (n : ℕ) (t : Tickets) where
           granted true (Some a) = refl
           granted true None = refl
           granted false o = refl
-      named-item log (item.AskAcceptable name key) m shaking h =
+      named-item log (item.AskAcceptable name key) m runs_now h =
           ap (λ d. named_puts n t (puts_for key_cmp rules updates sets waiting heard runs calls now d)) h.2
-          ∙ (ap (λ b. named_puts n t (cond b (put.Acceptable name (is_acceptable key_cmp rules calls key h.0 now) ∷ []) [])) (shaking name)
-          ∙ (answered (is_shaking log n name) ∙ ap (puts.acceptable_puts rules n now us bs calls name key (is_shaking log n name)) (sym h.1)))
+          ∙ (ap (λ b. named_puts n t (cond b (put.Acceptable name (is_acceptable key_cmp rules calls key h.0 now) ∷ []) [])) (runs_now name)
+          ∙ (answered (is_handshaking log n name) ∙ ap (puts.acceptable_puts rules n now us bs calls name key (is_handshaking log n name)) (sym h.1)))
         where
           answered : (b : Bool) → named_puts n t (cond b (put.Acceptable name (is_acceptable key_cmp rules calls key h.0 now) ∷ []) []) ≡ puts.acceptable_puts rules n now us bs calls name key b (Some h.0)
           answered true = refl
           answered false = refl
-      named-item log (item.Release key) m shaking h = ap (λ d. named_puts n t (puts_for key_cmp rules updates sets waiting heard runs calls now d)) h.2
-      named-item log _ m shaking h = absurd h
+      named-item log (item.Release key) m runs_now h = ap (λ d. named_puts n t (puts_for key_cmp rules updates sets waiting heard runs calls now d)) h.2
+      named-item log _ m runs_now h = absurd h

@@ -1,9 +1,10 @@
 -- A step of a node's tracker: its row is the log's, and it stands for the log with that entry.
 use Rattle.std.proofs.Common.{◌≡◌, ℕ, Bool, true, false, cond, List, [], ◌∷◌, ◌++◌, map, drop, length, refl, ap, sym, subst, ◌∙◌, arith, eq-eqb, append-nil, Option, Some, inl}
 use Rattle.std.specs.Prelude.{filter, flat_map, slice_get, count_by, ◌==◌}
-use Rattle.std.specs.List.{list_any}
+use Rattle.std.specs.List.{list_any, IsDistinct}
+use Rattle.std.specs.Map.{keys_of}
 use Rattle.std.specs.BTreeMap.{is_at}
-use Rattle.std.specs.Ordering.{nat_cmp}
+use Rattle.std.specs.Ordering.{nat_cmp, eq_by_cmp}
 use Rattle.std.proofs.lemmas.Bool.Decides.{nat_tests}
 use Rattle.p2p_base.specs.declared.key.Key.{Key}
 use Rattle.p2p_base.specs.Queue as base
@@ -37,7 +38,7 @@ use Rattle.p2p_log.specs.Lines.{name_of, ended_item, goes, stays, live, line, pl
 use Rattle.p2p_log_rules.specs.declared.row.Row.{Row}
 use Rattle.p2p_log_rules.specs.Facts.{taken, item_named}
 use Rattle.p2p_log_rules.specs.Effect.{entry_of}
-use Rattle.p2p_log_rules.specs.Handshakes.{is_shaking}
+use Rattle.p2p_log_rules.specs.Handshakes.{is_handshaking}
 use Rattle.p2p_log_rules.specs.Rows.{only}
 use Rattle.p2p_log_rules.specs.Tracking.{key_cmp, rules_at, item_calls, step_calls, grants_dial, call_where, calls_of, subscribes, subscribes_blocked, update_subscriptions, blocked_subscriptions}
 use Rattle.p2p_log_rules.specs.TrackerPuts as puts
@@ -51,13 +52,13 @@ use Rattle.p2p_net_tracker.specs.declared.tracker.Tracker.{Tracker}
 use Rattle.p2p_net_tracker.specs.Naming.{named_puts}
 use Rattle.p2p_net_tracker.specs.Telling.{lost, told_in, told_to}
 use Rattle.p2p_net_tracker.specs.Stepping.{ActorSteps, Tells, TellsFor, TellsBy, Steps}
-use Rattle.p2p_net_tracker.specs.Stands.{is_told, Match, IsTicket, IsMessage, IsAnswer, HeardStands, HandshakeStands, TrackerStands}
-use Rattle.p2p_net_tracker.proofs.Changes.{same_tickets, IsMessage-longer}
+use Rattle.p2p_net_tracker.specs.Stands.{is_told, Match, IsTicket, IsMessage, IsAnswer, HeardStands, HandshakeStands, AreDistinct, TrackerStands}
+use Rattle.p2p_net_tracker.proofs.Changes.{same_tickets, messages-longer}
 use Rattle.p2p_net_tracker.proofs.Desk.{LeavesDesk, all_left}
 use Rattle.p2p_net_tracker.proofs.Dialing.{answers_in, answers-after, answers-named}
-use Rattle.p2p_net_tracker.proofs.Facts.{asks_at-kept, fresh-longer, was_answered-kept, calls_of-append, update_subscriptions-append, blocked_subscriptions-append, NoneLater-kept}
-use Rattle.p2p_net_tracker.proofs.Hearing.{TellsFew, runs_is, unblocked_once, item_few, heard-after, shaken-after}
-use Rattle.p2p_net_tracker.proofs.Matching.{Match-append, Match-weaker}
+use Rattle.p2p_net_tracker.proofs.Facts.{asks_at-kept, fresh-longer, was_answered-kept, calls_of-append, update_subscriptions-append, blocked_subscriptions-append}
+use Rattle.p2p_net_tracker.proofs.Hearing.{TellsFew, runs_is, unblocked_once, item_few, heard-after, handshakes-after, keys-after}
+use Rattle.p2p_net_tracker.proofs.Matching.{Match-append}
 use Rattle.p2p_net_tracker.proofs.Named.{has_any-is, named-unblocked, named-item}
 use Rattle.p2p_net_tracker.proofs.Rings.{is_same}
 use Rattle.p2p_net_tracker.proofs.Serving.{item-calls, item-updates, item-sets}
@@ -89,7 +90,8 @@ record Left (configs : List Config) (log : List Entry) (at seed n : ℕ) (t u : 
   items : u.mailbox.desk.messages.items ≡ messages
   answered : Match (λ x a. IsAnswer x.item a) (line (log ++ step_entry at seed n r ∷ []) (queue.Dialer n)) u.mailbox.dialer
   heard_left : HeardStands u.mailbox.heard (line (log ++ step_entry at seed n r ∷ []) (queue.Update n))
-  shaken : (k : ℕ) → HandshakeStands (line_of u.mailbox.handshakes k) (is_shaking log n k) (line (log ++ step_entry at seed n r ∷ []) (queue.Handshake n k))
+  told_handshakes : (k : ℕ) → HandshakeStands (line_of u.mailbox.handshakes k) (is_handshaking log n k) (line (log ++ step_entry at seed n r ∷ []) (queue.Handshake n k))
+  distinct : AreDistinct u.mailbox.handshakes
   told_left : (q : Queue) → is_told n q ≡ true → held u.told q ≡ line (log ++ step_entry at seed n r ∷ []) q
 
 stands_after : (configs : List Config) (log : List Entry) (at seed n : ℕ) (t u : Tracker) (r : Row) (waits : List Envelope) (messages : List (Message Key)) → TrackerStands configs log n t
@@ -108,8 +110,7 @@ stands_after configs log at seed n t u r waits messages s h =
       names = h.names_left ∙ ap (map name_of) (sym h.mailbox);
       messages = subst (λ l. Match (λ x m. IsMessage t.tickets (log ++ e ∷ []) x.item m) l u.mailbox.desk.messages.items) (sym h.mailbox)
           (subst (Match (λ (x : Envelope) m. IsMessage t.tickets (log ++ e ∷ []) x.item m) waits) (sym h.items)
-          (Match-weaker (λ (x : Envelope) m. IsMessage t.tickets log x.item m) (λ (x : Envelope) m. IsMessage t.tickets (log ++ e ∷ []) x.item m)
-          (λ (x : Envelope) m k. IsMessage-longer t.tickets t.tickets (same_tickets t.tickets) log (e ∷ []) x.item m k) waits messages h.each));
+          (messages-longer t.tickets t.tickets (same_tickets t.tickets) log (e ∷ []) waits messages h.each));
       questions = h.desk.questions ∙ s.questions;
       updates = h.desk.updates ∙ s.updates;
       sets = h.desk.sets ∙ s.sets;
@@ -120,8 +121,8 @@ stands_after configs log at seed n t u r waits messages s h =
       fresh = fresh-longer log e t.answered s.fresh (λ d past. refl);
       dialer = h.answered;
       heard = h.heard_left;
-      handshakes = λ k. subst (λ l. HandshakeStands (line_of u.mailbox.handshakes k) (list_any (λ j. k == j) l) (line (log ++ e ∷ []) (queue.Handshake n k))) (sym (handshakes_of-kept log e n refl)) (h.shaken k);
-      none_later = NoneLater-kept log e n refl s.none_later;
+      handshakes = λ k. subst (λ l. HandshakeStands (line_of u.mailbox.handshakes k) (list_any (λ j. k == j) l) (line (log ++ e ∷ []) (queue.Handshake n k))) (sym (handshakes_of-kept log e n refl)) (h.told_handshakes k);
+      distinct = h.distinct;
       told = h.told_left;
     })
 
@@ -232,15 +233,19 @@ module _ (configs : List Config) (log : List Entry) (at seed n : ℕ) (t u : Tra
       (heard-after n t.tickets (length log) put start (line log (queue.Update n)) few before))
 
   -- what handshakes are told, beside what waits for them
-  shaken_now : (names : List (ℕ × ℕ)) (put : List (Put Key)) (start : Mailbox Key) → Told log e n names (named_puts n t.tickets put) → u.mailbox ≡ after_puts put start → TellsFew (runs_in start) put
-      → ((k : ℕ) → HandshakeStands (line_of start.handshakes k) (is_shaking log n k) (line log (queue.Handshake n k)))
-      → (k : ℕ) → HandshakeStands (line_of u.mailbox.handshakes k) (is_shaking log n k) (line (log ++ e ∷ []) (queue.Handshake n k))
-  shaken_now names put start told mailbox few before k =
+  handshakes_now : (names : List (ℕ × ℕ)) (put : List (Put Key)) (start : Mailbox Key) → Told log e n names (named_puts n t.tickets put) → u.mailbox ≡ after_puts put start → TellsFew (runs_in start) put
+      → ((k : ℕ) → HandshakeStands (line_of start.handshakes k) (is_handshaking log n k) (line log (queue.Handshake n k)))
+      → (k : ℕ) → HandshakeStands (line_of u.mailbox.handshakes k) (is_handshaking log n k) (line (log ++ e ∷ []) (queue.Handshake n k))
+  handshakes_now names put start told mailbox few before k =
       let q = queue.Handshake n k in
       let xs = named_puts n t.tickets put in
-      subst (HandshakeStands (line_of u.mailbox.handshakes k) (is_shaking log n k)) (sym (handshake-told log e n names xs told k))
-      (subst (λ (m : Mailbox Key). HandshakeStands (line_of m.handshakes k) (is_shaking log n k) (line log q ++ filter (stands_in q) (placed (length log) 0 xs))) (sym mailbox)
-      (shaken-after n t.tickets (length log) start (is_shaking log n) (λ j. line log (queue.Handshake n j)) before put few k))
+      subst (HandshakeStands (line_of u.mailbox.handshakes k) (is_handshaking log n k)) (sym (handshake-told log e n names xs told k))
+      (subst (λ (m : Mailbox Key). HandshakeStands (line_of m.handshakes k) (is_handshaking log n k) (line log q ++ filter (stands_in q) (placed (length log) 0 xs))) (sym mailbox)
+      (handshakes-after n t.tickets (length log) start (is_handshaking log n) (λ j. line log (queue.Handshake n j)) before put few k))
+
+  -- and none more runs
+  distinct_now : (put : List (Put Key)) (start : Mailbox Key) → u.mailbox ≡ after_puts put start → AreDistinct start.handshakes → AreDistinct u.mailbox.handshakes
+  distinct_now put start mailbox = subst (IsDistinct (eq_by_cmp nat_cmp)) (sym (ap (λ (m : Mailbox Key). keys_of m.handshakes) mailbox ∙ keys-after put start))
 
   -- blocks had ended
   after_unblocked : (put : List (Put Key)) → ActorSteps t.actor u.actor t.mailbox u.mailbox at seed (stepped.EndedBlocks put) → TellsBy (stepped.EndedBlocks put) (length log) n t u r
@@ -285,7 +290,8 @@ module _ (configs : List Config) (log : List Entry) (at seed n : ℕ) (t u : Tra
           items = ap (λ (m : Mailbox Key). m.desk.messages.items) mailbox ∙ ap (λ (q : base.Queue (Message Key)). q.items) desk.messages;
           answered = answers_now [] put t.mailbox told mailbox s.dialer;
           heard_left = heard_now [] put t.mailbox told mailbox few s.heard;
-          shaken = shaken_now [] put t.mailbox told mailbox few s.handshakes;
+          told_handshakes = handshakes_now [] put t.mailbox told mailbox few s.handshakes;
+          distinct = distinct_now put t.mailbox mailbox s.distinct;
           told_left = told_after [] (only reply.Ok) put tells.0 refl told;
         }),
       )
@@ -312,7 +318,7 @@ module _ (configs : List Config) (log : List Entry) (at seed n : ℕ) (t u : Tra
       let xs = puts.item_puts rules n at us bs calls log i in
       let named : named_puts n t.tickets put ≡ xs =
       ap (named_puts n t.tickets) puts_is ∙ named-item n t.tickets rules t.mailbox.heard at t.actor.updates t.actor.sets us bs t.mailbox.desk.sets s.subscribed s.subscribed_blocked (runs_in t.mailbox) calls log i m
-      (λ k. runs_is (line_of t.mailbox.handshakes k) (is_shaking log n k) (line log (queue.Handshake n k)) (s.handshakes k)) says
+      (λ k. runs_is (line_of t.mailbox.handshakes k) (is_handshaking log n k) (line log (queue.Handshake n k)) (s.handshakes k)) says
       in
       let row_is : r ≡ told_row log (name_of x ∷ []) xs = row_now (name_of x ∷ []) (taken_row (name_of x)) put xs telling refl away named in
       let few : TellsFew (runs_in start) put =
@@ -348,7 +354,8 @@ module _ (configs : List Config) (log : List Entry) (at seed n : ℕ) (t u : Tra
           items = ap (λ (k : Mailbox Key). k.desk.messages.items) mailbox ∙ (ap (λ (q : base.Queue (Message Key)). q.items) desk.messages ∙ ap (drop 1) items);
           answered = answers_now (name_of x ∷ []) put start told mailbox s.dialer;
           heard_left = heard_now (name_of x ∷ []) put start told mailbox few s.heard;
-          shaken = shaken_now (name_of x ∷ []) put start told mailbox few s.handshakes;
+          told_handshakes = handshakes_now (name_of x ∷ []) put start told mailbox few s.handshakes;
+          distinct = distinct_now put start mailbox s.distinct;
           told_left = told_after (name_of x ∷ []) (taken_row (name_of x)) put telling refl told;
         }),
       )
@@ -390,9 +397,10 @@ module _ (configs : List Config) (log : List Entry) (at seed n : ℕ) (t u : Tra
           answered = subst (λ l. Match (λ x a. IsAnswer x.item a) l u.mailbox.dialer) (sym (same (queue.Dialer n)))
               (subst (Match (λ (x : Envelope) a. IsAnswer x.item a) (line log (queue.Dialer n))) (sym (ap (λ (m : Mailbox Key). m.dialer) mailbox)) s.dialer);
           heard_left = subst (HeardStands u.mailbox.heard) (sym (same (queue.Update n))) (subst (λ (m : Mailbox Key). HeardStands m.heard (line log (queue.Update n))) (sym mailbox) s.heard);
-          shaken = λ k.
-              subst (HandshakeStands (line_of u.mailbox.handshakes k) (is_shaking log n k)) (sym (same (queue.Handshake n k)))
-              (subst (λ (m : Mailbox Key). HandshakeStands (line_of m.handshakes k) (is_shaking log n k) (line log (queue.Handshake n k))) (sym mailbox) (s.handshakes k));
+          told_handshakes = λ k.
+              subst (HandshakeStands (line_of u.mailbox.handshakes k) (is_handshaking log n k)) (sym (same (queue.Handshake n k)))
+              (subst (λ (m : Mailbox Key). HandshakeStands (line_of m.handshakes k) (is_handshaking log n k) (line log (queue.Handshake n k))) (sym mailbox) (s.handshakes k));
+          distinct = subst (λ (m : Mailbox Key). AreDistinct m.handshakes) (sym mailbox) s.distinct;
           told_left = λ q own. tells.0.told q ∙ (s.told q own ∙ sym (same q));
         }),
       )
@@ -469,6 +477,7 @@ gone_stands configs log at seed n t s =
       items = refl;
       answered = subst (λ l. Match (λ x a. IsAnswer x.item a) l t.mailbox.dialer) (sym (same (queue.Dialer n))) s.dialer;
       heard_left = subst (HeardStands t.mailbox.heard) (sym (same (queue.Update n))) s.heard;
-      shaken = λ k. subst (HandshakeStands (line_of t.mailbox.handshakes k) (is_shaking log n k)) (sym (same (queue.Handshake n k))) (s.handshakes k);
+      told_handshakes = λ k. subst (HandshakeStands (line_of t.mailbox.handshakes k) (is_handshaking log n k)) (sym (same (queue.Handshake n k))) (s.handshakes k);
+      distinct = s.distinct;
       told_left = λ q own. s.told q own ∙ sym (same q);
     })

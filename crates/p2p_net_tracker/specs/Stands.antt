@@ -1,5 +1,8 @@
 -- When a node's tracker stands for a log.
 use Rattle.std.specs.Prelude.{◌≡◌, ℕ, ◌≤◌, Bool, true, false, ◌==◌, cond, is_some, Option, None, List, [], ◌∷◌, ◌++◌, map, length, Some, slice_get}
+use Rattle.std.specs.List.{IsDistinct}
+use Rattle.std.specs.Map.{keys_of}
+use Rattle.std.specs.Ordering.{nat_cmp, eq_by_cmp}
 use Rattle.p2p_base.specs.declared.key.Key.{Key}
 use Rattle.p2p_address.specs.declared.ip.IpAddr.{IpAddr}
 use Rattle.p2p_address.specs.declared.peer.Ingress.{Ingress}
@@ -11,7 +14,7 @@ use Rattle.p2p_tracker_mailbox.specs.declared.answer.DialerAnswer.{DialerAnswer}
 use Rattle.p2p_tracker_mailbox.specs.declared.answer.DialerAnswer.TheVariants as answer
 use Rattle.p2p_tracker_mailbox.specs.declared.answer.HandshakeItem.{HandshakeItem}
 use Rattle.p2p_tracker_mailbox.specs.declared.answer.HandshakeItem.TheVariants as shake
-use Rattle.p2p_tracker_mailbox.specs.Lines.{line_of}
+use Rattle.p2p_tracker_mailbox.specs.Lines.{Lines, line_of}
 use Rattle.p2p_tracker_mailbox.specs.declared.message.Message.{Message}
 use Rattle.p2p_tracker_mailbox.specs.declared.message.Message.TheVariants as message
 use Rattle.p2p_tracker.specs.Following.{Follows}
@@ -28,7 +31,7 @@ use Rattle.p2p_log.specs.declared.event.Act.{Act}
 use Rattle.p2p_log.specs.declared.event.Act.TheVariants as act
 use Rattle.p2p_log.specs.Lines.{name_of, line}
 use Rattle.p2p_log_rules.specs.Facts.{key_at}
-use Rattle.p2p_log_rules.specs.Handshakes.{handshakes_by, handshakes_of, is_shaking, source_at}
+use Rattle.p2p_log_rules.specs.Handshakes.{handshakes_by, handshakes_of, is_handshaking, source_at}
 use Rattle.p2p_log_rules.specs.Rows.{mailbox_size_at}
 use Rattle.p2p_log_rules.specs.Tracking.{key_cmp, rules_at, asked_by, steps_tracker, calls_of, update_subscriptions, blocked_subscriptions}
 use Rattle.p2p_log_rules.specs.TrackerRows.{most_peers_at, answers, was_answered}
@@ -106,18 +109,18 @@ HeardStands None xs = xs ≡ []
 HeardStands (Some ips) xs = (x : Envelope) × (xs ≡ x ∷ []) × (x.item ≡ item.Addresses ips)
 
 -- the item is what a handshake is told
-abbrev pub IsShaken : Item → HandshakeItem Key → Type 0
-IsShaken (item.Acceptable b) i = i ≡ shake.Acceptable b
-IsShaken _ i = ⊥
+abbrev pub IsToldHandshake : Item → HandshakeItem Key → Type 0
+IsToldHandshake (item.Acceptable b) i = i ≡ shake.Acceptable b
+IsToldHandshake _ i = ⊥
 
 -- what waits for a handshake is its line, and it waits for one that runs
 abbrev pub HandshakeStands : Option (List (HandshakeItem Key)) → Bool → List Envelope → Type 0
 HandshakeStands None b xs = (b ≡ false) × (xs ≡ [])
-HandshakeStands (Some items) b xs = (b ≡ true) × Match (λ x i. IsShaken x.item i) xs items
+HandshakeStands (Some items) b xs = (b ≡ true) × Match (λ x i. IsToldHandshake x.item i) xs items
 
--- no handshake has the name of a later event
-abbrev pub NoneLater : List Entry → ℕ → Type 0
-NoneLater log n = (k : ℕ) → length log ≤ k → is_shaking log n k ≡ false
+-- each handshake for which something may wait stands once, so that nothing is left of one that is taken out
+abbrev pub AreDistinct : Lines (HandshakeItem Key) → Type 0
+AreDistinct lines = IsDistinct (eq_by_cmp nat_cmp) (keys_of lines)
 
 -- by the calls so far the key is held, and it is another's
 abbrev pub IsHeldByPeer : List Config → List Entry → ℕ → Key → Type 0
@@ -167,8 +170,8 @@ pub record TrackerStands (configs : List Config) (log : List Entry) (n : ℕ) (t
   pub dialer : Match (λ x a. IsAnswer x.item a) (line log (queue.Dialer n)) t.mailbox.dialer
   -- what the listener is told is its line, and so it is for each handshake
   pub heard : HeardStands t.mailbox.heard (line log (queue.Update n))
-  pub handshakes : (k : ℕ) → HandshakeStands (line_of t.mailbox.handshakes k) (is_shaking log n k) (line log (queue.Handshake n k))
-  pub none_later : NoneLater log n
+  pub handshakes : (k : ℕ) → HandshakeStands (line_of t.mailbox.handshakes k) (is_handshaking log n k) (line log (queue.Handshake n k))
+  pub distinct : AreDistinct t.mailbox.handshakes
   -- what waits for those who asked is their line
   pub told : (q : Queue) → is_told n q ≡ true → held t.told q ≡ line log q
 

@@ -25,20 +25,25 @@ impl Tracker {
         ensures rest { OnOk result (self.new ≡ record self.old { told = self.new.told; names = self.old.names ++ names_asked turn.entry asked }) }
     {
         let mut row = only(turn.alloc, Reply::Ok);
-        self.take_answer(turn.node, took, &mut row)?;
+        self.take_where(Queue::Dialer(turn.node), took, &mut row)?;
         self.put_message(turn, asked, &mut row)?;
         Ok(row)
     }
 
-    // Takes the oldest answer of the dialer, where it took one.
-    fn take_answer(&mut self, node: u64, took: bool, row: &mut Row) -> Result<(), AllocError>
-        ensures row { OnOk result (row.new ≡ record row.old { takes = row.old.takes ++ taken_names took (held self.old.told (queue.Dialer node)) }) }
+    // Takes the oldest item of a queue, where one was taken.
+    pub(crate) fn take_where(
+        &mut self,
+        queue: Queue,
+        took: bool,
+        row: &mut Row,
+    ) -> Result<(), AllocError>
+        ensures row { OnOk result (row.new ≡ record row.old { takes = row.old.takes ++ taken_names took (held self.old.told queue) }) }
         ensures told { OnOk result ((q : Name) → held self.new.told q
-            ≡ (if took && same_queue (queue.Dialer node) q then drop 1 (held self.old.told q) else held self.old.told q)) }
+            ≡ (if took && same_queue queue q then drop 1 (held self.old.told q) else held self.old.told q)) }
         ensures rest { OnOk result (self.new ≡ record self.old { told = self.new.told }) }
     {
         if took {
-            self.take_oldest(Queue::Dialer(node), row)?;
+            self.take_oldest(queue, row)?;
         }
         Ok(())
     }

@@ -1,4 +1,4 @@
--- The form of each act of a node's dialer, of its attempts and of its listener.
+-- The form of each act of a node's dialer, of its attempts, of its listener and of its handshakes.
 use Rattle.std.specs.Prelude.{ℕ, List, [], ◌∷◌, codes, bytes_eq, Option, Some, None, if◌then◌else◌}
 use Rattle.serde_json.specs.Data.{Data}
 use Rattle.p2p_log.specs.declared.event.Act.{Act}
@@ -16,6 +16,14 @@ abbrev pub listener_of : Data → Option Act
 listener_of d = do
   node ← node_of d
   Some (act.Listener node)
+
+-- the handshake, and the node
+abbrev pub handshake_of : Data → Option Act
+handshake_of d = do
+  has ("handshake" ∷ "node" ∷ []) d
+  handshake ← field "handshake" whole d
+  node ← field "node" whole d
+  Some (act.Handshake handshake node)
 
 -- the attempt, and the node
 abbrev pub attempt_named_of : Data → Option (ℕ × ℕ)
@@ -53,7 +61,7 @@ connect_of d = do
   to ← field "to" whole d
   Some (act.Connect attempt from node to)
 
--- the act of a dialer, an attempt or a listener that this word asks for
+-- the act of a dialer, an attempt, a listener or a handshake that this word asks for
 abbrev pub dialer_act_named : List ℕ → Data → Option Act
 dialer_act_named word d =
     if bytes_eq word (codes "dialer") then dialer_of d
@@ -62,4 +70,5 @@ dialer_act_named word d =
     else if bytes_eq word (codes "connect") then connect_of d
     else if bytes_eq word (codes "refuse") then refuse_of d
     else if bytes_eq word (codes "listener") then listener_of d
+    else if bytes_eq word (codes "handshake") then handshake_of d
     else None

@@ -1,7 +1,7 @@
-//! The acts of a node's dialer, of its attempts and of its listener, each by its own names.
+//! The acts of a node's dialer, of its attempts, of its listener and of its handshakes, each by its own names.
 ghost use Rattle.std.specs.Prelude.{◌≡◌};
 ghost use Rattle.serde_json.specs.View.{view};
-ghost use Rattle.p2p_sim_script.specs.DialerActForm.{attempt_named_of, attempt_of, connect_of, dialer_act_named, dialer_of, listener_of, refuse_of, resolve_of};
+ghost use Rattle.p2p_sim_script.specs.DialerActForm.{attempt_named_of, attempt_of, connect_of, dialer_act_named, dialer_of, handshake_of, listener_of, refuse_of, resolve_of};
 ghost use Rattle.p2p_sim_script.specs.Gives.{Gives};
 
 use crate::error::ScriptError;
@@ -23,6 +23,17 @@ fn read_listener(tree: &Value) -> Option<Act>
 {
     let node = read_node(tree)?;
     Some(Act::Listener { node })
+}
+
+fn read_handshake(tree: &Value) -> Option<Act>
+    ensures { result ≡ handshake_of (view tree.now) }
+{
+    if !only(tree, &["at", "seed", "do", "handshake", "node"]) {
+        return None;
+    }
+    let handshake = whole(tree, "handshake")?;
+    let node = whole(tree, "node")?;
+    Some(Act::Handshake { handshake, node })
 }
 
 // The attempt, and the node, of an act that names nothing else.
@@ -85,7 +96,7 @@ fn read_connect(alloc: Global, tree: &Value) -> Result<Act, ScriptError>
     })
 }
 
-/// The act of a dialer, an attempt or a listener that `word` asks for.
+/// The act of a dialer, an attempt, a listener or a handshake that `word` asks for.
 pub(crate) fn read_dialer_named(alloc: Global, word: &str, tree: &Value) -> Result<Act, ScriptError>
     ensures { Gives result (dialer_act_named word.now (view tree.now)) }
 {
@@ -96,6 +107,7 @@ pub(crate) fn read_dialer_named(alloc: Global, word: &str, tree: &Value) -> Resu
         "connect" => return read_connect(alloc, tree),
         "refuse" => read_refuse(tree),
         "listener" => read_listener(tree),
+        "handshake" => read_handshake(tree),
         _ => None,
     };
     act.ok_or(ScriptError::NotScript)

@@ -1,7 +1,8 @@
 use Rattle.std.proofs.Common.{◌≡◌, sym, subst, ◌∙◌, Some}
 use Rattle.p2p_net_queues.specs.Tables as table
-use Rattle.p2p_net_dialer.specs.Attempts.{AreBut, AnswersDial}
-use Rattle.p2p_net_dialer.proofs.Attempting.{AreBut-inserted}
+use Rattle.p2p_net_queues.specs.Tables.{AreBut}
+use Rattle.p2p_net_queues.proofs.Tables.{AreBut-inserted}
+use Rattle.p2p_net_dialer.specs.Attempts.{AnswersDial}
 use Rattle.p2p_net_dialer.proofs.dialing.Dialing.answer_dial.Goals as goal
 
 pub returns-clause-answers : goal.returns-clause-answers

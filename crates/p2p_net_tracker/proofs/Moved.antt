@@ -1,0 +1,82 @@
+-- A node's tracker after an entry that is neither a step of it nor a question of an oracle: what the entry makes of it, and that it stands for the log then.
+use Rattle.std.proofs.Common.{◌≡◌, ℕ, Bool, true, false, cond, List, [], ◌∷◌, ◌++◌, map, length, ap, sym, subst, ◌∙◌, None}
+use Rattle.std.specs.Prelude.{if◌then◌else◌}
+use Rattle.std.proofs.lemmas.List.{map-append}
+use Rattle.p2p_base.specs.declared.key.Key.{Key}
+use Rattle.p2p_tracker.specs.Following.{Follows}
+use Rattle.p2p_tracker_mailbox.specs.Lines.{line_of}
+use Rattle.p2p_tracker_mailbox.specs.declared.message.Message.{Message}
+use Rattle.p2p_log.specs.declared.config.Config.{Config}
+use Rattle.p2p_log.specs.declared.queue.Queue.{Queue}
+use Rattle.p2p_log.specs.declared.queue.Queue.TheVariants as queue
+use Rattle.p2p_log.specs.declared.item.Envelope.{Envelope}
+use Rattle.p2p_log.specs.declared.entry.Entry.{Entry}
+use Rattle.p2p_log.specs.Lines.{name_of, line}
+use Rattle.p2p_log_rules.specs.Handshakes.{is_handshaking}
+use Rattle.p2p_log_rules.specs.Tracking.{key_cmp, steps_tracker}
+use Rattle.p2p_log_rules.specs.TrackerRows.{answers}
+use Rattle.p2p_net_queues.specs.Board.{held}
+use Rattle.p2p_net_tracker.specs.declared.tracker.Tracker.{Tracker}
+use Rattle.p2p_net_tracker.specs.Stands.{asks_of, is_told, Match, IsTicket, IsMessage, IsAnswer, HeardStands, HandshakeStands, AreDistinct, TrackerStands}
+use Rattle.p2p_net_tracker.proofs.Changes.{same_tickets, messages-longer}
+use Rattle.p2p_net_tracker.proofs.Facts.{asks_at-kept, fresh-longer, was_answered-kept, calls-kept, update_subscriptions-kept, blocked_subscriptions-kept}
+use Rattle.p2p_net_tracker.proofs.Matching.{Match-append}
+
+-- what the entry makes of the tracker: these messages wait in these envelopes beside those before
+pub record TrackerMoves (log : List Entry) (e : Entry) (n : ℕ) (t u : Tracker) (xs : List Envelope) (ms : List (Message Key)) : Type 0 where
+  pub no_step : steps_tracker n e.event.act ≡ false
+  pub no_question : asks_of n e.event.act ≡ None
+  pub no_answer : (d : ℕ) → answers d e.event.act e.reply ≡ false
+  pub rest : u ≡ record t { mailbox = u.mailbox; names = t.names ++ map name_of xs; told = u.told }
+  -- what waits for it
+  pub items : u.mailbox.desk.messages.items ≡ t.mailbox.desk.messages.items ++ ms
+  pub closed : u.mailbox.desk.messages.closed ≡ t.mailbox.desk.messages.closed
+  pub capacity : u.mailbox.desk.messages.capacity ≡ t.mailbox.desk.messages.capacity
+  pub questions : length u.mailbox.desk.questions ≡ length t.mailbox.desk.questions
+  pub updates : length u.mailbox.desk.updates ≡ length t.mailbox.desk.updates
+  pub sets : length u.mailbox.desk.sets ≡ length t.mailbox.desk.sets
+  pub each : Match (λ x m. IsMessage t.tickets (log ++ e ∷ []) x.item m) xs ms
+  pub waits : line (log ++ e ∷ []) (queue.Tracker n) ≡ line log (queue.Tracker n) ++ xs
+  -- what it told
+  pub dialer : Match (λ x a. IsAnswer x.item a) (line (log ++ e ∷ []) (queue.Dialer n)) u.mailbox.dialer
+  pub heard : HeardStands u.mailbox.heard (line (log ++ e ∷ []) (queue.Update n))
+  pub handshakes : (k : ℕ) → HandshakeStands (line_of u.mailbox.handshakes k) (is_handshaking (log ++ e ∷ []) n k) (line (log ++ e ∷ []) (queue.Handshake n k))
+  pub distinct : AreDistinct u.mailbox.handshakes
+  pub told : (p : Queue) → is_told n p ≡ true → held u.told p ≡ line (log ++ e ∷ []) p
+
+pub tracker_moved : (configs : List Config) (log : List Entry) (e : Entry) (n : ℕ) (t u : Tracker) (xs : List Envelope) (ms : List (Message Key)) → TrackerStands configs log n t → TrackerMoves log e n t u xs ms
+    → TrackerStands configs (log ++ e ∷ []) n u
+tracker_moved configs log e n t u xs ms s q =
+    subst (TrackerStands configs (log ++ e ∷ []) n) (sym q.rest) (record {
+      follows = subst (Follows key_cmp t.actor.directory t.actor.controls) (sym (calls-kept configs log e n q.no_step)) s.follows;
+      rules = s.rules;
+      cooldown = s.cooldown;
+      works = s.works;
+      local = s.local;
+      most = s.most;
+      is_open = q.closed ∙ s.is_open;
+      size = q.capacity ∙ s.size;
+      names = ap (λ l. l ++ map name_of xs) s.names ∙ (sym (map-append name_of (line log (queue.Tracker n)) xs) ∙ ap (map name_of) (sym q.waits));
+      messages = subst (λ l. Match (λ x m. IsMessage t.tickets (log ++ e ∷ []) x.item m) l u.mailbox.desk.messages.items) (sym q.waits)
+          (subst (Match (λ (x : Envelope) m. IsMessage t.tickets (log ++ e ∷ []) x.item m) (line log (queue.Tracker n) ++ xs)) (sym q.items)
+          (Match-append (λ (x : Envelope) m. IsMessage t.tickets (log ++ e ∷ []) x.item m) (line log (queue.Tracker n)) xs t.mailbox.desk.messages.items ms
+          (messages-longer t.tickets t.tickets (same_tickets t.tickets) log (e ∷ []) (line log (queue.Tracker n)) t.mailbox.desk.messages.items s.messages) q.each));
+      questions = q.questions ∙ s.questions;
+      updates = q.updates ∙ s.updates;
+      sets = q.sets ∙ s.sets;
+      subscribed = subst (Match (IsTicket t.tickets.updates) t.actor.updates) (sym (update_subscriptions-kept log e n q.no_step)) s.subscribed;
+      subscribed_blocked = subst (Match (IsTicket t.tickets.blocked) t.actor.sets) (sym (blocked_subscriptions-kept log e n q.no_step)) s.subscribed_blocked;
+      asked = λ d. s.asked d ∙ sym (asks_at-kept log e n d q.no_question);
+      answered = λ d is. s.answered d (sym (asks_at-kept log e n d q.no_question) ∙ is) ∙ sym (was_answered-kept log e d (q.no_answer d));
+      fresh = fresh-longer log e t.answered s.fresh (λ d past. q.no_answer d);
+      dialer = q.dialer;
+      heard = q.heard;
+      handshakes = q.handshakes;
+      distinct = q.distinct;
+      told = q.told;
+    })
+
+-- what a board holds and a line change alike
+pub by_place : (f : List Envelope → List Envelope) (b : Bool) (h l : List Envelope) → h ≡ l → (if b then f h else h) ≡ cond b (f l) l
+by_place f true h l is = ap f is
+by_place f false h l is = is
