@@ -1,4 +1,5 @@
-//! Scripts of a world of one node: what is asked of it, event by event, and what each event shows.
+//! Scripts of a world of one node, or of one and another that dials it: what is asked of it, event by event, and what each
+//! event shows.
 use crate::seen::{Seen, newest};
 use p2p_address::{Address, IpAddr, SocketAddr};
 use p2p_base::{Key, Map};
@@ -52,15 +53,20 @@ pub enum Do {
     Answer(u64),
     // or what comes next for the subscription that it made.
     Next(u64),
-    // A step of its tracker, of its dialer, of its listener, or of the attempt that this event began.
+    // A step of its tracker, of its dialer, of its listener, or of the attempt or the handshake that this event began.
     Tracker,
     Dialer,
     Listener,
     Attempt(u64),
+    Handshake(u64),
     // The attempt is told that there is no link,
     Refuse(u64),
     // or it is linked to the listener of its own node, at which it arrives from this host.
     Link(u64, u8),
+    // An attempt of the other node is linked to the listener of this one, at which it arrives from this host.
+    Arrive(u64, u8),
+    // A step, at the other node, of the handshake that this event began.
+    HandshakeThere(u64),
 }
 
 // A started node, whose tracker took one set of two peers.
@@ -81,23 +87,18 @@ fn pairs(alloc: Global, peers: u8) -> Result<Vec<(Key, Address)>, AllocError> {
 }
 
 // These as the primary peers of a set.
-fn track(alloc: Global, index: u64, peers: u8) -> Result<Act, AllocError> {
+fn track(alloc: Global, index: u64, peers: u8) -> Result<Asked, AllocError> {
     match Map::try_from(pairs(alloc, peers)?) {
-        Ok(primary) => Ok(of_first(Asked::Track {
+        Ok(primary) => Ok(Asked::Track {
             index,
             peers: AddressableTrackedPeers::primary(alloc, primary),
-        })),
+        }),
         Err(_) => Err(AllocError),
     }
 }
 
-// The tracker is asked this.
-fn of_first(asked: Asked) -> Act {
-    Act::Ask { asked, node: 0 }
-}
-
-// The attempt is linked, and arrives from this host.
-fn link(attempt: u64, host: u8) -> Act {
+// The attempt of a node is linked to the listener of the first one, at which it arrives from this host.
+fn link(node: u64, attempt: u64, host: u8) -> Act {
     let from = SocketAddr {
         ip: IpAddr::V4([10, 0, 0, host]),
         port: 40_000,
@@ -105,39 +106,48 @@ fn link(attempt: u64, host: u8) -> Act {
     Act::Connect {
         attempt,
         from,
-        node: 0,
+        node,
         to: 0,
     }
 }
 
-fn act(alloc: Global, what: Do) -> Result<Act, AllocError> {
+// The tracker of a node is asked this.
+fn of_tracker(node: u64, asked: Asked) -> Act {
+    Act::Ask { asked, node }
+}
+
+// What a node is asked.
+fn act(alloc: Global, node: u64, what: Do) -> Result<Act, AllocError> {
     match what {
-        Do::Start => Ok(Act::Start { node: 0 }),
-        Do::Track(index, peers) => track(alloc, index, peers),
-        Do::PeerSet(index) => Ok(of_first(Asked::PeerSet { index })),
-        Do::Subscribe => Ok(of_first(Asked::Subscribe)),
-        Do::Blocked => Ok(of_first(Asked::Blocked)),
-        Do::Block(key) => Ok(of_first(Asked::Block { key: Key(key) })),
+        Do::Start => Ok(Act::Start { node }),
+        Do::Track(index, peers) => Ok(of_tracker(node, track(alloc, index, peers)?)),
+        Do::PeerSet(index) => Ok(of_tracker(node, Asked::PeerSet { index })),
+        Do::Subscribe => Ok(of_tracker(node, Asked::Subscribe)),
+        Do::Blocked => Ok(of_tracker(node, Asked::Blocked)),
+        Do::Block(key) => Ok(of_tracker(node, Asked::Block { key: Key(key) })),
         Do::Answer(question) => Ok(Act::Answer { question }),
         Do::Next(question) => Ok(Act::Next { question }),
-        Do::Tracker => Ok(Act::Tracker { node: 0 }),
-        Do::Dialer => Ok(Act::Dialer { node: 0 }),
-        Do::Listener => Ok(Act::Listener { node: 0 }),
-        Do::Attempt(attempt) => Ok(Act::Attempt { attempt, node: 0 }),
-        Do::Refuse(attempt) => Ok(Act::Refuse { attempt, node: 0 }),
-        Do::Link(attempt, host) => Ok(link(attempt, host)),
+        Do::Tracker => Ok(Act::Tracker { node }),
+        Do::Dialer => Ok(Act::Dialer { node }),
+        Do::Listener => Ok(Act::Listener { node }),
+        Do::Attempt(attempt) => Ok(Act::Attempt { attempt, node }),
+        Do::Handshake(handshake) => Ok(Act::Handshake { handshake, node }),
+        Do::Refuse(attempt) => Ok(Act::Refuse { attempt, node }),
+        Do::Link(attempt, host) => Ok(link(node, attempt, host)),
+        Do::Arrive(attempt, host) => Ok(link(1, attempt, host)),
+        Do::HandshakeThere(handshake) => Ok(Act::Handshake { handshake, node: 1 }),
     }
 }
 
-fn ask(alloc: Global, world: &mut World, at: u64, what: Do) -> Result<(), RunError> {
-    let act = act(alloc, what)?;
+fn ask(alloc: Global, world: &mut World, at: u64, node: u64, what: Do) -> Result<(), RunError> {
+    let act = act(alloc, node, what)?;
     world.apply(&Event { at, seed: 0, act })
 }
 
-// Asks for all of this at the moment 0.
-fn ask_all(alloc: Global, world: &mut World, before: &[Do]) -> Result<(), RunError> {
+// Asks a node for all of this at the moment 0.
+fn ask_all(alloc: Global, world: &mut World, node: u64, before: &[Do]) -> Result<(), RunError> {
     for what in before {
-        ask(alloc, world, 0, *what)?;
+        ask(alloc, world, 0, node, *what)?;
     }
     Ok(())
 }
@@ -149,7 +159,7 @@ fn first_other_of(
     script: &[(u64, Do, Seen)],
 ) -> Result<Option<usize>, RunError> {
     for (i, step) in script.iter().enumerate() {
-        ask(alloc, world, step.0, step.1)?;
+        ask(alloc, world, step.0, 0, step.1)?;
         if newest(world.report().log.as_slice()) != step.2 {
             return Ok(Some(i));
         }
@@ -164,6 +174,39 @@ pub fn first_other(
     script: &[(u64, Do, Seen)],
 ) -> Result<Option<usize>, RunError> {
     let mut world = World::new(alloc, &[CONFIG])?;
-    ask_all(alloc, &mut world, before)?;
+    ask_all(alloc, &mut world, 0, before)?;
+    first_other_of(alloc, &mut world, script)
+}
+
+// The node of key 1, in which one handshake runs at a time.
+fn listening() -> Config {
+    Config {
+        max_peers_per_set: 4,
+        max_concurrent_handshakes: 1,
+        ..CONFIG
+    }
+}
+
+// The node of key 2, which dials one peer right after another.
+fn dialing() -> Config {
+    Config {
+        public_key: Key(2),
+        max_peers_per_set: 4,
+        dial_frequency: 0,
+        ..CONFIG
+    }
+}
+
+// The same in a new world of these two, where this was asked before of the one that listens, and then, `there`, of the one
+// that dials.
+pub fn first_other_of_two(
+    alloc: Global,
+    before: &[Do],
+    there: &[Do],
+    script: &[(u64, Do, Seen)],
+) -> Result<Option<usize>, RunError> {
+    let mut world = World::new(alloc, &[listening(), dialing()])?;
+    ask_all(alloc, &mut world, 0, before)?;
+    ask_all(alloc, &mut world, 1, there)?;
     first_other_of(alloc, &mut world, script)
 }

@@ -1,4 +1,4 @@
-//! What a script says of a node's tracker, its dialer, its attempts and its listener.
+//! What a script says of a node's tracker, its dialer, its attempts, its listener and its handshakes.
 use crate::texts::read;
 use crate::tracker_scripts::TRACKING;
 use p2p_address::{Address, Ingress, IpAddr, SocketAddr};
@@ -7,8 +7,8 @@ use p2p_flow::AddressableTrackedPeers;
 use p2p_log::{Act, Asked, Config, Event};
 use std::alloc::{AllocError, Global};
 
-// The word of an act about a tracker, a dialer, an attempt or a listener, and its numbers: its node, and its index, its key, its
-// question or its attempt.
+// The word of an act about a tracker, a dialer, an attempt, a listener or a handshake, and its numbers: its node, and its index,
+// its key, its question, its attempt or its handshake.
 fn numbers_of(act: &Act) -> (&'static str, u64, u64) {
     match act {
         Act::Ask { asked, node } => match asked {
@@ -24,6 +24,7 @@ fn numbers_of(act: &Act) -> (&'static str, u64, u64) {
         Act::Tracker { node } => ("tracker", *node, 0),
         Act::Dialer { node } => ("dialer", *node, 0),
         Act::Listener { node } => ("listener", *node, 0),
+        Act::Handshake { handshake, node } => ("handshake", *node, *handshake),
         Act::Attempt { attempt, node } => ("attempt", *node, *attempt),
         Act::Refuse { attempt, node } => ("refuse", *node, *attempt),
         Act::Connect {
@@ -60,6 +61,7 @@ const NUMBERS: &[(&str, u64, u64)] = &[
     ("resolve", 7, 12),
     ("connect", 8, 13),
     ("listener", 10, 0),
+    ("handshake", 11, 14),
 ];
 
 fn have_numbers(script: &[Event]) -> bool {

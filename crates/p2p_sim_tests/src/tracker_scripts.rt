@@ -1,7 +1,7 @@
-//! Which texts about a node's tracker, its dialer, its attempts and its listener are scripts.
+//! Which texts about a node's tracker, its dialer, its attempts, its listener and its handshakes are scripts.
 use crate::texts::first_other;
 
-// Each act about a tracker, a dialer, an attempt or a listener, and each form of an address.
+// Each act about a tracker, a dialer, an attempt, a listener or a handshake, and each form of an address.
 pub const TRACKING: &str = r#"{"configs":[
     {"key":1,"preset":"local","max_peers_per_set":2,"max_message_size":9,"mailbox_size":4},
     {"key":2,"preset":"recommended","max_peers_per_set":2,"max_message_size":9,"mailbox_size":4},
@@ -31,7 +31,8 @@ pub const TRACKING: &str = r#"{"configs":[
     {"at":0,"do":"refuse","attempt":11,"node":6},
     {"at":0,"do":"resolve","addresses":[{"ip":[10,0,0,5],"port":3001}],"attempt":12,"node":7},
     {"at":0,"do":"connect","attempt":13,"from":{"ip":[10,0,0,6],"port":3002},"node":8,"to":9},
-    {"at":0,"do":"listener","node":10}]}"#;
+    {"at":0,"do":"listener","node":10},
+    {"at":0,"do":"handshake","handshake":14,"node":11}]}"#;
 
 // ---- what is a script
 
@@ -104,6 +105,11 @@ const CHANGES_OF_NAMES: &[(&str, &str, bool)] = &[
     (r#""node":10"#, r#""node":10,"link":0"#, false),
     (r#""node":10"#, r#""to":10"#, false),
     (r#""do":"listener""#, r#""do":"listen""#, false),
+    (r#""handshake":14,"#, "", false),
+    (r#""handshake":14"#, r#""handshake":"14""#, false),
+    (r#""handshake":14"#, r#""listener":14"#, false),
+    (r#""node":11"#, r#""node":11,"link":0"#, false),
+    (r#""do":"handshake""#, r#""do":"handshakes""#, false),
     (r#""attempt":10,"#, "", false),
     (r#""attempt":10"#, r#""attempt":10,"ok":true"#, false),
     (r#""attempt":11"#, r#""dialer":11"#, false),
