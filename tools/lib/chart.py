@@ -46,14 +46,17 @@ def event_text(event):
     if 'question' in event:
         return '%s of event %s: ' % (event['do'], event['question'])
     names = [str(event[name]) for name in ('node', 'a', 'b') if name in event]
-    act = '%s of event %s' % (event['do'], event['attempt']) if 'attempt' in event else event['do']
+    begun = [event[name] for name in ('attempt', 'handshake') if name in event]
+    act = '%s of event %s' % (event['do'], begun[0]) if begun else event['do']
     return '%s%s %s: ' % ('node ' if len(names) == 1 else 'nodes ' if names else '', ', '.join(names), act)
 
 
 def end_text(queue, item):
-    """What a put says of the end of a connection or an attempt; nothing, if it is another one."""
+    """What a put says of the end of a connection, an attempt or a handshake; nothing, if it is another one."""
     if item in ('kill', 'refused'):
         return '%s: %s' % (item, queue)
+    if isinstance(item, dict) and item.get('acceptable') is False:
+        return 'not acceptable: %s' % queue
     return 'release of key %s: %s' % (item['release'], queue) if isinstance(item, dict) and 'release' in item else ''
 
 
@@ -130,7 +133,7 @@ class Chart:
             self.draw_ends(entry)
 
     def draw_ends(self, entry):
-        """What ends connections and attempts: what is put for that, and an answer that tells of an end."""
+        """What ends connections, attempts and handshakes: what is put for that, and an answer that tells of an end."""
         for queue, item in entry.puts:
             words = end_text(queue, item)
             if words and node_of(queue) in self.nodes:

@@ -83,6 +83,7 @@ ACT_FORMS = {
     'connect': {'attempt': whole, 'from': a_socket, 'node': whole, 'to': whole},
     'refuse': {'attempt': whole, 'node': whole},
     'listener': {'node': whole},
+    'handshake': {'handshake': whole, 'node': whole},
 }
 
 # The names of an act that may be left out.

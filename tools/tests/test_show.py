@@ -55,7 +55,9 @@ LISTENER = r'''{"end":[],"n":0,"put":[["tracker:0",{"call":0}]],"reply":{"feedba
 {"end":[],"n":6,"put":[],"reply":{"limited":[true,false]},"take":[]}
 {"end":[],"n":7,"put":[],"reply":{"limited":[false,true]},"take":[]}
 {"end":[],"n":8,"put":[],"reply":{"limited":[true,true]},"take":[]}
-{"copies":0,"entries":9}
+{"end":[],"n":9,"put":[],"reply":"ok","take":[[5,0]]}
+{"end":[],"n":10,"put":[["handshake:0:4",{"acceptable":false}]],"reply":"ok","take":[]}
+{"copies":0,"entries":11}
 '''
 LISTENER_SCRIPT = r'''{"configs":[],"script":[
 {"at":0,"do":"track","index":0,"node":0,"primary":[]},
@@ -66,7 +68,9 @@ LISTENER_SCRIPT = r'''{"configs":[],"script":[
 {"at":0,"do":"tracker","node":0},
 {"at":0,"do":"listener","node":0},
 {"at":0,"do":"listener","node":0},
-{"at":0,"do":"listener","node":0}]}
+{"at":0,"do":"listener","node":0},
+{"at":0,"do":"handshake","handshake":4,"node":0},
+{"at":0,"do":"tracker","node":0}]}
 '''
 BAD = {
     '': 'the last line, with the counts, is missing',
@@ -139,6 +143,13 @@ class Show(unittest.TestCase):
                       '7  node 0 listener: limited by subnet', '8  node 0 listener: limited by both'):
             with self.subTest(words):
                 self.assertIn(words, drawn)
+
+    def test_a_report_of_a_handshake_is_drawn_with_the_word_that_ends_it(self):
+        drawn = self.drawn(LISTENER, LISTENER_SCRIPT)
+        for words in ('9  node 0 handshake of event 4: ok', 'not acceptable: handshake:0:4'):
+            with self.subTest(words):
+                self.assertIn(words, drawn)
+        self.assertNotIn('acceptable: tracker:0', drawn)
 
     def test_a_part_of_a_report_can_be_drawn(self):
         with tempfile.TemporaryDirectory() as folder:
