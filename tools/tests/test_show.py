@@ -123,6 +123,13 @@ class Show(unittest.TestCase):
             self.assertEqual((told.returncode, told.stderr), (0, b''))
             return read_text(picture)
 
+    def assert_drawn(self, report, script, lines):
+        drawn = self.drawn(report, script)
+        for words in lines:
+            with self.subTest(words):
+                self.assertIn(words, drawn)
+        return drawn
+
     def test_a_report_of_a_tracker_is_drawn_by_its_replies(self):
         drawn = self.drawn(TRACKER, TRACKER_SCRIPT)
         for words in ('node 0 subscribe: feedback ok', 'node 0 tracker: ok', 'next of event 0: update 6', 'kill: control:0:4',
@@ -131,24 +138,19 @@ class Show(unittest.TestCase):
                 self.assertEqual(words in drawn, words != 'node 0, key')
 
     def test_a_report_of_an_attempt_is_drawn_with_its_end(self):
-        drawn = self.drawn(ATTEMPT, ATTEMPT_SCRIPT)
-        for words in ('node 0 dialer: ok', 'node 0 resolve of event 2: ok', 'node 0 attempt of event 2: ok', 'refused: attempt:0:2',
-                      'release of key 2: tracker:0', 'node 0 refuse of event 2: gone'):
-            with self.subTest(words):
-                self.assertIn(words, drawn)
+        self.assert_drawn(ATTEMPT, ATTEMPT_SCRIPT, (
+            'node 0 dialer: ok', 'node 0 resolve of event 2: ok', 'node 0 attempt of event 2: ok', 'refused: attempt:0:2',
+            'release of key 2: tracker:0', 'node 0 refuse of event 2: gone'))
 
     def test_a_report_of_a_listener_is_drawn_by_what_its_gates_say(self):
-        drawn = self.drawn(LISTENER, LISTENER_SCRIPT)
-        for words in ('node 1 connect of event 0: ok', '3  node 0 listener: ok', 'node 0 listener: admitted', '6  node 0 listener: limited by address',
-                      '7  node 0 listener: limited by subnet', '8  node 0 listener: limited by both'):
-            with self.subTest(words):
-                self.assertIn(words, drawn)
+        self.assert_drawn(LISTENER, LISTENER_SCRIPT, (
+            'node 1 connect of event 0: ok', '3  node 0 listener: ok', 'node 0 listener: admitted',
+            '6  node 0 listener: limited by address', '7  node 0 listener: limited by subnet',
+            '8  node 0 listener: limited by both'))
 
     def test_a_report_of_a_handshake_is_drawn_with_the_word_that_ends_it(self):
-        drawn = self.drawn(LISTENER, LISTENER_SCRIPT)
-        for words in ('9  node 0 handshake of event 4: ok', 'not acceptable: handshake:0:4'):
-            with self.subTest(words):
-                self.assertIn(words, drawn)
+        drawn = self.assert_drawn(LISTENER, LISTENER_SCRIPT, (
+            '9  node 0 handshake of event 4: ok', 'not acceptable: handshake:0:4'))
         self.assertNotIn('acceptable: tracker:0', drawn)
 
     def test_a_part_of_a_report_can_be_drawn(self):
