@@ -1,6 +1,7 @@
 //! What all crates of the network stand on: lists and texts for plain data, keys, queues, sets and maps.
 #![tactic(auto)]
 
+pub mod deque;
 pub mod key;
 pub mod list;
 pub mod mailbox;
@@ -13,6 +14,7 @@ pub mod set;
 pub mod set_error;
 pub mod text;
 
+pub use deque::Deque;
 pub use key::{Key, PublicKey};
 pub use list::List;
 pub use mailbox::Mailbox;

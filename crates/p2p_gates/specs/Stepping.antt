@@ -1,16 +1,22 @@
 -- What the steps of the gates have in common: what they answer, and what they put into the tracker's mailbox.
-use Rattle.std.specs.Prelude.{Option, Some, None}
+use Rattle.std.specs.Prelude.{Bool, true, false, Option, Some, None}
 use Rattle.p2p_tracker_mailbox.specs.Mailboxes.{with_message_in}
 use Rattle.p2p_tracker_mailbox.specs.declared.mailbox.Mailbox.{Mailbox}
 use Rattle.p2p_tracker_mailbox.specs.declared.message.Message.{Message}
 use Rattle.p2p_tracker_mailbox.specs.declared.message.Message.TheVariants as message
 use Rattle.p2p_gates.specs.declared.stepped.Input.{Input}
+use Rattle.p2p_gates.specs.declared.stepped.Input.TheVariants as input
 use Rattle.p2p_gates.specs.declared.stepped.Left.TheVariants as left
 use Rattle.p2p_gates.specs.declared.stepped.Outcome.TheVariants as outcome
 use Rattle.p2p_gates.specs.declared.stepped.Put.{Put}
 use Rattle.p2p_gates.specs.declared.stepped.Put.TheVariants as put
 use Rattle.p2p_gates.specs.declared.stepped.Stepped.{Stepped}
 use Rattle.p2p_gates.specs.declared.stepped.Stepped.TheVariants as stepped
+
+-- an item that waited was taken
+abbrev pub is_item : Input → Bool
+is_item input.Item = true
+is_item _ = false
 
 -- a turn of an actor: what its step answers, and what it and the tracker's mailbox are then
 pub record Turn (A P : Type 0) : Type 0 where

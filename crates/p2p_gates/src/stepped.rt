@@ -1,12 +1,11 @@
 //! `Stepped`, what a step of a gate answers.
 ghost use Rattle.std.specs.Prelude.{◌≡◌};
-ghost use Rattle.p2p_gates.specs.Stepping.{gone_on};
+ghost use Rattle.p2p_gates.specs.Stepping.{gone_on, is_item};
 
 use crate::attempt::{Attempt, AttemptItem};
 use crate::handshake::Handshake;
-use crate::line::Line;
 use p2p_address::IpAddr;
-use p2p_base::PublicKey;
+use p2p_base::{Deque, PublicKey};
 use p2p_gates_rules::Reply;
 use p2p_tracker_directory::{Metadata, Reservation};
 use p2p_tracker_mailbox::{HandshakeItem, Waiting};
@@ -24,6 +23,15 @@ pub enum Input {
     Item,
     /// Nothing was taken: the deadline had come.
     Deadline,
+}
+
+impl Input {
+    /// Whether it is an item that waited for an attempt or a handshake.
+    pub fn is_item(self) -> bool
+        ensures { result ≡ is_item self }
+    {
+        matches!(self, Input::Item)
+    }
 }
 
 /// What a step put into the tracker's mailbox, where it stands already.
@@ -67,7 +75,7 @@ pub enum Left<P: PublicKey> {
     /// None has ended.
     Nothing,
     /// For an attempt.
-    Attempt(Line<AttemptItem>),
+    Attempt(Deque<AttemptItem>),
     /// For a handshake. `None` where the tracker's mailbox had no place for its items.
     Handshake(Option<Waiting<HandshakeItem<P>>>),
 }

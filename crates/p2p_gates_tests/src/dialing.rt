@@ -109,7 +109,7 @@ fn hands_out_link(stepped: Stepped<Key>) -> bool {
     let Left::Attempt(mut line) = left else {
         return false;
     };
-    matches!(line.take(), Some(AttemptItem::Linked))
+    matches!(line.pop(), Some(AttemptItem::Linked))
 }
 
 // A dialer that asks for the first time at `start`, waits 10 after a dial, and at most 100 before it asks again.

@@ -27,10 +27,6 @@ use Rattle.p2p_net_queues.specs.Tables.{AreBut}
 use Rattle.p2p_net_dialer.specs.declared.attempt.RunningAttempt.{RunningAttempt}
 use Rattle.p2p_net_dialer.specs.declared.attempt.Tried.{Tried}
 
-abbrev pub is_item : Input → Bool
-is_item input.Item = true
-is_item _ = false
-
 abbrev pub is_name : Ingress → Bool
 is_name (ingress.Socket s) = false
 is_name (ingress.Dns host port) = true

@@ -1,10 +1,10 @@
 //! `RunningAttempt`, an attempt of a node's dialer.
-ghost use Rattle.std.specs.Prelude.{◌≡◌, ◌++◌, ◌∷◌, [], not, is_some, IfOk, OnOk};
+ghost use Rattle.std.specs.Prelude.{◌≡◌, ◌++◌, ◌∷◌, [], IfOk, OnOk};
 ghost use Rattle.p2p_log.specs.declared.queue.Queue.TheVariants as queue;
 ghost use Rattle.p2p_log.specs.declared.entry.Reply.TheVariants as reply;
 ghost use Rattle.p2p_log_rules.specs.Attempting.{link_item, resolve_by, answered_row};
 ghost use Rattle.p2p_gates.specs.AttemptTurns.{attempt_turn};
-ghost use Rattle.p2p_net_dialer.specs.Attempts.{is_item as item_test, is_name, running, took_names, with_told, link_told, resolved, answered, released_key, ended, tried, after_turn};
+ghost use Rattle.p2p_net_dialer.specs.Attempts.{is_name, running, took_names, with_told, link_told, resolved, answered, released_key, ended, tried, after_turn};
 
 use p2p_address::{Ingress, SocketAddr};
 use p2p_base::{Key, List};
@@ -35,16 +35,6 @@ pub struct Tried {
     pub row: Row,
     /// The key whose reservation it gave back.
     pub released: Option<Key>,
-}
-
-/// Whether a step took an item.
-fn is_item(took: Input) -> bool
-    ensures { result ≡ item_test took }
-{
-    match took {
-        Input::Item => true,
-        _ => false,
-    }
 }
 
 /// Whether an ingress is a name.
@@ -95,7 +85,7 @@ impl RunningAttempt {
         ensures row { OnOk result (row.new ≡ record row.old { takes = row.old.takes ++ (took_names took self.old.names).0 }) }
         ensures names { OnOk result (self.new ≡ record self.old { names = (took_names took self.old.names).1 }) }
     {
-        if is_item(took) {
+        if took.is_item() {
             if let Some(name) = self.names.pop() {
                 row.takes.push(name)?;
             }

@@ -6,19 +6,13 @@ use Rattle.p2p_tracker_mailbox.specs.declared.mailbox.Mailbox.{Mailbox}
 use Rattle.p2p_gates.specs.Handshaking.{Handshaking}
 use Rattle.p2p_gates.specs.HandshakeTurns.{handshake_turn}
 use Rattle.p2p_gates.specs.Listening.{Listening as Actor}
-use Rattle.p2p_gates.specs.Stepping.{Turn}
-use Rattle.p2p_gates.specs.declared.stepped.Input.{Input}
-use Rattle.p2p_gates.specs.declared.stepped.Input.TheVariants as input
+use Rattle.p2p_gates.specs.Stepping.{Turn, is_item}
 use Rattle.p2p_gates.specs.declared.stepped.Stepped.{Stepped}
 use Rattle.p2p_gates.specs.declared.stepped.Stepped.TheVariants as stepped
 use Rattle.p2p_net_queues.specs.Tables.{AreBut}
 use Rattle.p2p_net_listener.specs.declared.listening.Listening.{Listening}
 use Rattle.p2p_net_listener.specs.declared.handshake.HandshakeStep.{HandshakeStep}
 use Rattle.p2p_net_listener.specs.declared.handshake.HandshakeStep.TheVariants as handshake
-
-abbrev pub is_item : Input → Bool
-is_item input.Item = true
-is_item _ = false
 
 -- what was done, by whether the handshake has ended then
 abbrev pub served_by : Stepped Key → Bool → HandshakeStep

@@ -2,11 +2,11 @@
 ghost use Rattle.std.specs.Prelude.{◌≡◌, ◌<◌, true, is_some, IfOk, OnOk};
 ghost use Rattle.p2p_net_queues.specs.Tables as table;
 ghost use Rattle.p2p_net_queues.specs.Tables.{kept_with};
-ghost use Rattle.p2p_net_listener.specs.Handshaking.{is_item as item_test, served_by, freed_if, StepsHandshake};
+ghost use Rattle.p2p_net_listener.specs.Handshaking.{served_by, freed_if, StepsHandshake};
 
 use crate::listening::Listening;
 use p2p_base::Key;
-use p2p_gates::{Handshake, Input, Stepped};
+use p2p_gates::{Handshake, Stepped};
 use p2p_tracker_mailbox::Mailbox;
 use std::alloc::AllocError;
 
@@ -26,16 +26,6 @@ pub enum HandshakeStep {
     },
 }
 
-/// Whether a step took an item.
-fn is_item(took: Input) -> bool
-    ensures { result ≡ item_test took }
-{
-    match took {
-        Input::Item => true,
-        _ => false,
-    }
-}
-
 /// What was done, by whether the handshake has ended then.
 fn served(stepped: &Stepped<Key>, ended: bool) -> HandshakeStep
     ensures { result ≡ served_by stepped.now ended }
@@ -43,7 +33,7 @@ fn served(stepped: &Stepped<Key>, ended: bool) -> HandshakeStep
     match stepped {
         Stepped::Idle => HandshakeStep::Idle,
         Stepped::Served { took, .. } => HandshakeStep::Served {
-            took: is_item(*took),
+            took: took.is_item(),
             ended,
         },
     }

@@ -3,7 +3,7 @@ ghost use Rattle.std.specs.Prelude.{◌≡◌, ◌++◌, IfOk, OnOk};
 ghost use Rattle.p2p_log_rules.specs.Effect.{copies_end};
 ghost use Rattle.p2p_net_queues.specs.Rows.{item_ends};
 
-use crate::deque::Deque;
+use crate::Deque;
 use p2p_base::{Key, List};
 use p2p_log::{End, Outcome};
 use p2p_log_rules::Row;

@@ -1,8 +1,7 @@
-//! What the queues of nodes and links are made of: deques, tables of deques, and the rows that record what moves.
+//! What the queues of nodes and links are made of: tables of deques, boards of names, and the rows that record what moves.
 #![tactic(auto)]
 
 pub mod board;
-pub mod deque;
 pub mod ending;
 pub mod lines;
 pub mod rows;
@@ -10,8 +9,8 @@ pub mod table;
 pub mod turn;
 
 pub use board::Board;
-pub use deque::Deque;
 pub use ending::{end_copies, end_items};
+pub use p2p_base::Deque;
 pub use rows::{only, taking};
 pub use table::Table;
 pub use turn::Turn;

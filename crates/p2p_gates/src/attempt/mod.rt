@@ -10,17 +10,15 @@ ghost use Rattle.p2p_gates.specs.declared.stepped.Input.TheVariants as input;
 mod item;
 
 use crate::config::Config;
-use crate::line::Line;
 use crate::stepped::{Input, Left, Outcome, Put, Stepped};
 pub use item::AttemptItem;
 use p2p_address::{Ingress, SocketAddr, resolve_filtered};
-use p2p_base::{List, NoRoom, PublicKey};
+use p2p_base::{Deque, List, NoRoom, PublicKey};
 use p2p_runtime::Draws;
 use p2p_tracker_directory::Reservation;
 use p2p_tracker_mailbox::Mailbox;
 use std::alloc::{AllocError, Global};
 use std::marker::Model;
-use std::mem;
 
 /// A dial that was granted, until it ends: by a reservation that is ready to spawn, or without a connection.
 ///
@@ -36,7 +34,7 @@ pub struct Attempt<P> {
     ingress: Ingress,
     address: Option<SocketAddr>,
     deadline: u128,
-    items: Line<AttemptItem>,
+    items: Deque<AttemptItem>,
     allow_private_ips: bool,
     handshake_timeout: u64,
     has_failed: bool,
@@ -107,7 +105,7 @@ impl<P: PublicKey> Attempt<P> {
             ingress,
             address,
             deadline: now as u128 + cfg.dial_timeout as u128,
-            items: Line::none(alloc),
+            items: Deque::new(alloc),
             allow_private_ips: cfg.allow_private_ips,
             handshake_timeout: cfg.handshake_timeout,
             has_failed: false,
@@ -150,7 +148,7 @@ impl<P: PublicKey> Attempt<P> {
         ensures memory { OnErr result (self.new ≡ self.old) }
     {
         if self.reservation.is_some() {
-            self.items.put(item)?;
+            self.items.push(item)?;
         }
         Ok(())
     }
@@ -197,7 +195,7 @@ impl<P: PublicKey> Attempt<P> {
         if self.reservation.is_none() {
             return Ok(Stepped::Idle);
         }
-        match self.items.take() {
+        match self.items.pop() {
             Some(item) => self.serve(way, item, now, seed),
             None => self.wait(way, now),
         }
@@ -321,7 +319,7 @@ impl<P: PublicKey> Attempt<P> {
         ensures answer { result ≡ stepped.Served took put (left.Attempt self.old.items) outcome }
         ensures after { self.new ≡ record self.old { items = [] } }
     {
-        let items = mem::replace(&mut self.items, Line::none(self.alloc));
+        let items = self.items.take_all(self.alloc);
         Stepped::Served {
             took,
             put,

@@ -18,10 +18,9 @@ mod quotas;
 use crate::arrival::Arrival;
 use crate::config::Config;
 use crate::handshake::Handshake;
-use crate::line::Line;
 use crate::stepped::{Input, Left, Outcome, Put, Stepped};
 use p2p_address::{IpAddr, SocketAddr, is_global};
-use p2p_base::PublicKey;
+use p2p_base::{Deque, PublicKey};
 use p2p_gates_rules::Reply;
 use p2p_runtime::Limiter;
 use p2p_tracker_mailbox::Mailbox;
@@ -45,7 +44,7 @@ pub struct Listener<P> {
     allow_private_ips: bool,
     bypass_ip_check: bool,
     handshake_timeout: u64,
-    arrivals: Line<Arrival<P>>,
+    arrivals: Deque<Arrival<P>>,
     registered: BTreeSet<IpAddr>,
     quotas: Quotas,
     places: Limiter,
@@ -110,7 +109,7 @@ impl<P: PublicKey> Listener<P> {
             allow_private_ips: cfg.allow_private_ips,
             bypass_ip_check: cfg.bypass_ip_check,
             handshake_timeout: cfg.handshake_timeout,
-            arrivals: Line::none(alloc),
+            arrivals: Deque::new(alloc),
             registered: BTreeSet::new(alloc),
             quotas,
             places: Limiter::new(cfg.max_concurrent_handshakes),
@@ -126,7 +125,7 @@ impl<P: PublicKey> Listener<P> {
             (self.new ≡ with_arrival self.old (record { from = from; key = key; link = link })) }
         ensures memory { OnErr result (self.new ≡ self.old) }
     {
-        self.arrivals.put(Arrival { from, key, link })
+        self.arrivals.push(Arrival { from, key, link })
     }
 
     /// Frees the place of a handshake that has ended. It takes no memory. A step that began a handshake has taken one.
@@ -231,7 +230,7 @@ impl<P: PublicKey> Listener<P> {
         ensures rest { OnOk result (self.new ≡ with_rest self.old self.new) }
         ensures rates { OnOk result (KeepsRates self.old.quotas self.new.quotas) }
     {
-        match self.arrivals.take() {
+        match self.arrivals.pop() {
             Some(arrival) => self.pass(way, name, now, arrival),
             None => Ok(Stepped::Idle),
         }

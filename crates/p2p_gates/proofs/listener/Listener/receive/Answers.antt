@@ -22,5 +22,5 @@ returns-in-Some-clause-answer g c = λ k s.
     (λ x. x ≡ (line_turn l k c.args.way.now c.args.name c.args.now (slice_get l.arrivals 0)).stepped)) c.self.view_is
     (subst (λ (r : Option (Arrival g.row.P.Denot)). IfOk c.pass.result
     (λ x. x ≡ (line_turn Before k c.args.way.now c.args.name c.args.now r).stepped))
-    (sym c.in-Some.is ∙ c.take.ensures.value)
+    (sym c.in-Some.is ∙ c.pop.ensures.first)
     (c.pass.ensures.answer k (record { addresses = kept.addresses; passed = kept.passed })))

@@ -1,5 +1,5 @@
 //! `Deque`, a queue that contracts see as the plain list of its items.
-ghost use Rattle.std.specs.Prelude.{◌≡◌, ℕ, [], ◌∷◌, ◌++◌, length, drop, slice_get, OnOk};
+ghost use Rattle.std.specs.Prelude.{◌≡◌, [], ◌∷◌, ◌++◌, length, drop, slice_get, OnOk, OnErr};
 ghost use Rattle.std.specs.Option.{option_copied};
 ghost use Rattle.std.specs.List.{remove};
 
@@ -36,14 +36,17 @@ impl<T: Drop> Deque<T> {
     }
 
     /// Puts an item last.
+    ///
+    /// `Err` only where there is no memory for it: it is dropped then, and the queue stays as it was.
     pub fn push(&mut self, item: T) -> Result<(), AllocError>
-        ensures { OnOk result (self.new ≡ self.old ++ item ∷ []) }
+        ensures after { OnOk result (self.new ≡ self.old ++ item ∷ []) }
+        ensures memory { OnErr result (self.new ≡ self.old) }
     {
         self.items.push_back(item)?;
         Ok(())
     }
 
-    /// Takes the oldest item.
+    /// Takes the oldest item. `None` exactly where there is none.
     pub fn pop(&mut self) -> Option<T>
         ensures first { result ≡ slice_get self.old 0 }
         ensures rest { self.new ≡ drop 1 self.old }
