@@ -53,6 +53,10 @@ module _ {T : Type 0} where
       (if q.closed then q.items
       else (if has_room q then q.items ++ message ∷ [] else overflow_items keep q message))
 
+  -- the mailbox after `append` of messages
+  abbrev pub appended_to : Queue T → List T → Queue T
+  appended_to q messages = with_items q (if q.closed then q.items else q.items ++ messages)
+
   -- `enqueue` keeps a message
   abbrev pub keeps : Keep → Queue T → Bool
   keeps Refuse q = not q.closed && has_room q

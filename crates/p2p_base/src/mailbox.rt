@@ -1,6 +1,6 @@
 //! `Mailbox`, a queue of messages with a number of ready places and an overflow.
 ghost use Rattle.std.specs.Prelude.{◌≡◌, ◌==◌, ◌≤◌, ◌∷◌, ◌++◌, [], length, take, IfOk, IfErr, OnOk, OnErr, IsTrue};
-ghost use Rattle.p2p_base.specs.Queue.{empty_queue, enqueue_answer, enqueued, keeps, oldest, without_oldest, closed_queue};
+ghost use Rattle.p2p_base.specs.Queue.{empty_queue, enqueue_answer, enqueued, appended_to, keeps, oldest, without_oldest, closed_queue};
 
 use crate::{Keep, NoRoom, Sent, UnreliablePolicy};
 use std::alloc::{AllocError, Global};
@@ -87,6 +87,23 @@ impl<T> Mailbox<T> {
 }
 
 impl<T: Drop> Mailbox<T> {
+    /// Moves `messages`, which no full mailbox refuses, behind what waits, in order: where the ready places are full, into the
+    /// overflow. A closed mailbox drops them.
+    ///
+    /// `Err` only where there is no memory for all of them, and nothing has moved then.
+    pub fn append(&mut self, messages: &mut VecDeque<T>) -> Result<(), AllocError>
+        ensures after { OnOk result (self.new ≡ appended_to self.old messages.old.items) }
+        ensures taken { OnOk result (messages.new.items ≡ []) }
+        ensures memory { OnErr result (self.new ≡ self.old) }
+        ensures left { OnErr result (messages.new.items ≡ messages.old.items) }
+    {
+        if self.closed {
+            messages.clear();
+            return Ok(());
+        }
+        self.messages.append(messages)
+    }
+
     /// Closes the mailbox and drops what waits.
     pub fn close(&mut self)
         ensures { self.new ≡ closed_queue self.old }

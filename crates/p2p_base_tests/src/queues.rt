@@ -3,6 +3,7 @@ use p2p_base::{
     Feedback, Keep, Mailbox, NoRoom, Policy, Pushed, Ring, Sent, Unreliable, UnreliablePolicy,
 };
 use std::alloc::{AllocError, Global};
+use std::collections::VecDeque;
 
 #[derive(Clone, Copy, PartialEq)]
 struct Note(Keep, u8);
@@ -20,6 +21,8 @@ impl UnreliablePolicy for Note {
 enum Do {
     // Puts a note.
     Put(Note),
+    // Puts two notes at once.
+    Append(Note, Note),
     // Takes a note.
     Take,
     Close,
@@ -36,6 +39,8 @@ enum Seen {
     // A note that is handed back.
     Rejected(Note),
     Closed(Note),
+    // How many notes are left to him who puts several at once.
+    Left(usize),
     // The note that is taken.
     Taken(Option<Note>),
     Sizes(usize, usize),
@@ -52,10 +57,22 @@ fn put_note(mailbox: &mut Mailbox<Note>, note: Note) -> Result<Seen, AllocError>
     }
 }
 
+// Puts these notes at once.
+fn append_notes(
+    alloc: Global,
+    mailbox: &mut Mailbox<Note>,
+    notes: &[Note],
+) -> Result<Seen, AllocError> {
+    let mut notes = VecDeque::from_vec(Vec::from_slice(alloc, notes)?);
+    mailbox.append(&mut notes)?;
+    Ok(Seen::Left(notes.len()))
+}
+
 // Does one step of a script.
-fn act(mailbox: &mut Mailbox<Note>, act: Do) -> Result<Seen, AllocError> {
+fn act(alloc: Global, mailbox: &mut Mailbox<Note>, act: Do) -> Result<Seen, AllocError> {
     match act {
         Do::Put(note) => put_note(mailbox, note),
+        Do::Append(first, second) => append_notes(alloc, mailbox, &[first, second]),
         Do::Take => Ok(Seen::Taken(mailbox.take())),
         Do::Close => {
             mailbox.close();
@@ -70,7 +87,7 @@ fn act(mailbox: &mut Mailbox<Note>, act: Do) -> Result<Seen, AllocError> {
 fn first_other(alloc: Global, script: &[(Do, Seen)]) -> Result<Option<usize>, AllocError> {
     let mut mailbox = Mailbox::new(alloc, 1)?;
     for (i, step) in script.iter().enumerate() {
-        if act(&mut mailbox, step.0)? != step.1 {
+        if act(alloc, &mut mailbox, step.0)? != step.1 {
             return Ok(Some(i));
         }
     }
@@ -100,9 +117,31 @@ fn a_mailbox_overflows_by_policy(rt: HostRuntime) {
     assert_eq!(rt; first_other(rt.alloc(), OVERFLOW), Ok(None));
 }
 
+const APPENDED: &[(Do, Seen)] = &[
+    (Do::Put(Note(Keep::Refuse, 0)), Seen::Kept),
+    (
+        Do::Append(Note(Keep::Append, 1), Note(Keep::Append, 2)),
+        Seen::Left(0),
+    ),
+    (Do::Measure, Seen::Sizes(3, 1)),
+    (Do::Take, Seen::Taken(Some(Note(Keep::Refuse, 0)))),
+    (Do::Take, Seen::Taken(Some(Note(Keep::Append, 1)))),
+    (Do::Take, Seen::Taken(Some(Note(Keep::Append, 2)))),
+    (Do::Take, Seen::Taken(None)),
+];
+
+#[test]
+fn messages_are_appended_beyond_the_ready_places(rt: HostRuntime) {
+    assert_eq!(rt; first_other(rt.alloc(), APPENDED), Ok(None));
+}
+
 const CLOSED: &[(Do, Seen)] = &[
     (Do::Put(Note(Keep::Append, 9)), Seen::Kept),
     (Do::Close, Seen::Done),
+    (
+        Do::Append(Note(Keep::Append, 7), Note(Keep::Append, 8)),
+        Seen::Left(0),
+    ),
     (
         Do::Put(Note(Keep::Append, 9)),
         Seen::Closed(Note(Keep::Append, 9)),

@@ -2,7 +2,8 @@
 ghost use Rattle.std.specs.Prelude.{◌≡◌, ◌==◌, ◌≤◌, ◌+◌, ◌++◌, false, length, map, IfOk, IfErr, OnOk, OnErr};
 ghost use Rattle.std.specs.VecDeque.{deque_len, deque_capacity};
 ghost use Rattle.p2p_base.specs.Queue.{empty_queue, has_room, oldest, without_oldest};
-ghost use Rattle.p2p_router.specs.Mailbox.{appended, feedback_of, content_told, with_content, with_subscriptions};
+ghost use Rattle.p2p_base.specs.declared.policy.Keep.TheVariants.{Append};
+ghost use Rattle.p2p_router.specs.Mailbox.{keep_of_message, appended, feedback_of, content_told, with_content, with_subscriptions};
 ghost use Rattle.p2p_router.specs.declared.message.Message.TheVariants as message;
 
 use crate::Message;
@@ -13,9 +14,6 @@ use std::alloc::{AllocError, Global};
 use std::collections::VecDeque;
 use std::marker::Model;
 
-/// How many places `Mailbox::new` makes at once, or as many as the size where that is less.
-const FIRST_PLACES: usize = 4;
-
 /// The messages that wait for the router. The oldest `size` of them stand in the ready places, and the others in the overflow.
 ///
 /// Content enters only where a ready place is free; the other messages are never refused.
@@ -23,20 +21,19 @@ const FIRST_PLACES: usize = 4;
 /// Ports `Mailbox` of commonware-p2p's router.
 #[derive(Drop)]
 pub struct Mailbox<P> {
-    messages: VecDeque<Message<P>>,
-    size: usize,
+    messages: p2p_base::Mailbox<Message<P>>,
 }
 
 impl<P> Model for Mailbox<P> {
-    ghost use Rattle.std.specs.Prelude.{◌≤◌, false};
+    ghost use Rattle.std.specs.Prelude.{◌≡◌, false};
     ghost use Rattle.p2p_base.specs.Queue.{Queue};
     ghost use Rattle.p2p_router.specs.declared.message.Message.{Message};
 
     ghost Value = { Queue (Message P) };
 
-    ghost view = { λ m. record { items = m.messages.items; capacity = m.size; closed = false } };
+    ghost view = { λ m. m.messages };
 
-    ghost invariant = { λ m. 1 ≤ m.size };
+    ghost invariant = { λ m. m.messages.closed ≡ false };
 }
 
 impl<P> Mailbox<P> {
@@ -45,8 +42,8 @@ impl<P> Mailbox<P> {
         requires { 1 ≤ size }
         ensures { IfOk result (λ m. m ≡ empty_queue size) }
     {
-        let messages = VecDeque::with_capacity(alloc, size.min(FIRST_PLACES))?;
-        Ok(Mailbox { messages, size })
+        let messages = p2p_base::Mailbox::new(alloc, size)?;
+        Ok(Mailbox { messages })
     }
 
     /// How many messages wait.
@@ -69,14 +66,14 @@ impl<P> Mailbox<P> {
         ensures at_least_one { 1 ≤ result }
         ensures open { self.now.closed ≡ false }
     {
-        self.size
+        self.messages.capacity()
     }
 
     // Whether a ready place is free.
     fn has_room(&self) -> bool
         ensures { result ≡ has_room self.now }
     {
-        self.messages.len() < self.size
+        self.messages.len() < self.messages.capacity()
     }
 
     // What a message that is never refused is told.
@@ -95,11 +92,25 @@ impl<P> Mailbox<P> {
         ensures value { result ≡ oldest self.old }
         ensures after { self.new ≡ without_oldest self.old }
     {
-        self.messages.pop_front()
+        self.messages.take()
     }
 }
 
 impl<P: Drop> Mailbox<P> {
+    // Puts a message last that is never refused.
+    fn put(&mut self, message: Message<P>) -> Result<Feedback, NoRoom<Message<P>>>
+        requires { keep_of_message message ≡ Append }
+        ensures answer { IfOk result (λ f. f ≡ feedback_of self.old) }
+        ensures after { OnOk result (self.new ≡ appended self.old message) }
+        ensures no_room { IfErr result (λ e. (e.0 ≡ message) × (self.new ≡ self.old)) }
+    {
+        let feedback = self.feedback();
+        match self.messages.enqueue(message) {
+            Ok(_) => Ok(feedback),
+            Err(failed) => Err(failed),
+        }
+    }
+
     /// Tells the router that connection `conn` of a peer is ready, and takes messages through `relay`. It is never refused.
     ///
     /// `NoRoom` hands the relay back where there is no memory for the message, and the mailbox stays as it was.
@@ -115,13 +126,15 @@ impl<P: Drop> Mailbox<P> {
         ensures after { OnOk result (self.new ≡ appended self.old (message.Ready peer relay conn)) }
         ensures no_room { IfErr result (λ e. (e.0 ≡ relay) × (self.new ≡ self.old)) }
     {
-        let feedback = self.feedback();
-        let Ok(()) = self.messages.reserve(1) else {
-            return Err(NoRoom(relay));
-        };
-        self.messages
-            .push_back_reserved(Message::Ready { peer, relay, conn });
-        Ok(feedback)
+        match self.put(Message::Ready { peer, relay, conn }) {
+            Ok(feedback) => Ok(feedback),
+            Err(NoRoom(message)) => {
+                let Message::Ready { relay, .. } = message else {
+                    unreachable!()
+                };
+                Err(NoRoom(relay))
+            }
+        }
     }
 
     /// Tells the router that the connection of a peer is gone. It is never refused.
@@ -134,10 +147,10 @@ impl<P: Drop> Mailbox<P> {
         ensures after { OnOk result (self.new ≡ appended self.old (message.Release peer)) }
         ensures memory { OnErr result (self.new ≡ self.old) }
     {
-        let feedback = self.feedback();
-        self.messages.reserve(1)?;
-        self.messages.push_back_reserved(Message::Release { peer });
-        Ok(feedback)
+        match self.put(Message::Release { peer }) {
+            Ok(feedback) => Ok(feedback),
+            Err(_) => Err(AllocError),
+        }
     }
 
     /// Hands in a frame for peers. It is refused where no ready place is free.
@@ -153,16 +166,15 @@ impl<P: Drop> Mailbox<P> {
         ensures after { OnOk result (self.new ≡ with_content self.old (message.Content recipients encoded priority)) }
         ensures memory { OnErr result (self.new ≡ self.old) }
     {
-        if !self.has_room() {
-            return Ok(Unreliable::Rejected);
-        }
-        self.messages.reserve(1)?;
-        self.messages.push_back_reserved(Message::Content {
+        let message = Message::Content {
             recipients,
             encoded,
             priority,
-        });
-        Ok(Unreliable::Outcome(Feedback::Ok))
+        };
+        match self.messages.enqueue(message) {
+            Ok(sent) => Ok(sent.outcome()),
+            Err(_) => Err(AllocError),
+        }
     }
 
     // Asks for the lists of a subscription. It is never refused.
@@ -170,20 +182,24 @@ impl<P: Drop> Mailbox<P> {
         ensures after { OnOk result (self.new ≡ appended self.old (message.SubscribePeers subscription)) }
         ensures memory { OnErr result (self.new ≡ self.old) }
     {
-        self.messages.reserve(1)?;
-        self.messages
-            .push_back_reserved(Message::SubscribePeers { subscription });
-        Ok(())
+        match self.put(Message::SubscribePeers { subscription }) {
+            Ok(_) => Ok(()),
+            Err(_) => Err(AllocError),
+        }
     }
 
     // Asks for the lists of all these subscriptions, or of none where memory runs out.
-    pub(crate) fn subscribe_all(&mut self, subscriptions: &[u64]) -> Result<(), AllocError>
+    pub(crate) fn subscribe_all(
+        &mut self,
+        alloc: Global,
+        subscriptions: &[u64],
+    ) -> Result<(), AllocError>
         ensures after { OnOk result (self.new ≡ with_subscriptions self.old subscriptions.now) }
         ensures memory { OnErr result (self.new ≡ self.old) }
     {
-        self.messages.reserve(subscriptions.len())?;
-        put_all(&mut self.messages, subscriptions);
-        Ok(())
+        let mut messages = VecDeque::with_capacity(alloc, subscriptions.len())?;
+        put_all(&mut messages, subscriptions);
+        self.messages.append(&mut messages)
     }
 }
 

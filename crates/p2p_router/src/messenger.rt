@@ -109,8 +109,9 @@ impl<P: Drop> Messenger<P> {
         ensures after { OnOk result (self.new ≡ bound_to self.old mailbox) }
         ensures no_room { IfErr result (λ e. (e.0 ≡ mailbox) × (self.new ≡ self.old)) }
     {
+        let alloc = *self.waiting.allocator();
         let mut mailbox = mailbox;
-        if mailbox.subscribe_all(&self.waiting).is_err() {
+        if mailbox.subscribe_all(alloc, &self.waiting).is_err() {
             return Err(NoRoom(mailbox));
         }
         self.waiting.clear();
