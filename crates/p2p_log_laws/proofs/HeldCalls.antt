@@ -1,5 +1,5 @@
 -- By the calls of a node's tracker: which of them hold a key, and which leave it as it was.
-use Rattle.std.proofs.Common.{◌≡◌, ℕ, Bool, true, false, cond, List, [], ◌∷◌, ◌++◌, Option, Some, None, refl, ap, sym, ◌∙◌, arith, append_assoc, append-nil, eqb-true}
+use Rattle.std.proofs.Common.{◌≡◌, ℕ, Bool, true, false, cond, List, [], ◌∷◌, Option, Some, None, refl, ap, sym, ◌∙◌, arith, eqb-true}
 use Rattle.std.specs.Prelude.{◌==◌, ◌&&◌, not, nat_lt}
 use Rattle.std.specs.BTreeMap.{is_at}
 use Rattle.std.specs.Ordering.{nat_cmp, is_eq}
@@ -20,31 +20,17 @@ use Rattle.p2p_tracker_calls.specs.Overwrites.{overwritten}
 use Rattle.p2p_tracker_calls.specs.Rules.{Rules}
 use Rattle.p2p_tracker_calls.specs.Sets.{is_primary, is_tracked}
 use Rattle.p2p_log.specs.declared.config.Config.{Config}
-use Rattle.p2p_log.specs.declared.entry.Entry.{Entry}
 use Rattle.p2p_log.specs.declared.asked.Asked.TheVariants as ask
 use Rattle.p2p_log.specs.declared.event.Act.{Act}
 use Rattle.p2p_log.specs.declared.event.Act.TheVariants as act
-use Rattle.p2p_log_rules.specs.Tracking.{key_cmp, asked_calls, calls_by, calls_from, calls_of}
+use Rattle.p2p_log_rules.specs.Facts.{state_from}
+use Rattle.p2p_log_rules.specs.Tracking.{key_cmp, asked_calls, calls_of}
 use Rattle.p2p_log_rules.specs.TrackerPuts.{dial_grant}
 use Rattle.p2p_log_laws.specs.Grants.{held_after}
 
--- ---- one more entry
-
-calls_from-append : (configs : List Config) (n : ℕ) (before es : List Entry) (e : Entry) (calls : List (Call Key))
-    → calls_from configs n before (es ++ e ∷ []) calls ≡ calls_by configs n (before ++ es) e (calls_from configs n before es calls)
-unfolding calls_from
-calls_from-append configs n before [] e calls = ap (λ b. calls_by configs n b e calls) (sym (append-nil before))
-calls_from-append configs n before (d ∷ es) e calls =
-    calls_from-append configs n (before ++ d ∷ []) es e (calls_by configs n before d calls)
-    ∙ ap (λ b. calls_by configs n b e (calls_from configs n (before ++ d ∷ []) es (calls_by configs n before d calls))) (append_assoc before (d ∷ []) es)
-
-pub calls_of-append : (configs : List Config) (log : List Entry) (e : Entry) (n : ℕ) → calls_of configs (log ++ e ∷ []) n ≡ calls_by configs n log e (calls_of configs log n)
-unfolding calls_of
-calls_of-append configs log e n = calls_from-append configs n [] log e []
-
 -- before the first entry no key is held
 pub held_none : (configs : List Config) (n : ℕ) (key : Key) → is_held key_cmp (calls_of configs [] n) key ≡ false
-unfolding calls_of calls_from is_held
+unfolding calls_of state_from is_held
 held_none configs n key = refl
 
 -- ---- calls that leave a key as it was

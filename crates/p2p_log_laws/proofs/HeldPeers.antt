@@ -13,7 +13,8 @@ use Rattle.p2p_log_rules.specs.Lawful.{IsLawful}
 use Rattle.p2p_log_rules.specs.Tracking.{key_cmp, rules_at, calls_of}
 use Rattle.p2p_log_laws.specs.Grants.{Granting, held_after}
 use Rattle.p2p_log_laws.specs.NodeGrants.{granting}
-use Rattle.p2p_log_laws.proofs.HeldCalls.{calls_of-append, held_none}
+use Rattle.p2p_log_laws.proofs.HeldCalls.{held_none}
+use Rattle.p2p_log_rules.proofs.Calls.{calls_of-append}
 use Rattle.p2p_log_laws.proofs.NodeWeighs.{Weighs, each_weighs}
 use Rattle.p2p_log_laws.proofs.Prefixes.{at_end}
 

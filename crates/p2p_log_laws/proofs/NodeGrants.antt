@@ -24,7 +24,8 @@ use Rattle.p2p_log_rules.specs.Tracking.{key_cmp, calls_of}
 use Rattle.p2p_log_rules.proofs.Moves.{one_taken}
 use Rattle.p2p_log_laws.specs.Grants.{one, Granting, turn_by, held_after, is_held, is_stopped, IsTurn, EachIsTurn}
 use Rattle.p2p_log_laws.specs.NodeGrants.{count_below, put_of, releases_key, puts_grant, puts_release, granting}
-use Rattle.p2p_log_laws.proofs.HeldCalls.{calls_of-append, held_none}
+use Rattle.p2p_log_laws.proofs.HeldCalls.{held_none}
+use Rattle.p2p_log_rules.proofs.Calls.{calls_of-append}
 use Rattle.p2p_log_laws.proofs.NodeWeighs.{Weighs, each_weighs}
 use Rattle.p2p_log_laws.proofs.Prefixes.{at_each, at_end, entry_due}
 use Rattle.p2p_log_laws.proofs.Turns.{held_next, one_holder}

@@ -1,4 +1,5 @@
 pub mod Attempts
+pub mod Calls
 pub mod Facts
 pub mod Handshakes
 pub mod Lawful

@@ -24,17 +24,19 @@ use Rattle.p2p_log_rules.specs.declared.row.Row.{Row}
 use Rattle.p2p_log_rules.specs.Facts.{is_up, key_at, taken, state_from}
 use Rattle.p2p_log_rules.specs.Rows.{only}
 
--- how long a dial may take, and from its link on; and whether it may reach addresses that aren't global
+-- how long a dial may take, and how long the keys of a link may be exchanged; and whether a dial may reach addresses that aren't
+-- global
 pub record DialRules : Type 0 where
   pub timeout : ℕ
   pub handshake_timeout : ℕ
   pub private : Bool
 
+abbrev pub dial_rules_in : Option Config → DialRules
+dial_rules_in None = record { timeout = 0; handshake_timeout = 0; private = false }
+dial_rules_in (Some c) = record { timeout = c.dial_timeout; handshake_timeout = c.handshake_timeout; private = c.allow_private_ips }
+
 abbrev pub dial_rules_at : List Config → ℕ → DialRules
-dial_rules_at configs n = elim (slice_get configs n) [
-  | None ↦ record { timeout = 0; handshake_timeout = 0; private = false }
-  | Some c ↦ record { timeout = c.dial_timeout; handshake_timeout = c.handshake_timeout; private = c.allow_private_ips }
-]
+dial_rules_at configs n = dial_rules_in (slice_get configs n)
 
 -- an attempt that has not ended: who is reserved for it, and where it dials; the address that it dials, once there is one; the moment at
 -- which it gives up; and whether it was told addresses, and whether its dial was answered, with a link or a refusal

@@ -37,6 +37,14 @@ has_started events n = list_any (λ v. starts n v.act) events
 abbrev pub is_up : List Entry → ℕ → Bool
 is_up log n = has_started (events_of log) n
 
+abbrev pub moment_of : Option Entry → ℕ
+moment_of None = 0
+moment_of (Some e) = e.event.at
+
+-- the moment of the entry of this name
+abbrev pub moment_at : List Entry → ℕ → ℕ
+moment_at log name = moment_of (slice_get log name)
+
 -- ---- channels
 
 -- the retained peers' bursts

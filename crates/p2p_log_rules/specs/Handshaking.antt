@@ -1,5 +1,5 @@
 -- The step of a handshake, by the log: until when its keys may be exchanged, and its row.
-use Rattle.std.specs.Prelude.{ℕ, ◌+◌, true, cond, nat_le, List, [], ◌∷◌, Option, Some, None, slice_get}
+use Rattle.std.specs.Prelude.{ℕ, ◌+◌, true, cond, nat_le, List, [], ◌∷◌}
 use Rattle.p2p_log.specs.declared.config.Config.{Config}
 use Rattle.p2p_log.specs.declared.queue.Queue.TheVariants as queue
 use Rattle.p2p_log.specs.declared.item.Item.{Item}
@@ -9,25 +9,14 @@ use Rattle.p2p_log.specs.declared.entry.Entry.{Entry}
 use Rattle.p2p_log.specs.declared.entry.Reply.TheVariants as reply
 use Rattle.p2p_log.specs.Lines.{name_of, line}
 use Rattle.p2p_log_rules.specs.declared.row.Row.{Row}
-use Rattle.p2p_log_rules.specs.Attempting.{left_ends, gone_on_row}
+use Rattle.p2p_log_rules.specs.Attempting.{dial_rules_at, left_ends, gone_on_row}
+use Rattle.p2p_log_rules.specs.Facts.{moment_at}
 use Rattle.p2p_log_rules.specs.Handshakes.{is_handshaking}
 use Rattle.p2p_log_rules.specs.Rows.{only}
 
-abbrev pub moment_of : Option Entry → ℕ
-moment_of None = 0
-moment_of (Some e) = e.event.at
-
--- the moment of the entry of this name
-abbrev pub moment_at : List Entry → ℕ → ℕ
-moment_at log name = moment_of (slice_get log name)
-
--- how long a node's handshakes may take until their keys are exchanged
-abbrev pub handshake_timeout_at : List Config → ℕ → ℕ
-handshake_timeout_at configs n = elim (slice_get configs n) [ None ↦ 0 | Some c ↦ c.handshake_timeout ]
-
 -- the moment at which a handshake ends, where its keys were not exchanged
 abbrev pub handshake_deadline : List Config → List Entry → ℕ → ℕ → ℕ
-handshake_deadline configs log name n = moment_at log name + handshake_timeout_at configs n
+handshake_deadline configs log name n = moment_at log name + (dial_rules_at configs n).handshake_timeout
 
 -- it ends, once it took this: what waits for it ends
 abbrev pub ended_row : List (ℕ × ℕ) → List Envelope → Row

@@ -1,5 +1,5 @@
 -- What stands of a node's tracker, by the log: the calls of its directory, and who subscribed.
-use Rattle.std.specs.Prelude.{ℕ, Bool, true, false, ◌==◌, cond, List, [], ◌∷◌, ◌++◌, flat_map, Option, Some, None, slice_get}
+use Rattle.std.specs.Prelude.{ℕ, Bool, true, false, ◌==◌, cond, List, [], ◌∷◌, flat_map, Option, Some, None, slice_get}
 use Rattle.std.specs.List.{list_any}
 use Rattle.std.specs.Ordering.{nat_cmp}
 use Rattle.std.specs.declared.cmp.Ordering.{Ordering}
@@ -19,7 +19,7 @@ use Rattle.p2p_log.specs.declared.entry.Reply.TheVariants as reply
 use Rattle.p2p_log.specs.declared.asked.Asked.TheVariants as ask
 use Rattle.p2p_log.specs.declared.event.Act.{Act}
 use Rattle.p2p_log.specs.declared.event.Act.TheVariants as act
-use Rattle.p2p_log_rules.specs.Facts.{taken, history}
+use Rattle.p2p_log_rules.specs.Facts.{taken, state_from, history}
 
 -- keys in their order
 abbrev pub key_cmp : Key → Key → Ordering
@@ -87,13 +87,9 @@ calls_by configs n before e calls =
     (step_calls before e.reply (taken before e) e.event.at (jitter_of (rules_at configs n).cooldown e.event.seed) (list_any grants_dial e.puts) calls)
     calls
 
-unfoldable pub calls_from : List Config → ℕ → List Entry → List Entry → List (Call Key) → List (Call Key)
-calls_from configs n before [] calls = calls
-calls_from configs n before (e ∷ es) calls = calls_from configs n (before ++ e ∷ []) es (calls_by configs n before e calls)
-
 -- the calls of the directory of a node's tracker
 unfoldable pub calls_of : List Config → List Entry → ℕ → List (Call Key)
-calls_of configs log n = calls_from configs n [] log []
+calls_of configs log n = state_from (calls_by configs n) [] log []
 
 -- ---- who subscribed, in the order in which the tracker took it
 

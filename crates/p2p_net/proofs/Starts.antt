@@ -9,6 +9,7 @@ use Rattle.std.proofs.lemmas.Bool.Decides.{nat_tests}
 use Rattle.p2p_log.specs.declared.config.Config.{Config}
 use Rattle.p2p_log.specs.declared.queue.Queue.TheVariants as queue
 use Rattle.p2p_log.specs.declared.queue.Side.TheVariants as side
+use Rattle.p2p_log_rules.specs.Attempting.{dial_rules_in}
 use Rattle.p2p_log_rules.specs.Facts.{registered, history_from, half_at, is_running, is_joined}
 use Rattle.p2p_log_rules.specs.Effect.{mailbox_size_at}
 use Rattle.p2p_log_rules.specs.Listening.{no_gates, gate_rules_of}
@@ -112,7 +113,7 @@ node_new configs n x config retained works small number stands none ch cs tr di 
     | place.listener ↦
         listener_new configs n (gates_of x.config) x.listening li (sym (ap (λ (o : Option Config). elim o [ None ↦ no_gates | Some c ↦ gate_rules_of c ]) config))
         (sym (ap (λ (o : Option Config). elim o [ None ↦ 0 | Some c ↦ c.max_concurrent_handshakes ]) config))
-        (sym (ap (λ (o : Option Config). elim o [ None ↦ 0 | Some c ↦ c.handshake_timeout ]) config))
+        (sym (ap (λ (o : Option Config). (dial_rules_in o).handshake_timeout) config))
   ];
 }
 

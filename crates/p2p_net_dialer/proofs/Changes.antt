@@ -22,7 +22,7 @@ use Rattle.p2p_log.specs.declared.entry.Reply.{Reply}
 use Rattle.p2p_log.specs.declared.event.Act.{Act}
 use Rattle.p2p_log.specs.declared.event.Act.TheVariants as act
 use Rattle.p2p_log.specs.Lines.{live_from, line}
-use Rattle.p2p_log_rules.specs.Attempting.{Attempt, DialRules, dial_rules_at, socket_of, begun_of, stepped_attempt, told_addresses, told_answer, with_attempt, with_begun, and_then, acted_attempts, attempts_by, attempts_of}
+use Rattle.p2p_log_rules.specs.Attempting.{Attempt, DialRules, dial_rules_in, dial_rules_at, socket_of, begun_of, stepped_attempt, told_addresses, told_answer, with_attempt, with_begun, and_then, acted_attempts, attempts_by, attempts_of}
 use Rattle.p2p_log_rules.specs.Facts.{events_of, starts, has_started, is_up, taken, state_from}
 use Rattle.p2p_log_rules.specs.Dialing.{Pace, pace_at, Dials, new_dials, steps_dialer, stepped_dials, acted_dials, dials_by, dials_of}
 use Rattle.p2p_log_rules.proofs.Attempts.{attempts_of-append, attempts_of-late}
@@ -175,10 +175,6 @@ abbrev gates_in : Option Config → Gates
 gates_in None = no_gates
 gates_in (Some c) = gates_of c
 
-abbrev rules_in : Option Config → DialRules
-rules_in None = record { timeout = 0; handshake_timeout = 0; private = false }
-rules_in (Some c) = record { timeout = c.dial_timeout; handshake_timeout = c.handshake_timeout; private = c.allow_private_ips }
-
 abbrev rules_of : Gates → DialRules
 rules_of g = record { timeout = g.dial_timeout; handshake_timeout = g.handshake_timeout; private = g.allow_private_ips }
 
@@ -186,7 +182,7 @@ rules_of g = record { timeout = g.dial_timeout; handshake_timeout = g.handshake_
 rules_are : (configs : List Config) (n : ℕ) → rules_of (gates_at configs n) ≡ dial_rules_at configs n
 rules_are configs n = by (slice_get configs n)
   where
-    by : (o : Option Config) → rules_of (gates_in o) ≡ rules_in o
+    by : (o : Option Config) → rules_of (gates_in o) ≡ dial_rules_in o
     by None = refl
     by (Some c) = refl
 

@@ -23,9 +23,10 @@ use Rattle.p2p_log.specs.declared.entry.Reply.{Reply}
 use Rattle.p2p_log.specs.declared.event.Act.{Act}
 use Rattle.p2p_log.specs.declared.event.Act.TheVariants as act
 use Rattle.p2p_log.specs.Lines.{name_of, live_from, line}
+use Rattle.p2p_log_rules.specs.Attempting.{dial_rules_at}
 use Rattle.p2p_log_rules.specs.Facts.{state_from, taken}
 use Rattle.p2p_log_rules.specs.Handshakes.{steps_listener, with_admitted, without_name, ends_handshake, unless_ended, acted_handshakes, handshakes_by, handshakes_of, is_handshaking}
-use Rattle.p2p_log_rules.specs.Handshaking.{handshake_timeout_at, handshake_deadline}
+use Rattle.p2p_log_rules.specs.Handshaking.{handshake_deadline}
 use Rattle.p2p_log_rules.specs.Listening.{gate_rules_at, most_handshakes_at, took_known, known_by, known_of}
 use Rattle.p2p_log_rules.proofs.Facts.{state_from-append}
 use Rattle.p2p_log_rules.proofs.Handshakes.{handshakes_of-append, handshaking_early, one_less}
@@ -95,7 +96,7 @@ rules_made cfg l new =
     }) new.subnet_rate)
 
 pub listener_new : (configs : List Config) (n : ℕ) (cfg : Gates) (l : Listening) → IsNew cfg l → rules_by cfg ≡ gate_rules_at configs n → cfg.max_concurrent_handshakes ≡ most_handshakes_at configs n
-    → cfg.handshake_timeout ≡ handshake_timeout_at configs n → ListenerStands configs [] n l
+    → cfg.handshake_timeout ≡ (dial_rules_at configs n).handshake_timeout → ListenerStands configs [] n l
 unfolding line live_from known_of handshakes_of state_from
 listener_new configs n cfg l new rules most until = record {
   names = new.names;

@@ -11,8 +11,10 @@ use Rattle.p2p_gates.specs.Handshaking.{Handshaking}
 use Rattle.p2p_log.specs.declared.config.Config.{Config}
 use Rattle.p2p_log.specs.declared.entry.Entry.{Entry}
 use Rattle.p2p_log.proofs.Places.{slice_get-append}
+use Rattle.p2p_log_rules.specs.Attempting.{dial_rules_at}
+use Rattle.p2p_log_rules.specs.Facts.{moment_of}
 use Rattle.p2p_log_rules.specs.Handshakes.{unless_ended, handshakes_by, handshakes_of, is_handshaking}
-use Rattle.p2p_log_rules.specs.Handshaking.{moment_of, handshake_timeout_at, handshake_deadline}
+use Rattle.p2p_log_rules.specs.Handshaking.{handshake_deadline}
 use Rattle.p2p_log_rules.proofs.Handshakes.{handshakes_of-append, handshakes_of-kept, among-without, handshaking_early}
 use Rattle.p2p_net_queues.specs.Tables as table
 use Rattle.p2p_net_queues.specs.Tables.{AreBut}
@@ -24,14 +26,14 @@ use Rattle.p2p_net_listener.specs.Stands.{IsRunning, HandshakeIs}
 -- the deadline of a handshake that has begun stays
 pub deadline-longer : (configs : List Config) (log : List Entry) (e : Entry) (k n : ℕ) → suc k ≤ length log → handshake_deadline configs (log ++ e ∷ []) k n ≡ handshake_deadline configs log k n
 deadline-longer configs log e k n early =
-    ap (λ (o : Option Entry). moment_of o + handshake_timeout_at configs n) (slice_get-append log e k ∙ ap (λ b. cond b (slice_get log k) (cond (k == length log) (Some e) None)) (is_early k (length log) early))
+    ap (λ (o : Option Entry). moment_of o + (dial_rules_at configs n).handshake_timeout) (slice_get-append log e k ∙ ap (λ b. cond b (slice_get log k) (cond (k == length log) (Some e) None)) (is_early k (length log) early))
   where
     is_early : (a b : ℕ) → suc a ≤ b → nat_lt a b ≡ true
     is_early a b h = grind (arith, nat_tests)
 
 -- and that of one that begins is by its own entry
-deadline-last : (configs : List Config) (log : List Entry) (e : Entry) (n : ℕ) → handshake_deadline configs (log ++ e ∷ []) (length log) n ≡ e.event.at + handshake_timeout_at configs n
-deadline-last configs log e n = ap (λ (o : Option Entry). moment_of o + handshake_timeout_at configs n) (slice_get-append log e (length log) ∙ by (nat_lt (length log) (length log)) (length log == length log) (none (length log)) (here (length log)))
+deadline-last : (configs : List Config) (log : List Entry) (e : Entry) (n : ℕ) → handshake_deadline configs (log ++ e ∷ []) (length log) n ≡ e.event.at + (dial_rules_at configs n).handshake_timeout
+deadline-last configs log e n = ap (λ (o : Option Entry). moment_of o + (dial_rules_at configs n).handshake_timeout) (slice_get-append log e (length log) ∙ by (nat_lt (length log) (length log)) (length log == length log) (none (length log)) (here (length log)))
   where
     none : (a : ℕ) → nat_lt a a ≡ false
     none a = grind (arith, nat_tests)
@@ -84,7 +86,7 @@ module _ (configs : List Config) (log : List Entry) (e : Entry) (n : ℕ) where
   handshaking-begun begins k = ap (list_any (λ j. k == j)) (handshakes_of-append log e n ∙ begins) ∙ list_any-append (λ j. k == j) (handshakes_of log n) (length log ∷ [])
 
   pub handshakes_begun : (hs : List (ℕ × Handshaking Key)) (h : Handshaking Key) → handshakes_by n log e (handshakes_of log n) ≡ handshakes_of log n ++ length log ∷ []
-      → IsRunning (e.event.at + handshake_timeout_at configs n) (length log) h → AreKept log hs → AreKept (log ++ e ∷ []) (insert_entry nat_cmp hs (length log) h)
+      → IsRunning (e.event.at + (dial_rules_at configs n).handshake_timeout) (length log) h → AreKept log hs → AreKept (log ++ e ∷ []) (insert_entry nat_cmp hs (length log) h)
   handshakes_begun hs h begins running kept =
       let k = length log in
       handshakes_changed k (Some h) hs (insert_entry nat_cmp hs k h) (λ j other. handshaking-begun begins j ∙ (ap (λ b. is_handshaking log n j || (b || false)) other ∙ or_false (is_handshaking log n j))) (λ j. at-inserted k j h hs)

@@ -13,8 +13,9 @@ use Rattle.p2p_log.specs.declared.entry.Entry.{Entry}
 use Rattle.p2p_log.specs.Lines.{name_of, line}
 use Rattle.p2p_log.specs.declared.event.Act.{Act}
 use Rattle.p2p_log.specs.declared.event.Act.TheVariants as act
+use Rattle.p2p_log_rules.specs.Attempting.{dial_rules_at}
 use Rattle.p2p_log_rules.specs.Handshakes.{handshakes_by, handshakes_of, is_handshaking}
-use Rattle.p2p_log_rules.specs.Handshaking.{handshake_timeout_at, handshake_deadline}
+use Rattle.p2p_log_rules.specs.Handshaking.{handshake_deadline}
 use Rattle.p2p_log_rules.specs.Listening.{gate_rules_at, most_handshakes_at, known_by, known_of}
 use Rattle.p2p_net_queues.specs.Tables as table
 use Rattle.p2p_net_listener.specs.declared.listening.Listening.{Listening}
@@ -47,7 +48,7 @@ pub record ListenerStands (configs : List Config) (log : List Entry) (n : ℕ) (
   pub places : l.actor.places ≡ record { held = length (handshakes_of log n); max = most_handshakes_at configs n }
   pub works : l.actor.has_failed ≡ false
   -- and it is kept, until its deadline at the longest
-  pub timeout : l.actor.handshake_timeout ≡ handshake_timeout_at configs n
+  pub timeout : l.actor.handshake_timeout ≡ (dial_rules_at configs n).handshake_timeout
   pub handshakes : (k : ℕ) → HandshakeIs (handshake_deadline configs log k n) k (is_handshaking log n k) (table.at l.handshakes k)
 
 -- whether an act is of the node's listener, or of a handshake of it

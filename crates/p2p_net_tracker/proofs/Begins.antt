@@ -33,7 +33,7 @@ use Rattle.p2p_log.specs.declared.entry.Entry.{Entry}
 use Rattle.p2p_log.specs.Lines.{name_of, live_from, line}
 use Rattle.p2p_log_rules.specs.Facts.{history_from, state_from}
 use Rattle.p2p_log_rules.specs.Handshakes.{handshakes_of, is_handshaking}
-use Rattle.p2p_log_rules.specs.Tracking.{key_cmp, rules_of, no_rules, rules_at, calls_from, calls_of, update_subscriptions, blocked_subscriptions}
+use Rattle.p2p_log_rules.specs.Tracking.{key_cmp, rules_of, no_rules, rules_at, calls_of, update_subscriptions, blocked_subscriptions}
 use Rattle.p2p_log_rules.specs.TrackerRows.{was_answered}
 use Rattle.p2p_net_queues.specs.Board.{held}
 use Rattle.p2p_net_queues.specs.Tables as table
@@ -43,7 +43,7 @@ use Rattle.p2p_net_tracker.specs.Stands.{Match, IsTicket, IsMessage, IsAnswer, H
 use Rattle.p2p_net_tracker.proofs.Serving.{MayRelease, item-may_take}
 
 no_calls : (configs : List Config) (n : ℕ) → calls_of configs [] n ≡ []
-unfolding calls_of calls_from
+unfolding calls_of state_from
 no_calls configs n = refl
 
 no_line : (q : Queue) → line [] q ≡ []

@@ -1,11 +1,10 @@
 -- What one more entry makes of the facts of a node's tracker.
-use Rattle.std.proofs.Common.{◌≡◌, ℕ, zero, suc, ◌≤◌, Bool, true, false, cond, List, [], ◌∷◌, ◌++◌, take, refl, ap, sym, subst, ◌∙◌, arith, length, length-append, append_assoc, append-nil, Option, Some, None}
+use Rattle.std.proofs.Common.{◌≡◌, ℕ, zero, suc, ◌≤◌, Bool, true, false, cond, List, [], ◌∷◌, ◌++◌, take, refl, ap, sym, subst, ◌∙◌, arith, length, length-append, append-nil, Option, Some, None}
 use Rattle.std.specs.Prelude.{slice_get, flat_map, nat_lt, ◌==◌, ◌||◌}
 use Rattle.p2p_base.specs.declared.key.Key.{Key}
 use Rattle.std.specs.List.{list_any}
 use Rattle.p2p_address.specs.declared.ip.IpAddr.{IpAddr}
 use Rattle.p2p_tracker_calls.specs.Jitter.{jitter_of}
-use Rattle.p2p_tracker_calls.specs.declared.call.Call.{Call}
 use Rattle.p2p_log.specs.declared.config.Config.{Config}
 use Rattle.p2p_log.specs.declared.entry.Entry.{Entry}
 use Rattle.p2p_log.specs.declared.event.Act.{Act}
@@ -13,7 +12,8 @@ use Rattle.p2p_log.specs.declared.queue.Queue.TheVariants as queue
 use Rattle.p2p_log.specs.Lines.{line}
 use Rattle.p2p_log_rules.specs.Facts.{taken}
 use Rattle.p2p_log_rules.specs.Handshakes.{handshakes_by, handshakes_of, is_handshaking, source_in, source_at}
-use Rattle.p2p_log_rules.specs.Tracking.{asked_by, steps_tracker, rules_at, step_calls, grants_dial, call_where, calls_by, calls_from, calls_of, calls_taken, subscribes, subscribes_blocked, update_subscriptions, blocked_subscriptions}
+use Rattle.p2p_log_rules.specs.Tracking.{asked_by, steps_tracker, rules_at, step_calls, grants_dial, call_where, calls_of, calls_taken, subscribes, subscribes_blocked, update_subscriptions, blocked_subscriptions}
+use Rattle.p2p_log_rules.proofs.Calls.{calls_of-append}
 use Rattle.p2p_log_rules.proofs.Facts.{history_from-append}
 use Rattle.p2p_log_rules.specs.TrackerRows.{answers, was_answered}
 use Rattle.p2p_log_rules.proofs.Handshakes.{handshakes_of-kept}
@@ -25,18 +25,6 @@ use Rattle.p2p_tracker_mailbox.specs.Lines.{Lines, line_of}
 use Rattle.p2p_tracker_mailbox.specs.declared.answer.HandshakeItem.{HandshakeItem}
 use Rattle.p2p_net_tracker.specs.Stands.{asks_of, asks_at, AreFresh, HandshakeStands}
 use Rattle.p2p_net_tracker.proofs.Matching.{slice_get-longer}
-
-calls_from-append : (configs : List Config) (n : ℕ) (before es : List Entry) (e : Entry) (calls : List (Call Key))
-    → calls_from configs n before (es ++ e ∷ []) calls ≡ calls_by configs n (before ++ es) e (calls_from configs n before es calls)
-unfolding calls_from
-calls_from-append configs n before [] e calls = ap (λ b. calls_by configs n b e calls) (sym (append-nil before))
-calls_from-append configs n before (d ∷ es) e calls =
-    calls_from-append configs n (before ++ d ∷ []) es e (calls_by configs n before d calls)
-    ∙ ap (λ b. calls_by configs n b e (calls_from configs n (before ++ d ∷ []) es (calls_by configs n before d calls))) (append_assoc before (d ∷ []) es)
-
-pub calls_of-append : (configs : List Config) (log : List Entry) (e : Entry) (n : ℕ) → calls_of configs (log ++ e ∷ []) n ≡ calls_by configs n log e (calls_of configs log n)
-unfolding calls_of
-calls_of-append configs log e n = calls_from-append configs n [] log e []
 
 pub calls-kept : (configs : List Config) (log : List Entry) (e : Entry) (n : ℕ) → steps_tracker n e.event.act ≡ false → calls_of configs (log ++ e ∷ []) n ≡ calls_of configs log n
 calls-kept configs log e n no_step =

@@ -56,7 +56,8 @@ use Rattle.p2p_net_tracker.specs.Stands.{is_told, Match, IsTicket, IsMessage, Is
 use Rattle.p2p_net_tracker.proofs.Changes.{same_tickets, messages-longer}
 use Rattle.p2p_net_tracker.proofs.Desk.{LeavesDesk, all_left}
 use Rattle.p2p_net_tracker.proofs.Dialing.{answers_in, answers-after, answers-named}
-use Rattle.p2p_net_tracker.proofs.Facts.{asks_at-kept, fresh-longer, was_answered-kept, calls_of-append, update_subscriptions-append, blocked_subscriptions-append}
+use Rattle.p2p_log_rules.proofs.Calls.{calls_of-append}
+use Rattle.p2p_net_tracker.proofs.Facts.{asks_at-kept, fresh-longer, was_answered-kept, update_subscriptions-append, blocked_subscriptions-append}
 use Rattle.p2p_net_tracker.proofs.Hearing.{TellsFew, runs_is, unblocked_once, item_few, heard-after, handshakes-after, keys-after}
 use Rattle.p2p_net_tracker.proofs.Matching.{Match-append}
 use Rattle.p2p_net_tracker.proofs.Named.{has_any-is, named-unblocked, named-item}
