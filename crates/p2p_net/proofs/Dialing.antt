@@ -53,7 +53,7 @@ use Rattle.p2p_net_tracker.specs.Naming.{grant_of}
 use Rattle.p2p_net_tracker.specs.Stands.{is_told, Match, IsMessage, IsAnswer, TrackerStands}
 use Rattle.p2p_net_tracker.specs.declared.naming.Tickets.{Tickets}
 use Rattle.p2p_net_tracker.proofs.Changes.{told_apart, kept_open}
-use Rattle.p2p_net_tracker.proofs.DialerSteps.{is_taken_of, tracker_dialed, told_moved, mailbox_moved, none_left, first_left}
+use Rattle.p2p_net_tracker.proofs.DialerSteps.{is_taken_of, tracker_dialed, told_moved, mailbox_moved, none_left, answer_left}
 use Rattle.p2p_net_tracker.proofs.Steps.{none_taken, first_taken}
 use Rattle.p2p_net.specs.Places as place
 use Rattle.p2p_net.specs.Ready.{is_started}
@@ -362,7 +362,7 @@ module _ (configs : List Config) (log : List Entry) (moment seed n : ℕ) (x y :
     goes_are a = ap (λ q. taken_names true q ++ []) first
 
     first_gone : (a : Option Ask) (p : Queue) → filter (stands_in p) (filter (stays (goes (e true a))) (live log)) ≡ cond (is_taken_of true n p) (drop 1 (line log p)) (line log p)
-    first_gone a p = ap (λ l. filter (stands_in p) (filter (stays l) (live log))) (goes_are a) ∙ first_left log n z others first p
+    first_gone a p = ap (λ l. filter (stands_in p) (filter (stays l) (live log))) (goes_are a) ∙ answer_left log n z others first p
 
     one_taken : (i : Item) → z.item ≡ i → (a : Option Ask) → taken log (e true a) ≡ i ∷ []
     one_taken i is a = first_taken log (e true a) (queue.Dialer n) z others first (ap (taken_names true) first) ∙ ap (λ j. j ∷ []) is

@@ -35,7 +35,7 @@ use Rattle.p2p_log_laws.proofs.LineShape.{left_gone}
 use Rattle.p2p_net_queues.specs.Board.{held}
 use Rattle.p2p_net_queues.specs.Tables as table
 use Rattle.p2p_net_queues.specs.Tables.{AreBut}
-use Rattle.p2p_net_queues.proofs.Going.{line-append, line-kept}
+use Rattle.p2p_net_queues.proofs.Going.{line-append, line-kept, first_left}
 use Rattle.p2p_net_listener.specs.Handshaking.{served_by, TurnsHandshake, StepsHandshake}
 use Rattle.p2p_net_listener.specs.Handshaking as listening
 use Rattle.p2p_net_listener.specs.Stands.{IsRunning, HandshakeIs, ListenerStands}
@@ -54,7 +54,6 @@ use Rattle.p2p_net.specs.Stands.{NodeStands}
 use Rattle.p2p_net.specs.declared.node.Node.{Node}
 use Rattle.p2p_net.proofs.EachPart.{each_part, not_among}
 use Rattle.p2p_net.proofs.Frames.{links_kept}
-use Rattle.p2p_net.proofs.Listening.{first_left}
 use Rattle.p2p_net.proofs.Performing.{asked, Performs, is_quiet, IsStill, part_still}
 use Rattle.p2p_net.proofs.Trying.{whole_left}
 

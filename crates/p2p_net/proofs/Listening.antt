@@ -1,6 +1,6 @@
 -- The acts of a node's listener.
 use Rattle.std.proofs.Common.{◌≡◌, ℕ, ◌+◌, Bool, true, false, cond, List, [], ◌∷◌, ◌++◌, map, drop, length, refl, ap, sym, subst, ◌∙◌, append-nil, eq-eqb, length-append, Option, Some, None}
-use Rattle.std.specs.Prelude.{filter, slice_get, take}
+use Rattle.std.specs.Prelude.{slice_get, take}
 use Rattle.std.proofs.lemmas.Option.{same_Some}
 use Rattle.p2p_base.specs.declared.key.Key.{Key}
 use Rattle.p2p_base.specs.Queue.{has_room}
@@ -30,8 +30,7 @@ use Rattle.p2p_log.specs.declared.entry.Reply.TheVariants as reply
 use Rattle.p2p_log.specs.declared.event.Event.{Event}
 use Rattle.p2p_log.specs.declared.event.Act.TheVariants as act
 use Rattle.p2p_log.specs.QueueCode.{same_queue}
-use Rattle.p2p_log.specs.Lines.{name_of, goes, line, live, stays, stands_in}
-use Rattle.p2p_log.proofs.Names.{AreApart-live_from, filter_stays-first}
+use Rattle.p2p_log.specs.Lines.{name_of, line}
 use Rattle.p2p_log.proofs.QueueNames.{queue_from_same}
 use Rattle.p2p_log.proofs.Queues.{same_queue-refl}
 use Rattle.p2p_log_rules.specs.declared.row.Row.{Row}
@@ -41,7 +40,7 @@ use Rattle.p2p_log_rules.specs.Handshakes.{with_admitted, handshakes_by, handsha
 use Rattle.p2p_log_rules.specs.Listening as log_rule
 use Rattle.p2p_log_rules.specs.Listening.{gate_rules_at, most_handshakes_at, took_known, known_of, gates_puts, told_row}
 use Rattle.p2p_net_queues.specs.Board.{held}
-use Rattle.p2p_net_queues.proofs.Going.{put_in, line-append}
+use Rattle.p2p_net_queues.proofs.Going.{put_in, line-append, first_left}
 use Rattle.p2p_net_listener.specs.Listening as listening
 use Rattle.p2p_net_listener.specs.Stands.{arrival_item, ListenerStands}
 use Rattle.p2p_net_listener.specs.declared.listening.Took.{Took}
@@ -64,12 +63,6 @@ use Rattle.p2p_net.proofs.EachPart.{each_part, not_among}
 use Rattle.p2p_net.proofs.Frames.{links_kept}
 use Rattle.p2p_net.proofs.Performing.{asked, Performs, IsStill, line-still, part_still, stays_performs}
 use Rattle.p2p_net.proofs.Readying.{started_is}
-
--- the oldest of a queue is taken
-pub first_left : (log : List Entry) (q : Queue) (x : Envelope) (rest : List Envelope) → line log q ≡ x ∷ rest → (p : Queue)
-    → filter (stands_in p) (filter (stays (name_of x ∷ [])) (live log)) ≡ cond (same_queue q p) rest (line log p)
-unfolding line
-first_left log q x rest first p = filter_stays-first (live log) q p x rest (AreApart-live_from 0 log) first
 
 -- a queue in which a tracker tells something is no listener's
 told_no_arrivals : (n m : ℕ) (q : Queue) → is_told n q ≡ true → same_queue (queue.Arrivals m) q ≡ false

@@ -28,12 +28,14 @@ line-kept log e q none =
     line-append log e q
     ∙ ap (λ l. l ++ put_in log e q) (ap (λ g. filter (stands_in q) (filter (stays g) (live log))) none ∙ ap (filter (stands_in q)) (filter_stays-nil (live log)))
 
+-- what stands in a queue, once the first of one goes
+pub first_left : (log : List Entry) (p : Queue) (x : Envelope) (rest : List Envelope) → line log p ≡ x ∷ rest → (q : Queue)
+    → filter (stands_in q) (filter (stays (name_of x ∷ [])) (live log)) ≡ cond (same_queue p q) rest (line log q)
+unfolding line
+first_left log p x rest first q = filter_stays-first (live log) p q x rest (AreApart-live_from 0 log) first
+
 -- the first of one queue goes
 pub line-taken : (log : List Entry) (e : Entry) (p : Queue) (x : Envelope) (rest : List Envelope) (q : Queue) → line log p ≡ x ∷ rest → goes e ≡ name_of x ∷ []
     → line (log ++ e ∷ []) q ≡ cond (same_queue p q) rest (line log q) ++ put_in log e q
-unfolding line
 line-taken log e p x rest q first gone =
-    line-append log e q
-    ∙ ap (λ l. l ++ put_in log e q)
-    (ap (λ g. filter (stands_in q) (filter (stays g) (live log))) gone
-    ∙ filter_stays-first (live log) p q x rest (AreApart-live_from 0 log) first)
+    line-append log e q ∙ ap (λ l. l ++ put_in log e q) (ap (λ g. filter (stands_in q) (filter (stays g) (live log))) gone ∙ first_left log p x rest first q)

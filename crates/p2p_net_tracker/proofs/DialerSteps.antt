@@ -10,14 +10,13 @@ use Rattle.p2p_log.specs.declared.item.Envelope.{Envelope}
 use Rattle.p2p_log.specs.declared.entry.Entry.{Entry}
 use Rattle.p2p_log.specs.QueueCode.{same_queue}
 use Rattle.p2p_log.specs.Lines.{name_of, goes, line, live, stays, stands_in}
-use Rattle.p2p_log.proofs.Names.{AreApart-live_from, filter_stays-first}
 use Rattle.p2p_log.proofs.QueueNames.{queue_from_same}
 use Rattle.p2p_log.proofs.Queues.{same_queue-refl}
 use Rattle.p2p_log_rules.specs.Handshakes.{handshakes_by, handshakes_of}
 use Rattle.p2p_log_rules.specs.Tracking.{steps_tracker}
 use Rattle.p2p_log_rules.specs.TrackerRows.{answers}
 use Rattle.p2p_net_queues.specs.Board.{held}
-use Rattle.p2p_net_queues.proofs.Going.{put_in, line-append}
+use Rattle.p2p_net_queues.proofs.Going.{put_in, line-append, first_left}
 use Rattle.p2p_net_tracker.specs.declared.tracker.Tracker.{Tracker}
 use Rattle.p2p_net_tracker.specs.Stands.{asks_of, is_told, Match, IsMessage, IsAnswer, HeardStands, TrackerStands}
 use Rattle.p2p_net_tracker.proofs.Changes.{same_tickets, messages-longer}
@@ -54,10 +53,9 @@ pub none_left : (log : List Entry) (n : ℕ) (p : Queue) → filter (stands_in p
 none_left log n p = away_none log p
 
 -- the dialer's oldest answer is taken
-pub first_left : (log : List Entry) (n : ℕ) (x : Envelope) (rest : List Envelope) → line log (queue.Dialer n) ≡ x ∷ rest → (p : Queue)
+pub answer_left : (log : List Entry) (n : ℕ) (x : Envelope) (rest : List Envelope) → line log (queue.Dialer n) ≡ x ∷ rest → (p : Queue)
     → filter (stands_in p) (filter (stays (name_of x ∷ [])) (live log)) ≡ cond (is_taken_of true n p) (drop 1 (line log p)) (line log p)
-unfolding line
-first_left log n x rest first p = filter_stays-first (live log) (queue.Dialer n) p x rest (AreApart-live_from 0 log) first ∙ by (same_queue (queue.Dialer n) p) refl
+answer_left log n x rest first p = first_left log (queue.Dialer n) x rest first p ∙ by (same_queue (queue.Dialer n) p) refl
   where
     by : (b : Bool) → same_queue (queue.Dialer n) p ≡ b → cond b rest (line log p) ≡ cond b (drop 1 (line log p)) (line log p)
     by true is = sym (ap (drop 1) (ap (line log) (queue_from_same (queue.Dialer n) p is) ∙ first))

@@ -15,11 +15,11 @@ use Rattle.p2p_log.specs.Lines.{name_of, ended_item, goes, stays, live, line, pl
 use Rattle.p2p_log.proofs.Each.{Each-append, Each-weaker, count_by-none}
 use Rattle.p2p_log.proofs.Filters.{filter-none}
 use Rattle.p2p_log.proofs.Lines.{filter_stays-nil, filter_stays-append}
-use Rattle.p2p_log.proofs.Names.{AreApart-filter, AreApart-live_from, filter_stays-first}
+use Rattle.p2p_log.proofs.Names.{AreApart-filter, AreApart-live_from}
 use Rattle.p2p_log.proofs.Queues.{same_queue-refl, same_queue-sym}
 use Rattle.p2p_log_rules.specs.Rows.{ring_ends}
 use Rattle.p2p_log_rules.specs.TrackerRows.{ring_of, rings_of}
-use Rattle.p2p_net_queues.proofs.Going.{put_in, line-append}
+use Rattle.p2p_net_queues.proofs.Going.{put_in, line-append, first_left}
 use Rattle.p2p_net_tracker.specs.declared.naming.Tickets.{Tickets}
 use Rattle.p2p_net_tracker.specs.Naming.{named_put, before, named_puts}
 use Rattle.p2p_net_tracker.specs.Telling.{lost, told_to}
@@ -166,14 +166,10 @@ away_none log p = ap (filter (stands_in p)) (filter_stays-nil (live log))
 -- the first of its mailbox is taken
 pub away_first : (log : List Entry) (n : ℕ) (x : Envelope) (rest : List Envelope) → line log (queue.Tracker n) ≡ x ∷ rest → (p : Queue) → is_told n p ≡ true
     → filter (stands_in p) (filter (stays (name_of x ∷ [])) (live log)) ≡ line log p
-unfolding line
 away_first log n x rest first p own =
-    filter_stays-first (live log) (queue.Tracker n) p x rest (AreApart-live_from 0 log) first
-    ∙ ap (λ b. cond b rest (filter (stands_in p) (live log))) (same_queue-sym (queue.Tracker n) p ∙ told_apart n n p own)
+    first_left log (queue.Tracker n) x rest first p ∙ ap (λ b. cond b rest (line log p)) (same_queue-sym (queue.Tracker n) p ∙ told_apart n n p own)
 
 pub mailbox_first : (log : List Entry) (n : ℕ) (x : Envelope) (rest : List Envelope) → line log (queue.Tracker n) ≡ x ∷ rest
     → filter (stands_in (queue.Tracker n)) (filter (stays (name_of x ∷ [])) (live log)) ≡ rest
-unfolding line
 mailbox_first log n x rest first =
-    filter_stays-first (live log) (queue.Tracker n) (queue.Tracker n) x rest (AreApart-live_from 0 log) first
-    ∙ ap (λ b. cond b rest (filter (stands_in (queue.Tracker n)) (live log))) (same_queue-refl (queue.Tracker n))
+    first_left log (queue.Tracker n) x rest first (queue.Tracker n) ∙ ap (λ b. cond b rest (line log (queue.Tracker n))) (same_queue-refl (queue.Tracker n))
