@@ -1,3 +1,4 @@
+pub mod Answering
 pub mod AttemptGrants
 pub mod AttemptHolds
 pub mod AttemptShape
@@ -34,6 +35,7 @@ pub mod Marks
 pub mod Newest
 pub mod NodeGrants
 pub mod NodeWeighs
+pub mod OneAnswer
 pub mod OneLink
 pub mod OneShape
 pub mod Ordering

@@ -6,6 +6,7 @@ pub mod Flow
 pub mod Grants
 pub mod Leaving
 pub mod NodeGrants
+pub mod OneAnswer
 pub mod OneEnd
 pub mod Order
 pub mod Worked

@@ -1,5 +1,5 @@
 -- The handshakes of a node that have not ended, and from where their peers came, by the log.
-use Rattle.std.specs.Prelude.{ℕ, ◌==◌, Bool, true, false, not, cond, List, [], ◌∷◌, ◌++◌, filter, length, take, Option, Some, None, slice_get}
+use Rattle.std.specs.Prelude.{ℕ, ◌==◌, ◌&&◌, ◌||◌, Bool, true, false, not, cond, List, [], ◌∷◌, ◌++◌, filter, length, take, Option, Some, None, slice_get}
 use Rattle.std.specs.List.{list_any}
 use Rattle.p2p_address.specs.declared.ip.IpAddr.{IpAddr}
 use Rattle.p2p_gates_rules.specs.declared.reply.Reply.TheVariants as gates
@@ -52,6 +52,22 @@ handshakes_of log n = state_from (handshakes_by n) [] log []
 -- whether a handshake has begun and has not ended
 abbrev pub is_handshaking : List Entry → ℕ → ℕ → Bool
 is_handshaking log n name = list_any (λ k. name == k) (handshakes_of log n)
+
+abbrev pub steps_handshake : ℕ → ℕ → Act → Bool
+steps_handshake n name (act.Handshake k m) = (m == n) && (k == name)
+steps_handshake n name _ = false
+
+-- whether word that its peer may connect is what was taken
+abbrev pub takes_acceptance : List Item → Bool
+takes_acceptance (item.Acceptable true ∷ items) = true
+takes_acceptance _ = false
+
+abbrev pub accepted_by : ℕ → ℕ → List Entry → Entry → Bool → Bool
+accepted_by n name before e accepted = (steps_handshake n name e.event.act && takes_acceptance (taken before e)) || accepted
+
+-- whether a handshake was told that its peer may connect
+unfoldable pub is_accepted : List Entry → ℕ → ℕ → Bool
+is_accepted log n name = state_from (accepted_by n name) [] log false
 
 -- the address of the arrival among these
 abbrev pub source_of : List Item → Option IpAddr

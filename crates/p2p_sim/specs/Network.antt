@@ -9,6 +9,7 @@ use Rattle.p2p_log_rules.specs.Lawful.{IsLawful}
 use Rattle.p2p_base.specs.declared.key.Key.{Key}
 use Rattle.p2p_log_laws.specs.Grants.{GrantsAlternate, HasOneHolder, EachIsReleased}
 use Rattle.p2p_log_laws.specs.NodeGrants.{granting}
+use Rattle.p2p_log_laws.specs.OneAnswer.{HasOneAnswer}
 use Rattle.p2p_log_laws.specs.OneEnd.{EachHasOneEnd, NothingElseEnds}
 use Rattle.p2p_log_laws.specs.Delivered.{EachIsDelivery, EachDeliveredIsRead}
 use Rattle.p2p_log_laws.specs.Order.{AreDeliveredInOrder, AreDeliveredInOrderOverOne, AreDeliveredInOrderOfLinks, EachWentOver}
@@ -48,7 +49,8 @@ pub record HasRunScript (configs : List Config) (script : List Event) (world : W
 
 -- in the log, each copy of each accepted send has exactly one end: delivered once, or waiting in a queue, or dropped;
 -- what is delivered was sent, is read, and in order; each drop shows its cause; the fate of each copy, which the report
--- tells, is true; and each key that is reserved at a node is held by one thing there, or its one release waits
+-- tells, is true; each key that is reserved at a node is held by one thing there, or its one release waits; and each handshake is asked
+-- about once, and answered once
 pub record IsAccounted (configs : List Config) (log : List Entry) : Type 0 where
   pub one_end : EachHasOneEnd log
   pub nothing_else : NothingElseEnds log
@@ -66,6 +68,7 @@ pub record IsAccounted (configs : List Config) (log : List Entry) : Type 0 where
   pub alternate : (n : ℕ) (key : Key) → GrantsAlternate (granting configs n key) log
   pub holder : (n : ℕ) (key : Key) → HasOneHolder (granting configs n key) log
   pub released : (n : ℕ) (key : Key) → EachIsReleased (granting configs n key) log
+  pub answered : (n name : ℕ) → HasOneAnswer n name log
 
 -- the tree says a script, the world ran it, and the text is the report of the world's log, in which each copy has its end
 pub record RunsTree (tree : Data) (world : WorldView) (text : List ℕ) : Type 0 where

@@ -14,8 +14,8 @@ ghost use Rattle.p2p_sim_command.specs.declared.program.RunError.TheVariants as 
 use p2p_base::List;
 use p2p_log::{Config, Event};
 use p2p_log_laws::{
-    delivered_in_order, each_drop_shows_its_cause, fates_are_true, node_grants, one_end,
-    only_sent_is_delivered,
+    delivered_in_order, each_drop_shows_its_cause, fates_are_true, handshakes_have_one_answer,
+    node_grants, one_end, only_sent_is_delivered,
 };
 use p2p_net::{RunError as WorldError, World};
 use p2p_sim_command::{Program, Refusal, RunError};
@@ -47,7 +47,7 @@ impl Program for Network {
     }
 }
 
-// Each copy has its end, and each grant its holder or its release, in each lawful log.
+// Each copy has its end, each grant its holder or its release, and each handshake one answer, in each lawful log.
 fn account()
     ensures { (configs : List OneConfig) (script : List OneEvent) (log : List Entry) → IsLawful configs script log → IsAccounted configs log }
 {
@@ -57,6 +57,7 @@ fn account()
     each_drop_shows_its_cause();
     fates_are_true();
     node_grants();
+    handshakes_have_one_answer();
 }
 
 // Reads a script of the form that is run.

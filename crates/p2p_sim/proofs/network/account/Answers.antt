@@ -19,4 +19,5 @@ returns c = λ configs script log lawful.
       alternate = λ n key. c.node_grants.ensures.alternate configs script log n key lawful;
       holder = λ n key. c.node_grants.ensures.holder configs script log n key lawful;
       released = λ n key. c.node_grants.ensures.released configs script log n key lawful;
+      answered = λ n name. c.handshakes_have_one_answer.ensures configs script log n name lawful;
     }
