@@ -1,4 +1,4 @@
--- That a handshake is asked about once, and answered once: its question and its answers that wait, and whether its answer was taken.
+-- That a handshake has one question or one answer at a time: those that wait, and whether it was told that its peer may connect.
 use Rattle.std.specs.Prelude.{ℕ, ◌+◌, ◌≤◌, ◌==◌, ◌&&◌, ◌||◌, Bool, false, List, count_by}
 use Rattle.p2p_log.specs.declared.queue.Queue.{Queue}
 use Rattle.p2p_log.specs.declared.queue.Queue.TheVariants as queue
