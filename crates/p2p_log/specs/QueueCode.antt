@@ -24,6 +24,7 @@ kind_of (queue.Blocked n e) = 14
 kind_of (queue.Attempt n e) = 15
 kind_of (queue.Arrivals n) = 16
 kind_of (queue.Handshake n e) = 17
+kind_of (queue.Spawner n) = 18
 
 -- the node, or the link, that it belongs to
 abbrev pub owner_of : Queue → ℕ
@@ -44,6 +45,7 @@ owner_of (queue.Blocked n e) = n
 owner_of (queue.Attempt n e) = n
 owner_of (queue.Arrivals n) = n
 owner_of (queue.Handshake n e) = n
+owner_of (queue.Spawner n) = n
 
 -- its channel, connection, question, attempt or handshake, or 0 where it has none
 abbrev pub detail_of : Queue → ℕ
@@ -64,6 +66,7 @@ detail_of (queue.Blocked n e) = e
 detail_of (queue.Attempt n e) = e
 detail_of (queue.Arrivals n) = 0
 detail_of (queue.Handshake n e) = e
+detail_of (queue.Spawner n) = 0
 
 -- whether two names are of one queue
 abbrev pub same_queue : Queue → Queue → Bool

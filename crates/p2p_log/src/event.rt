@@ -122,6 +122,11 @@ pub enum Act {
         attempt: u64,
         node: u64,
     },
+    /// Ends the exchange of keys over the link of this event, which tells both its ends whether they were exchanged.
+    Finish {
+        link: u64,
+        ok: bool,
+    },
 }
 
 /// An act at a moment, in nanoseconds, with the seed of what it draws.
@@ -243,6 +248,10 @@ impl Act {
             Act::Refuse { attempt, node } => Ok(Act::Refuse {
                 attempt: *attempt,
                 node: *node,
+            }),
+            Act::Finish { link, ok } => Ok(Act::Finish {
+                link: *link,
+                ok: *ok,
             }),
         }
     }

@@ -57,6 +57,11 @@ pub enum Item {
         handshake: u64,
         key: Key,
     },
+    /// To the tracker: the peer of this handshake, with whom keys were exchanged, is to be reserved.
+    AskListen {
+        handshake: u64,
+        key: Key,
+    },
     /// To the tracker: a reservation is given back.
     Release(Key),
     /// The addresses from which peers may come, each once, IPv4 first and each kind in the order of its bytes.
@@ -74,6 +79,8 @@ pub enum Item {
     Linked,
     /// To an attempt: there is no link to its peer.
     Refused,
+    /// To an attempt or a handshake: whether the keys were exchanged over its link.
+    Finished(bool),
     /// To a listener: a peer with this key has come from this address, over the link of this event.
     Arrival {
         from: SocketAddr,
@@ -82,6 +89,13 @@ pub enum Item {
     },
     /// To a handshake: whether its peer may connect.
     Acceptable(bool),
+    /// To a handshake: its peer, where it is reserved.
+    Listen(Option<Key>),
+    /// To the spawner: a connection with this peer, who is reserved, is to be made over the link of this event.
+    Spawn {
+        key: Key,
+        link: u64,
+    },
     /// A connection is to end.
     Kill,
     /// The peers of the set that was asked for, or none where no set of that index is kept.
@@ -147,6 +161,10 @@ impl Item {
                 handshake: *handshake,
                 key: *key,
             }),
+            Item::AskListen { handshake, key } => Ok(Item::AskListen {
+                handshake: *handshake,
+                key: *key,
+            }),
             Item::Release(key) => Ok(Item::Release(*key)),
             Item::Addresses(addresses) => Ok(Item::Addresses(addresses.try_clone(alloc)?)),
             Item::Dialable { next, peers } => Ok(Item::Dialable {
@@ -157,12 +175,18 @@ impl Item {
             Item::Resolved(addresses) => Ok(Item::Resolved(addresses.try_clone(alloc)?)),
             Item::Linked => Ok(Item::Linked),
             Item::Refused => Ok(Item::Refused),
+            Item::Finished(ok) => Ok(Item::Finished(*ok)),
             Item::Arrival { from, key, link } => Ok(Item::Arrival {
                 from: *from,
                 key: *key,
                 link: *link,
             }),
             Item::Acceptable(accepts) => Ok(Item::Acceptable(*accepts)),
+            Item::Listen(grant) => Ok(Item::Listen(*grant)),
+            Item::Spawn { key, link } => Ok(Item::Spawn {
+                key: *key,
+                link: *link,
+            }),
             Item::Kill => Ok(Item::Kill),
             Item::PeerSet(peers) => Ok(Item::PeerSet(clone_peers(peers)?)),
             Item::Update(update) => Ok(Item::Update(update.try_clone()?)),

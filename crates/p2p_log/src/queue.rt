@@ -42,6 +42,8 @@ pub enum Queue {
     Arrivals(u64),
     /// What a handshake of a node's listener is told.
     Handshake { node: u64, handshake: u64 },
+    /// The connections that a node's spawner is to make.
+    Spawner(u64),
     /// What a connection of a node is told to do.
     Control { node: u64, conn: u64 },
     /// The answer to the question for a peer set that an event asked of a node.
@@ -79,6 +81,7 @@ impl Queue {
             Queue::Attempt { .. } => 15,
             Queue::Arrivals(_) => 16,
             Queue::Handshake { .. } => 17,
+            Queue::Spawner(_) => 18,
         }
     }
 
@@ -104,6 +107,7 @@ impl Queue {
             Queue::Attempt { node, .. } => node,
             Queue::Arrivals(node) => node,
             Queue::Handshake { node, .. } => node,
+            Queue::Spawner(node) => node,
         }
     }
 
@@ -129,6 +133,7 @@ impl Queue {
             Queue::Attempt { attempt, .. } => attempt,
             Queue::Arrivals(_) => 0,
             Queue::Handshake { handshake, .. } => handshake,
+            Queue::Spawner(_) => 0,
         }
     }
 }
