@@ -1,5 +1,5 @@
 -- The attempts of a node after one more entry.
-use Rattle.std.proofs.Common.{◌≡◌, ℕ, suc, ◌+◌, ◌≤◌, Bool, true, false, cond, List, [], ◌∷◌, ◌++◌, length, refl, ap, sym, subst, ◌∙◌, arith, append_assoc, append-nil, length-append, eqb-true, Option, Some, None}
+use Rattle.std.proofs.Common.{◌≡◌, ℕ, suc, ◌≤◌, Bool, true, false, cond, List, [], ◌∷◌, ◌++◌, length, refl, ap, sym, subst, ◌∙◌, arith, append_assoc, append-nil, length-append, eqb-true, Option, Some, None}
 use Rattle.std.specs.Prelude.{◌==◌}
 use Rattle.std.specs.Option.{option_map}
 use Rattle.std.proofs.lemmas.Bool.Decides.{nat_tests}
@@ -60,12 +60,12 @@ acted_none rules n m at seed r items (act.Resolve addresses e j) attempts none k
     either (j == n) (with_attempt e next attempts k) (attempts k) (changed_none e k next attempts before (map_none (told_addresses r) (attempts e))) before
 acted_none rules n m at seed r items (act.Connect e from j to) attempts none k past =
     let before : attempts k ≡ None = none k (omega (arith, past)) in
-    let next = option_map (told_answer r) (attempts e) in
-    either (j == n) (with_attempt e next attempts k) (attempts k) (changed_none e k next attempts before (map_none (told_answer r) (attempts e))) before
+    let next = option_map (told_answer m r) (attempts e) in
+    either (j == n) (with_attempt e next attempts k) (attempts k) (changed_none e k next attempts before (map_none (told_answer m r) (attempts e))) before
 acted_none rules n m at seed r items (act.Refuse e j) attempts none k past =
     let before : attempts k ≡ None = none k (omega (arith, past)) in
-    let next = option_map (told_answer r) (attempts e) in
-    either (j == n) (with_attempt e next attempts k) (attempts k) (changed_none e k next attempts before (map_none (told_answer r) (attempts e))) before
+    let next = option_map (told_answer m r) (attempts e) in
+    either (j == n) (with_attempt e next attempts k) (attempts k) (changed_none e k next attempts before (map_none (told_answer m r) (attempts e))) before
 acted_none rules n m at seed r items _ attempts none k past = none k (omega (arith, past))
 
 late_none : (configs : List Config) (n : ℕ) (before es : List Entry) (attempts : ℕ → Option Attempt) → NoneFrom (length before) attempts → NoneFrom (length (before ++ es)) (state_from (attempts_by configs n) before es attempts)

@@ -14,7 +14,7 @@ use Rattle.p2p_log.specs.declared.entry.Reply.TheVariants as reply
 use Rattle.p2p_log.specs.declared.event.Act.{Act}
 use Rattle.p2p_log.specs.declared.event.Act.TheVariants as act
 use Rattle.p2p_log_rules.specs.Facts.{taken, state_from}
-use Rattle.p2p_log_rules.specs.Handshakes.{with_admitted, ends_handshake, without_name, unless_ended, acted_handshakes, handshakes_by, handshakes_of, is_handshaking, accepted_by, is_accepted}
+use Rattle.p2p_log_rules.specs.Handshakes.{with_admitted, ends_handshake, without_name, unless_ended, acted_handshakes, handshakes_by, handshakes_of, is_handshaking, took_by, has_taken}
 use Rattle.p2p_log_rules.proofs.Facts.{state_from-append}
 
 pub handshakes_of-append : (log : List Entry) (e : Entry) (n : ℕ) → handshakes_of (log ++ e ∷ []) n ≡ handshakes_by n log e (handshakes_of log n)
@@ -24,9 +24,10 @@ handshakes_of-append log e n = state_from-append (handshakes_by n) [] log e []
 pub handshakes_of-kept : (log : List Entry) (e : Entry) (n : ℕ) → handshakes_by n log e (handshakes_of log n) ≡ handshakes_of log n → handshakes_of (log ++ e ∷ []) n ≡ handshakes_of log n
 handshakes_of-kept log e n h = handshakes_of-append log e n ∙ h
 
-pub is_accepted-append : (log : List Entry) (e : Entry) (n name : ℕ) → is_accepted (log ++ e ∷ []) n name ≡ accepted_by n name log e (is_accepted log n name)
-unfolding is_accepted
-is_accepted-append log e n name = state_from-append (accepted_by n name) [] log e false
+pub has_taken-append : (test : List Item → Bool) (log : List Entry) (e : Entry) (n name : ℕ)
+    → has_taken test (log ++ e ∷ []) n name ≡ took_by test n name log e (has_taken test log n name)
+unfolding has_taken
+has_taken-append test log e n name = state_from-append (took_by test n name) [] log e false
 
 -- ---- how often a name stands among these
 

@@ -3,6 +3,8 @@ pub mod Calls
 pub mod Facts
 pub mod Handshakes
 pub mod Lawful
+pub mod Links
 pub mod Moves
 pub mod Recorded
+pub mod TakenAt
 pub mod Touches

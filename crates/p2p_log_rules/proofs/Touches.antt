@@ -15,6 +15,8 @@ use Rattle.p2p_log.specs.declared.event.Act.TheVariants as act
 use Rattle.p2p_log_rules.specs.declared.row.Row.{Row}
 use Rattle.p2p_log.specs.QueueCode.{same_queue}
 use Rattle.p2p_log.specs.Lines.{stands_in, line}
+use Rattle.p2p_log_rules.specs.declared.row.Opening.{Opening}
+use Rattle.p2p_log_rules.specs.Links.{openings_of}
 use Rattle.p2p_log_rules.specs.Reading.{reading_of}
 use Rattle.p2p_log_rules.specs.Tracking.{asked_by}
 use Rattle.p2p_log_rules.specs.Effect.{entry_of, goes_to}
@@ -60,6 +62,15 @@ in_tracker n (queue.Blocked m e) = m == n
 in_tracker n (queue.Handshake m e) = m == n
 in_tracker n _ = false
 
+abbrev pub in_handshakes : ℕ → Queue → Bool
+in_handshakes n (queue.Handshake m e) = m == n
+in_handshakes n _ = false
+
+-- what both ends of a link are told
+abbrev pub in_ends : Option Opening → Queue → Bool
+in_ends None q = false
+in_ends (Some o) q = same_queue (queue.Attempt o.node o.attempt) q || in_handshakes o.to q
+
 -- whether what is told for what the event e asked stands in the queue
 abbrev pub is_told_to : Option Act → ℕ → Queue → Bool
 is_told_to (Some (act.Ask (ask.PeerSet index) n)) e q = same_queue (queue.Answer n e) q
@@ -97,11 +108,12 @@ writes configs log (act.Ask what n) q = same_queue (queue.Tracker n) q
 writes configs log (act.Tracker n) q = in_tracker n q
 writes configs log (act.Dialer n) q = same_queue (queue.Tracker n) q
 writes configs log (act.Listener n) q = same_queue (queue.Tracker n) q
-writes configs log (act.Handshake e n) q = same_queue (queue.Handshake n e) q
-writes configs log (act.Attempt e n) q = same_queue (queue.Tracker n) q || same_queue (queue.Attempt n e) q
+writes configs log (act.Handshake e n) q = same_queue (queue.Tracker n) q || (same_queue (queue.Spawner n) q || same_queue (queue.Handshake n e) q)
+writes configs log (act.Attempt e n) q = same_queue (queue.Tracker n) q || (same_queue (queue.Spawner n) q || same_queue (queue.Attempt n e) q)
 writes configs log (act.Resolve addresses e n) q = same_queue (queue.Attempt n e) q
 writes configs log (act.Connect e from n to) q = same_queue (queue.Attempt n e) q || same_queue (queue.Arrivals to) q
 writes configs log (act.Refuse e n) q = same_queue (queue.Attempt n e) q
+writes configs log (act.Finish link ok) q = in_ends (openings_of log link) q
 writes configs log _ q = false
 
 pub Has-among : (qs : List Queue) (q : Queue) → Has qs q → is_among qs q ≡ true

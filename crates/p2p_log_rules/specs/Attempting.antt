@@ -1,5 +1,5 @@
 -- The attempts of a node's dialer, by the log, and the rows of what they are told and of their steps.
-use Rattle.std.specs.Prelude.{ℕ, ◌+◌, ◌-◌, Bool, true, false, ◌==◌, ◌||◌, cond, nat_le, min, List, [], ◌∷◌, map, filter, length, Option, Some, None, slice_get}
+use Rattle.std.specs.Prelude.{ℕ, ◌+◌, ◌-◌, Bool, true, false, ◌==◌, ◌||◌, cond, nat_le, min, List, [], ◌∷◌, map, filter, length, Option, Some, None, slice_get, is_some}
 use Rattle.std.specs.Option.{option_map}
 use Rattle.p2p_base.specs.declared.key.Key.{Key}
 use Rattle.p2p_address.specs.Addresses.{is_global}
@@ -22,7 +22,7 @@ use Rattle.p2p_log.specs.declared.event.Act.TheVariants as act
 use Rattle.p2p_log.specs.Lines.{name_of, line}
 use Rattle.p2p_log_rules.specs.declared.row.Row.{Row}
 use Rattle.p2p_log_rules.specs.Facts.{is_up, key_at, taken, state_from}
-use Rattle.p2p_log_rules.specs.Rows.{only}
+use Rattle.p2p_log_rules.specs.Rows.{only, is_spawner_full}
 
 -- how long a dial may take, and how long the keys of a link may be exchanged; and whether a dial may reach addresses that aren't
 -- global
@@ -39,14 +39,14 @@ abbrev pub dial_rules_at : List Config → ℕ → DialRules
 dial_rules_at configs n = dial_rules_in (slice_get configs n)
 
 -- an attempt that has not ended: who is reserved for it, and where it dials; the address that it dials, once there is one; the moment at
--- which it gives up; and whether it was told addresses, and whether its dial was answered, with a link or a refusal
+-- which it gives up; whether it was told addresses; and the event that answered its dial, with a link or a refusal, once one did
 pub record Attempt : Type 0 where
   pub key : Key
   pub ingress : Ingress
   pub address : Option SocketAddr
   pub deadline : ℕ
   pub is_resolved : Bool
-  pub is_answered : Bool
+  pub answer : Option ℕ
 
 -- the address of an ingress that needs no look-up
 abbrev pub socket_of : Ingress → Option SocketAddr
@@ -69,7 +69,7 @@ begun_of timeout at (item.Dial (Some grant) ∷ items) = Some (record {
   address = socket_of grant.1;
   deadline = at + timeout;
   is_resolved = false;
-  is_answered = false;
+  answer = None;
 })
 begun_of timeout at _ = None
 
@@ -98,9 +98,9 @@ abbrev pub told_addresses : Reply → Attempt → Attempt
 told_addresses reply.Ok a = record a { is_resolved = true }
 told_addresses _ a = a
 
-abbrev pub told_answer : Reply → Attempt → Attempt
-told_answer reply.Ok a = record a { is_answered = true }
-told_answer _ a = a
+abbrev pub told_answer : ℕ → Reply → Attempt → Attempt
+told_answer name reply.Ok a = record a { answer = Some name }
+told_answer name _ a = a
 
 -- the attempts with this one of this name in place of another, or without any
 abbrev pub with_attempt : ℕ → Option Attempt → (ℕ → Option Attempt) → ℕ → Option Attempt
@@ -123,8 +123,8 @@ module _ (rules : DialRules) (n name : ℕ) (at seed : ℕ) (r : Reply) (items :
   acted_attempts (act.Attempt e m) attempts k =
       cond (m == n) (with_attempt e (and_then (stepped_attempt rules at seed r items) (attempts e)) attempts k) (attempts k)
   acted_attempts (act.Resolve addresses e m) attempts k = cond (m == n) (with_attempt e (option_map (told_addresses r) (attempts e)) attempts k) (attempts k)
-  acted_attempts (act.Connect e from m to) attempts k = cond (m == n) (with_attempt e (option_map (told_answer r) (attempts e)) attempts k) (attempts k)
-  acted_attempts (act.Refuse e m) attempts k = cond (m == n) (with_attempt e (option_map (told_answer r) (attempts e)) attempts k) (attempts k)
+  acted_attempts (act.Connect e from m to) attempts k = cond (m == n) (with_attempt e (option_map (told_answer name r) (attempts e)) attempts k) (attempts k)
+  acted_attempts (act.Refuse e m) attempts k = cond (m == n) (with_attempt e (option_map (told_answer name r) (attempts e)) attempts k) (attempts k)
   acted_attempts _ attempts k = attempts k
 
 -- after an entry, given those before it
@@ -155,24 +155,37 @@ abbrev pub resolved_row : Option Attempt → ℕ → Key → ℕ × ℕ → List
 resolved_row None n key name left = given_up_row n key (name ∷ []) left
 resolved_row (Some a) n key name left = gone_on_row name
 
--- by what it took
-abbrev pub took_row : ℕ → Bool → ℕ → Attempt → ℕ × ℕ → Item → List Envelope → Row
-took_row n private seed a name (item.Resolved addresses) left = resolved_row (resolved a.address private addresses seed a) n a.key name left
-took_row n private seed a name item.Linked left = gone_on_row name
-took_row n private seed a name _ left = given_up_row n a.key (name ∷ []) left
+-- it ends with the reservation of this key, by which a connection is to be made over this link; where no more of these may wait, it
+-- ends without one
+abbrev pub ready_row : ℕ → Bool → Key → ℕ → ℕ × ℕ → List Envelope → Row
+ready_row n true key link name left = given_up_row n key (name ∷ []) left
+ready_row n false key link name left =
+    record { reply = reply.Ok; takes = name ∷ []; puts = (queue.Spawner n, item.Spawn key link) ∷ []; ends = left_ends left }
+
+-- the link of an attempt whose dial was answered by the event of this name
+abbrev pub link_of : Option ℕ → ℕ
+link_of None = 0
+link_of (Some name) = name
+
+-- by what it took, and by whether its node's spawner is full
+abbrev pub took_row : ℕ → Bool → Bool → ℕ → Attempt → ℕ × ℕ → Item → List Envelope → Row
+took_row n full private seed a name (item.Resolved addresses) left = resolved_row (resolved a.address private addresses seed a) n a.key name left
+took_row n full private seed a name item.Linked left = gone_on_row name
+took_row n full private seed a name (item.Finished true) left = ready_row n full a.key (link_of a.answer) name left
+took_row n full private seed a name _ left = given_up_row n a.key (name ∷ []) left
 
 -- the oldest item, or else its deadline
-abbrev pub attempt_turn : ℕ → ℕ → ℕ → Bool → Attempt → List Envelope → Row
-attempt_turn n at seed private a [] = cond (nat_le a.deadline at) (given_up_row n a.key [] []) (only reply.Idle)
-attempt_turn n at seed private a (x ∷ xs) = took_row n private seed a (name_of x) x.item xs
+abbrev pub attempt_turn : ℕ → ℕ → ℕ → Bool → Bool → Attempt → List Envelope → Row
+attempt_turn n at seed full private a [] = cond (nat_le a.deadline at) (given_up_row n a.key [] []) (only reply.Idle)
+attempt_turn n at seed full private a (x ∷ xs) = took_row n full private seed a (name_of x) x.item xs
 
-abbrev pub attempt_by : Option Attempt → ℕ → ℕ → ℕ → Bool → List Envelope → Row
-attempt_by None n at seed private waiting = only reply.Gone
-attempt_by (Some a) n at seed private waiting = attempt_turn n at seed private a waiting
+abbrev pub attempt_by : Option Attempt → ℕ → ℕ → ℕ → Bool → Bool → List Envelope → Row
+attempt_by None n at seed full private waiting = only reply.Gone
+attempt_by (Some a) n at seed full private waiting = attempt_turn n at seed full private a waiting
 
 abbrev pub attempt_row : List Config → List Entry → ℕ → ℕ → ℕ → ℕ → Row
 attempt_row configs log e n at seed =
-    attempt_by (attempts_of configs log n e) n at seed (dial_rules_at configs n).private (line log (queue.Attempt n e))
+    attempt_by (attempts_of configs log n e) n at seed (is_spawner_full configs log n) (dial_rules_at configs n).private (line log (queue.Attempt n e))
 
 -- ---- what it is told
 
@@ -200,7 +213,7 @@ answered_row (Some s) true links e n = only reply.Gone
 answered_row (Some s) false links e n = told_row e n (link_item links)
 
 abbrev pub refuse_row : List Config → List Entry → ℕ → ℕ → Row
-refuse_row configs log e n = elim (attempts_of configs log n e) [ None ↦ only reply.Gone | Some a ↦ answered_row a.address a.is_answered false e n ]
+refuse_row configs log e n = elim (attempts_of configs log n e) [ None ↦ only reply.Gone | Some a ↦ answered_row a.address (is_some a.answer) false e n ]
 
 -- and where the other node runs, its listener is told of this arrival
 abbrev pub connected_row : Option SocketAddr → Bool → Bool → ℕ → ℕ → ℕ → Item → Row
@@ -212,5 +225,5 @@ connected_row address answered runs e n to arrival = answered_row address answer
 abbrev pub connect_row : List Config → List Entry → ℕ → SocketAddr → ℕ → ℕ → Row
 connect_row configs log e from n to = elim (attempts_of configs log n e) [
   | None ↦ only reply.Gone
-  | Some a ↦ connected_row a.address a.is_answered (is_up log to) e n to (item.Arrival from (key_at configs n) (length log))
+  | Some a ↦ connected_row a.address (is_some a.answer) (is_up log to) e n to (item.Arrival from (key_at configs n) (length log))
 ]

@@ -31,6 +31,7 @@ pub use Rattle.p2p_log_rules.specs.Rows.{only, mailbox_size_at, overwritten, rin
 use Rattle.p2p_log_rules.specs.Attempting.{attempt_row, resolve_row, refuse_row, connect_row}
 use Rattle.p2p_log_rules.specs.Dialing.{dialer_row}
 use Rattle.p2p_log_rules.specs.Handshaking.{handshake_row}
+use Rattle.p2p_log_rules.specs.Links.{finish_row}
 use Rattle.p2p_log_rules.specs.Listening.{listener_row}
 use Rattle.p2p_log_rules.specs.TrackerRows.{ask_row, answer_row, next_row, tracker_row}
 
@@ -280,6 +281,7 @@ row configs log at seed (act.Attempt e n) = attempt_row configs log e n at seed
 row configs log at seed (act.Resolve addresses e n) = resolve_row configs log addresses e n
 row configs log at seed (act.Connect e from n to) = connect_row configs log e from n to
 row configs log at seed (act.Refuse e n) = refuse_row configs log e n
+row configs log at seed (act.Finish link ok) = finish_row configs log link ok
 row configs log at seed (act.Tracker n) = tracker_row configs log n at
 
 abbrev pub entry_of : Event → Row → Entry

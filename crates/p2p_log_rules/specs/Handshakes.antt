@@ -1,6 +1,7 @@
--- The handshakes of a node that have not ended, and from where their peers came, by the log.
-use Rattle.std.specs.Prelude.{ℕ, ◌==◌, ◌&&◌, ◌||◌, Bool, true, false, not, cond, List, [], ◌∷◌, ◌++◌, filter, length, take, Option, Some, None, slice_get}
+-- The handshakes of a node that have not ended, what they were told, and their peers, by the log.
+use Rattle.std.specs.Prelude.{ℕ, ◌==◌, ◌&&◌, ◌||◌, Bool, true, false, not, cond, List, [], ◌∷◌, ◌++◌, filter, length, Option, Some, None}
 use Rattle.std.specs.List.{list_any}
+use Rattle.p2p_base.specs.declared.key.Key.{Key}
 use Rattle.p2p_address.specs.declared.ip.IpAddr.{IpAddr}
 use Rattle.p2p_gates_rules.specs.declared.reply.Reply.TheVariants as gates
 use Rattle.p2p_log.specs.declared.item.Item.{Item}
@@ -10,7 +11,7 @@ use Rattle.p2p_log.specs.declared.entry.Reply.{Reply}
 use Rattle.p2p_log.specs.declared.entry.Reply.TheVariants as reply
 use Rattle.p2p_log.specs.declared.event.Act.{Act}
 use Rattle.p2p_log.specs.declared.event.Act.TheVariants as act
-use Rattle.p2p_log_rules.specs.Facts.{taken, state_from}
+use Rattle.p2p_log_rules.specs.Facts.{taken, taken_at, state_from}
 
 -- with the handshake of this name, where a step admitted the arrival that it took
 abbrev pub with_admitted : ℕ → Reply → List ℕ → List ℕ
@@ -21,9 +22,10 @@ abbrev pub steps_listener : ℕ → Act → Bool
 steps_listener n (act.Listener m) = m == n
 steps_listener n _ = false
 
--- a handshake ends at a step of this reply that took these: by all but word that its peer may connect
+-- a handshake ends at a step of this reply that took these: by all but word that its peer may connect, and that keys were exchanged
 abbrev pub ends_handshake : Reply → List Item → Bool
 ends_handshake reply.Ok (item.Acceptable true ∷ items) = false
+ends_handshake reply.Ok (item.Finished true ∷ items) = false
 ends_handshake reply.Ok _ = true
 ends_handshake _ items = false
 
@@ -62,22 +64,47 @@ abbrev pub takes_acceptance : List Item → Bool
 takes_acceptance (item.Acceptable true ∷ items) = true
 takes_acceptance _ = false
 
-abbrev pub accepted_by : ℕ → ℕ → List Entry → Entry → Bool → Bool
-accepted_by n name before e accepted = (steps_handshake n name e.event.act && takes_acceptance (taken before e)) || accepted
+-- whether word that keys were exchanged is what was taken
+abbrev pub takes_exchange : List Item → Bool
+takes_exchange (item.Finished true ∷ items) = true
+takes_exchange _ = false
 
--- whether a handshake was told that its peer may connect
-unfoldable pub is_accepted : List Entry → ℕ → ℕ → Bool
-is_accepted log n name = state_from (accepted_by n name) [] log false
+-- whether a handshake has taken such items, once this entry did what it did
+abbrev pub took_by : (List Item → Bool) → ℕ → ℕ → List Entry → Entry → Bool → Bool
+took_by test n name before e took = (steps_handshake n name e.event.act && test (taken before e)) || took
+
+-- whether a handshake took such items
+unfoldable pub has_taken : (List Item → Bool) → List Entry → ℕ → ℕ → Bool
+has_taken test log n name = state_from (took_by test n name) [] log false
+
+-- whether a handshake took that its peer may connect
+abbrev pub is_accepted : List Entry → ℕ → ℕ → Bool
+is_accepted log n name = has_taken takes_acceptance log n name
+
+-- whether it was told that keys were exchanged
+abbrev pub is_finished : List Entry → ℕ → ℕ → Bool
+is_finished log n name = has_taken takes_exchange log n name
 
 -- the address of the arrival among these
 abbrev pub source_of : List Item → Option IpAddr
 source_of (item.Arrival from key link ∷ items) = Some from.ip
 source_of _ = None
 
-abbrev pub source_in : List Entry → Option Entry → Option IpAddr
-source_in before None = None
-source_in before (Some e) = source_of (taken before e)
-
 -- the address from which the peer came whose arrival the entry of this name took
-unfoldable pub source_at : List Entry → ℕ → Option IpAddr
-source_at log name = source_in (take name log) (slice_get log name)
+abbrev pub source_at : List Entry → ℕ → Option IpAddr
+source_at log name = source_of (taken_at log name)
+
+-- ---- the peer of a handshake
+
+-- its key, and the link over which it came
+pub record Peer : Type 0 where
+  pub key : Key
+  pub link : ℕ
+
+abbrev pub peer_of : List Item → Peer
+peer_of (item.Arrival from key link ∷ items) = record { key = key; link = link }
+peer_of _ = record { key = record { 0 = 0 }; link = 0 }
+
+-- the peer whose arrival the entry of this name took
+abbrev pub peer_at : List Entry → ℕ → Peer
+peer_at log name = peer_of (taken_at log name)

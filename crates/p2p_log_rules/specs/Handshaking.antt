@@ -1,5 +1,6 @@
 -- The step of a handshake, by the log: until when its keys may be exchanged, and its row.
-use Rattle.std.specs.Prelude.{ℕ, ◌+◌, true, cond, nat_le, List, [], ◌∷◌}
+use Rattle.std.specs.Prelude.{ℕ, ◌+◌, Bool, true, not, ◌&&◌, cond, nat_le, Some, List, [], ◌∷◌}
+use Rattle.p2p_base.specs.declared.key.Key.{Key}
 use Rattle.p2p_log.specs.declared.config.Config.{Config}
 use Rattle.p2p_log.specs.declared.queue.Queue.TheVariants as queue
 use Rattle.p2p_log.specs.declared.item.Item.{Item}
@@ -9,10 +10,10 @@ use Rattle.p2p_log.specs.declared.entry.Entry.{Entry}
 use Rattle.p2p_log.specs.declared.entry.Reply.TheVariants as reply
 use Rattle.p2p_log.specs.Lines.{name_of, line}
 use Rattle.p2p_log_rules.specs.declared.row.Row.{Row}
-use Rattle.p2p_log_rules.specs.Attempting.{dial_rules_at, left_ends, gone_on_row}
+use Rattle.p2p_log_rules.specs.Attempting.{dial_rules_at, left_ends, gone_on_row, ready_row}
 use Rattle.p2p_log_rules.specs.Facts.{moment_at}
-use Rattle.p2p_log_rules.specs.Handshakes.{is_handshaking}
-use Rattle.p2p_log_rules.specs.Rows.{only}
+use Rattle.p2p_log_rules.specs.Handshakes.{is_handshaking, is_finished, Peer, peer_at}
+use Rattle.p2p_log_rules.specs.Rows.{only, is_spawner_full}
 
 -- the moment at which a handshake ends, where its keys were not exchanged
 abbrev pub handshake_deadline : List Config → List Entry → ℕ → ℕ → ℕ
@@ -22,18 +23,31 @@ handshake_deadline configs log name n = moment_at log name + (dial_rules_at conf
 abbrev pub ended_row : List (ℕ × ℕ) → List Envelope → Row
 ended_row names left = record { reply = reply.Ok; takes = names; puts = []; ends = left_ends left }
 
--- by what it took: where its peer may connect, it goes on
-abbrev pub took_row : ℕ × ℕ → Item → List Envelope → Row
-took_row name (item.Acceptable true) left = gone_on_row name
-took_row name _ left = ended_row (name ∷ []) left
+-- keys were exchanged, as it took: it asks for its peer
+abbrev pub exchanged_row : ℕ → ℕ → Key → ℕ × ℕ → Row
+exchanged_row n handshake key name =
+    record { reply = reply.Ok; takes = name ∷ []; puts = (queue.Tracker n, item.AskListen handshake key) ∷ []; ends = [] }
+
+-- by what it took, and by whether its node's spawner is full: where its peer may connect, it goes on; where keys were exchanged, it asks for
+-- its peer; and where that is reserved, a connection is to be made
+abbrev pub took_row : ℕ → Bool → ℕ → Peer → ℕ × ℕ → Item → List Envelope → Row
+took_row n full handshake peer name (item.Acceptable true) left = gone_on_row name
+took_row n full handshake peer name (item.Finished true) left = exchanged_row n handshake peer.key name
+took_row n full handshake peer name (item.Listen (Some key)) left = ready_row n full key peer.link name left
+took_row n full handshake peer name _ left = ended_row (name ∷ []) left
+
+-- whether its deadline has come, which stands still once keys were exchanged
+abbrev pub is_due : ℕ → ℕ → Bool → Bool
+is_due deadline at finished = not finished && nat_le deadline at
 
 -- the oldest item, or else its deadline
-abbrev pub handshake_turn : ℕ → ℕ → List Envelope → Row
-handshake_turn deadline at [] = cond (nat_le deadline at) (ended_row [] []) (only reply.Idle)
-handshake_turn deadline at (x ∷ xs) = took_row (name_of x) x.item xs
+abbrev pub handshake_turn : ℕ → Bool → Bool → ℕ → Peer → List Envelope → Row
+handshake_turn n full due handshake peer [] = cond due (ended_row [] []) (only reply.Idle)
+handshake_turn n full due handshake peer (x ∷ xs) = took_row n full handshake peer (name_of x) x.item xs
 
 abbrev pub handshake_row : List Config → List Entry → ℕ → ℕ → ℕ → Row
 handshake_row configs log name n at =
     cond (is_handshaking log n name)
-    (handshake_turn (handshake_deadline configs log name n) at (line log (queue.Handshake n name)))
+    (handshake_turn n (is_spawner_full configs log n) (is_due (handshake_deadline configs log name n) at (is_finished log n name)) name (peer_at log name)
+    (line log (queue.Handshake n name)))
     (only reply.Gone)

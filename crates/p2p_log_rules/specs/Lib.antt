@@ -6,6 +6,7 @@ pub mod Frames
 pub mod Handshakes
 pub mod Handshaking
 pub mod Lawful
+pub mod Links
 pub mod Listening
 pub mod Moves
 pub mod Reading

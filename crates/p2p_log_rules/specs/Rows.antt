@@ -1,13 +1,15 @@
--- Words for rows: a reply alone, the size of a node's mailboxes, and rings.
-use Rattle.std.specs.Prelude.{ℕ, List, [], ◌∷◌, ◌++◌, filter, flat_map, Some, None, slice_get}
+-- Words for rows: a reply alone, the size of a node's mailboxes and whether its spawner's is full, and rings.
+use Rattle.std.specs.Prelude.{ℕ, Bool, nat_le, List, [], ◌∷◌, ◌++◌, filter, flat_map, length, Some, None, slice_get}
 use Rattle.p2p_log.specs.declared.config.Config.{Config}
 use Rattle.p2p_log.specs.declared.queue.Queue.{Queue}
+use Rattle.p2p_log.specs.declared.queue.Queue.TheVariants as queue
 use Rattle.p2p_log.specs.declared.item.Envelope.{Envelope}
 use Rattle.p2p_log.specs.declared.end.End.{End}
 use Rattle.p2p_log.specs.declared.end.End.TheVariants as end
+use Rattle.p2p_log.specs.declared.entry.Entry.{Entry}
 use Rattle.p2p_log.specs.declared.entry.Reply.{Reply}
 use Rattle.p2p_log_rules.specs.declared.row.Row.{Row}
-use Rattle.p2p_log.specs.Lines.{stands_in, stays, ended_item}
+use Rattle.p2p_log.specs.Lines.{stands_in, stays, ended_item, line}
 
 -- a reply that moves nothing
 abbrev pub only : Reply → Row
@@ -15,6 +17,10 @@ only r = record { reply = r; takes = []; puts = []; ends = [] }
 
 abbrev pub mailbox_size_at : List Config → ℕ → ℕ
 mailbox_size_at configs n = elim (slice_get configs n) [ None ↦ 0 | Some c ↦ c.mailbox_size ]
+
+-- whether no more connections may wait for a node's spawner
+abbrev pub is_spawner_full : List Config → List Entry → ℕ → Bool
+is_spawner_full configs log n = nat_le (mailbox_size_at configs n) (length (line log (queue.Spawner n)))
 
 -- an item that the next one overwrites, of a queue that holds one
 abbrev pub overwritten : List Envelope → List End

@@ -9,7 +9,7 @@ use Rattle.p2p_address.specs.declared.peer.Ingress.{Ingress}
 use Rattle.p2p_flow.specs.declared.update.PeerSetUpdate.{PeerSetUpdate}
 use Rattle.p2p_tracker_calls.specs.declared.call.Call.{Call}
 use Rattle.p2p_tracker_calls.specs.declared.call.Call.TheVariants as call
-use Rattle.p2p_tracker_calls.specs.Allows.{allows_dial, is_acceptable}
+use Rattle.p2p_tracker_calls.specs.Allows.{allows_dial, allows_listen, is_acceptable}
 use Rattle.p2p_tracker_calls.specs.BlockedKeys.{blocked_keys}
 use Rattle.p2p_tracker_calls.specs.Blocks.{is_blockable}
 use Rattle.p2p_tracker_calls.specs.DialList.{dialable_keys, query_again_at}
@@ -103,10 +103,17 @@ module _ (rules : Rules Key) (n at : ℕ) (updates sets : List ℕ) (calls : Lis
   abbrev pub dial_grant : Key → Option (Key × Ingress)
   dial_grant k = cond (allows_dial key_cmp rules calls k at) (option_map (λ a. (k, ingress_of a)) (address_of key_cmp rules calls k)) None
 
-  -- whether the peer of a handshake may connect from where it came, told to one that has not ended
-  abbrev pub acceptable_puts : ℕ → Key → Bool → Option IpAddr → List Put
-  acceptable_puts name key true (Some source) = (queue.Handshake n name, item.Acceptable (is_acceptable key_cmp rules calls key source at)) ∷ []
-  acceptable_puts name key _ _ = []
+  -- whether the peer of a handshake may connect from where it came, and whether it is reserved
+  abbrev pub acceptance : Key → IpAddr → Item
+  acceptance key source = item.Acceptable (is_acceptable key_cmp rules calls key source at)
+
+  abbrev pub listen_grant : Key → IpAddr → Item
+  listen_grant key source = item.Listen (cond (allows_listen key_cmp rules calls key source at) (Some key) None)
+
+  -- what is told to a handshake that has not ended, of where its peer came from
+  abbrev pub handshake_puts : ℕ → (IpAddr → Item) → Bool → Option IpAddr → List Put
+  handshake_puts name told true (Some source) = (queue.Handshake n name, told source) ∷ []
+  handshake_puts name told _ _ = []
 
   -- what is put for an item
   abbrev pub item_puts : List Entry → Item → List Put
@@ -114,5 +121,6 @@ module _ (rules : Rules Key) (n at : ℕ) (updates sets : List ℕ) (calls : Lis
   item_puts log (item.Connect conn key) = cond (accepts key_cmp rules calls key (Some at)) [] (kill_put n (Some conn))
   item_puts log item.AskDialable = (queue.Dialer n, item.Dialable (query_again_at key_cmp rules calls at) (dialable_keys key_cmp rules calls at)) ∷ []
   item_puts log (item.AskDial key) = (queue.Dialer n, item.Dial (dial_grant key)) ∷ []
-  item_puts log (item.AskAcceptable name key) = acceptable_puts name key (is_handshaking log n name) (source_at log name)
+  item_puts log (item.AskAcceptable name key) = handshake_puts name (acceptance key) (is_handshaking log n name) (source_at log name)
+  item_puts log (item.AskListen name key) = handshake_puts name (listen_grant key) (is_handshaking log n name) (source_at log name)
   item_puts log _ = []

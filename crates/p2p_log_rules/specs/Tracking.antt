@@ -62,17 +62,22 @@ asked_calls (Some (act.Ask (ask.Overwrite peers) n)) at calls = overwritten peer
 asked_calls (Some (act.Ask (ask.Block key) n)) at calls = call.Block key at ∷ calls
 asked_calls _ at calls = calls
 
--- once it took this item, where a dial is granted or not and has this jitter
+-- once it took this item, where a peer is granted or not and has this jitter
 abbrev pub item_calls : List Entry → Item → ℕ → ℕ → Bool → List (Call Key) → List (Call Key)
 item_calls log (item.Call e) at jitter granted calls = asked_calls (asked_by log e) at calls
 item_calls log (item.Connect conn key) at jitter granted calls = call.Connect key (Some at) conn ∷ calls
 item_calls log (item.AskDial key) at jitter granted calls = call.Dial key at jitter granted ∷ calls
+item_calls log (item.AskListen name key) at jitter granted calls = call.Listen key at jitter granted ∷ calls
 item_calls log (item.Release key) at jitter granted calls = call.Release key ∷ calls
 item_calls log _ at jitter granted calls = calls
 
--- whether what is put grants a dial
-abbrev pub grants_dial : Queue × Item → Bool
-grants_dial x = elim x.1 [ item.Dial grant ↦ elim grant [ None ↦ false | Some g ↦ true ] | _ ↦ false ]
+-- whether what is put grants a peer, to a dial or to a handshake
+abbrev pub grants_peer : Queue × Item → Bool
+grants_peer x = elim x.1 [
+  | item.Dial grant ↦ elim grant [ None ↦ false | Some g ↦ true ]
+  | item.Listen grant ↦ elim grant [ None ↦ false | Some key ↦ true ]
+  | _ ↦ false
+]
 
 -- once it did a step with this reply, in which it took these items: where it took none, blocks had ended
 abbrev pub step_calls : List Entry → Reply → List Item → ℕ → ℕ → Bool → List (Call Key) → List (Call Key)
@@ -84,7 +89,7 @@ step_calls log _ items at jitter granted calls = calls
 abbrev pub calls_by : List Config → ℕ → List Entry → Entry → List (Call Key) → List (Call Key)
 calls_by configs n before e calls =
     cond (steps_tracker n e.event.act)
-    (step_calls before e.reply (taken before e) e.event.at (jitter_of (rules_at configs n).cooldown e.event.seed) (list_any grants_dial e.puts) calls)
+    (step_calls before e.reply (taken before e) e.event.at (jitter_of (rules_at configs n).cooldown e.event.seed) (list_any grants_peer e.puts) calls)
     calls
 
 -- the calls of the directory of a node's tracker

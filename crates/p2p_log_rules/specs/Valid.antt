@@ -75,6 +75,19 @@ dials_node n (Some v) = elim v.act [ act.Dialer m ↦ m == n | _ ↦ false ]
 abbrev pub names_dialer : List Event → ℕ → ℕ → Bool
 names_dialer events n e = dials_node n (slice_get events e)
 
+-- whether an act links an attempt of a node that is there to another that is
+abbrev pub links_nodes : List Config → Act → Bool
+links_nodes configs (act.Connect e from n to) = nat_lt n (length configs) && nat_lt to (length configs)
+links_nodes configs _ = false
+
+abbrev pub is_linking : List Config → Option Event → Bool
+is_linking configs None = false
+is_linking configs (Some v) = links_nodes configs v.act
+
+-- whether an earlier event links an attempt to a node
+abbrev pub names_link : List Config → List Event → ℕ → Bool
+names_link configs events link = is_linking configs (slice_get events link)
+
 -- whether an act is a step of a listener
 abbrev pub is_listened : Option Event → Bool
 is_listened None = false
@@ -136,6 +149,7 @@ may_act configs events (act.Attempt e n) = nat_lt n (length configs) && names_di
 may_act configs events (act.Resolve addresses e n) = nat_lt n (length configs) && names_dialer events n e
 may_act configs events (act.Connect e from n to) = nat_lt n (length configs) && (nat_lt to (length configs) && names_dialer events n e)
 may_act configs events (act.Refuse e n) = nat_lt n (length configs) && names_dialer events n e
+may_act configs events (act.Finish link ok) = names_link configs events link
 
 -- moments never go back
 unfoldable pub is_valid_event : List Config → List Event → Event → Bool

@@ -4,4 +4,4 @@
 
 pub mod row;
 
-pub use row::{Half, Row};
+pub use row::{Half, ListeningEnd, Opening, Row};

@@ -17,3 +17,20 @@ pub struct Half {
     pub peer: Key,
     pub writes: Side,
 }
+
+/// A link over which keys are exchanged: the node and the attempt that dialed, and the node at which that arrived.
+#[derive(Clone, Copy, Debug, PartialEq, Eq)]
+pub struct Opening {
+    pub node: u64,
+    pub attempt: u64,
+    pub to: u64,
+}
+
+/// What has the listening end of a link over which keys are exchanged.
+#[derive(Clone, Copy, Debug, PartialEq, Eq)]
+pub enum ListeningEnd {
+    /// The arrival that its listener has yet to take.
+    Arriving,
+    /// The handshake of this name.
+    Handshake(u64),
+}
