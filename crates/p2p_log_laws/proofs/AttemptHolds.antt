@@ -57,9 +57,9 @@ module _ (key : Key) where
   addresses_kept reply.Ok a = refl
   addresses_kept _ a = refl
 
-  pub answer_kept : (r : Reply) (a : Attempt) → holds (Some (told_answer r a)) ≡ holds (Some a)
-  answer_kept reply.Ok a = refl
-  answer_kept _ a = refl
+  pub answer_kept : (name : ℕ) (r : Reply) (a : Attempt) → holds (Some (told_answer name r a)) ≡ holds (Some a)
+  answer_kept name reply.Ok a = refl
+  answer_kept name _ a = refl
 
   -- another node's attempts
   pub others_kept : (t : Bool) (o u : Option Attempt) → t ≡ false → holds (cond t o u) ≡ holds u

@@ -1,6 +1,6 @@
 -- The shapes of what attempts are told, and of their steps: none moves a copy.
 use Rattle.std.proofs.Common.{◌≡◌, ℕ, Bool, true, false, cond, List, [], ◌∷◌, ◌++◌, map, length, Option, Some, None, refl, ap, ◌∙◌}
-use Rattle.std.specs.Prelude.{◌||◌, nat_le}
+use Rattle.std.specs.Prelude.{◌||◌, nat_le, is_some}
 use Rattle.p2p_base.specs.declared.key.Key.{Key}
 use Rattle.p2p_address.specs.declared.ip.SocketAddr.{SocketAddr}
 use Rattle.p2p_address.specs.declared.peer.Ingress.{Ingress}
@@ -22,8 +22,8 @@ use Rattle.p2p_log.specs.Sending.{keys_sent, sending_of}
 use Rattle.p2p_log.proofs.Queues.{same_queue-refl}
 use Rattle.p2p_log_rules.specs.declared.row.Row.{Row}
 use Rattle.p2p_log_rules.specs.Facts.{is_up, key_at}
-use Rattle.p2p_log_rules.specs.Rows.{only}
-use Rattle.p2p_log_rules.specs.Attempting.{Attempt, dial_rules_at, attempts_of, resolved, given_up_row, gone_on_row, resolved_row, took_row, attempt_turn, attempt_by, attempt_row, told_row, resolve_by, resolve_row, link_item, answered_row, refuse_row, connected_row, connect_row}
+use Rattle.p2p_log_rules.specs.Rows.{only, is_spawner_full}
+use Rattle.p2p_log_rules.specs.Attempting.{Attempt, dial_rules_at, attempts_of, resolved, given_up_row, gone_on_row, resolved_row, ready_row, link_of, took_row, attempt_turn, attempt_by, attempt_row, told_row, resolve_by, resolve_row, link_item, answered_row, refuse_row, connected_row, connect_row}
 use Rattle.p2p_log_rules.proofs.Touches.{writes}
 use Rattle.p2p_log_laws.proofs.LineShape.{ended_shape, gone_on_shape}
 use Rattle.p2p_log_laws.proofs.Shape.{Shape, IsQuiet, quiet_laws, still, no_moves}
@@ -42,10 +42,15 @@ module _ (configs : List Config) (log : List Entry) (e n : ℕ) where
   q = queue.Attempt n e
 
   written : writes configs log a q ≡ true
-  written = ap (λ b. same_queue (queue.Tracker n) q || b) (same_queue-refl q) ∙ or_true (same_queue (queue.Tracker n) q)
+  written =
+      ap (λ b. same_queue (queue.Tracker n) q || (same_queue (queue.Spawner n) q || b)) (same_queue-refl q)
+      ∙ (ap (λ b. same_queue (queue.Tracker n) q || b) (or_true (same_queue (queue.Spawner n) q)) ∙ or_true (same_queue (queue.Tracker n) q))
 
   asks : writes configs log a (queue.Tracker n) ≡ true
-  asks = ap (λ b. b || same_queue q (queue.Tracker n)) (same_queue-refl (queue.Tracker n))
+  asks = ap (λ b. b || (same_queue (queue.Spawner n) (queue.Tracker n) || same_queue q (queue.Tracker n))) (same_queue-refl (queue.Tracker n))
+
+  spawns : writes configs log a (queue.Spawner n) ≡ true
+  spawns = ap (λ b. same_queue (queue.Tracker n) (queue.Spawner n) || (b || same_queue q (queue.Spawner n))) (same_queue-refl (queue.Spawner n))
 
   -- it takes these, of which it is left these, and ends
   given_up_shape : (took left : List Envelope) → line log q ≡ took ++ left → (key : Key) → Shape configs log a (given_up_row n key (map name_of took) left)
@@ -55,29 +60,38 @@ module _ (configs : List Config) (log : List Entry) (e n : ℕ) where
   taken_shape : (x : Envelope) (rest : List Envelope) → line log q ≡ x ∷ rest → Shape configs log a (gone_on_row (name_of x))
   taken_shape x rest first = gone_on_shape configs log a q (same_queue-refl q) written refl (λ r. refl) x rest first
 
+  -- its keys were exchanged
+  ready_shape : (full : Bool) (key : Key) (link : ℕ) (x : Envelope) (rest : List Envelope) → line log q ≡ x ∷ rest → Shape configs log a (ready_row n full key link (name_of x) rest)
+  ready_shape true key link x rest first = given_up_shape (x ∷ []) rest first key
+  ready_shape false key link x rest first =
+      ended_shape configs log a q (same_queue-refl q) written refl (λ r. refl) (x ∷ []) rest first ((queue.Spawner n, item.Spawn key link) ∷ []) ((refl, refl), tt) (spawns, tt)
+
   resolved_shape : (o : Option Attempt) (key : Key) (x : Envelope) (rest : List Envelope) → line log q ≡ x ∷ rest → Shape configs log a (resolved_row o n key (name_of x) rest)
   resolved_shape None key x rest first = given_up_shape (x ∷ []) rest first key
   resolved_shape (Some b) key x rest first = taken_shape x rest first
 
-  took_shape : (private : Bool) (seed : ℕ) (b : Attempt) (x : Envelope) (rest : List Envelope) → line log q ≡ x ∷ rest → (i : Item) → Shape configs log a (took_row n private seed b (name_of x) i rest)
-  took_shape private seed b x rest first (item.Resolved addresses) = resolved_shape (resolved b.address private addresses seed b) b.key x rest first
-  took_shape private seed b x rest first item.Linked = taken_shape x rest first
-  took_shape private seed b x rest first _ = given_up_shape (x ∷ []) rest first b.key
+  took_shape : (full private : Bool) (seed : ℕ) (b : Attempt) (x : Envelope) (rest : List Envelope) → line log q ≡ x ∷ rest → (i : Item)
+      → Shape configs log a (took_row n full private seed b (name_of x) i rest)
+  took_shape full private seed b x rest first (item.Resolved addresses) = resolved_shape (resolved b.address private addresses seed b) b.key x rest first
+  took_shape full private seed b x rest first item.Linked = taken_shape x rest first
+  took_shape full private seed b x rest first (item.Finished true) = ready_shape full b.key (link_of b.answer) x rest first
+  took_shape full private seed b x rest first (item.Finished false) = given_up_shape (x ∷ []) rest first b.key
+  took_shape full private seed b x rest first _ = given_up_shape (x ∷ []) rest first b.key
 
-  turn_shape : (at seed : ℕ) (private : Bool) (b : Attempt) (xs : List Envelope) → line log q ≡ xs → Shape configs log a (attempt_turn n at seed private b xs)
-  turn_shape at seed private b [] none = by_due (nat_le b.deadline at)
+  turn_shape : (at seed : ℕ) (full private : Bool) (b : Attempt) (xs : List Envelope) → line log q ≡ xs → Shape configs log a (attempt_turn n at seed full private b xs)
+  turn_shape at seed full private b [] none = by_due (nat_le b.deadline at)
     where
       by_due : (c : Bool) → Shape configs log a (cond c (given_up_row n b.key [] []) (only reply.Idle))
       by_due true = given_up_shape [] [] none b.key
       by_due false = still configs log a reply.Idle refl refl
-  turn_shape at seed private b (x ∷ rest) first = took_shape private seed b x rest first x.item
+  turn_shape at seed full private b (x ∷ rest) first = took_shape full private seed b x rest first x.item
 
   pub attempt_shape : (at seed : ℕ) → Shape configs log a (attempt_row configs log e n at seed)
   attempt_shape at seed = by_attempt (attempts_of configs log n e)
     where
-      by_attempt : (o : Option Attempt) → Shape configs log a (attempt_by o n at seed (dial_rules_at configs n).private (line log q))
+      by_attempt : (o : Option Attempt) → Shape configs log a (attempt_by o n at seed (is_spawner_full configs log n) (dial_rules_at configs n).private (line log q))
       by_attempt None = still configs log a reply.Gone refl refl
-      by_attempt (Some b) = turn_shape at seed (dial_rules_at configs n).private b (line log q) refl
+      by_attempt (Some b) = turn_shape at seed (is_spawner_full configs log n) (dial_rules_at configs n).private b (line log q) refl
 
 -- ---- what it is told
 
@@ -115,9 +129,9 @@ resolve_shape configs log addresses e n = by_attempt (attempts_of configs log n 
 pub refuse_shape : (configs : List Config) (log : List Entry) (e n : ℕ) → Shape configs log (act.Refuse e n) (refuse_row configs log e n)
 refuse_shape configs log e n = by_attempt (attempts_of configs log n e)
   where
-    by_attempt : (o : Option Attempt) → Shape configs log (act.Refuse e n) (elim o [ None ↦ only reply.Gone | Some a ↦ answered_row a.address a.is_answered false e n ])
+    by_attempt : (o : Option Attempt) → Shape configs log (act.Refuse e n) (elim o [ None ↦ only reply.Gone | Some a ↦ answered_row a.address (is_some a.answer) false e n ])
     by_attempt None = still configs log (act.Refuse e n) reply.Gone refl refl
-    by_attempt (Some a) = answered_shape configs log (act.Refuse e n) e n (λ r. refl) (same_queue-refl (queue.Attempt n e)) a.address a.is_answered false
+    by_attempt (Some a) = answered_shape configs log (act.Refuse e n) e n (λ r. refl) (same_queue-refl (queue.Attempt n e)) a.address (is_some a.answer) false
 
 -- ---- a link to another node
 
@@ -152,6 +166,6 @@ module _ (configs : List Config) (log : List Entry) (e : ℕ) (from : SocketAddr
   pub connect_shape : Shape configs log connects (connect_row configs log e from n to)
   connect_shape = by_attempt (attempts_of configs log n e)
     where
-      by_attempt : (o : Option Attempt) → Shape configs log connects (elim o [ None ↦ only reply.Gone | Some a ↦ connected_row a.address a.is_answered (is_up log to) e n to arrival ])
+      by_attempt : (o : Option Attempt) → Shape configs log connects (elim o [ None ↦ only reply.Gone | Some a ↦ connected_row a.address (is_some a.answer) (is_up log to) e n to arrival ])
       by_attempt None = still configs log connects reply.Gone refl refl
-      by_attempt (Some a) = connected_shape a.address a.is_answered (is_up log to)
+      by_attempt (Some a) = connected_shape a.address (is_some a.answer) (is_up log to)

@@ -1,5 +1,5 @@
 -- A step of a node's dialer hands a grant on: from the answer that it takes to the attempt that it begins.
-use Rattle.std.proofs.Common.{◌≡◌, ℕ, Bool, true, false, cond, List, [], ◌∷◌, map, Option, Some, None, refl, ap, ◌∙◌}
+use Rattle.std.proofs.Common.{◌≡◌, ℕ, Bool, true, false, cond, List, [], ◌∷◌, map, Option, Some, None, refl, ap, sym, subst, ◌∙◌, eq-eqb}
 use Rattle.std.specs.Prelude.{◌&&◌, not, nat_le}
 use Rattle.std.specs.List.{AllByRecursion as Each}
 use Rattle.p2p_base.specs.declared.key.Key.{Key}
@@ -14,7 +14,6 @@ use Rattle.p2p_log.specs.declared.entry.Reply.{Reply}
 use Rattle.p2p_log.specs.declared.entry.Reply.TheVariants as reply
 use Rattle.p2p_log.specs.QueueCode.{same_queue}
 use Rattle.p2p_log.specs.Lines.{name_of, line}
-use Rattle.p2p_log.proofs.Queues.{same_queue-refl}
 use Rattle.p2p_log_rules.specs.declared.row.Row.{Row}
 use Rattle.p2p_log_rules.specs.Attempting.{begun_of}
 use Rattle.p2p_log_rules.specs.Dialing.{Dials, dials_of, in_drawn_order, last_key, dial_puts, dials_row, answered_row, due_row, dialer_turn, dialer_row}
@@ -23,17 +22,15 @@ use Rattle.p2p_log_rules.specs.Moves.{Moves}
 use Rattle.p2p_log_rules.specs.Rows.{only}
 use Rattle.p2p_log_rules.proofs.Moves.{one_taken}
 use Rattle.p2p_log_laws.specs.Grants.{one}
-use Rattle.p2p_log_laws.specs.NodeGrants.{put_of, grants_key, releases_key, is_attempt_of, puts_grant, puts_release}
+use Rattle.p2p_log_laws.specs.NodeGrants.{put_of, holds_grants, grants_key, releases_key, is_attempt_of, puts_grant, puts_release}
 use Rattle.p2p_log_laws.proofs.Plain.{Plain, StandsPlain, plain_item}
 use Rattle.p2p_log_laws.proofs.Shape.{no_moves, one_move}
 use Rattle.p2p_log_laws.proofs.Weighing.{weight, count_by-one}
 
 module _ (n : ℕ) (key : Key) where
   -- what it takes grants the key if what it begins is an attempt of it
-  begun_holds : (timeout at : ℕ) (i : Item) → grants_key key i ≡ is_attempt_of key (begun_of timeout at (i ∷ []))
-  begun_holds timeout at (item.Dial (Some grant)) = refl
-  begun_holds timeout at (item.Dial None) = refl
-  begun_holds timeout at _ = refl
+  abbrev BeginsHeld : ℕ → ℕ → Item → Type 0
+  BeginsHeld timeout at i = grants_key key i ≡ is_attempt_of key (begun_of timeout at (i ∷ []))
 
   -- what a dialer's row hands on
   pub record Hand (log : List Entry) (timeout at : ℕ) (r : Row) : Type 0 where
@@ -59,14 +56,14 @@ module _ (n : ℕ) (key : Key) where
     }
 
     -- it takes an answer
-    answered : (x : Envelope) (rest : List Envelope) → line log (queue.Dialer n) ≡ x ∷ rest → (puts : List (Queue × Item)) → Each (Plain n key) puts
+    answered : (x : Envelope) (rest : List Envelope) → line log (queue.Dialer n) ≡ x ∷ rest → BeginsHeld timeout at x.item → (puts : List (Queue × Item)) → Each (Plain n key) puts
         → Hand log timeout at (record { reply = reply.Ok; takes = name_of x ∷ []; puts = puts; ends = [] })
-    answered x rest first puts plain =
+    answered x rest first begins puts plain =
         let r : Row = record { reply = reply.Ok; takes = name_of x ∷ []; puts = puts; ends = [] } in
         let stood : x.queue ≡ queue.Dialer n = one_taken log (queue.Dialer n) x rest first in
         let granted : puts_grant n key (put_of x) ≡ is_attempt_of key (begun_of timeout at (x.item ∷ [])) =
-        ap (λ q. same_queue (queue.Dialer n) q && grants_key key x.item) stood
-        ∙ (ap (λ b. b && grants_key key x.item) (same_queue-refl (queue.Dialer n)) ∙ begun_holds timeout at x.item)
+        ap (λ q. holds_grants n q && grants_key key x.item) stood
+        ∙ (ap (λ b. b && grants_key key x.item) (eq-eqb n n refl) ∙ begins)
         in
         let released : puts_release n key (put_of x) ≡ false = ap (λ q. same_queue (queue.Tracker n) q && releases_key key x.item) stood in
         record {
@@ -77,14 +74,14 @@ module _ (n : ℕ) (key : Key) where
           puts = plain;
         }
 
-    dials : (x : Envelope) (rest : List Envelope) → line log (queue.Dialer n) ≡ x ∷ rest → (peers : List Key) → Hand log timeout at (dials_row n (name_of x ∷ []) peers)
-    dials x rest first peers = answered x rest first (dial_puts n (last_key peers)) (plain_dial (last_key peers))
+    dials : (x : Envelope) (rest : List Envelope) → line log (queue.Dialer n) ≡ x ∷ rest → BeginsHeld timeout at x.item → (peers : List Key) → Hand log timeout at (dials_row n (name_of x ∷ []) peers)
+    dials x rest first begins peers = answered x rest first begins (dial_puts n (last_key peers)) (plain_dial (last_key peers))
 
-    by_answer : (d : Dials) (x : Envelope) (rest : List Envelope) → line log (queue.Dialer n) ≡ x ∷ rest → (i : Item) → Hand log timeout at (answered_row n seed d (name_of x) i)
-    by_answer d x rest first (item.Dialable next peers) = dials x rest first (in_drawn_order seed peers)
-    by_answer d x rest first (item.Dial None) = dials x rest first d.peers
-    by_answer d x rest first (item.Dial (Some grant)) = answered x rest first [] tt
-    by_answer d x rest first _ = asking reply.Idle [] tt
+    by_answer : (d : Dials) (x : Envelope) (rest : List Envelope) → line log (queue.Dialer n) ≡ x ∷ rest → (i : Item) → x.item ≡ i → Hand log timeout at (answered_row n seed d (name_of x) i)
+    by_answer d x rest first (item.Dialable next peers) is = dials x rest first (subst (BeginsHeld timeout at) (sym is) refl) (in_drawn_order seed peers)
+    by_answer d x rest first (item.Dial None) is = dials x rest first (subst (BeginsHeld timeout at) (sym is) refl) d.peers
+    by_answer d x rest first (item.Dial (Some grant)) is = answered x rest first (subst (BeginsHeld timeout at) (sym is) refl) [] tt
+    by_answer d x rest first _ is = asking reply.Idle [] tt
 
     when_due : (peers : List Key) → Hand log timeout at (due_row n peers)
     when_due [] = asking reply.Ok ((queue.Tracker n, item.AskDialable) ∷ []) (plain_item n key (queue.Tracker n) item.AskDialable refl refl, tt)
@@ -96,7 +93,7 @@ module _ (n : ℕ) (key : Key) where
         by_due : (b : Bool) → Hand log timeout at (cond b (due_row n d.peers) (only reply.Idle))
         by_due true = when_due d.peers
         by_due false = asking reply.Idle [] tt
-    by_line d (x ∷ rest) first = by_answer d x rest first x.item
+    by_line d (x ∷ rest) first = by_answer d x rest first x.item refl
 
   pub dialer_hands : (configs : List Config) (log : List Entry) (timeout at seed : ℕ) → Hand log timeout at (dialer_row configs log n at seed)
   dialer_hands configs log timeout at seed = by_up (is_up log n)

@@ -1,6 +1,6 @@
 -- By the calls of a node's tracker: which of them hold a key, and which leave it as it was.
 use Rattle.std.proofs.Common.{◌≡◌, ℕ, Bool, true, false, cond, List, [], ◌∷◌, Option, Some, None, refl, ap, sym, ◌∙◌, arith, eqb-true}
-use Rattle.std.specs.Prelude.{◌==◌, ◌&&◌, not, nat_lt}
+use Rattle.std.specs.Prelude.{◌==◌, ◌&&◌, ◌||◌, not, nat_lt}
 use Rattle.std.specs.BTreeMap.{is_at}
 use Rattle.std.specs.Ordering.{nat_cmp, is_eq}
 use Rattle.std.specs.Option.{option_map}
@@ -8,11 +8,12 @@ use Rattle.std.proofs.lemmas.Bool.{and_parts, false≢true}
 use Rattle.std.proofs.lemmas.Bool.Decides.{nat_tests}
 use Rattle.p2p_base.specs.declared.key.Key.{Key}
 use Rattle.p2p_address.specs.Addresses.{ingress_of}
+use Rattle.p2p_address.specs.declared.ip.IpAddr.{IpAddr}
 use Rattle.p2p_address.specs.declared.peer.Address.{Address}
 use Rattle.p2p_address.specs.declared.peer.Ingress.{Ingress}
 use Rattle.p2p_tracker_calls.specs.declared.call.Call.{Call}
 use Rattle.p2p_tracker_calls.specs.declared.call.Call.TheVariants as call
-use Rattle.p2p_tracker_calls.specs.Allows.{has_valid_ingress, allows_dial}
+use Rattle.p2p_tracker_calls.specs.Allows.{allows_listen, dials_from, has_valid_ingress, allows_dial}
 use Rattle.p2p_tracker_calls.specs.Blocks.{is_local, is_blocked}
 use Rattle.p2p_tracker_calls.specs.Grants.{Grant, held_by, is_held}
 use Rattle.p2p_tracker_calls.specs.Lives.{address_of, cool, is_eligible}
@@ -55,7 +56,7 @@ pub held_connected : (k : Key) (o : Option ℕ) (conn : ℕ) (calls : List (Call
 unfolding is_held
 held_connected k o conn calls key = refl
 
--- ---- dials and releases
+-- ---- dials, listens and releases
 
 pub key_from : (k j : Key) → (k.0 == j.0) ≡ true → k ≡ j
 key_from k j h = let e : k.0 ≡ j.0 = eqb-true k.0 j.0 h in ap (λ n. record { 0 = n }) e
@@ -66,10 +67,14 @@ at_key k j = numbers k.0 j.0
     numbers : (x y : ℕ) → is_eq (nat_cmp x y) ≡ (x == y)
     numbers x y = grind (arith, nat_tests)
 
--- a dial that is not granted
+-- a dial or a listen that is not granted
 pub held_refused : (k : Key) (at jitter : ℕ) (calls : List (Call Key)) (key : Key) → is_held key_cmp (call.Dial k at jitter false ∷ calls) key ≡ is_held key_cmp calls key
 unfolding is_held
 held_refused k at jitter calls key = refl
+
+pub held_unheard : (k : Key) (at jitter : ℕ) (calls : List (Call Key)) (key : Key) → is_held key_cmp (call.Listen k at jitter false ∷ calls) key ≡ is_held key_cmp calls key
+unfolding is_held
+held_unheard k at jitter calls key = refl
 
 granted_turn : (t h : Bool) (g : Grant) → held_by (cond t (Some g) None) false h ≡ held_after h (cond t (true ∷ []) [])
 granted_turn true h g = refl
@@ -84,6 +89,12 @@ pub held_granted : (k : Key) (at jitter : ℕ) (calls : List (Call Key)) (key : 
     → is_held key_cmp (call.Dial k at jitter true ∷ calls) key ≡ held_after (is_held key_cmp calls key) (cond (k.0 == key.0) (true ∷ []) [])
 unfolding is_held
 held_granted k at jitter calls key =
+    ap (λ t. held_by (cond t (Some (at, jitter)) None) false (is_held key_cmp calls key)) (at_key k key) ∙ granted_turn (k.0 == key.0) (is_held key_cmp calls key) (at, jitter)
+
+pub held_heard : (k : Key) (at jitter : ℕ) (calls : List (Call Key)) (key : Key)
+    → is_held key_cmp (call.Listen k at jitter true ∷ calls) key ≡ held_after (is_held key_cmp calls key) (cond (k.0 == key.0) (true ∷ []) [])
+unfolding is_held
+held_heard k at jitter calls key =
     ap (λ t. held_by (cond t (Some (at, jitter)) None) false (is_held key_cmp calls key)) (at_key k key) ∙ granted_turn (k.0 == key.0) (is_held key_cmp calls key) (at, jitter)
 
 pub held_released : (k : Key) (calls : List (Call Key)) (key : Key)
@@ -123,3 +134,18 @@ dial_free rules n at us bs calls k g h =
     (has_valid_ingress rules.private rules.dns (address_of key_cmp rules calls k)) found.0
     in
     (free.1, eligible_others (is_local key_cmp rules k) (is_tracked key_cmp rules calls k) (is_blocked key_cmp rules calls k at) free.0, found.1)
+
+heard_free : (e h f c : Bool) → (((e && not h) && f) && c) ≡ true → (e ≡ true) × (h ≡ false)
+heard_free e h f c all =
+    let cool = and_parts ((e && not h) && f) c all in
+    let free = and_parts (e && not h) f cool.0 in
+    let both = and_parts e (not h) free.0 in
+    (both.0, not_so h both.1)
+
+pub listen_free : (rules : Rules Key) (at : ℕ) (calls : List (Call Key)) (k : Key) (source : IpAddr) → allows_listen key_cmp rules calls k source at ≡ true
+    → (is_held key_cmp calls k ≡ false) × (is_local key_cmp rules k ≡ false)
+listen_free rules at calls k source h =
+    let free = heard_free (is_eligible key_cmp rules calls k at) (is_held key_cmp calls k) (rules.bypass || dials_from source (address_of key_cmp rules calls k))
+    (not (nat_lt at (cool key_cmp rules calls k))) h
+    in
+    (free.1, eligible_others (is_local key_cmp rules k) (is_tracked key_cmp rules calls k) (is_blocked key_cmp rules calls k at) free.0)

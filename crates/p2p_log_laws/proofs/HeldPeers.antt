@@ -13,6 +13,7 @@ use Rattle.p2p_log_rules.specs.Lawful.{IsLawful}
 use Rattle.p2p_log_rules.specs.Tracking.{key_cmp, rules_at, calls_of}
 use Rattle.p2p_log_laws.specs.Grants.{Granting, held_after}
 use Rattle.p2p_log_laws.specs.NodeGrants.{granting}
+use Rattle.p2p_log_laws.proofs.FirstGrants.{Stand, stand_first, stand_more, first_grants}
 use Rattle.p2p_log_laws.proofs.HeldCalls.{held_none}
 use Rattle.p2p_log_rules.proofs.Calls.{calls_of-append}
 use Rattle.p2p_log_laws.proofs.NodeWeighs.{Weighs, each_weighs}
@@ -30,20 +31,23 @@ module _ (configs : List Config) (n : ℕ) (key : Key) where
   g = granting configs n key
 
   abbrev IsOthers : List Entry → Type 0
-  IsOthers log = calls.is_held key_cmp (calls_of configs log n) key ≡ true → is_local key_cmp (rules_at configs n) key ≡ false
+  IsOthers log = Stand configs n log × (calls.is_held key_cmp (calls_of configs log n) key ≡ true → is_local key_cmp (rules_at configs n) key ≡ false)
 
   others_first : IsOthers []
-  others_first h = absurd (false≢true (sym (held_none configs n key) ∙ h))
+  others_first = (stand_first configs n, λ h. absurd (false≢true (sym (held_none configs n key) ∙ h)))
 
   others_more : (before : List Entry) (ev : Event) → IsOthers before → IsOthers (before ++ effect configs before ev ∷ [])
   unfolding effect
-  others_more before ev others h =
-      let r : Row = row configs before ev.at ev.seed ev.act in
-      let e : Entry = entry_of ev r in
-      let weighs : Weighs configs n key before ev r = each_weighs configs n key before ev.at ev.seed ev.act in
-      others_next (g.grants before e) (g.frees before e) (calls.is_held key_cmp (calls_of configs before n) key) (is_local key_cmp (rules_at configs n) key) weighs.others others
-      (sym weighs.turn ∙ (ap (λ l. calls.is_held key_cmp l key) (sym (calls_of-append configs before e n)) ∙ h))
+  others_more before ev (stand, others) = (
+    stand_more configs n before ev stand,
+    λ h.
+        let r : Row = row configs before ev.at ev.seed ev.act in
+        let e : Entry = entry_of ev r in
+        let weighs : Weighs configs n key before ev r = each_weighs configs n key before ev.at ev.seed (first_grants configs n key before stand) ev.act in
+        others_next (g.grants before e) (g.frees before e) (calls.is_held key_cmp (calls_of configs before n) key) (is_local key_cmp (rules_at configs n) key) weighs.others others
+        (sym weighs.turn ∙ (ap (λ l. calls.is_held key_cmp l key) (sym (calls_of-append configs before e n)) ∙ h)),
+  )
 
 pub held_is_others : (configs : List Config) (script : List Event) (log : List Entry) → IsLawful configs script log → (n : ℕ) (key : Key)
     → calls.is_held key_cmp (calls_of configs log n) key ≡ true → is_local key_cmp (rules_at configs n) key ≡ false
-held_is_others configs script log lawful n key = at_end configs (IsOthers configs n key) (others_first configs n key) (others_more configs n key) script log lawful
+held_is_others configs script log lawful n key = (at_end configs (IsOthers configs n key) (others_first configs n key) (others_more configs n key) script log lawful).1

@@ -80,14 +80,19 @@ module _ (configs : List Config) (log : List Entry) (a : Act) (q : Queue) (read 
             quiet_laws configs log a r m (none reply.Ok) refl both.0 both.1 (left_items left) quiet;
       }
 
-  -- it takes this, and goes on
-  pub gone_on_shape : (x : Envelope) (rest : List Envelope) → line log q ≡ x ∷ rest → Shape configs log a (gone_on_row (name_of x))
-  gone_on_shape x rest first =
-      let r : Row = gone_on_row (name_of x) in
+  -- it takes this, puts these, and goes on
+  pub asking_shape : (x : Envelope) (rest : List Envelope) → line log q ≡ x ∷ rest → (puts : List (Queue × Item)) → Each IsQuiet puts → Each (λ p. writes configs log a p.0 ≡ true) puts
+      → Shape configs log a (record { reply = reply.Ok; takes = name_of x ∷ []; puts = puts; ends = [] })
+  asking_shape x rest first puts quiet near =
+      let r : Row = record { reply = reply.Ok; takes = name_of x ∷ []; puts = puts; ends = [] } in
       record {
         moves = one_move log q x rest first r refl refl;
-        reach = record { taken = (first_in (reads configs log a) log q x rest first read, tt); ended = tt; puts = tt };
+        reach = record { taken = (first_in (reads configs log a) log q x rest first read, tt); ended = tt; puts = near };
         laws = λ stand.
             let both = split (x ∷ []) rest first (λ y. is_bare y.item ≡ true) (line_bare log q bare stand.fitting) in
-            quiet_laws configs log a r (one_move log q x rest first r refl refl) (none reply.Ok) refl both.0 tt tt tt;
+            quiet_laws configs log a r (one_move log q x rest first r refl refl) (none reply.Ok) refl both.0 tt tt quiet;
       }
+
+  -- it takes this, and goes on
+  pub gone_on_shape : (x : Envelope) (rest : List Envelope) → line log q ≡ x ∷ rest → Shape configs log a (gone_on_row (name_of x))
+  gone_on_shape x rest first = asking_shape x rest first [] tt tt

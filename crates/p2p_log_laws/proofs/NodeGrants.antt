@@ -24,6 +24,7 @@ use Rattle.p2p_log_rules.specs.Tracking.{key_cmp, calls_of}
 use Rattle.p2p_log_rules.proofs.Moves.{one_taken}
 use Rattle.p2p_log_laws.specs.Grants.{one, Granting, turn_by, held_after, is_held, is_stopped, IsTurn, EachIsTurn}
 use Rattle.p2p_log_laws.specs.NodeGrants.{count_below, put_of, releases_key, puts_grant, puts_release, granting}
+use Rattle.p2p_log_laws.proofs.FirstGrants.{Stand, stand_first, stand_more, first_grants}
 use Rattle.p2p_log_laws.proofs.HeldCalls.{held_none}
 use Rattle.p2p_log_rules.proofs.Calls.{calls_of-append}
 use Rattle.p2p_log_laws.proofs.NodeWeighs.{Weighs, each_weighs}
@@ -38,20 +39,22 @@ module _ (configs : List Config) (n : ℕ) (key : Key) where
   -- ---- held by turns, and by the calls
 
   abbrev IsHeldByCalls : List Entry → Type 0
-  IsHeldByCalls log = is_held g log ≡ calls.is_held key_cmp (calls_of configs log n) key
+  IsHeldByCalls log = Stand configs n log × (is_held g log ≡ calls.is_held key_cmp (calls_of configs log n) key)
 
   held_first : IsHeldByCalls []
   unfolding history_from
-  held_first = sym (held_none configs n key)
+  held_first = (stand_first configs n, sym (held_none configs n key))
 
   held_more : (before : List Entry) (ev : Event) → IsHeldByCalls before → IsHeldByCalls (before ++ effect configs before ev ∷ [])
   unfolding effect
-  held_more before ev held =
-      let r : Row = row configs before ev.at ev.seed ev.act in
-      let weighs : Weighs configs n key before ev r = each_weighs configs n key before ev.at ev.seed ev.act in
-      held_next g before (entry_of ev r)
-      ∙ (ap (λ b. held_after b (turn_by g before (entry_of ev r))) held
-      ∙ (sym weighs.turn ∙ ap (λ l. calls.is_held key_cmp l key) (sym (calls_of-append configs before (entry_of ev r) n))))
+  held_more before ev (stand, held) = (
+    stand_more configs n before ev stand,
+    let r : Row = row configs before ev.at ev.seed ev.act in
+        let weighs : Weighs configs n key before ev r = each_weighs configs n key before ev.at ev.seed (first_grants configs n key before stand) ev.act in
+        held_next g before (entry_of ev r)
+        ∙ (ap (λ b. held_after b (turn_by g before (entry_of ev r))) held
+        ∙ (sym weighs.turn ∙ ap (λ l. calls.is_held key_cmp l key) (sym (calls_of-append configs before (entry_of ev r) n)))),
+  )
 
   -- ---- each entry is a turn
 
@@ -65,9 +68,9 @@ module _ (configs : List Config) (n : ℕ) (key : Key) where
 
   turn_due : (before : List Entry) (ev : Event) → IsHeldByCalls before → IsTurn g before (effect configs before ev)
   unfolding effect
-  turn_due before ev held =
+  turn_due before ev (stand, held) =
       let r : Row = row configs before ev.at ev.seed ev.act in
-      let weighs : Weighs configs n key before ev r = each_weighs configs n key before ev.at ev.seed ev.act in
+      let weighs : Weighs configs n key before ev r = each_weighs configs n key before ev.at ev.seed (first_grants configs n key before stand) ev.act in
       let holding = weighs.holding in
       let waiting = weighs.waiting in
       let grants = weighed before ev r weighs.moves (puts_grant n key) in
@@ -110,7 +113,7 @@ module _ (configs : List Config) (script : List Event) (log : List Entry) (lawfu
 
   -- a key is held by turns as it is by the calls of the node's tracker
   pub held_by_calls : is_held (granting configs n key) log ≡ calls.is_held key_cmp (calls_of configs log n) key
-  held_by_calls = at_end configs (IsHeldByCalls configs n key) (held_first configs n key) (held_more configs n key) script log lawful
+  held_by_calls = (at_end configs (IsHeldByCalls configs n key) (held_first configs n key) (held_more configs n key) script log lawful).1
 
   -- ---- a release that the tracker is about to take
 

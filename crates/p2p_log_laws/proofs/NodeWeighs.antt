@@ -23,12 +23,17 @@ use Rattle.p2p_log.specs.Lines.{ended_item, line}
 use Rattle.p2p_log_rules.specs.declared.row.Row.{Row}
 use Rattle.p2p_log_rules.specs.Attempting.{Attempt, DialRules, dial_rules_at, begun_of, told_addresses, told_answer, with_attempt, with_begun, and_then, stepped_attempt, attempts_by, attempts_of, attempt_turn, attempt_by, attempt_row, resolve_row, refuse_row, connect_row}
 use Rattle.p2p_log_rules.specs.Dialing.{dialer_row}
+use Rattle.p2p_log_rules.specs.declared.row.Opening.{Opening}
+use Rattle.p2p_log_rules.specs.declared.row.ListeningEnd.{ListeningEnd}
+use Rattle.p2p_log_rules.specs.Handshakes.{is_handshaking, is_finished, peer_at}
+use Rattle.p2p_log_rules.specs.Handshaking.{handshake_deadline, is_due, handshake_turn, handshake_row}
+use Rattle.p2p_log_rules.specs.Links.{openings_of, listening_ends_of, finished_row, verdict, finish_by, finish_row}
 use Rattle.p2p_log_rules.specs.Listening.{listener_row}
 use Rattle.p2p_log_rules.specs.Effect.{entry_of, row}
 use Rattle.p2p_log_rules.specs.Facts.{taken}
 use Rattle.p2p_log_rules.specs.Moves.{Moves}
-use Rattle.p2p_log_rules.specs.Rows.{only}
-use Rattle.p2p_log_rules.specs.Tracking.{key_cmp, rules_at, asked_by, steps_tracker, step_calls, grants_dial, calls_by, calls_of}
+use Rattle.p2p_log_rules.specs.Rows.{only, is_spawner_full}
+use Rattle.p2p_log_rules.specs.Tracking.{key_cmp, rules_at, asked_by, steps_tracker, step_calls, grants_peer, calls_by, calls_of}
 use Rattle.p2p_log_rules.specs.TrackerRows as rows
 use Rattle.p2p_log_rules.proofs.Touches.{reads, writes, is_told_to}
 use Rattle.p2p_log_laws.specs.Grants.{one, Granting, turn_by, held_after}
@@ -36,18 +41,24 @@ use Rattle.p2p_log_laws.specs.NodeGrants.{releases_key, is_attempt_of, puts_gran
 use Rattle.p2p_log_laws.proofs.AttemptGrants.{Ends, attempt_ends}
 use Rattle.p2p_log_laws.proofs.AttemptHolds.{told_kept, none_kept, addresses_kept, answer_kept, others_kept, held_by_attempts, holds_kept, holds_begun, holds_changed}
 use Rattle.p2p_log_laws.proofs.DialerGrants.{Hand, dialer_hands}
-use Rattle.p2p_log_laws.proofs.Plain.{Plain, IsPlain, plain_item, no_grants, no_releases, no_grants_stand, no_releases_stand, plain_out_of_reach}
+use Rattle.p2p_log_laws.proofs.FinishShape.{finish_plain}
+use Rattle.p2p_log_laws.proofs.HandshakeGrants.{GrantsFirst, Hands, nothing, turn_hands}
+use Rattle.p2p_log_laws.proofs.Plain.{Away, Plain, IsPlain, plain_item, no_grants, no_releases, no_grants_stand, no_releases_stand, plain_out_of_reach}
 use Rattle.p2p_log_laws.proofs.Shape.{Shape, no_moves}
 use Rattle.p2p_log_laws.proofs.ListenerShape.{listener_plain}
 use Rattle.p2p_log_laws.proofs.Shapes.{row_shape}
 use Rattle.p2p_log_laws.proofs.TrackerGrants.{Step, tracker_steps}
 use Rattle.p2p_log_laws.proofs.Weighing.{weight, taken_items}
 
-told_aside : (o : Option Act) (e n : ℕ) → (is_told_to o e (queue.Dialer n) ≡ false) × (is_told_to o e (queue.Tracker n) ≡ false)
-told_aside (Some (act.Ask (ask.PeerSet index) m)) e n = (refl, refl)
-told_aside (Some (act.Ask ask.Subscribe m)) e n = (refl, refl)
-told_aside (Some (act.Ask ask.Blocked m)) e n = (refl, refl)
-told_aside _ e n = (refl, refl)
+-- a test that fails for each of these queues as it is written
+nowhere : (n : ℕ) → Away n (λ q. false)
+nowhere n = record { dialer = refl; handshakes = λ h. refl; spawner = refl; tracker = refl }
+
+told_aside : (o : Option Act) (e n : ℕ) → Away n (is_told_to o e)
+told_aside (Some (act.Ask (ask.PeerSet index) m)) e n = record { dialer = refl; handshakes = λ h. refl; spawner = refl; tracker = refl }
+told_aside (Some (act.Ask ask.Subscribe m)) e n = record { dialer = refl; handshakes = λ h. refl; spawner = refl; tracker = refl }
+told_aside (Some (act.Ask ask.Blocked m)) e n = record { dialer = refl; handshakes = λ h. refl; spawner = refl; tracker = refl }
+told_aside _ e n = record { dialer = refl; handshakes = λ h. refl; spawner = refl; tracker = refl }
 
 other_way : (m n : ℕ) → (m == n) ≡ false → (n == m) ≡ false
 other_way m n h = grind (arith, nat_tests)
@@ -87,7 +98,7 @@ module _ (configs : List Config) (n : ℕ) (key : Key) (log : List Entry) where
     no_free = ap (λ b. b && list_any (releases_key key) (taken log e)) still
 
     abbrev stepped : List (Call Key)
-    stepped = step_calls log r.reply (taken log e) ev.at (jitter_of (rules_at configs n).cooldown ev.seed) (list_any grants_dial r.puts) calls
+    stepped = step_calls log r.reply (taken log e) ev.at (jitter_of (rules_at configs n).cooldown ev.seed) (list_any grants_peer r.puts) calls
 
     same_turn : is_held key_cmp (calls_by configs n log e calls) key ≡ held_after (is_held key_cmp calls key) (turn_by g log e)
     same_turn =
@@ -126,12 +137,11 @@ module _ (configs : List Config) (n : ℕ) (key : Key) (log : List Entry) where
   event at seed a = record { at = at; seed = seed; act = a }
 
   module _ (at seed : ℕ) where
-    -- one that reaches neither the tracker's mailbox nor the dialer's
-    other : (a : Act) (r : Row) → Shape configs log a r → (reads configs log a (queue.Dialer n) ≡ false) × (writes configs log a (queue.Dialer n) ≡ false)
-        → (reads configs log a (queue.Tracker n) ≡ false) × (writes configs log a (queue.Tracker n) ≡ false) → steps_tracker n a ≡ false
+    -- one that reaches no queue in which a grant or a release may wait
+    other : (a : Act) (r : Row) → Shape configs log a r → Away n (reads configs log a) → Away n (writes configs log a) → steps_tracker n a ≡ false
         → ((k : ℕ) → is_attempt_of key (attempts_by configs n log (entry_of (event at seed a) r) f k) ≡ is_attempt_of key (f k)) → Weighs (event at seed a) r
-    other a r shape dialer tracker still kept =
-        plain_weighs (event at seed a) r still shape.moves (plain_out_of_reach n key configs a log r shape.moves shape.reach dialer.0 dialer.1 tracker.0 tracker.1) kept
+    other a r shape read written still kept =
+        plain_weighs (event at seed a) r still shape.moves (plain_out_of_reach n key configs a log r shape.moves shape.reach read written) kept
 
     -- ---- questions
 
@@ -183,8 +193,8 @@ module _ (configs : List Config) (n : ℕ) (key : Key) (log : List Entry) where
           holding = omega (arith, held, granted, grants_taken, grants_ended, grants_put, releases_put);
           waiting = omega (arith, releases_taken, releases_ended, freed);
           turn =
-              ap (λ b. is_held key_cmp (cond b (step_calls log r.reply (taken log e) at jitter (list_any grants_dial r.puts) calls) calls) key) here
-              ∙ (ap (λ l. is_held key_cmp (step_calls log r.reply l at jitter (list_any grants_dial r.puts) calls) key) items
+              ap (λ b. is_held key_cmp (cond b (step_calls log r.reply (taken log e) at jitter (list_any grants_peer r.puts) calls) calls) key) here
+              ∙ (ap (λ l. is_held key_cmp (step_calls log r.reply l at jitter (list_any grants_peer r.puts) calls) key) items
               ∙ (step.turned.turn
               ∙ sym (ap (λ b. held_after (is_held key_cmp calls key) (cond b (true ∷ []) (cond (g.frees log e) (false ∷ []) []))) grants
               ∙ ap (λ b. held_after (is_held key_cmp calls key) (cond step.turned.grants (true ∷ []) (cond b (false ∷ []) []))) frees)));
@@ -215,11 +225,12 @@ module _ (configs : List Config) (n : ℕ) (key : Key) (log : List Entry) where
     -- ---- an attempt's
 
     stands_weighs : (i : ℕ) (a : Attempt) → f i ≡ Some a
-        → Weighs (event at seed (act.Attempt i n)) (attempt_turn n at seed (dial_rules_at configs n).private a (line log (queue.Attempt n i)))
+        → Weighs (event at seed (act.Attempt i n)) (attempt_turn n at seed (is_spawner_full configs log n) (dial_rules_at configs n).private a (line log (queue.Attempt n i)))
     stands_weighs i a stands =
         let rules : DialRules = dial_rules_at configs n in
-        let r : Row = attempt_turn n at seed rules.private a (line log (queue.Attempt n i)) in
-        let ends : Ends n key log i rules at seed a r = attempt_ends n key log i rules at seed a (line log (queue.Attempt n i)) refl in
+        let full : Bool = is_spawner_full configs log n in
+        let r : Row = attempt_turn n at seed full rules.private a (line log (queue.Attempt n i)) in
+        let ends : Ends n key log i rules at seed a r = attempt_ends n key log i rules at seed a full (line log (queue.Attempt n i)) refl in
         let m : Moves log r = ends.moves in
         let e : Entry = entry_of (event at seed (act.Attempt i n)) r in
         let items : taken log e ≡ map (λ x. x.item) m.taken = taken_items log (event at seed (act.Attempt i n)) r m in
@@ -231,17 +242,59 @@ module _ (configs : List Config) (n : ℕ) (key : Key) (log : List Entry) where
         let kept = ends.kept in
         let taken_here = no_grants_stand n key m.taken ends.taken in
         let ended = no_grants_stand n key m.ended ends.ended in
-        let granted = ends.grants_put in
-        moved (event at seed (act.Attempt i n)) r refl m (omega (arith, held, kept, taken_here, ended, granted)) (no_releases_stand n key m.taken ends.taken) (no_releases_stand n key m.ended ends.ended)
+        moved (event at seed (act.Attempt i n)) r refl m (omega (arith, held, kept, taken_here, ended)) (no_releases_stand n key m.taken ends.taken) (no_releases_stand n key m.ended ends.ended)
 
     attempt_weighs : (i : ℕ) → Weighs (event at seed (act.Attempt i n)) (attempt_row configs log i n at seed)
     attempt_weighs i = by_attempt (f i) refl
       where
-        by_attempt : (o : Option Attempt) → f i ≡ o → Weighs (event at seed (act.Attempt i n)) (attempt_by o n at seed (dial_rules_at configs n).private (line log (queue.Attempt n i)))
+        by_attempt : (o : Option Attempt) → f i ≡ o → Weighs (event at seed (act.Attempt i n)) (attempt_by o n at seed (is_spawner_full configs log n) (dial_rules_at configs n).private (line log (queue.Attempt n i)))
         by_attempt None none =
             asks (act.Attempt i n) (only reply.Gone) refl refl refl tt
             (λ k. none_kept key (n == n) (stepped_attempt (dial_rules_at configs n) at seed reply.Gone (taken log (entry_of (event at seed (act.Attempt i n)) (only reply.Gone)))) i k f none)
         by_attempt (Some a) stands = stands_weighs i a stands
+
+    -- ---- a handshake's, of which only the first that waits grants
+
+    hands_weighs : (h : ℕ) (r : Row) → Hands n key log h r → Weighs (event at seed (act.Handshake h n)) r
+    hands_weighs h r hands =
+        let m : Moves log r = hands.moves in
+        let held = holds_kept configs n key log (entry_of (event at seed (act.Handshake h n)) r) (λ k. refl) in
+        let handed = hands.handed in
+        let ended = no_grants_stand n key m.ended hands.ended in
+        moved (event at seed (act.Handshake h n)) r refl m (omega (arith, held, handed, ended)) hands.no_release (no_releases_stand n key m.ended hands.ended)
+
+    handshake_weighs : (h : ℕ) → GrantsFirst n key log h → Weighs (event at seed (act.Handshake h n)) (handshake_row configs log h n at)
+    handshake_weighs h only_first = by_running (is_handshaking log n h)
+      where
+        full : Bool
+        full = is_spawner_full configs log n
+
+        due : Bool
+        due = is_due (handshake_deadline configs log h n) at (is_finished log n h)
+
+        by_running : (b : Bool) → Weighs (event at seed (act.Handshake h n)) (cond b (handshake_turn n full due h (peer_at log h) (line log (queue.Handshake n h))) (only reply.Gone))
+        by_running true =
+            hands_weighs h (handshake_turn n full due h (peer_at log h) (line log (queue.Handshake n h))) (turn_hands n key log h only_first full due (peer_at log h) (line log (queue.Handshake n h)) refl)
+        by_running false = hands_weighs h (only reply.Gone) (nothing n key log h reply.Gone)
+
+    -- ---- the end of an exchange
+
+    finish_weighs : (link : ℕ) (ok : Bool) → Weighs (event at seed (act.Finish link ok)) (finish_row configs log link ok)
+    finish_weighs link ok = by_opening (openings_of log link)
+      where
+        by_verdict : (o : Opening) (dialing : Option Attempt) (end : Option ListeningEnd) (v : Option Bool) → Weighs (event at seed (act.Finish link ok)) (finished_row o dialing end v)
+        by_verdict o dialing end None = asks (act.Finish link ok) (only reply.Pending) refl refl refl tt (λ k. refl)
+        by_verdict o dialing end (Some agree) = asks (act.Finish link ok) (finished_row o dialing end (Some agree)) refl refl refl (finish_plain n key o agree dialing end) (λ k. refl)
+
+        by_opening : (p : Option Opening) → Weighs (event at seed (act.Finish link ok)) (elim p [
+          | None ↦ only reply.Gone
+          | Some o ↦ finish_by configs log ok o (attempts_of configs log o.node o.attempt) (listening_ends_of log o.to link)
+        ])
+        by_opening None = asks (act.Finish link ok) (only reply.Gone) refl refl refl tt (λ k. refl)
+        by_opening (Some o) =
+            let dialing : Option Attempt = attempts_of configs log o.node o.attempt in
+            let end : Option ListeningEnd = listening_ends_of log o.to link in
+            by_verdict o dialing end (verdict configs log ok o.to dialing end)
 
     -- ---- each act, at this node or at another
 
@@ -249,14 +302,17 @@ module _ (configs : List Config) (n : ℕ) (key : Key) (log : List Entry) where
     unfolding row
     tracker_at m true same = subst (λ i. Weighs (event at seed (act.Tracker i)) (rows.tracker_row configs log i at)) (sym (eqb-true m n same)) tracker_weighs
     tracker_at m false differ =
-        other (act.Tracker m) (rows.tracker_row configs log m at) (row_shape configs log at seed (act.Tracker m)) (refl, other_way m n differ) (ap (λ b. b && true) differ, other_way m n differ) differ (λ k. refl)
+        other (act.Tracker m) (rows.tracker_row configs log m at) (row_shape configs log at seed (act.Tracker m))
+        (record { dialer = refl; handshakes = λ h. refl; spawner = refl; tracker = ap (λ b. b && true) differ })
+        (record { dialer = other_way m n differ; handshakes = λ h. other_way m n differ; spawner = refl; tracker = other_way m n differ }) differ (λ k. refl)
 
     dialer_at : (m : ℕ) (b : Bool) → (m == n) ≡ b → Weighs (event at seed (act.Dialer m)) (row configs log at seed (act.Dialer m))
     unfolding row
     dialer_at m true same = subst (λ i. Weighs (event at seed (act.Dialer i)) (dialer_row configs log i at seed)) (sym (eqb-true m n same)) dialer_weighs
     dialer_at m false differ =
         let r : Row = dialer_row configs log m at seed in
-        other (act.Dialer m) r (row_shape configs log at seed (act.Dialer m)) (ap (λ b. b && true) differ, refl) (refl, ap (λ b. b && true) differ) refl
+        other (act.Dialer m) r (row_shape configs log at seed (act.Dialer m)) (record { dialer = ap (λ b. b && true) differ; handshakes = λ h. refl; spawner = refl; tracker = refl })
+        (record { dialer = refl; handshakes = λ h. refl; spawner = refl; tracker = ap (λ b. b && true) differ }) refl
         (λ k. others_kept key (m == n) (with_begun (begun_of (dial_rules_at configs n).timeout at (taken log (entry_of (event at seed (act.Dialer m)) r))) (length log) f k) (f k) differ)
 
     attempt_at : (i m : ℕ) (b : Bool) → (m == n) ≡ b → Weighs (event at seed (act.Attempt i m)) (row configs log at seed (act.Attempt i m))
@@ -264,34 +320,54 @@ module _ (configs : List Config) (n : ℕ) (key : Key) (log : List Entry) where
     attempt_at i m true same = subst (λ j. Weighs (event at seed (act.Attempt i j)) (attempt_row configs log i j at seed)) (sym (eqb-true m n same)) (attempt_weighs i)
     attempt_at i m false differ =
         let r : Row = attempt_row configs log i m at seed in
-        other (act.Attempt i m) r (row_shape configs log at seed (act.Attempt i m)) (refl, refl) (refl, ap (λ b. b && true || false) differ) refl
+        other (act.Attempt i m) r (row_shape configs log at seed (act.Attempt i m)) (record { dialer = refl; handshakes = λ h. refl; spawner = refl; tracker = refl })
+        (record { dialer = refl; handshakes = λ h. refl; spawner = ap (λ b. (b && true) || false) differ; tracker = ap (λ b. (b && true) || false) differ }) refl
         (λ k. others_kept key (m == n) (with_attempt i (and_then (stepped_attempt (dial_rules_at configs n) at seed r.reply (taken log (entry_of (event at seed (act.Attempt i m)) r))) (f i)) f k) (f k) differ)
 
-    pub each_weighs : (a : Act) → Weighs (event at seed a) (row configs log at seed a)
+    handshake_at : (i m : ℕ) (b : Bool) → (m == n) ≡ b → GrantsFirst n key log i → Weighs (event at seed (act.Handshake i m)) (row configs log at seed (act.Handshake i m))
     unfolding row
-    each_weighs (act.Ask what m) = ask_weighs what m
-    each_weighs (act.Answer e) =
-        let away = told_aside (asked_by log e) e n in
-        other (act.Answer e) (rows.answer_row log e) (row_shape configs log at seed (act.Answer e)) (away.0, refl) (away.1, refl) refl (λ k. refl)
-    each_weighs (act.Next e) =
-        let away = told_aside (asked_by log e) e n in
-        other (act.Next e) (rows.next_row log e) (row_shape configs log at seed (act.Next e)) (away.0, refl) (away.1, refl) refl (λ k. refl)
-    each_weighs (act.Tracker m) = tracker_at m (m == n) refl
-    each_weighs (act.Dialer m) = dialer_at m (m == n) refl
-    each_weighs (act.Attempt i m) = attempt_at i m (m == n) refl
-    each_weighs (act.Listener m) =
+    handshake_at i m true same only_first =
+        subst (λ j. Weighs (event at seed (act.Handshake i j)) (handshake_row configs log i j at)) (sym (eqb-true m n same)) (handshake_weighs i only_first)
+    handshake_at i m false differ only_first =
+        other (act.Handshake i m) (handshake_row configs log i m at) (row_shape configs log at seed (act.Handshake i m))
+        (record { dialer = refl; handshakes = λ h. ap (λ b. b && (i == h)) differ; spawner = refl; tracker = refl })
+        (record {
+          dialer = refl;
+          handshakes = λ h. ap (λ b. b && (i == h)) differ;
+          spawner = ap (λ b. (b && true) || false) differ;
+          tracker = ap (λ b. (b && true) || false) differ;
+        }) refl (λ k. refl)
+
+    pub each_weighs : ((h : ℕ) → GrantsFirst n key log h) → (a : Act) → Weighs (event at seed a) (row configs log at seed a)
+    unfolding row
+    each_weighs first (act.Ask what m) = ask_weighs what m
+    each_weighs first (act.Answer e) =
+        other (act.Answer e) (rows.answer_row log e) (row_shape configs log at seed (act.Answer e)) (told_aside (asked_by log e) e n) (nowhere n) refl (λ k. refl)
+    each_weighs first (act.Next e) =
+        other (act.Next e) (rows.next_row log e) (row_shape configs log at seed (act.Next e)) (told_aside (asked_by log e) e n) (nowhere n) refl (λ k. refl)
+    each_weighs first (act.Tracker m) = tracker_at m (m == n) refl
+    each_weighs first (act.Dialer m) = dialer_at m (m == n) refl
+    each_weighs first (act.Attempt i m) = attempt_at i m (m == n) refl
+    each_weighs first (act.Handshake i m) = handshake_at i m (m == n) refl (first i)
+    each_weighs first (act.Finish link ok) = finish_weighs link ok
+    each_weighs first (act.Listener m) =
         let aside = listener_plain configs log m at n key in
         plain_weighs (event at seed (act.Listener m)) (listener_row configs log m at) refl aside.0 aside.1 (λ k. refl)
-    each_weighs (act.Resolve addresses i m) =
+    each_weighs first (act.Resolve addresses i m) =
         let r : Row = resolve_row configs log addresses i m in
-        other (act.Resolve addresses i m) r (row_shape configs log at seed (act.Resolve addresses i m)) (refl, refl) (refl, refl) refl
+        other (act.Resolve addresses i m) r (row_shape configs log at seed (act.Resolve addresses i m)) (record { dialer = refl; handshakes = λ h. refl; spawner = refl; tracker = refl })
+        (record { dialer = refl; handshakes = λ h. refl; spawner = refl; tracker = refl }) refl
         (λ k. told_kept key (m == n) (told_addresses r.reply) i k f (addresses_kept key r.reply))
-    each_weighs (act.Connect i from m to) =
+    each_weighs first (act.Connect i from m to) =
         let r : Row = connect_row configs log i from m to in
-        other (act.Connect i from m to) r (row_shape configs log at seed (act.Connect i from m to)) (refl, refl) (refl, refl) refl
-        (λ k. told_kept key (m == n) (told_answer r.reply) i k f (answer_kept key r.reply))
-    each_weighs (act.Refuse i m) =
+        other (act.Connect i from m to) r (row_shape configs log at seed (act.Connect i from m to)) (record { dialer = refl; handshakes = λ h. refl; spawner = refl; tracker = refl })
+        (record { dialer = refl; handshakes = λ h. refl; spawner = refl; tracker = refl }) refl
+        (λ k. told_kept key (m == n) (told_answer (length log) r.reply) i k f (answer_kept key (length log) r.reply))
+    each_weighs first (act.Refuse i m) =
         let r : Row = refuse_row configs log i m in
-        other (act.Refuse i m) r (row_shape configs log at seed (act.Refuse i m)) (refl, refl) (refl, refl) refl
-        (λ k. told_kept key (m == n) (told_answer r.reply) i k f (answer_kept key r.reply))
-    each_weighs a = other a (row configs log at seed a) (row_shape configs log at seed a) (refl, refl) (refl, refl) refl (λ k. refl)
+        other (act.Refuse i m) r (row_shape configs log at seed (act.Refuse i m)) (record { dialer = refl; handshakes = λ h. refl; spawner = refl; tracker = refl })
+        (record { dialer = refl; handshakes = λ h. refl; spawner = refl; tracker = refl }) refl
+        (λ k. told_kept key (m == n) (told_answer (length log) r.reply) i k f (answer_kept key (length log) r.reply))
+    each_weighs first a =
+        other a (row configs log at seed a) (row_shape configs log at seed a) (record { dialer = refl; handshakes = λ h. refl; spawner = refl; tracker = refl })
+        (record { dialer = refl; handshakes = λ h. refl; spawner = refl; tracker = refl }) refl (λ k. refl)

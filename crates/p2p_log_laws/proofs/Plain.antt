@@ -1,6 +1,7 @@
 -- What neither grants a key at a node nor releases it.
-use Rattle.std.proofs.Common.{◌≡◌, ℕ, Bool, true, false, List, [], ◌∷◌, refl, ap, ◌∙◌}
-use Rattle.std.specs.Prelude.{◌&&◌, ◌||◌, count_by}
+use Rattle.std.proofs.Common.{◌≡◌, ℕ, Bool, true, false, List, [], ◌∷◌, refl, ap, sym, ◌∙◌, eqb-true}
+use Rattle.std.specs.Prelude.{◌==◌, ◌&&◌, ◌||◌, count_by}
+use Rattle.std.proofs.lemmas.Bool.{false≢true}
 use Rattle.std.specs.List.{AllByRecursion as Each, list_any}
 use Rattle.p2p_base.specs.declared.key.Key.{Key}
 use Rattle.p2p_log.specs.declared.config.Config.{Config}
@@ -15,7 +16,7 @@ use Rattle.p2p_log.proofs.Each.{Each-weaker, count_by-none}
 use Rattle.p2p_log_rules.specs.declared.row.Row.{Row}
 use Rattle.p2p_log_rules.specs.Moves.{Moves}
 use Rattle.p2p_log_rules.proofs.Touches.{Reach, reads, writes, away}
-use Rattle.p2p_log_laws.specs.NodeGrants.{put_of, grants_key, releases_key, puts_grant, puts_release}
+use Rattle.p2p_log_laws.specs.NodeGrants.{put_of, holds_grants, grants_key, releases_key, puts_grant, puts_release}
 use Rattle.p2p_log_laws.proofs.Weighing.{weight}
 
 pub and_false : (b : Bool) → (b && false) ≡ false
@@ -24,7 +25,31 @@ and_false false = refl
 
 -- a queue that no grant and no release at the node enters
 abbrev pub IsAside : ℕ → Queue → Type 0
-IsAside n q = (same_queue (queue.Dialer n) q ≡ false) × (same_queue (queue.Tracker n) q ≡ false)
+IsAside n q = (holds_grants n q ≡ false) × (same_queue (queue.Tracker n) q ≡ false)
+
+-- a test that none of the queues passes that these enter
+pub record Away (n : ℕ) (p : Queue → Bool) : Type 0 where
+  pub dialer : p (queue.Dialer n) ≡ false
+  pub handshakes : (h : ℕ) → p (queue.Handshake n h) ≡ false
+  pub spawner : p (queue.Spawner n) ≡ false
+  pub tracker : p (queue.Tracker n) ≡ false
+
+-- what passes it is aside
+pub away_aside : (n : ℕ) (p : Queue → Bool) → Away n p → (x : Queue) → p x ≡ true → IsAside n x
+away_aside n p h x is = (grants x is, away p (queue.Tracker n) x h.tracker is)
+  where
+    at_node : (q : ℕ → Queue) (m : ℕ) → p (q n) ≡ false → p (q m) ≡ true → (m == n) ≡ false
+    at_node q m none some = go (m == n) refl
+      where
+        go : (b : Bool) → (m == n) ≡ b → (m == n) ≡ false
+        go true same = absurd (false≢true (sym none ∙ (ap (λ i. p (q i)) (sym (eqb-true m n same)) ∙ some)))
+        go false differ = differ
+
+    grants : (y : Queue) → p y ≡ true → holds_grants n y ≡ false
+    grants (queue.Dialer m) some = at_node queue.Dialer m h.dialer some
+    grants (queue.Handshake m k) some = at_node (λ i. queue.Handshake i k) m (h.handshakes k) some
+    grants (queue.Spawner m) some = at_node queue.Spawner m h.spawner some
+    grants _ some = refl
 
 module _ (n : ℕ) (key : Key) where
   abbrev pub Plain : Queue × Item → Type 0
@@ -39,7 +64,7 @@ module _ (n : ℕ) (key : Key) where
   -- an item that grants nothing and releases nothing, wherever it is put
   pub plain_item : (q : Queue) (i : Item) → grants_key key i ≡ false → releases_key key i ≡ false → Plain (q, i)
   plain_item q i g r =
-      (ap (λ b. same_queue (queue.Dialer n) q && b) g ∙ and_false (same_queue (queue.Dialer n) q), ap (λ b. same_queue (queue.Tracker n) q && b) r ∙ and_false (same_queue (queue.Tracker n) q))
+      (ap (λ b. holds_grants n q && b) g ∙ and_false (holds_grants n q), ap (λ b. same_queue (queue.Tracker n) q && b) r ∙ and_false (same_queue (queue.Tracker n) q))
 
   pub no_grants : (puts : List (Queue × Item)) → Each Plain puts → count_by (puts_grant n key) puts ≡ 0
   no_grants puts h = count_by-none (puts_grant n key) puts (Each-weaker Plain (λ x. puts_grant n key x ≡ false) (λ x p. p.0) puts h)
@@ -71,13 +96,9 @@ module _ (n : ℕ) (key : Key) where
 
   -- as where its act reaches neither of their queues
   pub plain_out_of_reach : (configs : List Config) (a : Act) (log : List Entry) (r : Row) (m : Moves log r) → Reach configs a log r m
-      → reads configs log a (queue.Dialer n) ≡ false → writes configs log a (queue.Dialer n) ≡ false
-      → reads configs log a (queue.Tracker n) ≡ false → writes configs log a (queue.Tracker n) ≡ false → IsPlain log r m
-  plain_out_of_reach configs a log r m reach rd wd rt wt = record {
-    taken = stand_aside m.taken (Each-weaker (λ x. reads configs log a x.queue ≡ true) (λ x. IsAside n x.queue)
-        (λ x k. (away (reads configs log a) (queue.Dialer n) x.queue rd k, away (reads configs log a) (queue.Tracker n) x.queue rt k)) m.taken reach.taken);
-    ended = stand_aside m.ended (Each-weaker (λ x. writes configs log a x.queue ≡ true) (λ x. IsAside n x.queue)
-        (λ x k. (away (writes configs log a) (queue.Dialer n) x.queue wd k, away (writes configs log a) (queue.Tracker n) x.queue wt k)) m.ended reach.ended);
-    puts = Each-weaker (λ x. writes configs log a x.0 ≡ true) Plain
-        (λ x k. plain_aside x.0 x.1 (away (writes configs log a) (queue.Dialer n) x.0 wd k, away (writes configs log a) (queue.Tracker n) x.0 wt k)) r.puts reach.puts;
+      → Away n (reads configs log a) → Away n (writes configs log a) → IsPlain log r m
+  plain_out_of_reach configs a log r m reach read written = record {
+    taken = stand_aside m.taken (Each-weaker (λ x. reads configs log a x.queue ≡ true) (λ x. IsAside n x.queue) (λ x k. away_aside n (reads configs log a) read x.queue k) m.taken reach.taken);
+    ended = stand_aside m.ended (Each-weaker (λ x. writes configs log a x.queue ≡ true) (λ x. IsAside n x.queue) (λ x k. away_aside n (writes configs log a) written x.queue k) m.ended reach.ended);
+    puts = Each-weaker (λ x. writes configs log a x.0 ≡ true) Plain (λ x k. plain_aside x.0 x.1 (away_aside n (writes configs log a) written x.0 k)) r.puts reach.puts;
   }

@@ -11,6 +11,7 @@ use Rattle.p2p_log_laws.proofs.RouterShape.{router_shape}
 use Rattle.p2p_log_laws.proofs.Shape.{Shape}
 use Rattle.p2p_log_laws.proofs.AttemptShape.{attempt_shape, resolve_shape, refuse_shape, connect_shape}
 use Rattle.p2p_log_laws.proofs.DialerShape.{dialer_shape}
+use Rattle.p2p_log_laws.proofs.FinishShape.{finish_shape}
 use Rattle.p2p_log_laws.proofs.HandshakeShape.{handshake_shape}
 use Rattle.p2p_log_laws.proofs.ListenerShape.{listener_shape}
 use Rattle.p2p_log_laws.proofs.TrackerShape.{ask_shape, answer_shape, next_shape, tracker_shape}
@@ -36,4 +37,5 @@ row_shape configs log at seed (act.Attempt e n) = attempt_shape configs log e n 
 row_shape configs log at seed (act.Resolve addresses e n) = resolve_shape configs log addresses e n
 row_shape configs log at seed (act.Connect e from n to) = connect_shape configs log e from n to
 row_shape configs log at seed (act.Refuse e n) = refuse_shape configs log e n
+row_shape configs log at seed (act.Finish link ok) = finish_shape configs log link ok
 row_shape configs log at seed (act.Tracker n) = tracker_shape configs log n at

@@ -1,5 +1,5 @@
 -- What a step of a node's tracker grants and takes back, of a key, and what that makes of the calls.
-use Rattle.std.proofs.Common.{◌≡◌, ℕ, Bool, true, false, cond, List, [], ◌∷◌, map, Option, Some, None, refl, ap, sym, ◌∙◌}
+use Rattle.std.proofs.Common.{◌≡◌, ℕ, Bool, true, false, cond, List, [], ◌∷◌, map, Option, Some, None, refl, ap, sym, ◌∙◌, eq-eqb}
 use Rattle.std.specs.Prelude.{◌==◌, ◌&&◌, ◌||◌, count_by}
 use Rattle.std.specs.List.{AllByRecursion as Each, list_any}
 use Rattle.std.proofs.lemmas.Bool.{false≢true}
@@ -30,16 +30,16 @@ use Rattle.p2p_log_rules.specs.declared.row.Row.{Row}
 use Rattle.p2p_log_rules.specs.Facts.{is_up}
 use Rattle.p2p_log_rules.specs.Moves.{Moves}
 use Rattle.p2p_log_rules.specs.Rows.{only}
-use Rattle.p2p_log_rules.specs.Tracking.{key_cmp, rules_at, asked_by, item_calls, step_calls, grants_dial, calls_of, update_subscriptions, blocked_subscriptions}
+use Rattle.p2p_log_rules.specs.Tracking.{key_cmp, rules_at, asked_by, item_calls, step_calls, grants_peer, calls_of, update_subscriptions, blocked_subscriptions}
 use Rattle.p2p_log_rules.specs.TrackerPuts as puts
-use Rattle.p2p_tracker_calls.specs.Allows.{is_acceptable}
+use Rattle.p2p_tracker_calls.specs.Allows.{is_acceptable, allows_listen}
 use Rattle.p2p_log_rules.specs.Handshakes.{is_handshaking, source_at}
-use Rattle.p2p_log_rules.specs.TrackerPuts.{Put, dial_grant, acceptable_puts, item_puts}
+use Rattle.p2p_log_rules.specs.TrackerPuts.{Put, dial_grant, acceptance, listen_grant, handshake_puts, item_puts}
 use Rattle.p2p_log_rules.specs.TrackerRows as rows
 use Rattle.p2p_log_rules.proofs.Moves.{one_taken, rings, rings_in}
 use Rattle.p2p_log_laws.specs.Grants.{one, held_after}
-use Rattle.p2p_log_laws.specs.NodeGrants.{put_of, grants_key, releases_key, puts_grant, puts_release}
-use Rattle.p2p_log_laws.proofs.HeldCalls.{held_asked, held_unblocked, held_connected, held_refused, held_granted, held_released, key_from, dial_free}
+use Rattle.p2p_log_laws.specs.NodeGrants.{put_of, holds_grants, grants_key, releases_key, puts_grant, puts_release}
+use Rattle.p2p_log_laws.proofs.HeldCalls.{held_asked, held_unblocked, held_connected, held_refused, held_unheard, held_granted, held_heard, held_released, key_from, dial_free, listen_free}
 use Rattle.p2p_log_laws.proofs.Plain.{IsAside, Plain, StandsPlain, plain_item, no_grants, no_releases, none_grants, stand_aside}
 use Rattle.p2p_log_laws.proofs.Shape.{no_moves}
 use Rattle.p2p_log_laws.proofs.TrackerMoves.{left, qs, served_moves, unblocked_moves}
@@ -78,17 +78,17 @@ module _ (n : ℕ) (key : Key) (rules : Rules Key) where
     apart = λ e. absurd (false≢true e);
   }
 
-  -- ---- a dial
+  -- ---- a dial, and a listen
 
   granted_there : (i : Item) → puts_grant n key (queue.Dialer n, i) ≡ grants_key key i
-  granted_there i = ap (λ b. b && grants_key key i) (same_queue-refl (queue.Dialer n))
+  granted_there i = ap (λ b. b && grants_key key i) (eq-eqb n n refl)
 
   or_false : (b : Bool) → (b || false) ≡ b
   or_false true = refl
   or_false false = refl
 
   dial_turn : (k : Key) (at jitter : ℕ) (calls : List (Call Key)) (o : Option (Key × Ingress)) → ((g : Key × Ingress) → o ≡ Some g → (is_held key_cmp calls k ≡ false) × (is_local key_cmp rules k ≡ false) × (g.0 ≡ k))
-      → Turn ((queue.Dialer n, item.Dial o) ∷ []) false (is_held key_cmp calls key) (is_held key_cmp (call.Dial k at jitter (list_any grants_dial ((queue.Dialer n, item.Dial o) ∷ [])) ∷ calls) key)
+      → Turn ((queue.Dialer n, item.Dial o) ∷ []) false (is_held key_cmp calls key) (is_held key_cmp (call.Dial k at jitter (list_any grants_peer ((queue.Dialer n, item.Dial o) ∷ [])) ∷ calls) key)
   dial_turn k at jitter calls None h =
       plain_turn ((queue.Dialer n, item.Dial None) ∷ []) false (is_held key_cmp calls key) (is_held key_cmp (call.Dial k at jitter false ∷ calls) key)
       (plain_item n key (queue.Dialer n) (item.Dial None) refl refl, tt) (held_refused k at jitter calls key)
@@ -107,6 +107,26 @@ module _ (n : ℕ) (key : Key) (rules : Rules Key) where
         apart = λ e. refl;
       }
 
+  listen_turn : (name : ℕ) (k : Key) (at jitter : ℕ) (calls : List (Call Key)) (b : Bool) → (b ≡ true → (is_held key_cmp calls k ≡ false) × (is_local key_cmp rules k ≡ false))
+      → Turn ((queue.Handshake n name, item.Listen (cond b (Some k) None)) ∷ []) false (is_held key_cmp calls key)
+      (is_held key_cmp (call.Listen k at jitter (list_any grants_peer ((queue.Handshake n name, item.Listen (cond b (Some k) None)) ∷ [])) ∷ calls) key)
+  listen_turn name k at jitter calls false h =
+      plain_turn ((queue.Handshake n name, item.Listen None) ∷ []) false (is_held key_cmp calls key) (is_held key_cmp (call.Listen k at jitter false ∷ calls) key)
+      (plain_item n key (queue.Handshake n name) (item.Listen None) refl refl, tt) (held_unheard k at jitter calls key)
+  listen_turn name k at jitter calls true h =
+      let x : Put = (queue.Handshake n name, item.Listen (Some k)) in
+      let put : puts_grant n key x ≡ (k.0 == key.0) = ap (λ b. b && (k.0 == key.0)) (eq-eqb n n refl) in
+      record {
+        grants = k.0 == key.0;
+        granted = or_false (puts_grant n key x) ∙ put;
+        grants_put = count_by-one (puts_grant n key) x ∙ ap one put;
+        releases_put = count_by-one (puts_release n key) x;
+        turn = held_heard k at jitter calls key;
+        free = λ e. ap (λ (y : Key). is_held key_cmp calls y) (sym (key_from k key e)) ∙ (h refl).0;
+        others = λ e. ap (λ (y : Key). is_local key_cmp rules y) (sym (key_from k key e)) ∙ (h refl).1;
+        apart = λ e. refl;
+      }
+
   -- ---- the items of its mailbox
 
   module _ (at : ℕ) (us bs : List ℕ) (calls : List (Call Key)) (log : List Entry) (jitter : ℕ) where
@@ -114,30 +134,40 @@ module _ (n : ℕ) (key : Key) (rules : Rules Key) where
     puts_of i = item_puts rules n at us bs calls log i
 
     abbrev ItemTurn : Item → Type 0
-    ItemTurn i = Turn (puts_of i) (releases_key key i) (is_held key_cmp calls key) (is_held key_cmp (item_calls log i at jitter (list_any grants_dial (puts_of i)) calls) key)
+    ItemTurn i = Turn (puts_of i) (releases_key key i) (is_held key_cmp calls key) (is_held key_cmp (item_calls log i at jitter (list_any grants_peer (puts_of i)) calls) key)
 
-    acceptable_turn : (name : ℕ) (k : Key) (runs : Bool) (source : Option IpAddr) → Turn (acceptable_puts rules n at us bs calls name k runs source) false (is_held key_cmp calls key) (is_held key_cmp calls key)
+    acceptable_turn : (name : ℕ) (k : Key) (runs : Bool) (source : Option IpAddr)
+        → Turn (handshake_puts rules n at us bs calls name (acceptance rules n at us bs calls k) runs source) false (is_held key_cmp calls key) (is_held key_cmp calls key)
     acceptable_turn name k true (Some source) =
-        let xs = acceptable_puts rules n at us bs calls name k true (Some source) in
+        let xs = handshake_puts rules n at us bs calls name (acceptance rules n at us bs calls k) true (Some source) in
         plain_turn xs false (is_held key_cmp calls key) (is_held key_cmp calls key)
         (plain_item n key (queue.Handshake n name) (item.Acceptable (is_acceptable key_cmp rules calls k source at)) refl refl, tt) refl
     acceptable_turn name k true None = plain_turn [] false (is_held key_cmp calls key) (is_held key_cmp calls key) tt refl
     acceptable_turn name k false source = plain_turn [] false (is_held key_cmp calls key) (is_held key_cmp calls key) tt refl
 
+    -- where a handshake that asks has ended, nobody is reserved
+    heard_turn : (name : ℕ) (k : Key) (runs : Bool) (source : Option IpAddr) →
+        let xs = handshake_puts rules n at us bs calls name (listen_grant rules n at us bs calls k) runs source in
+        Turn xs false (is_held key_cmp calls key) (is_held key_cmp (call.Listen k at jitter (list_any grants_peer xs) ∷ calls) key)
+    heard_turn name k true (Some source) = listen_turn name k at jitter calls (allows_listen key_cmp rules calls k source at) (λ h. listen_free rules at calls k source h)
+    heard_turn name k true None = plain_turn [] false (is_held key_cmp calls key) (is_held key_cmp (call.Listen k at jitter false ∷ calls) key) tt (held_unheard k at jitter calls key)
+    heard_turn name k false source = plain_turn [] false (is_held key_cmp calls key) (is_held key_cmp (call.Listen k at jitter false ∷ calls) key) tt (held_unheard k at jitter calls key)
+
     item_turn : (i : Item) → ItemTurn i
     item_turn (item.Call e) =
         let xs = puts_of (item.Call e) in
-        plain_turn xs false (is_held key_cmp calls key) (is_held key_cmp (item_calls log (item.Call e) at jitter (list_any grants_dial xs) calls) key)
+        plain_turn xs false (is_held key_cmp calls key) (is_held key_cmp (item_calls log (item.Call e) at jitter (list_any grants_peer xs) calls) key)
         (each_asked n (Plain n key) kinds_plain rules at us bs calls e (asked_by log e)) (held_asked (asked_by log e) at calls key)
     item_turn (item.Connect conn k) =
         let xs = puts_of (item.Connect conn k) in
-        plain_turn xs false (is_held key_cmp calls key) (is_held key_cmp (item_calls log (item.Connect conn k) at jitter (list_any grants_dial xs) calls) key)
+        plain_turn xs false (is_held key_cmp calls key) (is_held key_cmp (item_calls log (item.Connect conn k) at jitter (list_any grants_peer xs) calls) key)
         (each_connected n (Plain n key) kinds_plain rules at us bs calls conn k) (held_connected k (Some at) conn calls key)
     item_turn item.AskDialable =
         let xs = puts_of item.AskDialable in
         plain_turn xs false (is_held key_cmp calls key) (is_held key_cmp calls key) (plain_item n key (queue.Dialer n) (item.Dialable (query_again_at key_cmp rules calls at) (dialable_keys key_cmp rules calls at)) refl refl, tt) refl
     item_turn (item.AskDial k) = dial_turn k at jitter calls (dial_grant rules n at us bs calls k) (λ g e. dial_free rules n at us bs calls k g e)
     item_turn (item.AskAcceptable name k) = acceptable_turn name k (is_handshaking log n name) (source_at log name)
+    item_turn (item.AskListen name k) = heard_turn name k (is_handshaking log n name) (source_at log name)
     item_turn (item.Release k) =
         plain_turn [] (k.0 == key.0) (is_held key_cmp calls key) (is_held key_cmp (call.Release k ∷ calls) key) tt (held_released k calls key)
     item_turn _ = plain_turn [] false (is_held key_cmp calls key) (is_held key_cmp calls key) tt refl
@@ -165,7 +195,7 @@ module _ (n : ℕ) (key : Key) (rules : Rules Key) where
     pub releases_taken : weight (puts_release n key) moves.taken ≡ one frees
     pub grants_taken : weight (puts_grant n key) moves.taken ≡ 0
     pub ended : Each (StandsPlain n key) moves.ended
-    pub turned : Turn r.puts frees (is_held key_cmp calls key) (is_held key_cmp (step_calls log r.reply (map (λ x. x.item) moves.taken) at jitter (list_any grants_dial r.puts) calls) key)
+    pub turned : Turn r.puts frees (is_held key_cmp calls key) (is_held key_cmp (step_calls log r.reply (map (λ x. x.item) moves.taken) at jitter (list_any grants_peer r.puts) calls) key)
 
   module _ (log : List Entry) (at jitter : ℕ) (calls : List (Call Key)) where
     -- it does nothing
@@ -205,7 +235,7 @@ module _ (n : ℕ) (key : Key) (rules : Rules Key) where
           let released : puts_release n key (put_of x) ≡ releases_key key x.item =
           ap (λ q. same_queue (queue.Tracker n) q && releases_key key x.item) stood ∙ ap (λ b. b && releases_key key x.item) (same_queue-refl (queue.Tracker n))
           in
-          let granted : puts_grant n key (put_of x) ≡ false = ap (λ q. same_queue (queue.Dialer n) q && grants_key key x.item) stood in
+          let granted : puts_grant n key (put_of x) ≡ false = ap (λ q. holds_grants n q && grants_key key x.item) stood in
           record {
             moves = served_moves log xs (queue.Tracker n) x rest first;
             frees = releases_key key x.item;

@@ -143,17 +143,20 @@ module _ (n : ℕ) (rules : Rules Key) (at : ℕ) (updates sets : List ℕ) (cal
   unblocked_told : (c : Call Key) → Each (IsTold n) (puts.unblocked_puts rules n at updates sets calls c)
   unblocked_told c = each_unblocked n (IsTold n) (kinds_told n) rules at updates sets calls c
 
-  acceptable_told : (name : ℕ) (key : Key) (runs : Bool) (source : Option IpAddr) → Each (IsTold n) (puts.acceptable_puts rules n at updates sets calls name key runs source)
-  acceptable_told name key true (Some source) = (((refl, refl), eq-eqb n n refl), tt)
-  acceptable_told name key true None = tt
-  acceptable_told name key false source = tt
+  -- what a handshake is told
+  handshake_told : (name : ℕ) (told : IpAddr → Item) → ((source : IpAddr) → IsQuiet (queue.Handshake n name, told source)) → (runs : Bool) (source : Option IpAddr)
+      → Each (IsTold n) (puts.handshake_puts rules n at updates sets calls name told runs source)
+  handshake_told name told quiet true (Some source) = ((quiet source, eq-eqb n n refl), tt)
+  handshake_told name told quiet true None = tt
+  handshake_told name told quiet false source = tt
 
   item_told : (log : List Entry) (i : Item) → Each (IsTold n) (puts.item_puts rules n at updates sets calls log i)
   item_told log (item.Call e) = each_asked n (IsTold n) (kinds_told n) rules at updates sets calls e (asked_by log e)
   item_told log (item.Connect conn key) = each_connected n (IsTold n) (kinds_told n) rules at updates sets calls conn key
   item_told log item.AskDialable = (((refl, refl), eq-eqb n n refl), tt)
   item_told log (item.AskDial key) = (((refl, refl), eq-eqb n n refl), tt)
-  item_told log (item.AskAcceptable name key) = acceptable_told name key (is_handshaking log n name) (source_at log name)
+  item_told log (item.AskAcceptable name key) = handshake_told name (puts.acceptance rules n at updates sets calls key) (λ source. (refl, refl)) (is_handshaking log n name) (source_at log name)
+  item_told log (item.AskListen name key) = handshake_told name (puts.listen_grant rules n at updates sets calls key) (λ source. (refl, refl)) (is_handshaking log n name) (source_at log name)
   item_told log _ = tt
 
 -- a ring of the tracker takes items that carry no copy

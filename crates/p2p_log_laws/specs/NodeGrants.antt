@@ -22,9 +22,11 @@ count_below zero p = 0
 count_below (suc m) p = one (p m) + count_below m p
 
 module _ (key : Key) where
-  -- whether an item grants the key
+  -- whether an item grants the key, or hands its grant on
   abbrev pub grants_key : Item → Bool
   grants_key (item.Dial (Some grant)) = grant.0.0 == key.0
+  grants_key (item.Listen (Some k)) = k.0 == key.0
+  grants_key (item.Spawn k link) = k.0 == key.0
   grants_key _ = false
 
   -- whether an item gives it back
@@ -41,14 +43,22 @@ module _ (key : Key) where
 abbrev pub put_of : Envelope → Queue × Item
 put_of x = (x.queue, x.item)
 
+-- where a grant may wait at a node: for its dialer, for a handshake, and for its spawner
+abbrev pub holds_grants : ℕ → Queue → Bool
+holds_grants n (queue.Dialer m) = m == n
+holds_grants n (queue.Handshake m e) = m == n
+holds_grants n (queue.Spawner m) = m == n
+holds_grants n _ = false
+
 module _ (n : ℕ) (key : Key) where
   abbrev pub puts_grant : Queue × Item → Bool
-  puts_grant x = same_queue (queue.Dialer n) x.0 && grants_key key x.1
+  puts_grant x = holds_grants n x.0 && grants_key key x.1
 
   abbrev pub puts_release : Queue × Item → Bool
   puts_release x = same_queue (queue.Tracker n) x.0 && releases_key key x.1
 
-  -- a grant is held by the answer that waits for the dialer, and then by the attempt that it begins
+  -- a grant is held by the answer that waits for the dialer, and then by the attempt that it begins, or by the answer that waits for a
+  -- handshake; and then by the message that waits for the spawner
   abbrev pub holders_of : List Config → List Entry → ℕ
   holders_of configs log =
       count_by (λ x. puts_grant (put_of x)) (live log) + count_below (length log) (λ e. is_attempt_of key (attempts_of configs log n e))

@@ -1,0 +1,71 @@
+-- A handshake that has not begun took nothing.
+use Rattle.std.proofs.Common.{◌≡◌, ℕ, ◌+◌, ◌≤◌, Bool, true, false, cond, List, [], ◌∷◌, ◌++◌, length, refl, ap, ◌∙◌, arith, eqb-true, length-append}
+use Rattle.std.specs.Prelude.{◌==◌, ◌&&◌, ◌||◌}
+use Rattle.std.proofs.lemmas.Bool.{and_parts}
+use Rattle.p2p_log.specs.declared.config.Config.{Config}
+use Rattle.p2p_log.specs.declared.queue.Queue.TheVariants as queue
+use Rattle.p2p_log.specs.declared.item.Item.{Item}
+use Rattle.p2p_log.specs.declared.entry.Entry.{Entry}
+use Rattle.p2p_log.specs.declared.entry.Reply.TheVariants as reply
+use Rattle.p2p_log.specs.declared.event.Act.{Act}
+use Rattle.p2p_log.specs.declared.event.Act.TheVariants as act
+use Rattle.p2p_log.specs.declared.event.Event.{Event}
+use Rattle.p2p_log.specs.Lines.{line}
+use Rattle.p2p_log_rules.specs.declared.row.Row.{Row}
+use Rattle.p2p_log_rules.specs.Effect.{effect, entry_of, row}
+use Rattle.p2p_log_rules.specs.Facts.{taken, state_from}
+use Rattle.p2p_log_rules.specs.Handshakes.{is_handshaking, is_finished, peer_at, steps_handshake, has_taken}
+use Rattle.p2p_log_rules.specs.Handshaking.{handshake_deadline, is_due, handshake_turn, handshake_row}
+use Rattle.p2p_log_rules.specs.Lawful.{IsLawful}
+use Rattle.p2p_log_rules.specs.Rows.{only, is_spawner_full}
+use Rattle.p2p_log_rules.proofs.Handshakes.{none_later, has_taken-append}
+use Rattle.p2p_log_laws.proofs.Plain.{and_false}
+use Rattle.p2p_log_laws.proofs.Prefixes.{at_end}
+use Rattle.p2p_log_laws.proofs.Shape.{no_moves}
+use Rattle.p2p_log_laws.proofs.Weighing.{taken_items}
+
+module _ (test : List Item → Bool) (none : test [] ≡ false) (configs : List Config) (n name : ℕ) where
+  abbrev pub Untold : List Entry → Type 0
+  Untold log = length log ≤ name → has_taken test log n name ≡ false
+
+  pub untold_first : Untold []
+  unfolding has_taken state_from
+  untold_first past = refl
+
+  gone_row : (log : List Entry) (at : ℕ) → is_handshaking log n name ≡ false → handshake_row configs log name n at ≡ only reply.Gone
+  gone_row log at ended =
+      ap (λ b. cond b (handshake_turn n (is_spawner_full configs log n) (is_due (handshake_deadline configs log name n) at (is_finished log n name)) name (peer_at log name) (line log (queue.Handshake n name))) (only reply.Gone)) ended
+
+  took_none : (log : List Entry) (ev : Event) (r : Row) → r ≡ only reply.Gone → test (taken log (entry_of ev r)) ≡ false
+  took_none log ev r is =
+      ap (λ s. test (taken log (entry_of ev s))) is ∙ (ap test (taken_items log ev (only reply.Gone) (no_moves log (only reply.Gone) refl refl)) ∙ none)
+
+  now_none : (log : List Entry) (at seed : ℕ) (a : Act) → length log ≤ name
+      → (steps_handshake n name a && test (taken log (entry_of (record { at = at; seed = seed; act = a }) (row configs log at seed a)))) ≡ false
+  unfolding row
+  now_none log at seed (act.Handshake k m) past = by ((m == n) && (k == name)) refl
+    where
+      took : Bool
+      took = test (taken log (entry_of (record { at = at; seed = seed; act = act.Handshake k m }) (handshake_row configs log k m at)))
+
+      by : (b : Bool) → ((m == n) && (k == name)) ≡ b → (((m == n) && (k == name)) && took) ≡ false
+      by false other = ap (λ b. b && took) other
+      by true same =
+          let both = and_parts (m == n) (k == name) same in
+          let row_is : handshake_row configs log k m at ≡ only reply.Gone =
+          ap (λ i. handshake_row configs log k i at) (eqb-true m n both.0) ∙ (ap (λ i. handshake_row configs log i n at) (eqb-true k name both.1) ∙ gone_row log at (none_later log n name past))
+          in
+          ap (λ b. ((m == n) && (k == name)) && b) (took_none log (record { at = at; seed = seed; act = act.Handshake k m }) (handshake_row configs log k m at) row_is) ∙ and_false ((m == n) && (k == name))
+  now_none log at seed _ past = refl
+
+  pub untold_more : (log : List Entry) (ev : Event) → Untold log → Untold (log ++ effect configs log ev ∷ [])
+  unfolding effect
+  untold_more log ev untold past =
+      let e : Entry = entry_of ev (row configs log ev.at ev.seed ev.act) in
+      let longer : length (log ++ e ∷ []) ≡ length log + 1 = length-append log (e ∷ []) in
+      let late : length log ≤ name = omega (arith, past, longer) in
+      has_taken-append test log e n name
+      ∙ (ap (λ b. b || has_taken test log n name) (now_none log ev.at ev.seed ev.act late) ∙ untold late)
+
+  pub untold : (script : List Event) (log : List Entry) → IsLawful configs script log → Untold log
+  untold script log lawful = at_end configs Untold untold_first untold_more script log lawful
