@@ -13,7 +13,7 @@ use Rattle.p2p_log.specs.declared.item.Item.{Item}
 use Rattle.p2p_log.specs.declared.item.Envelope.{Envelope}
 use Rattle.p2p_log.specs.declared.entry.Entry.{Entry}
 use Rattle.p2p_log.specs.QueueCode.{kind_of, owner_of, detail_of, same_queue}
-use Rattle.p2p_log.specs.Lines.{line, stands_in, placed}
+use Rattle.p2p_log.specs.Lines.{stands_in, placed}
 use Rattle.p2p_log_rules.specs.Facts.{half_of, half_in, half_at, answers_by, is_running, joins, is_joined}
 use Rattle.p2p_log_rules.proofs.Facts.{half_at-append, is_running-append, is_joined-append}
 use Rattle.p2p_net_queues.specs.Tables.{at, waiting, pushed_at}

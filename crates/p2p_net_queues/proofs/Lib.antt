@@ -1,6 +1,7 @@
 pub mod Going
 pub mod Holding
 pub mod Kept
+pub mod Matching
 pub mod Placing
 pub mod Steps
 pub mod Tables

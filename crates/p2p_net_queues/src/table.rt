@@ -59,6 +59,13 @@ impl<V: Drop> Table<V> {
     {
         self.tree.remove(&key)
     }
+
+    /// The value of a key, where it stands.
+    pub fn find(&self, key: u64) -> Option<&V>
+        ensures { option_copied result ≡ at self.now key }
+    {
+        self.tree.get(&key)
+    }
 }
 
 impl<V: Copy> Table<V> {
