@@ -57,8 +57,8 @@ none_tried : (rules : DialRules) (n name at seed : ℕ) (r : Reply) (items : Lis
 none_tried rules n name at seed r items (act.Dialer m) attempts k h = ap (λ b. cond b (with_begun (begun_of rules.timeout at items) name attempts k) (attempts k)) h
 none_tried rules n name at seed r items (act.Attempt e m) attempts k h = ap (λ b. cond b (with_attempt e (and_then (stepped_attempt rules at seed r items) (attempts e)) attempts k) (attempts k)) h
 none_tried rules n name at seed r items (act.Resolve addresses e m) attempts k h = ap (λ b. cond b (with_attempt e (option_map (told_addresses r) (attempts e)) attempts k) (attempts k)) h
-none_tried rules n name at seed r items (act.Connect e from m to) attempts k h = ap (λ b. cond b (with_attempt e (option_map (told_answer r) (attempts e)) attempts k) (attempts k)) h
-none_tried rules n name at seed r items (act.Refuse e m) attempts k h = ap (λ b. cond b (with_attempt e (option_map (told_answer r) (attempts e)) attempts k) (attempts k)) h
+none_tried rules n name at seed r items (act.Connect e from m to) attempts k h = ap (λ b. cond b (with_attempt e (option_map (told_answer name r) (attempts e)) attempts k) (attempts k)) h
+none_tried rules n name at seed r items (act.Refuse e m) attempts k h = ap (λ b. cond b (with_attempt e (option_map (told_answer name r) (attempts e)) attempts k) (attempts k)) h
 none_tried rules n name at seed r items _ attempts k h = refl
 
 or_false : (b c : Bool) → c ≡ false → (b || c) ≡ b
@@ -167,7 +167,7 @@ IsBegun gates name _ _ = ⊥
 -- an attempt that begins is what is said of it
 pub begun_is : (g : Gates) (rules : DialRules) (name : ℕ) (m : Metadata Key) (key : Key) (at : ℕ) (to : Ingress) → g.dial_timeout ≡ rules.timeout
     → running (new_attempt name m to g at)
-    ≡ attempt_of g name m (record { key = key; ingress = to; address = socket_of to; deadline = at + rules.timeout; is_resolved = false; is_answered = false }) []
+    ≡ attempt_of g name m (record { key = key; ingress = to; address = socket_of to; deadline = at + rules.timeout; is_resolved = false; answer = None }) []
 begun_is g rules name m key at (ingress.Socket s) same = ap (λ t. running (record (new_attempt name m (ingress.Socket s) g at) { deadline = at + t })) same
 begun_is g rules name m key at (ingress.Dns host port) same = ap (λ t. running (record (new_attempt name m (ingress.Dns host port) g at) { deadline = at + t })) same
 

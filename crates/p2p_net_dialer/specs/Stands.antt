@@ -49,6 +49,7 @@ actor_of gates d = record { cfg = gates; peers = d.peers; deadline = d.deadline;
 abbrev pub told_item : Item → AttemptItem
 told_item (item.Resolved addresses) = told.Addresses addresses
 told_item item.Linked = told.Linked
+told_item (item.Finished ok) = told.Finished ok
 told_item _ = told.Refused
 
 -- the attempt of this name of which this stands, by this reservation and with these that wait for it
@@ -67,7 +68,7 @@ attempt_of gates name reserved a waiting = record {
   };
   names = map name_of waiting;
   is_resolved = a.is_resolved;
-  is_answered = a.is_answered;
+  answer = a.answer;
 }
 
 -- the attempt of this name stands for what is said of it, by a reservation of its key; where there is none, nothing waits for it

@@ -1,17 +1,17 @@
 //! `RunningAttempt`, an attempt of a node's dialer.
-ghost use Rattle.std.specs.Prelude.{◌≡◌, ◌++◌, ◌∷◌, [], IfOk, OnOk};
+ghost use Rattle.std.specs.Prelude.{◌≡◌, ◌++◌, ◌∷◌, [], IfOk, OnOk, is_some, length};
 ghost use Rattle.p2p_log.specs.declared.queue.Queue.TheVariants as queue;
-ghost use Rattle.p2p_log.specs.declared.entry.Reply.TheVariants as reply;
-ghost use Rattle.p2p_log_rules.specs.Attempting.{link_item, resolve_by, answered_row};
+ghost use Rattle.p2p_log_rules.specs.Attempting.{link_item, link_of, resolve_by, answered_row};
 ghost use Rattle.p2p_gates.specs.AttemptTurns.{attempt_turn};
-ghost use Rattle.p2p_net_dialer.specs.Attempts.{is_name, running, took_names, with_told, link_told, resolved, answered, released_key, ended, tried, after_turn};
+ghost use Rattle.p2p_net_dialer.specs.Attempts.{is_name, running, took_names, told_under, told_in, link_told, resolved, answered, released_key, ready_of, ended, tried, after_turn};
 
 use p2p_address::{Ingress, SocketAddr};
 use p2p_base::{Key, List};
-use p2p_gates::{Attempt, AttemptItem, Input, Put, Stepped};
+use p2p_gates::{Attempt, AttemptItem, Input, Outcome, Put, Stepped};
 use p2p_log::{Item, Queue, Reply};
 use p2p_log_rules::Row;
 use p2p_net_queues::{Deque, Turn, end_items, only};
+use p2p_tracker_directory::Reservation;
 use p2p_tracker_mailbox::Mailbox;
 use std::alloc::{AllocError, Global};
 
@@ -24,8 +24,8 @@ pub struct RunningAttempt {
     pub names: Deque<(u64, u64)>,
     /// Whether it was told the addresses of its peer.
     pub is_resolved: bool,
-    /// Whether its dial was answered, with a link or a refusal.
-    pub is_answered: bool,
+    /// The event that answered its dial, with a link or a refusal, once one did.
+    pub answer: Option<u64>,
 }
 
 /// What an attempt did in a step.
@@ -35,6 +35,8 @@ pub struct Tried {
     pub row: Row,
     /// The key whose reservation it gave back.
     pub released: Option<Key>,
+    /// Over which link, and by which reservation, a connection is to be made.
+    pub ready: Option<(u64, Reservation<Key>)>,
 }
 
 /// Whether an ingress is a name.
@@ -57,6 +59,26 @@ fn released(put: Option<Put<Key>>) -> Option<Key>
     }
 }
 
+/// The link of an attempt whose dial was answered by this event.
+fn link_of(answer: Option<u64>) -> u64
+    ensures { result ≡ link_of answer }
+{
+    match answer {
+        None => 0,
+        Some(name) => name,
+    }
+}
+
+/// The connection that is to be made over this link, where a step ended with its reservation.
+fn ready(outcome: Outcome<Key>, link: u64) -> Option<(u64, Reservation<Key>)>
+    ensures { result ≡ ready_of outcome link }
+{
+    let Outcome::Ready(reservation) = outcome else {
+        return None;
+    };
+    Some((link, reservation))
+}
+
 /// What an attempt is told of its dial: that there is a link, or that there is none.
 fn link_told(links: bool) -> (AttemptItem, Item)
     ensures { result ≡ (link_told links, link_item links) }
@@ -76,7 +98,7 @@ impl RunningAttempt {
             actor,
             names: Deque::new(alloc),
             is_resolved: false,
-            is_answered: false,
+            answer: None,
         }
     }
 
@@ -115,7 +137,8 @@ impl RunningAttempt {
         at: u64,
         seed: u64,
     ) -> Result<Tried, AllocError>
-        ensures tried { IfOk result (λ t. t ≡ tried (attempt_turn self.old.actor way.old at seed) self.old.names) }
+        ensures tried { IfOk result (λ t.
+            t ≡ tried (attempt_turn self.old.actor way.old at seed) self.old.answer self.old.names) }
         ensures after { OnOk result (self.new ≡ after_turn (attempt_turn self.old.actor way.old at seed) self.old) }
         ensures way { OnOk result (way.new ≡ (attempt_turn self.old.actor way.old at seed).way) }
     {
@@ -123,39 +146,48 @@ impl RunningAttempt {
             Stepped::Idle => Ok(Tried {
                 row: only(alloc, Reply::Idle),
                 released: None,
+                ready: None,
             }),
-            Stepped::Served { took, put, .. } => {
+            Stepped::Served {
+                took,
+                put,
+                outcome,
+                ..
+            } => {
                 let mut row = only(alloc, Reply::Ok);
                 self.take_name(took, &mut row)?;
                 self.end_names(alloc, &mut row)?;
                 Ok(Tried {
                     row,
                     released: released(put),
+                    ready: ready(outcome, link_of(self.answer)),
                 })
             }
         }
     }
 
-    /// It is told this, which waits for it under the name of this entry.
-    fn tell(
+    /// It is told this, which waits for it under the name of this put of the row.
+    ///
+    /// `Err` only where there is no memory. The row and what waits for it may then differ, and its node goes no further.
+    pub(crate) fn tell(
         &mut self,
         turn: Turn,
         attempt: u64,
         told: AttemptItem,
         item: Item,
-    ) -> Result<Row, AllocError>
-        ensures row { IfOk result (λ r. r ≡ record { reply = reply.Ok; takes = []; puts = (queue.Attempt turn.node attempt, item) ∷ []; ends = [] }) }
-        ensures after { OnOk result (self.new ≡ with_told turn.entry told self.old) }
+        row: &mut Row,
+    ) -> Result<(), AllocError>
+        ensures row { OnOk result (row.new ≡ told_in turn.node attempt item row.old) }
+        ensures after { OnOk result (self.new ≡ told_under (turn.entry, length row.old.puts) told self.old) }
     {
         self.actor.put(told)?;
-        self.names.push((turn.entry, 0))?;
-        let mut row = only(turn.alloc, Reply::Ok);
+        self.names.push((turn.entry, row.puts.len() as u64))?;
         let queue = Queue::Attempt {
             node: turn.node,
             attempt,
         };
         row.puts.push((queue, item))?;
-        Ok(row)
+        Ok(())
     }
 
     /// It is told the addresses that its peer's name stands for, once.
@@ -176,24 +208,30 @@ impl RunningAttempt {
         self.is_resolved = true;
         let told = AttemptItem::Addresses(addresses.try_clone(turn.alloc)?);
         let item = Item::Resolved(addresses.try_clone(turn.alloc)?);
-        Ok(self.tell(turn, attempt, told, item)?)
+        let mut row = only(turn.alloc, Reply::Ok);
+        self.tell(turn, attempt, told, item, &mut row)?;
+        Ok(row)
     }
 
     /// Its dial is answered, with a link or a refusal, once it has an address to dial, and once.
     ///
     /// `Err` only where there is no memory. Some of it may then be told, and its node goes no further.
     pub fn answer_dial(&mut self, turn: Turn, attempt: u64, links: bool) -> Result<Row, AllocError>
-        ensures row { IfOk result (λ r. r ≡ answered_row self.old.actor.address self.old.is_answered links attempt turn.node) }
-        ensures after { OnOk result (self.new ≡ answered self.old.actor.address self.old.is_answered links turn.entry self.old) }
+        ensures row { IfOk result (λ r.
+            r ≡ answered_row self.old.actor.address (is_some self.old.answer) links attempt turn.node) }
+        ensures after { OnOk result (
+            self.new ≡ answered self.old.actor.address (is_some self.old.answer) links turn.entry self.old) }
     {
         if self.actor.address().is_none() {
             return Ok(only(turn.alloc, Reply::Pending));
         }
-        if self.is_answered {
+        if self.answer.is_some() {
             return Ok(only(turn.alloc, Reply::Gone));
         }
-        self.is_answered = true;
+        self.answer = Some(turn.entry);
         let (told, item) = link_told(links);
-        Ok(self.tell(turn, attempt, told, item)?)
+        let mut row = only(turn.alloc, Reply::Ok);
+        self.tell(turn, attempt, told, item, &mut row)?;
+        Ok(row)
     }
 }

@@ -3,13 +3,13 @@ ghost use Rattle.std.specs.Prelude.{◌≡◌, [], None, Some, true, ◌&&◌, I
 ghost use Rattle.p2p_log_rules.specs.Valid.{is_quota};
 ghost use Rattle.p2p_net_queues.specs.Tables as table;
 ghost use Rattle.p2p_net_queues.specs.Tables.{kept_with};
-ghost use Rattle.p2p_net_dialer.specs.Attempts.{Tries, Resolves, AnswersDial, has_ended};
+ghost use Rattle.p2p_net_dialer.specs.Attempts.{dialed_key, Tries, Resolves, AnswersDial, Finishes, has_ended};
 ghost use Rattle.p2p_net_dialer.specs.Dialing.{gates_of, no_dialing, started, asked_item, is_answer as answer_test, begun_by, Steps};
 
 use crate::attempt::{RunningAttempt, Tried};
 use p2p_address::SocketAddr;
 use p2p_base::{Key, List};
-use p2p_gates::{Config as GatesConfig, Dialer, Input, Outcome, Put, Stepped};
+use p2p_gates::{AttemptItem, Config as GatesConfig, Dialer, Input, Outcome, Put, Stepped};
 use p2p_log::{Config, Item, Rate, Reply};
 use p2p_log_rules::Row;
 use p2p_net_queues::{Table, Turn, only};
@@ -170,6 +170,7 @@ impl Dialing {
             return Ok(Tried {
                 row: only(alloc, Reply::Gone),
                 released: None,
+                ready: None,
             });
         };
         let tried = running.step(alloc, way, at, seed)?;
@@ -220,5 +221,37 @@ impl Dialing {
         let row = running.answer_dial(turn, name, links)?;
         self.attempts.insert(name, running)?;
         Ok(row)
+    }
+
+    /// The key of the attempt of this name, where it stands.
+    pub fn dialed_key(&self, attempt: u64) -> Option<Key>
+        ensures { result ≡ dialed_key (table.at self.now.attempts attempt) }
+    {
+        let running = self.attempts.find(attempt)?;
+        running.actor.public_key()
+    }
+
+    /// The attempt of this name, where it stands, is told whether the keys were exchanged over its link.
+    ///
+    /// `Err` only where there is no memory. The attempt may then be dropped, and its node goes no further.
+    pub fn finish(
+        &mut self,
+        turn: Turn,
+        attempt: u64,
+        ok: bool,
+        row: &mut Row,
+    ) -> Result<(), AllocError>
+        ensures finishes { OnOk result (
+            Finishes (table.at self.old.attempts attempt) turn.entry turn.node attempt ok
+            self.old.attempts self.new.attempts row.old row.new) }
+        ensures actor { OnOk result (self.new.actor ≡ self.old.actor) }
+    {
+        let Some(mut running) = self.attempts.remove(attempt) else {
+            return Ok(());
+        };
+        let told = AttemptItem::Finished(ok);
+        running.tell(turn, attempt, told, Item::Finished(ok), row)?;
+        self.attempts.insert(attempt, running)?;
+        Ok(())
     }
 }

@@ -1,7 +1,7 @@
 -- The links after one more entry.
-use Rattle.std.proofs.Common.{◌≡◌, ℕ, ◌+◌, Bool, true, false, cond, List, [], ◌∷◌, ◌++◌, drop, refl, ap, sym, ◌∙◌, arith, append_assoc, append-nil}
-use Rattle.std.specs.Prelude.{filter, map, ◌&&◌}
-use Rattle.std.specs.BTreeMap.{is_at}
+use Rattle.std.proofs.Common.{◌≡◌, ℕ, ◌+◌, Bool, true, false, cond, List, [], ◌∷◌, ◌++◌, length, drop, refl, ap, sym, ◌∙◌, arith, append_assoc, append-nil, subst, Option, Some, None}
+use Rattle.std.specs.Prelude.{◌==◌, filter, map, ◌&&◌}
+use Rattle.std.specs.BTreeMap.{is_at, insert_entry}
 use Rattle.std.specs.Ordering.{nat_cmp}
 use Rattle.std.proofs.lemmas.Bool.Decides.{nat_tests}
 use Rattle.p2p_log.specs.declared.queue.Queue.{Queue}
@@ -11,13 +11,21 @@ use Rattle.p2p_log.specs.declared.queue.Side.TheVariants as side
 use Rattle.p2p_log.specs.declared.item.Item.{Item}
 use Rattle.p2p_log.specs.declared.item.Envelope.{Envelope}
 use Rattle.p2p_log.specs.declared.entry.Entry.{Entry}
+use Rattle.p2p_log.specs.declared.entry.Reply.{Reply}
+use Rattle.p2p_log.specs.declared.entry.Reply.TheVariants as reply
+use Rattle.p2p_log.specs.declared.event.Act.{Act}
+use Rattle.p2p_log.specs.declared.event.Act.TheVariants as act
 use Rattle.p2p_log.specs.QueueCode.{same_queue}
 use Rattle.p2p_log.specs.Lines.{line, stands_in, placed}
 use Rattle.p2p_log.proofs.Queues.{same_queue-sym}
-use Rattle.p2p_net_queues.specs.Tables.{waiting, pushed_at, popped_at}
+use Rattle.p2p_log_rules.specs.declared.row.Opening.{Opening}
+use Rattle.p2p_log_rules.specs.Facts.{state_from}
+use Rattle.p2p_log_rules.specs.Links.{with_named, with_opened, without_finished, acted_openings, openings_by, openings_of}
+use Rattle.p2p_log_rules.proofs.Links.{openings_of-append}
+use Rattle.p2p_net_queues.specs.Tables.{at, waiting, pushed_at, popped_at}
 use Rattle.p2p_net_queues.proofs.Holding.{longer}
-use Rattle.p2p_net_queues.proofs.Tables.{waiting-pushed_at, waiting-popped_at}
-use Rattle.p2p_net_links.specs.Links.{way_of, with_way, written_way}
+use Rattle.p2p_net_queues.proofs.Tables.{waiting-pushed_at, waiting-popped_at, at-inserted}
+use Rattle.p2p_net_links.specs.Links.{no_links, way_of, with_way, written_way}
 use Rattle.p2p_net_links.specs.Stands.{LinksStand}
 use Rattle.p2p_net_links.specs.declared.links.Links.{Links}
 
@@ -57,9 +65,149 @@ changed l s t k j w f h =
     ]) refl
     ∙ ap (λ b. cond b (f (waiting (way_of l t) j)) (waiting (way_of l t) j)) (sym (same_link s t k j)))
 
+-- ---- between whom keys are exchanged, by the log
+
+-- no links stand for no log
+pub openings_new : (k : ℕ) → at no_links.openings k ≡ openings_of [] k
+unfolding openings_of state_from
+openings_new k = refl
+
+-- an entry leaves them alone by its act: whether that neither makes a link over which keys are exchanged nor ends such an exchange
+abbrev pub opens_none : Act → Bool
+opens_none (act.Connect e from n to) = false
+opens_none (act.Finish link ok) = false
+opens_none _ = true
+
+unmoved : (name k : ℕ) (r : Reply) (puts : List (Queue × Item)) (a : Act) (openings : ℕ → Option Opening) → opens_none a ≡ true
+    → acted_openings name r puts a openings k ≡ openings k
+unmoved name k r puts (act.Connect e from n to) openings h = cc
+unmoved name k r puts (act.Finish link ok) openings h = cc
+unmoved name k r puts _ openings h = refl
+
+pub openings_unmoved : (log : List Entry) (e : Entry) → opens_none e.event.act ≡ true → (k : ℕ) → openings_by log e (openings_of log) k ≡ openings_of log k
+openings_unmoved log e h k = unmoved (length log) k e.reply e.puts e.event.act (openings_of log) h
+
+-- or by its reply, whatever its act: whether that says that it was done
+abbrev pub is_ok_reply : Reply → Bool
+is_ok_reply reply.Ok = true
+is_ok_reply _ = false
+
+unopened : (name k : ℕ) (o : Opening) (r : Reply) (puts : List (Queue × Item)) (openings : ℕ → Option Opening) → is_ok_reply r ≡ false → with_opened name o r puts openings k ≡ openings k
+unopened name k o reply.Ok puts openings h = cc
+unopened name k o _ puts openings h = refl
+
+unfinished : (link k : ℕ) (r : Reply) (openings : ℕ → Option Opening) → is_ok_reply r ≡ false → without_finished link r openings k ≡ openings k
+unfinished link k reply.Ok openings h = cc
+unfinished link k _ openings h = refl
+
+unanswered : (name k : ℕ) (r : Reply) (puts : List (Queue × Item)) (a : Act) (openings : ℕ → Option Opening) → is_ok_reply r ≡ false
+    → acted_openings name r puts a openings k ≡ openings k
+unanswered name k r puts (act.Connect e from n to) openings h = unopened name k (record { node = n; attempt = e; to = to }) r puts openings h
+unanswered name k r puts (act.Finish link ok) openings h = unfinished link k r openings h
+unanswered name k r puts _ openings h = refl
+
+pub openings_unanswered : (log : List Entry) (e : Entry) → is_ok_reply e.reply ≡ false → (k : ℕ) → openings_by log e (openings_of log) k ≡ openings_of log k
+openings_unanswered log e h k = unanswered (length log) k e.reply e.puts e.event.act (openings_of log) h
+
+-- between whom keys are exchanged over the link of this act, where it makes one
+abbrev pub linked_by : Act → Option Opening
+linked_by (act.Connect e from n to) = Some (record { node = n; attempt = e; to = to })
+linked_by _ = None
+
+-- or by its puts: a dial that was answered, but not with a link
+one_put : (name k : ℕ) (r : Reply) (told : Queue × Item) (a : Act) (openings : ℕ → Option Opening) (o : Opening) → linked_by a ≡ Some o
+    → acted_openings name r (told ∷ []) a openings k ≡ openings k
+one_put name k reply.Ok told (act.Connect e from n to) openings o h = refl
+one_put name k _ told (act.Connect e from n to) openings o h = refl
+one_put name k r told _ openings o h = cc
+
+pub openings_linkless : (log : List Entry) (e : Entry) (o : Opening) (told : Queue × Item) → linked_by e.event.act ≡ Some o → e.puts ≡ told ∷ []
+    → (k : ℕ) → openings_by log e (openings_of log) k ≡ openings_of log k
+openings_linkless log e o told dials one k =
+    ap (λ puts. acted_openings (length log) e.reply puts e.event.act (openings_of log) k) one ∙ one_put (length log) k e.reply told e.event.act (openings_of log) o dials
+
+-- an entry changes them: a dial that was answered with a link
+two_puts : (name k : ℕ) (told arrival : Queue × Item) (rest : List (Queue × Item)) (a : Act) (openings : ℕ → Option Opening) (o : Opening) → linked_by a ≡ Some o
+    → acted_openings name reply.Ok (told ∷ arrival ∷ rest) a openings k ≡ with_named name (Some o) openings k
+two_puts name k told arrival rest (act.Connect e from n to) openings o h = ap (λ p. with_named name p openings k) h
+two_puts name k told arrival rest _ openings o h = cc
+
+pub openings_opened : (log : List Entry) (e : Entry) (o : Opening) (told arrival : Queue × Item) (rest : List (Queue × Item)) → linked_by e.event.act ≡ Some o → e.reply ≡ reply.Ok
+    → e.puts ≡ told ∷ arrival ∷ rest → (k : ℕ) → openings_of (log ++ e ∷ []) k ≡ with_named (length log) (Some o) (openings_of log) k
+openings_opened log e o told arrival rest dials answered two k =
+    openings_of-append log e k
+    ∙ (ap (λ r. acted_openings (length log) r e.puts e.event.act (openings_of log) k) answered
+    ∙ (ap (λ puts. acted_openings (length log) reply.Ok puts e.event.act (openings_of log) k) two ∙ two_puts (length log) k told arrival rest e.event.act (openings_of log) o dials))
+
+-- or the end of an exchange
+pub openings_finished : (log : List Entry) (e : Entry) (link : ℕ) (ok : Bool) → e.event.act ≡ act.Finish link ok → e.reply ≡ reply.Ok
+    → (k : ℕ) → openings_of (log ++ e ∷ []) k ≡ with_named link None (openings_of log) k
+openings_finished log e link ok is answered k =
+    openings_of-append log e k
+    ∙ (ap (λ a. acted_openings (length log) e.reply e.puts a (openings_of log) k) is ∙ ap (λ r. without_finished link r (openings_of log) k) answered)
+
+-- ---- and by the links
+
+-- an entry that leaves these alone
+openings_kept : (log : List Entry) (e : Entry) (openings : List (ℕ × Opening)) → ((k : ℕ) → at openings k ≡ openings_of log k)
+    → ((k : ℕ) → openings_by log e (openings_of log) k ≡ openings_of log k) → (k : ℕ) → at openings k ≡ openings_of (log ++ e ∷ []) k
+openings_kept log e openings is same k = is k ∙ (sym (same k) ∙ sym (openings_of-append log e k))
+
+-- another of this name, or none any more
+named : (name k : ℕ) (o : Option Opening) (openings : List (ℕ × Opening)) (before : ℕ → Option Opening) → ((j : ℕ) → at openings j ≡ before j)
+    → cond (k == name) o (at openings k) ≡ with_named name o before k
+named name k o openings before is = ap (λ v. cond (k == name) o v) (is k)
+
+-- ---- the links
+
 -- an entry that leaves them alone
-pub links_frame : (log : List Entry) (e : Entry) (l : Links) → LinksStand log l → ((s : Side) (link : ℕ) → line (log ++ e ∷ []) (queue.Link link s) ≡ line log (queue.Link link s)) → LinksStand (log ++ e ∷ []) l
-links_frame log e l st lines = record { waits = λ s link. st.waits s link ∙ sym (lines s link) }
+pub links_frame : (log : List Entry) (e : Entry) (l : Links) → LinksStand log l → ((s : Side) (link : ℕ) → line (log ++ e ∷ []) (queue.Link link s) ≡ line log (queue.Link link s))
+    → ((k : ℕ) → openings_by log e (openings_of log) k ≡ openings_of log k) → LinksStand (log ++ e ∷ []) l
+links_frame log e l st lines same = record {
+  waits = λ s link. st.waits s link ∙ sym (lines s link);
+  openings = openings_kept log e l.openings st.openings same;
+}
+
+same_ways : (l : Links) (s : Side) (os : List (ℕ × Opening)) → way_of (record l { openings = os }) s ≡ way_of l s
+same_ways l side.Out os = refl
+same_ways l side.In os = refl
+
+same_openings : (l : Links) (s : Side) (w : List (ℕ × List Envelope)) → (with_way l s w).openings ≡ l.openings
+same_openings l side.Out w = refl
+same_openings l side.In w = refl
+
+-- an entry that changes one direction, and not between whom keys are exchanged
+with_way_kept : (log : List Entry) (e : Entry) (l : Links) (s : Side) (w : List (ℕ × List Envelope)) → LinksStand log l
+    → ((k : ℕ) → openings_by log e (openings_of log) k ≡ openings_of log k) → (k : ℕ) → at (with_way l s w).openings k ≡ openings_of (log ++ e ∷ []) k
+with_way_kept log e l s w st same k = ap (λ (m : List (ℕ × Opening)). at m k) (same_openings l s w) ∙ openings_kept log e l.openings st.openings same k
+
+-- an entry that changes no direction, where this is between whom keys are exchanged after it
+with_openings : (log : List Entry) (e : Entry) (l : Links) (os : List (ℕ × Opening)) → LinksStand log l
+    → ((s : Side) (link : ℕ) → line (log ++ e ∷ []) (queue.Link link s) ≡ line log (queue.Link link s))
+    → ((k : ℕ) → at os k ≡ openings_of (log ++ e ∷ []) k) → LinksStand (log ++ e ∷ []) (record l { openings = os })
+with_openings log e l os st lines is = record {
+  waits = λ s link. ap (λ w. waiting w link) (same_ways l s os) ∙ (st.waits s link ∙ sym (lines s link));
+  openings = is;
+}
+
+-- keys are exchanged over the link of the entry's name from then on
+pub links_opened : (log : List Entry) (e : Entry) (l : Links) (o : Opening) → LinksStand log l
+    → ((s : Side) (link : ℕ) → line (log ++ e ∷ []) (queue.Link link s) ≡ line log (queue.Link link s))
+    → ((k : ℕ) → openings_of (log ++ e ∷ []) k ≡ with_named (length log) (Some o) (openings_of log) k)
+    → LinksStand (log ++ e ∷ []) (record l { openings = insert_entry nat_cmp l.openings (length log) o })
+links_opened log e l o st lines opened =
+    with_openings log e l (insert_entry nat_cmp l.openings (length log) o) st lines
+    (λ k. at-inserted (length log) k o l.openings ∙ (named (length log) k (Some o) l.openings (openings_of log) st.openings ∙ sym (opened k)))
+
+-- an exchange of keys has ended
+pub links_finished : (log : List Entry) (e : Entry) (l ls : Links) (link : ℕ) → LinksStand log l
+    → ((s : Side) (j : ℕ) → line (log ++ e ∷ []) (queue.Link j s) ≡ line log (queue.Link j s))
+    → ((k : ℕ) → openings_of (log ++ e ∷ []) k ≡ with_named link None (openings_of log) k)
+    → ((k : ℕ) → at ls.openings k ≡ cond (k == link) None (at l.openings k)) → ls ≡ record l { openings = ls.openings }
+    → LinksStand (log ++ e ∷ []) ls
+links_finished log e l ls link st lines finished out rest =
+    subst (LinksStand (log ++ e ∷ [])) (sym rest)
+    (with_openings log e l ls.openings st lines (λ k. out k ∙ (named link k None l.openings (openings_of log) st.openings ∙ sym (finished k))))
 
 -- a line without its first, by its code
 first_gone : (log : List Entry) (p q : Queue) (x : Envelope) (rest : List Envelope) (b : Bool) → same_queue p q ≡ b → (b ≡ true → line log q ≡ line log p) → line log p ≡ x ∷ rest → cond b (drop 1 (line log q)) (line log q) ≡ cond b rest (line log q)
@@ -75,12 +223,13 @@ same_end side.In side.Out k j log h = cc
 -- the oldest frame of one direction is taken
 pub links_taken : (log : List Entry) (e : Entry) (l : Links) (s : Side) (k : ℕ) (x : Envelope) (rest : List Envelope) → LinksStand log l → line log (queue.Link k s) ≡ x ∷ rest
     → ((t : Side) (j : ℕ) → line (log ++ e ∷ []) (queue.Link j t) ≡ cond (same_queue (queue.Link k s) (queue.Link j t)) rest (line log (queue.Link j t)))
-    → LinksStand (log ++ e ∷ []) (with_way l s (popped_at (way_of l s) k))
-links_taken log e l s k x rest st first lines = record {
+    → ((j : ℕ) → openings_by log e (openings_of log) j ≡ openings_of log j) → LinksStand (log ++ e ∷ []) (with_way l s (popped_at (way_of l s) k))
+links_taken log e l s k x rest st first lines kept = record {
   waits = λ t j.
       changed l s t k j (popped_at (way_of l s) k) (drop 1) (λ i. waiting-popped_at k i (way_of l s))
       ∙ (ap (λ v. cond (same_queue (queue.Link k s) (queue.Link j t)) (drop 1 v) v) (st.waits t j)
       ∙ (first_gone log (queue.Link k s) (queue.Link j t) x rest (same_queue (queue.Link k s) (queue.Link j t)) refl (same_end s t k j log) first ∙ sym (lines t j)));
+  openings = with_way_kept log e l s (popped_at (way_of l s) k) st kept;
 }
 
 -- ---- a batch
@@ -120,8 +269,8 @@ placed_in entry p k j s t (f ∷ fs) b e =
 -- a batch is written to one direction
 pub links_written : (log : List Entry) (e : Entry) (l : Links) (s : Side) (k entry : ℕ) (fs : List ((ℕ × ℕ) × Item)) → LinksStand log l
     → ((t : Side) (j : ℕ) → line (log ++ e ∷ []) (queue.Link j t) ≡ line log (queue.Link j t) ++ filter (stands_in (queue.Link j t)) (placed entry 0 (frames_put k s fs)))
-    → LinksStand (log ++ e ∷ []) (with_way l s (written_way entry k s 0 fs (way_of l s)))
-links_written log e l s k entry fs st lines = record {
+    → ((j : ℕ) → openings_by log e (openings_of log) j ≡ openings_of log j) → LinksStand (log ++ e ∷ []) (with_way l s (written_way entry k s 0 fs (way_of l s)))
+links_written log e l s k entry fs st lines kept = record {
   waits = λ t j.
       let put = placed entry 0 (frames_put k s fs) in
       let same = same_queue (queue.Link k s) (queue.Link j t) in
@@ -129,4 +278,5 @@ links_written log e l s k entry fs st lines = record {
       ∙ (ap (λ v. cond same (v ++ put) v) (st.waits t j)
       ∙ (longer same (line log (queue.Link j t)) put
       ∙ (ap (λ v. line log (queue.Link j t) ++ v) (sym (placed_in entry 0 k j s t fs same (same_queue-sym (queue.Link j t) (queue.Link k s)))) ∙ sym (lines t j))));
+  openings = with_way_kept log e l s (written_way entry k s 0 fs (way_of l s)) st kept;
 }

@@ -12,7 +12,7 @@ use Rattle.p2p_net_queues.specs.Tables.{pushed_at}
 use Rattle.p2p_net_links.specs.declared.links.Links.{Links}
 
 abbrev pub no_links : Links
-no_links = record { outward = []; inward = [] }
+no_links = record { outward = []; inward = []; openings = [] }
 
 -- one direction of the links
 abbrev pub way_of : Links → Side → List (ℕ × List Envelope)
@@ -20,8 +20,8 @@ way_of l side.Out = l.outward
 way_of l side.In = l.inward
 
 abbrev pub with_way : Links → Side → List (ℕ × List Envelope) → Links
-with_way l side.Out w = record { outward = w; inward = l.inward }
-with_way l side.In w = record { outward = l.outward; inward = w }
+with_way l side.Out w = record l { outward = w }
+with_way l side.In w = record l { inward = w }
 
 -- these frames in flight too, as the puts of an entry from this place on
 abbrev pub written_way : ℕ → ℕ → Side → ℕ → List ((ℕ × ℕ) × Item) → List (ℕ × List Envelope) → List (ℕ × List Envelope)

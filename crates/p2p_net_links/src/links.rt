@@ -1,4 +1,4 @@
-//! `Links`, the frames in flight.
+//! `Links`, the frames in flight, and between whom keys are exchanged.
 ghost use Rattle.std.specs.Prelude.{◌≡◌, ℕ, ◌++◌, ◌∷◌, [], length, map, slice_get, IfOk, OnOk};
 ghost use Rattle.std.specs.Option.{option_copied};
 ghost use Rattle.p2p_net_queues.specs.Tables.{waiting, popped_at};
@@ -6,17 +6,20 @@ ghost use Rattle.p2p_net_links.specs.Links.{no_links, way_of, written_way, with_
 
 use p2p_base::List;
 use p2p_log::{Envelope, Item, Queue, Reply, Side};
-use p2p_log_rules::Row;
+use p2p_log_rules::{Opening, Row};
 use p2p_net_queues::{Deque, Table, Turn, only};
 use std::alloc::{AllocError, Global};
 
-/// The frames in flight over each link, the oldest first, by the direction in which they go.
+/// The frames in flight over each link, the oldest first, by the direction in which they go, and between whom keys are
+/// exchanged over it.
 #[derive(Drop)]
 pub struct Links {
     /// From the end that dialed.
     pub outward: Table<Deque<Envelope>>,
     /// From the end that listened.
     pub inward: Table<Deque<Envelope>>,
+    /// Between whom keys are exchanged, by the events that made the links.
+    pub openings: Table<Opening>,
 }
 
 /// Writes these frames, which have these names, to one direction of a link, in order, and adds to the row what was moved.
@@ -41,13 +44,14 @@ fn write_all(
 }
 
 impl Links {
-    /// Links over which nothing is in flight.
+    /// Links over which nothing is in flight, and no keys are exchanged.
     pub fn new(alloc: Global) -> Links
         ensures { result ≡ no_links }
     {
         Links {
             outward: Table::new(alloc),
             inward: Table::new(alloc),
+            openings: Table::new(alloc),
         }
     }
 

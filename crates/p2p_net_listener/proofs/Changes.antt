@@ -1,7 +1,8 @@
 -- The listener of a node after one more entry.
-use Rattle.std.proofs.Common.{◌≡◌, ℕ, ◌+◌, Bool, true, false, cond, List, [], ◌∷◌, ◌++◌, map, length, refl, ap, sym, subst, ◌∙◌, arith, Option, Some, None}
-use Rattle.std.specs.Prelude.{◌-◌, ◌<◌, ◌==◌, not, is_some}
+use Rattle.std.proofs.Common.{◌≡◌, ℕ, ◌+◌, Bool, true, false, cond, List, [], ◌∷◌, ◌++◌, map, length, refl, ap, sym, subst, ◌∙◌, arith, eq-eqb, suc, Option, Some, None}
+use Rattle.std.specs.Prelude.{◌-◌, ◌<◌, ◌≤◌, ◌==◌, ◌&&◌, not, is_some}
 use Rattle.std.specs.List.{list_any}
+use Rattle.std.proofs.lemmas.Bool.Decides.{nat_tests}
 use Rattle.std.proofs.lemmas.List.{map-append}
 use Rattle.p2p_base.specs.declared.key.Key.{Key}
 use Rattle.p2p_address.specs.declared.ip.SocketAddr.{SocketAddr}
@@ -25,18 +26,23 @@ use Rattle.p2p_log.specs.declared.event.Act.TheVariants as act
 use Rattle.p2p_log.specs.Lines.{name_of, live_from, line}
 use Rattle.p2p_log_rules.specs.Attempting.{dial_rules_at}
 use Rattle.p2p_log_rules.specs.Facts.{state_from, taken}
-use Rattle.p2p_log_rules.specs.Handshakes.{steps_listener, with_admitted, without_name, ends_handshake, unless_ended, acted_handshakes, handshakes_by, handshakes_of, is_handshaking}
-use Rattle.p2p_log_rules.specs.Handshaking.{handshake_deadline}
+use Rattle.p2p_log_rules.specs.Handshakes.{steps_listener, steps_handshake, with_admitted, without_name, ends_handshake, unless_ended, acted_handshakes, handshakes_by, handshakes_of, is_handshaking, has_taken, peer_at}
+use Rattle.p2p_log_rules.specs.Links.{with_named, unless_dropped, listened, ends_by, listening_ends_of}
 use Rattle.p2p_log_rules.specs.Listening.{gate_rules_at, most_handshakes_at, took_known, known_by, known_of}
+use Rattle.p2p_log_rules.specs.declared.row.ListeningEnd.{ListeningEnd}
+use Rattle.p2p_log_rules.specs.declared.row.ListeningEnd.TheVariants as listening
 use Rattle.p2p_log_rules.proofs.Facts.{state_from-append}
 use Rattle.p2p_log_rules.proofs.Handshakes.{handshakes_of-append, handshaking_early, one_less}
+use Rattle.p2p_log_rules.proofs.Links.{listening_ends_of-append}
 use Rattle.p2p_net_queues.specs.Tables as table
 use Rattle.p2p_net_queues.specs.Tables.{AreBut}
-use Rattle.p2p_net_listener.specs.Listening.{IsNew, arrived}
+use Rattle.p2p_net_queues.proofs.Tables.{at-inserted}
+use Rattle.p2p_net_listener.specs.Listening.{IsNew, arrived, EndsAre}
 use Rattle.p2p_net_listener.specs.Handshaking.{one_freed, freed_if}
-use Rattle.p2p_net_listener.specs.Stands.{arrival_item, HandshakeIs, ListenerStands, is_of_listener, LeavesListener}
+use Rattle.p2p_net_listener.specs.Stands.{arrival_item, facts_of, HandshakeIs, ListenerStands, is_of_listener, TellsNothing, LeavesListener}
 use Rattle.p2p_net_listener.specs.declared.listening.Listening.{Listening}
-use Rattle.p2p_net_listener.proofs.Handshakes.{deadline-longer, by_deadline, handshakes_kept, handshakes_changed, handshaking-others, handshaking-itself}
+use Rattle.p2p_net_listener.proofs.Ends.{listened_ends, dropped_ends}
+use Rattle.p2p_net_listener.proofs.Handshakes.{other_tells, untold_kept, facts_after, facts-stepped, handshakes_kept, handshakes_changed, handshaking-others, handshaking-itself}
 
 -- ---- what the log tells, after one more entry
 
@@ -71,6 +77,22 @@ steps_none : (n : ℕ) (a : Act) → is_of_listener n a ≡ false → steps_list
 steps_none n (act.Listener m) h = h
 steps_none n _ h = refl
 
+-- and tells no handshake anything
+pub unmoved_tells : (log : List Entry) (e : Entry) (n : ℕ) → is_of_listener n e.event.act ≡ false → (k : ℕ) → TellsNothing log e n k
+unmoved_tells log e n none k = other_tells log e n k (by e.event.act none)
+  where
+    by : (a : Act) → is_of_listener n a ≡ false → steps_handshake n k a ≡ false
+    by (act.Handshake h m) none = ap (λ b. b && (h == k)) none
+    by _ none = refl
+
+-- nor does a step of the listener
+pub listener_tells : (log : List Entry) (e : Entry) (n : ℕ) → steps_listener n e.event.act ≡ true → (k : ℕ) → TellsNothing log e n k
+listener_tells log e n steps k = other_tells log e n k (by e.event.act steps)
+  where
+    by : (a : Act) → steps_listener n a ≡ true → steps_handshake n k a ≡ false
+    by (act.Handshake h m) steps = cc
+    by _ steps = refl
+
 -- ---- a listener that was made
 
 -- the rules of the gates that are made with this
@@ -97,7 +119,7 @@ rules_made cfg l new =
 
 pub listener_new : (configs : List Config) (n : ℕ) (cfg : Gates) (l : Listening) → IsNew cfg l → rules_by cfg ≡ gate_rules_at configs n → cfg.max_concurrent_handshakes ≡ most_handshakes_at configs n
     → cfg.handshake_timeout ≡ (dial_rules_at configs n).handshake_timeout → ListenerStands configs [] n l
-unfolding line live_from known_of handshakes_of state_from
+unfolding line live_from known_of handshakes_of has_taken listening_ends_of state_from
 listener_new configs n cfg l new rules most until = record {
   names = new.names;
   items = sym (ap (λ (a : Actor Key). map arrival_item a.arrivals) new.actor);
@@ -106,7 +128,9 @@ listener_new configs n cfg l new rules most until = record {
   places = ap (λ (a : Actor Key). a.places) new.actor ∙ ap (λ m. record { held = 0; max = m }) most;
   works = ap (λ (a : Actor Key). a.has_failed) new.actor;
   timeout = ap (λ (a : Actor Key). a.handshake_timeout) new.actor ∙ until;
-  handshakes = λ k. subst (HandshakeIs (handshake_deadline configs [] k n) k false) (sym (ap (λ (hs : List (ℕ × Handshaking Key)). table.at hs k) new.handshakes)) refl;
+  handshakes = λ k. subst (HandshakeIs (facts_of configs [] n k) k false) (sym (ap (λ (hs : List (ℕ × Handshaking Key)). table.at hs k) new.handshakes)) refl;
+  untold = λ k late. (refl, refl);
+  ends = λ k. ap (λ (ends : List (ℕ × ListeningEnd)). table.at ends k) new.ends;
 }
 
 -- ---- an entry that leaves it alone
@@ -120,16 +144,51 @@ listener_frame configs log e n l s left = record {
   places = s.places ∙ ap (λ (names : List ℕ). record { held = length names; max = most_handshakes_at configs n }) (sym (handshakes_of-append log e n ∙ left.handshakes));
   works = s.works;
   timeout = s.timeout;
-  handshakes = handshakes_kept configs log e n l.handshakes left.handshakes s.handshakes;
+  handshakes = handshakes_kept configs log e n l.handshakes left.handshakes left.tells s.handshakes;
+  untold = untold_kept log e n (λ k past. left.tells k) s.untold;
+  ends = λ k. s.ends k ∙ sym (listening_ends_of-append log e n k ∙ left.ends k);
 }
 
 -- as one of another act
-pub listener_unmoved : (configs : List Config) (log : List Entry) (e : Entry) (n : ℕ) → is_of_listener n e.event.act ≡ false → line (log ++ e ∷ []) (queue.Arrivals n) ≡ line log (queue.Arrivals n) → LeavesListener configs log e n
-listener_unmoved configs log e n none same = record {
+pub listener_unmoved : (configs : List Config) (log : List Entry) (e : Entry) (n : ℕ) → is_of_listener n e.event.act ≡ false → line (log ++ e ∷ []) (queue.Arrivals n) ≡ line log (queue.Arrivals n)
+    → ((k : ℕ) → ends_by n log e (listening_ends_of log n) k ≡ listening_ends_of log n k) → LeavesListener configs log e n
+listener_unmoved configs log e n none same ends = record {
   known = ap (λ b. cond b (took_known (gate_rules_at configs n) e.event.at (taken log e) (known_of configs log n)) (known_of configs log n)) (steps_none n e.event.act none);
   handshakes = handshakes_unmoved log e n none;
   arrivals = same;
+  tells = unmoved_tells log e n none;
+  ends = ends;
 }
+
+-- the same listener, where its tables give the same handshakes and the same ends
+pub listener_same : (configs : List Config) (log : List Entry) (n : ℕ) (l u : Listening) → ListenerStands configs log n l → u ≡ record l { handshakes = u.handshakes; ends = u.ends }
+    → ((k : ℕ) → table.at u.handshakes k ≡ table.at l.handshakes k) → EndsAre (table.at l.ends) u.ends → ListenerStands configs log n u
+listener_same configs log n l u s rest same ends =
+    subst (ListenerStands configs log n) (sym rest) (record {
+      names = s.names;
+      items = s.items;
+      rules = s.rules;
+      known = s.known;
+      places = s.places;
+      works = s.works;
+      timeout = s.timeout;
+      handshakes = λ k. subst (HandshakeIs (facts_of configs log n k) k (is_handshaking log n k)) (sym (same k)) (s.handshakes k);
+      untold = s.untold;
+      ends = λ k. ends k ∙ s.ends k;
+    })
+
+-- and where nothing else of it changed
+pub listener_untouched : (configs : List Config) (log : List Entry) (n : ℕ) (l u : Listening) → ListenerStands configs log n l → u ≡ record l { handshakes = u.handshakes }
+    → ((k : ℕ) → table.at u.handshakes k ≡ table.at l.handshakes k) → ListenerStands configs log n u
+listener_untouched configs log n l u s rest same =
+    let ends : u.ends ≡ l.ends = ap (λ (x : Listening). x.ends) rest in
+    listener_same configs log n l u s (rest ∙ ap (λ t. record l { handshakes = u.handshakes; ends = t }) (sym ends)) same (λ k. ap (λ (t : List (ℕ × ListeningEnd)). table.at t k) ends)
+
+-- ---- one at which an exchange of keys ends, of which a handshake was told
+
+pub listener_finished : (configs : List Config) (log : List Entry) (e : Entry) (n : ℕ) (l u : Listening) → ListenerStands configs log n l → LeavesListener configs log e n
+    → u ≡ record l { handshakes = u.handshakes } → ((k : ℕ) → table.at u.handshakes k ≡ table.at l.handshakes k) → ListenerStands configs (log ++ e ∷ []) n u
+listener_finished configs log e n l u s left rest same = listener_untouched configs (log ++ e ∷ []) n l u (listener_frame configs log e n l s left) rest same
 
 -- ---- one at which a peer arrives
 
@@ -137,8 +196,9 @@ pub listener_arrived : (configs : List Config) (log : List Entry) (e : Entry) (n
     → is_of_listener n e.event.act ≡ false
     → line (log ++ e ∷ []) (queue.Arrivals n)
     ≡ line log (queue.Arrivals n) ++ record { entry = k; place = place; queue = queue.Arrivals n; item = item.Arrival from key k } ∷ []
+    → ((j : ℕ) → ends_by n log e (listening_ends_of log n) j ≡ with_named k (Some listening.Arriving) (listening_ends_of log n) j)
     → ListenerStands configs (log ++ e ∷ []) n (arrived k place from key l)
-listener_arrived configs log e n k place from key l s no_step more =
+listener_arrived configs log e n k place from key l s no_step more begins =
     let x : Envelope = record { entry = k; place = place; queue = queue.Arrivals n; item = item.Arrival from key k } in
     let a : Arrival Key = record { from = from; key = key; link = k } in
     let before : List Envelope = line log (queue.Arrivals n) in
@@ -152,7 +212,10 @@ listener_arrived configs log e n k place from key l s no_step more =
       places = s.places ∙ ap (λ (names : List ℕ). record { held = length names; max = most_handshakes_at configs n }) (sym (handshakes_of-append log e n ∙ handshakes_unmoved log e n no_step));
       works = s.works;
       timeout = s.timeout;
-      handshakes = handshakes_kept configs log e n l.handshakes (handshakes_unmoved log e n no_step) s.handshakes;
+      handshakes = handshakes_kept configs log e n l.handshakes (handshakes_unmoved log e n no_step) (unmoved_tells log e n no_step) s.handshakes;
+      untold = untold_kept log e n (λ j past. unmoved_tells log e n no_step j) s.untold;
+      ends = λ j. at-inserted k j listening.Arriving l.ends
+          ∙ (ap (λ o. cond (j == k) (Some listening.Arriving) o) (s.ends j) ∙ sym (listening_ends_of-append log e n j ∙ begins j));
     }
 
 -- ---- its step
@@ -171,7 +234,8 @@ pub record ListenerMoves (configs : List Config) (log : List Entry) (e : Entry) 
   pub waits : map (λ x. x.item) (line (log ++ e ∷ []) (queue.Arrivals n)) ≡ map arrival_item u.actor.arrivals
   pub known : StandsFor u.actor (took_known (gate_rules_at configs n) e.event.at items (known_of configs log n))
   pub places : u.actor.places ≡ record { held = length (with_admitted (length log) e.reply (handshakes_of log n)); max = most_handshakes_at configs n }
-  pub handshakes : (k : ℕ) → HandshakeIs (handshake_deadline configs (log ++ e ∷ []) k n) k (is_handshaking (log ++ e ∷ []) n k) (table.at u.handshakes k)
+  pub handshakes : (k : ℕ) → HandshakeIs (facts_of configs (log ++ e ∷ []) n k) k (is_handshaking (log ++ e ∷ []) n k) (table.at u.handshakes k)
+  pub ends : EndsAre (listened (length log) e.reply items (table.at l.ends)) u.ends
   pub rest : u.actor ≡ with_rest l.actor u.actor
   pub rates : KeepsRates l.actor.quotas u.actor.quotas
 
@@ -187,6 +251,8 @@ listener_moved configs log e n l u items s m = record {
   works = ap (λ (a : Actor Key). a.has_failed) m.rest ∙ s.works;
   timeout = ap (λ (a : Actor Key). a.handshake_timeout) m.rest ∙ s.timeout;
   handshakes = m.handshakes;
+  untold = untold_kept log e n (λ k past. listener_tells log e n m.steps k) s.untold;
+  ends = λ k. m.ends k ∙ sym (listened_ends log e n items (table.at l.ends) m.steps m.took s.ends k);
 }
 
 -- ---- a step of a handshake
@@ -199,34 +265,37 @@ place_held configs log n k l s there = subst (λ c. 0 < c) (sym (ap (λ (p : Pla
     some [] h = cc
     some (j ∷ names) h = omega arith
 
-    by : (o : Option (Handshaking Key)) → HandshakeIs (handshake_deadline configs log k n) k (is_handshaking log n k) o → is_some o ≡ true → 0 < length (handshakes_of log n)
+    by : (o : Option (Handshaking Key)) → HandshakeIs (facts_of configs log n k) k (is_handshaking log n k) o → is_some o ≡ true → 0 < length (handshakes_of log n)
     by None h there = cc
     by (Some a) h there = some (handshakes_of log n) h.0
 
--- of a step that did nothing, the handshakes are the same
-pub listener_same : (configs : List Config) (log : List Entry) (n : ℕ) (l u : Listening) → ListenerStands configs log n l → u ≡ record l { handshakes = u.handshakes } → ((k : ℕ) → table.at u.handshakes k ≡ table.at l.handshakes k)
-    → ListenerStands configs log n u
-listener_same configs log n l u s rest same =
-    subst (ListenerStands configs log n) (sym rest) (record {
-      names = s.names;
-      items = s.items;
-      rules = s.rules;
-      known = s.known;
-      places = s.places;
-      works = s.works;
-      timeout = s.timeout;
-      handshakes = λ k. subst (HandshakeIs (handshake_deadline configs log k n) k (is_handshaking log n k)) (sym (same k)) (s.handshakes k);
-    })
-
--- what a step makes of it, in which the handshake of this name may have ended, and which is this then
-pub record HandshakeMoves (configs : List Config) (log : List Entry) (e : Entry) (n name : ℕ) (l u : Listening) (ended : Bool) (now : Option (Handshaking Key)) : Type 0 where
-  pub no_step : steps_listener n e.event.act ≡ false
-  pub names : handshakes_by n log e (handshakes_of log n) ≡ unless_ended ended name (handshakes_of log n)
+-- what a step makes of it that took these, in which the handshake of this name may have ended, and which is this then
+pub record HandshakeMoves (configs : List Config) (log : List Entry) (e : Entry) (n name : ℕ) (l u : Listening) (items : List Item) (ended : Bool) (now : Option (Handshaking Key)) : Type 0 where
+  pub steps : e.event.act ≡ act.Handshake name n
+  pub took : taken log e ≡ items
+  pub over : ends_handshake e.reply items ≡ ended
   pub runs : is_handshaking log n name ≡ true
   pub arrivals : line (log ++ e ∷ []) (queue.Arrivals n) ≡ line log (queue.Arrivals n)
-  pub rest : u ≡ record l { actor = freed_if ended l.actor; handshakes = u.handshakes }
+  pub rest : u ≡ record l { actor = freed_if ended l.actor; handshakes = u.handshakes; ends = u.ends }
   pub others : AreBut name now l.handshakes u.handshakes
-  pub stands : HandshakeIs (handshake_deadline configs log name n) name (not ended) now
+  pub stands : HandshakeIs (facts_after items (facts_of configs log n name)) name (not ended) now
+  pub ends : EndsAre (unless_dropped ended (peer_at log name).link (table.at l.ends)) u.ends
+
+-- whether it has ended, by what it took
+pub handshakes_stepped : (log : List Entry) (e : Entry) (n name : ℕ) (items : List Item) (ended : Bool) → e.event.act ≡ act.Handshake name n → taken log e ≡ items → ends_handshake e.reply items ≡ ended
+    → handshakes_by n log e (handshakes_of log n) ≡ unless_ended ended name (handshakes_of log n)
+handshakes_stepped log e n name items ended steps took over =
+    let hs = handshakes_of log n in
+    ap (λ a. acted_handshakes n (length log) e.reply (taken log e) a hs) steps
+    ∙ (ap (λ b. cond b (unless_ended (ends_handshake e.reply (taken log e)) name hs) hs) (eq-eqb n n refl)
+    ∙ (ap (λ i. unless_ended (ends_handshake e.reply i) name hs) took ∙ ap (λ b. unless_ended b name hs) over))
+
+-- the step of a handshake tells another nothing
+other_told : (log : List Entry) (e : Entry) (n name k : ℕ) → e.event.act ≡ act.Handshake name n → (k == name) ≡ false → TellsNothing log e n k
+other_told log e n name k steps other = other_tells log e n k (ap (steps_handshake n k) steps ∙ apart n name k other)
+  where
+    apart : (n name k : ℕ) → (k == name) ≡ false → ((n == n) && (name == k)) ≡ false
+    apart n name k other = grind (arith, nat_tests)
 
 rules_freed : (b : Bool) (l : Actor Key) → rules_of (freed_if b l) ≡ rules_of l
 rules_freed true l = refl
@@ -240,27 +309,36 @@ kept_freed : (b : Bool) (l : Actor Key) → ((freed_if b l).arrivals ≡ l.arriv
 kept_freed true l = (refl, (refl, refl))
 kept_freed false l = (refl, (refl, refl))
 
-pub listener_after_handshake : (configs : List Config) (log : List Entry) (e : Entry) (n name : ℕ) (l u : Listening) (ended : Bool) (now : Option (Handshaking Key)) → ListenerStands configs log n l
-    → HandshakeMoves configs log e n name l u ended now → ListenerStands configs (log ++ e ∷ []) n u
-listener_after_handshake configs log e n name l u ended now s m =
+pub listener_after_handshake : (configs : List Config) (log : List Entry) (e : Entry) (n name : ℕ) (l u : Listening) (items : List Item) (ended : Bool) (now : Option (Handshaking Key))
+    → ListenerStands configs log n l → HandshakeMoves configs log e n name l u items ended now → ListenerStands configs (log ++ e ∷ []) n u
+listener_after_handshake configs log e n name l u items ended now s m =
     let actor : Actor Key = freed_if ended l.actor in
     let kept = kept_freed ended l.actor in
     subst (ListenerStands configs (log ++ e ∷ []) n) (sym m.rest) (record {
       names = s.names ∙ ap (map name_of) (sym m.arrivals);
       items = ap (map (λ (x : Envelope). x.item)) m.arrivals ∙ (s.items ∙ ap (map arrival_item) (sym kept.0));
       rules = rules_freed ended l.actor ∙ s.rules;
-      known = subst (StandsFor actor) (sym (known_after configs log e n false m.no_step)) (known_freed ended l.actor (known_of configs log n) s.known);
-      places = places ended ∙ ap (λ (names : List ℕ). record { held = length names; max = most_handshakes_at configs n }) (sym (handshakes_of-append log e n ∙ m.names));
+      known = subst (StandsFor actor) (sym (known_after configs log e n false (ap (steps_listener n) m.steps))) (known_freed ended l.actor (known_of configs log n) s.known);
+      places = places ended ∙ ap (λ (names : List ℕ). record { held = length names; max = most_handshakes_at configs n }) (sym (handshakes_of-append log e n ∙ names));
       works = kept.1.0 ∙ s.works;
       timeout = kept.1.1 ∙ s.timeout;
-      handshakes = handshakes_changed configs log e n name now l.handshakes u.handshakes (handshaking-others configs log e n name ended m.names) m.others
-          (subst (λ b. HandshakeIs (handshake_deadline configs (log ++ e ∷ []) name n) name b now) (sym (handshaking-itself configs log e n name ended m.names m.runs)) stays) s.handshakes;
+      handshakes = handshakes_changed configs log e n name now l.handshakes u.handshakes (handshaking-others configs log e n name ended names) (λ k other. other_told log e n name k m.steps other) m.others
+          (subst (λ b. HandshakeIs (facts_of configs (log ++ e ∷ []) n name) name b now) (sym (handshaking-itself configs log e n name ended names m.runs)) stays) s.handshakes;
+      untold = untold_kept log e n (λ k past. other_told log e n name k m.steps (later k (length log) early past)) s.untold;
+      ends = λ k. m.ends k ∙ sym (dropped_ends log e n name items ended (table.at l.ends) m.steps m.took m.over s.ends k);
     })
   where
-    stays : HandshakeIs (handshake_deadline configs (log ++ e ∷ []) name n) name (not ended) now
-    stays =
-        by_deadline (handshake_deadline configs log name n) (handshake_deadline configs (log ++ e ∷ []) name n) name (not ended) now
-        (λ runs. sym (deadline-longer configs log e name n (handshaking_early log n name m.runs))) m.stands
+    early : suc name ≤ length log
+    early = handshaking_early log n name m.runs
+
+    later : (k c : ℕ) → suc name ≤ c → c + 1 ≤ k → (k == name) ≡ false
+    later k c early past = grind (arith, nat_tests)
+
+    names : handshakes_by n log e (handshakes_of log n) ≡ unless_ended ended name (handshakes_of log n)
+    names = handshakes_stepped log e n name items ended m.steps m.took m.over
+
+    stays : HandshakeIs (facts_of configs (log ++ e ∷ []) n name) name (not ended) now
+    stays = subst (λ f. HandshakeIs f name (not ended) now) (sym (facts-stepped configs log e n name items early m.steps m.took)) m.stands
 
     less : (a b : ℕ) → a + 1 ≡ b → b - 1 ≡ a
     less a b is = omega (arith, is)

@@ -1,5 +1,5 @@
 -- The handshakes that a node's listener keeps, after one more entry.
-use Rattle.std.proofs.Common.{◌≡◌, ℕ, suc, ◌+◌, ◌≤◌, Bool, true, false, cond, List, [], ◌∷◌, ◌++◌, length, refl, ap, sym, subst, ◌∙◌, arith, eqb-true, Option, Some, None}
+use Rattle.std.proofs.Common.{◌≡◌, ℕ, suc, ◌+◌, ◌≤◌, Bool, true, false, cond, List, [], ◌∷◌, ◌++◌, length, length-append, refl, ap, sym, subst, ◌∙◌, arith, eqb-true, Option, Some, None}
 use Rattle.std.specs.Prelude.{◌==◌, ◌&&◌, ◌||◌, not, nat_lt, slice_get}
 use Rattle.std.specs.BTreeMap.{insert_entry}
 use Rattle.std.specs.List.{list_any}
@@ -9,17 +9,20 @@ use Rattle.std.proofs.lemmas.List.Folds.{list_any-append}
 use Rattle.p2p_base.specs.declared.key.Key.{Key}
 use Rattle.p2p_gates.specs.Handshaking.{Handshaking}
 use Rattle.p2p_log.specs.declared.config.Config.{Config}
+use Rattle.p2p_log.specs.declared.item.Item.{Item}
 use Rattle.p2p_log.specs.declared.entry.Entry.{Entry}
+use Rattle.p2p_log.specs.declared.event.Act.TheVariants as act
 use Rattle.p2p_log.proofs.Places.{slice_get-append}
 use Rattle.p2p_log_rules.specs.Attempting.{dial_rules_at}
-use Rattle.p2p_log_rules.specs.Facts.{moment_of}
-use Rattle.p2p_log_rules.specs.Handshakes.{unless_ended, handshakes_by, handshakes_of, is_handshaking}
+use Rattle.p2p_log_rules.specs.Facts.{moment_of, taken, taken_at}
+use Rattle.p2p_log_rules.specs.Handshakes.{unless_ended, handshakes_by, handshakes_of, is_handshaking, steps_handshake, takes_acceptance, takes_exchange, has_taken, is_accepted, is_finished}
 use Rattle.p2p_log_rules.specs.Handshaking.{handshake_deadline}
-use Rattle.p2p_log_rules.proofs.Handshakes.{handshakes_of-append, handshakes_of-kept, among-without, handshaking_early}
+use Rattle.p2p_log_rules.proofs.Handshakes.{handshakes_of-append, handshakes_of-kept, has_taken-append, among-without, handshaking_early}
+use Rattle.p2p_log_rules.proofs.TakenAt.{taken_at-longer, taken_at-last}
 use Rattle.p2p_net_queues.specs.Tables as table
 use Rattle.p2p_net_queues.specs.Tables.{AreBut}
 use Rattle.p2p_net_queues.proofs.Tables.{at-inserted}
-use Rattle.p2p_net_listener.specs.Stands.{IsRunning, HandshakeIs}
+use Rattle.p2p_net_listener.specs.Stands.{HandshakeFacts, facts_of, IsRunning, HandshakeIs, IsUntold, TellsNothing}
 
 -- ---- its deadline
 
@@ -46,51 +49,135 @@ deadline-last configs log e n = ap (λ (o : Option Entry). moment_of o + (dial_r
     by false true none here = refl
     by false false none here = cc
 
+-- ---- what it is told
+
+-- no step of it tells it nothing
+pub other_tells : (log : List Entry) (e : Entry) (n k : ℕ) → steps_handshake n k e.event.act ≡ false → TellsNothing log e n k
+other_tells log e n k other =
+    (ap (λ b. (b && takes_acceptance (taken log e)) || is_accepted log n k) other, ap (λ b. (b && takes_exchange (taken log e)) || is_finished log n k) other)
+
+-- and so does an entry that takes nothing
+pub nothing_tells : (log : List Entry) (e : Entry) (n k : ℕ) → taken log e ≡ [] → TellsNothing log e n k
+nothing_tells log e n k none =
+    let b = steps_handshake n k e.event.act in (
+      ap (λ i. (b && takes_acceptance i) || is_accepted log n k) none ∙ and_false b (is_accepted log n k),
+      ap (λ i. (b && takes_exchange i) || is_finished log n k) none ∙ and_false b (is_finished log n k),
+    )
+  where
+    and_false : (b c : Bool) → ((b && false) || c) ≡ c
+    and_false true c = refl
+    and_false false c = refl
+
+-- what has yet to begin was told nothing
+pub untold_kept : (log : List Entry) (e : Entry) (n : ℕ) → ((k : ℕ) → length log + 1 ≤ k → TellsNothing log e n k) → ((k : ℕ) → length log ≤ k → IsUntold log n k)
+    → (k : ℕ) → length (log ++ e ∷ []) ≤ k → IsUntold (log ++ e ∷ []) n k
+untold_kept log e n tells untold k late =
+    let past : length log + 1 ≤ k = subst (λ m. m ≤ k) (length-append log (e ∷ [])) late in
+    let t = tells k past in
+    let u = untold k (less (length log) k past) in
+    (has_taken-append takes_acceptance log e n k ∙ (t.0 ∙ u.0), has_taken-append takes_exchange log e n k ∙ (t.1 ∙ u.1))
+  where
+    less : (a b : ℕ) → a + 1 ≤ b → a ≤ b
+    less a b h = omega (arith, h)
+
+-- ---- what the log tells of it
+
+abbrev facts : ℕ → Bool → Bool → List Item → HandshakeFacts
+facts until accepted finished began = record { until = until; accepted = accepted; finished = finished; began = began }
+
+facts_same : (u v : ℕ) (a b f g : Bool) (s t : List Item) → u ≡ v → a ≡ b → f ≡ g → s ≡ t → facts u a f s ≡ facts v b g t
+facts_same u v a b f g s t p q r w = ap (λ x. facts x a f s) p ∙ (ap (λ x. facts v x f s) q ∙ (ap (λ x. facts v b x s) r ∙ ap (λ x. facts v b g x) w))
+
+-- once a step of it took these
+abbrev pub facts_after : List Item → HandshakeFacts → HandshakeFacts
+facts_after items f = record { until = f.until; accepted = takes_acceptance items || f.accepted; finished = takes_exchange items || f.finished; began = f.began }
+
+-- of one that begins in an entry
+abbrev pub facts_begun : List Config → List Entry → Entry → ℕ → HandshakeFacts
+facts_begun configs log e n = record { until = e.event.at + (dial_rules_at configs n).handshake_timeout; accepted = false; finished = false; began = taken log e }
+
+module _ (configs : List Config) (log : List Entry) (e : Entry) (n : ℕ) where
+  -- of one that has begun, where the entry tells it nothing
+  pub facts-kept : (k : ℕ) → suc k ≤ length log → TellsNothing log e n k → facts_of configs (log ++ e ∷ []) n k ≡ facts_of configs log n k
+  facts-kept k early tells =
+      facts_same (handshake_deadline configs (log ++ e ∷ []) k n) (handshake_deadline configs log k n) (is_accepted (log ++ e ∷ []) n k) (is_accepted log n k) (is_finished (log ++ e ∷ []) n k)
+      (is_finished log n k) (taken_at (log ++ e ∷ []) k) (taken_at log k) (deadline-longer configs log e k n early) (has_taken-append takes_acceptance log e n k ∙ tells.0)
+      (has_taken-append takes_exchange log e n k ∙ tells.1) (taken_at-longer log (e ∷ []) k early)
+
+  -- and where it is a step of it
+  pub facts-stepped : (k : ℕ) (items : List Item) → suc k ≤ length log → e.event.act ≡ act.Handshake k n → taken log e ≡ items
+      → facts_of configs (log ++ e ∷ []) n k ≡ facts_after items (facts_of configs log n k)
+  facts-stepped k items early steps took =
+      facts_same (handshake_deadline configs (log ++ e ∷ []) k n) (handshake_deadline configs log k n) (is_accepted (log ++ e ∷ []) n k) (takes_acceptance items || is_accepted log n k)
+      (is_finished (log ++ e ∷ []) n k) (takes_exchange items || is_finished log n k) (taken_at (log ++ e ∷ []) k) (taken_at log k) (deadline-longer configs log e k n early)
+      (told takes_acceptance) (told takes_exchange) (taken_at-longer log (e ∷ []) k early)
+    where
+      itself : (n k : ℕ) → ((n == n) && (k == k)) ≡ true
+      itself n k = grind (arith, nat_tests)
+
+      told : (test : List Item → Bool) → has_taken test (log ++ e ∷ []) n k ≡ (test items || has_taken test log n k)
+      told test =
+          has_taken-append test log e n k
+          ∙ (ap (λ a. (steps_handshake n k a && test (taken log e)) || has_taken test log n k) steps
+          ∙ (ap (λ b. (b && test (taken log e)) || has_taken test log n k) (itself n k) ∙ ap (λ i. test i || has_taken test log n k) took))
+
+  -- of one that begins in the entry
+  pub facts-begun : TellsNothing log e n (length log) → IsUntold log n (length log) → facts_of configs (log ++ e ∷ []) n (length log) ≡ facts_begun configs log e n
+  facts-begun tells untold =
+      let k = length log in
+      facts_same (handshake_deadline configs (log ++ e ∷ []) k n) (e.event.at + (dial_rules_at configs n).handshake_timeout) (is_accepted (log ++ e ∷ []) n k) false (is_finished (log ++ e ∷ []) n k) false
+      (taken_at (log ++ e ∷ []) k) (taken log e) (deadline-last configs log e n) (has_taken-append takes_acceptance log e n k ∙ (tells.0 ∙ untold.0))
+      (has_taken-append takes_exchange log e n k ∙ (tells.1 ∙ untold.1)) (taken_at-last log e)
+
 -- ---- all of them
 
--- with another deadline, where it is that of one that runs
-pub by_deadline : (d t k : ℕ) (b : Bool) (o : Option (Handshaking Key)) → (b ≡ true → d ≡ t) → HandshakeIs d k b o → HandshakeIs t k b o
-by_deadline d t k b None same h = h
-by_deadline d t k b (Some s) same h =
-    (h.0, record { name = h.1.name; deadline = h.1.deadline ∙ same h.0; exchanging = h.1.exchanging; runs = h.1.runs; works = h.1.works })
+-- of one that runs, the same where the log tells the same
+pub by_facts : (f g : HandshakeFacts) (k : ℕ) (b : Bool) (o : Option (Handshaking Key)) → (b ≡ true → f ≡ g) → HandshakeIs f k b o → HandshakeIs g k b o
+by_facts f g k b None same h = h
+by_facts f g k b (Some s) same h = (h.0, subst (λ t. IsRunning t k s) (same h.0) h.1)
 
 module _ (configs : List Config) (log : List Entry) (e : Entry) (n : ℕ) where
   -- what is kept stands for what the log tells
   abbrev pub AreKept : List Entry → List (ℕ × Handshaking Key) → Type 0
-  AreKept es hs = (k : ℕ) → HandshakeIs (handshake_deadline configs es k n) k (is_handshaking es n k) (table.at hs k)
+  AreKept es hs = (k : ℕ) → HandshakeIs (facts_of configs es n k) k (is_handshaking es n k) (table.at hs k)
 
   -- one of which the entry changes nothing
-  one_kept : (hs : List (ℕ × Handshaking Key)) (k : ℕ) → is_handshaking (log ++ e ∷ []) n k ≡ is_handshaking log n k → HandshakeIs (handshake_deadline configs log k n) k (is_handshaking log n k) (table.at hs k)
-      → HandshakeIs (handshake_deadline configs (log ++ e ∷ []) k n) k (is_handshaking (log ++ e ∷ []) n k) (table.at hs k)
-  one_kept hs k same h =
-      subst (λ b. HandshakeIs (handshake_deadline configs (log ++ e ∷ []) k n) k b (table.at hs k)) (sym same)
-      (by_deadline (handshake_deadline configs log k n) (handshake_deadline configs (log ++ e ∷ []) k n) k (is_handshaking log n k) (table.at hs k)
-      (λ runs. sym (deadline-longer configs log e k n (handshaking_early log n k runs))) h)
+  one_kept : (hs : List (ℕ × Handshaking Key)) (k : ℕ) → is_handshaking (log ++ e ∷ []) n k ≡ is_handshaking log n k → TellsNothing log e n k
+      → HandshakeIs (facts_of configs log n k) k (is_handshaking log n k) (table.at hs k)
+      → HandshakeIs (facts_of configs (log ++ e ∷ []) n k) k (is_handshaking (log ++ e ∷ []) n k) (table.at hs k)
+  one_kept hs k same tells h =
+      subst (λ b. HandshakeIs (facts_of configs (log ++ e ∷ []) n k) k b (table.at hs k)) (sym same)
+      (by_facts (facts_of configs log n k) (facts_of configs (log ++ e ∷ []) n k) k (is_handshaking log n k) (table.at hs k)
+      (λ runs. sym (facts-kept configs log e n k (handshaking_early log n k runs) tells)) h)
 
-  -- an entry that begins and ends none
-  pub handshakes_kept : (hs : List (ℕ × Handshaking Key)) → handshakes_by n log e (handshakes_of log n) ≡ handshakes_of log n → AreKept log hs → AreKept (log ++ e ∷ []) hs
-  handshakes_kept hs none kept k = one_kept hs k (ap (list_any (λ j. k == j)) (handshakes_of-kept log e n none)) (kept k)
+  -- an entry that begins and ends none, and tells none anything
+  pub handshakes_kept : (hs : List (ℕ × Handshaking Key)) → handshakes_by n log e (handshakes_of log n) ≡ handshakes_of log n → ((k : ℕ) → TellsNothing log e n k) → AreKept log hs
+      → AreKept (log ++ e ∷ []) hs
+  handshakes_kept hs none tells kept k = one_kept hs k (ap (list_any (λ j. k == j)) (handshakes_of-kept log e n none)) (tells k) (kept k)
 
   -- an entry that changes the one of this name, which is this then
   pub handshakes_changed : (name : ℕ) (now : Option (Handshaking Key)) (old new : List (ℕ × Handshaking Key)) → ((k : ℕ) → (k == name) ≡ false → is_handshaking (log ++ e ∷ []) n k ≡ is_handshaking log n k)
-      → AreBut name now old new → HandshakeIs (handshake_deadline configs (log ++ e ∷ []) name n) name (is_handshaking (log ++ e ∷ []) n name) now → AreKept log old → AreKept (log ++ e ∷ []) new
-  handshakes_changed name now old new others but stands kept k =
-      subst (HandshakeIs (handshake_deadline configs (log ++ e ∷ []) k n) k (is_handshaking (log ++ e ∷ []) n k)) (sym (but k)) (by (k == name) refl)
+      → ((k : ℕ) → (k == name) ≡ false → TellsNothing log e n k) → AreBut name now old new → HandshakeIs (facts_of configs (log ++ e ∷ []) n name) name (is_handshaking (log ++ e ∷ []) n name) now
+      → AreKept log old → AreKept (log ++ e ∷ []) new
+  handshakes_changed name now old new others tells but stands kept k =
+      subst (HandshakeIs (facts_of configs (log ++ e ∷ []) n k) k (is_handshaking (log ++ e ∷ []) n k)) (sym (but k)) (by (k == name) refl)
     where
-      by : (b : Bool) → (k == name) ≡ b → HandshakeIs (handshake_deadline configs (log ++ e ∷ []) k n) k (is_handshaking (log ++ e ∷ []) n k) (cond b now (table.at old k))
-      by true is = subst (λ j. HandshakeIs (handshake_deadline configs (log ++ e ∷ []) j n) j (is_handshaking (log ++ e ∷ []) n j) now) (sym (eqb-true k name is)) stands
-      by false is = one_kept old k (others k is) (kept k)
+      by : (b : Bool) → (k == name) ≡ b → HandshakeIs (facts_of configs (log ++ e ∷ []) n k) k (is_handshaking (log ++ e ∷ []) n k) (cond b now (table.at old k))
+      by true is = subst (λ j. HandshakeIs (facts_of configs (log ++ e ∷ []) n j) j (is_handshaking (log ++ e ∷ []) n j) now) (sym (eqb-true k name is)) stands
+      by false is = one_kept old k (others k is) (tells k is) (kept k)
 
   -- the entry begins one: whether one of this name runs then
   handshaking-begun : handshakes_by n log e (handshakes_of log n) ≡ handshakes_of log n ++ length log ∷ [] → (k : ℕ) → is_handshaking (log ++ e ∷ []) n k ≡ (is_handshaking log n k || ((k == length log) || false))
   handshaking-begun begins k = ap (list_any (λ j. k == j)) (handshakes_of-append log e n ∙ begins) ∙ list_any-append (λ j. k == j) (handshakes_of log n) (length log ∷ [])
 
   pub handshakes_begun : (hs : List (ℕ × Handshaking Key)) (h : Handshaking Key) → handshakes_by n log e (handshakes_of log n) ≡ handshakes_of log n ++ length log ∷ []
-      → IsRunning (e.event.at + (dial_rules_at configs n).handshake_timeout) (length log) h → AreKept log hs → AreKept (log ++ e ∷ []) (insert_entry nat_cmp hs (length log) h)
-  handshakes_begun hs h begins running kept =
+      → ((k : ℕ) → TellsNothing log e n k) → IsUntold log n (length log) → IsRunning (facts_begun configs log e n) (length log) h → AreKept log hs
+      → AreKept (log ++ e ∷ []) (insert_entry nat_cmp hs (length log) h)
+  handshakes_begun hs h begins tells untold running kept =
       let k = length log in
-      handshakes_changed k (Some h) hs (insert_entry nat_cmp hs k h) (λ j other. handshaking-begun begins j ∙ (ap (λ b. is_handshaking log n j || (b || false)) other ∙ or_false (is_handshaking log n j))) (λ j. at-inserted k j h hs)
-      (handshaking-begun begins k ∙ (ap (λ b. is_handshaking log n k || (b || false)) (here k) ∙ or_true (is_handshaking log n k)), subst (λ d. IsRunning d k h) (sym (deadline-last configs log e n)) running) kept
+      handshakes_changed k (Some h) hs (insert_entry nat_cmp hs k h) (λ j other. handshaking-begun begins j ∙ (ap (λ b. is_handshaking log n j || (b || false)) other ∙ or_false (is_handshaking log n j)))
+      (λ j other. tells j) (λ j. at-inserted k j h hs)
+      (handshaking-begun begins k ∙ (ap (λ b. is_handshaking log n k || (b || false)) (here k) ∙ or_true (is_handshaking log n k)), subst (λ f. IsRunning f k h) (sym (facts-begun configs log e n (tells k) untold)) running) kept
     where
       here : (a : ℕ) → (a == a) ≡ true
       here a = grind (arith, nat_tests)

@@ -1,2 +1,4 @@
 pub mod Changes
+pub mod Ends
+pub mod Finishing
 pub mod Handshakes

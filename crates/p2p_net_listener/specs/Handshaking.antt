@@ -1,23 +1,36 @@
--- A step of a handshake of a node's listener, as values.
+-- A step of a handshake of a node's listener, and what it is told of its keys, as values.
 use Rattle.std.specs.Prelude.{◌≡◌, ◌-◌, ℕ, Bool, true, false, cond, Option, Some, None}
 use Rattle.p2p_base.specs.declared.key.Key.{Key}
 use Rattle.p2p_runtime.specs.QuotaPlaces.{Places}
+use Rattle.p2p_tracker_directory.specs.declared.metadata.Metadata.{Metadata}
+use Rattle.p2p_tracker_mailbox.specs.Mailboxes.{with_item_in}
+use Rattle.p2p_tracker_mailbox.specs.declared.answer.HandshakeItem.TheVariants as shake
 use Rattle.p2p_tracker_mailbox.specs.declared.mailbox.Mailbox.{Mailbox}
 use Rattle.p2p_gates.specs.Handshaking.{Handshaking}
 use Rattle.p2p_gates.specs.HandshakeTurns.{handshake_turn}
 use Rattle.p2p_gates.specs.Listening.{Listening as Actor}
 use Rattle.p2p_gates.specs.Stepping.{Turn, is_item}
+use Rattle.p2p_gates.specs.declared.stepped.Outcome.{Outcome}
+use Rattle.p2p_gates.specs.declared.stepped.Outcome.TheVariants as outcome
 use Rattle.p2p_gates.specs.declared.stepped.Stepped.{Stepped}
 use Rattle.p2p_gates.specs.declared.stepped.Stepped.TheVariants as stepped
+use Rattle.p2p_log_rules.specs.Links.{unless_dropped}
+use Rattle.p2p_net_queues.specs.Tables as table
 use Rattle.p2p_net_queues.specs.Tables.{AreBut}
+use Rattle.p2p_net_listener.specs.Listening.{asked_item, EndsAre}
 use Rattle.p2p_net_listener.specs.declared.listening.Listening.{Listening}
 use Rattle.p2p_net_listener.specs.declared.handshake.HandshakeStep.{HandshakeStep}
 use Rattle.p2p_net_listener.specs.declared.handshake.HandshakeStep.TheVariants as handshake
 
--- what was done, by whether the handshake has ended then
-abbrev pub served_by : Stepped Key → Bool → HandshakeStep
-served_by stepped.Idle ended = handshake.Idle
-served_by (stepped.Served took p left o) ended = handshake.Served (is_item took) ended
+-- the link and the reservation by which a connection is to be made
+abbrev pub ready_over : ℕ → Outcome Key → Option (ℕ × Metadata Key)
+ready_over link (outcome.Ready reserved) = Some (link, reserved)
+ready_over link _ = None
+
+-- what was done, by the link over which the peer came and by whether the handshake has ended then
+abbrev pub served_by : Stepped Key → ℕ → Bool → HandshakeStep
+served_by stepped.Idle link ended = handshake.Idle
+served_by (stepped.Served took p left o) link ended = handshake.Served (is_item took) ended (asked_item p) (ready_over link o)
 
 -- a place less is held
 abbrev pub one_freed : Places → Places
@@ -32,14 +45,31 @@ abbrev pub unless_ended : Handshaking Key → Option (Handshaking Key)
 unless_ended h = cond h.has_ended None (Some h)
 
 -- what a turn of the handshake of this name makes of the listener, and of its tracker's mailbox
-abbrev pub TurnsHandshake : Turn (Handshaking Key) Key → ℕ → Listening → Listening → Mailbox Key → HandshakeStep → Type 0
-TurnsHandshake turn name old new after s =
-    (s ≡ served_by turn.stepped turn.actor.has_ended)
-    × ((new ≡ record old { actor = freed_if turn.actor.has_ended old.actor; handshakes = new.handshakes })
-    × (AreBut name (unless_ended turn.actor) old.handshakes new.handshakes × (after ≡ turn.way)))
+pub record TurnsHandshake (turn : Turn (Handshaking Key) Key) (name : ℕ) (old new : Listening) (after : Mailbox Key) (s : HandshakeStep) : Type 0 where
+  pub did : s ≡ served_by turn.stepped turn.actor.arrival.link turn.actor.has_ended
+  pub rest : new ≡ record old { actor = freed_if turn.actor.has_ended old.actor; handshakes = new.handshakes; ends = new.ends }
+  pub others : AreBut name (unless_ended turn.actor) old.handshakes new.handshakes
+  pub ends : EndsAre (unless_dropped turn.actor.has_ended turn.actor.arrival.link (table.at old.ends)) new.ends
+  pub mailbox : after ≡ turn.way
+
+-- where there is none of this name, nothing changes
+pub record LeavesHandshakes (name : ℕ) (old new : Listening) (way after : Mailbox Key) (s : HandshakeStep) : Type 0 where
+  pub did : s ≡ handshake.Gone
+  pub rest : new ≡ record old { handshakes = new.handshakes }
+  pub others : AreBut name None old.handshakes new.handshakes
+  pub mailbox : after ≡ way
 
 -- a step, by the handshake of this name
 abbrev pub StepsHandshake : Option (Handshaking Key) → ℕ → ℕ → Listening → Listening → Mailbox Key → Mailbox Key → HandshakeStep → Type 0
-StepsHandshake None name at old new way after s =
-    (s ≡ handshake.Gone) × ((new ≡ record old { handshakes = new.handshakes }) × (AreBut name None old.handshakes new.handshakes × (after ≡ way)))
+StepsHandshake None name at old new way after s = LeavesHandshakes name old new way after s
 StepsHandshake (Some h) name at old new way after s = TurnsHandshake (handshake_turn h way at) name old new after s
+
+-- whether a handshake is kept that took that its peer may connect
+abbrev pub is_accepting : Option (Handshaking Key) → Bool
+is_accepting None = false
+is_accepting (Some h) = h.is_accepted
+
+-- the mailbox once a handshake that is kept was told whether its keys were exchanged
+abbrev pub finished_in : Option (Handshaking Key) → Bool → Mailbox Key → Mailbox Key
+finished_in None ok way = way
+finished_in (Some h) ok way = with_item_in way h.name (shake.Finished ok)

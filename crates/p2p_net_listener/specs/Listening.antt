@@ -21,6 +21,10 @@ use Rattle.p2p_gates.specs.declared.stepped.Stepped.{Stepped}
 use Rattle.p2p_gates.specs.declared.stepped.Stepped.TheVariants as stepped
 use Rattle.p2p_log.specs.declared.item.Item.{Item}
 use Rattle.p2p_log.specs.declared.item.Item.TheVariants as item
+use Rattle.p2p_log_rules.specs.declared.row.ListeningEnd.{ListeningEnd}
+use Rattle.p2p_log_rules.specs.declared.row.ListeningEnd.TheVariants as listening
+use Rattle.p2p_log_rules.specs.Links.{with_named}
+use Rattle.p2p_net_queues.specs.Tables as table
 use Rattle.p2p_net_listener.specs.declared.listening.Listening.{Listening}
 use Rattle.p2p_net_listener.specs.declared.listening.Took.{Took}
 use Rattle.p2p_net_listener.specs.declared.listening.Took.TheVariants as took
@@ -33,12 +37,14 @@ pub record IsNew (cfg : Gates) (l : Listening) : Type 0 where
   pub subnet_rate : l.actor.quotas.subnets.rate ≡ cfg.allowed_handshake_rate_per_subnet
   pub names : l.names ≡ []
   pub handshakes : l.handshakes ≡ []
+  pub ends : l.ends ≡ []
 
--- a peer with this key has arrived from an address over the link k, as the put of this place
+-- a peer with this key has arrived from an address over the link k, as the put of this place: it has the listening end of that link
 abbrev pub arrived : ℕ → ℕ → SocketAddr → Key → Listening → Listening
 arrived k place from key l = record l {
   actor = with_arrival l.actor (record { from = from; key = key; link = k });
   names = l.names ++ (k, place) ∷ [];
+  ends = insert_entry nat_cmp l.ends k listening.Arriving;
 }
 
 -- what the gates told, where an arrival was taken
@@ -50,6 +56,7 @@ told_in _ = None
 -- what it asked, as an item
 abbrev pub asked_item : Option (Put Key) → Option Item
 asked_item (Some (put.Acceptable key source handshake)) = Some (item.AskAcceptable handshake key)
+asked_item (Some (put.Listen key source handshake)) = Some (item.AskListen handshake key)
 asked_item _ = None
 
 -- what it took, by what the gates told and by the name of its oldest arrival
@@ -80,11 +87,26 @@ abbrev pub handshakes_after : Stepped Key → ℕ → List (ℕ × Handshaking K
 handshakes_after stepped.Idle name handshakes = handshakes
 handshakes_after (stepped.Served took p left o) name handshakes = begun_by o name handshakes
 
+-- these have the listening ends of the links, by the links' names
+abbrev pub EndsAre : (ℕ → Option ListeningEnd) → List (ℕ × ListeningEnd) → Type 0
+EndsAre has ends = (k : ℕ) → table.at ends k ≡ has k
+
+-- once a step of this name came to this: nothing has the end of an arrival that was refused, and a handshake that of one that was admitted
+abbrev pub changed_ends : Outcome Key → ℕ → (ℕ → Option ListeningEnd) → ℕ → Option ListeningEnd
+changed_ends (outcome.Refused link r) name ends k = with_named link None ends k
+changed_ends (outcome.Admitted h) name ends k = with_named h.arrival.link (Some (listening.Handshake name)) ends k
+changed_ends _ name ends k = ends k
+
+abbrev pub ends_after : Stepped Key → ℕ → (ℕ → Option ListeningEnd) → ℕ → Option ListeningEnd
+ends_after stepped.Idle name ends k = ends k
+ends_after (stepped.Served took p left o) name ends k = changed_ends o name ends k
+
 -- a step of the listener at a moment, whatever its gates go by
 pub record Steps (name at : ℕ) (old new : Listening) (way after : Mailbox Key) (o : Option Took) : Type 0 where
   pub took : (k : Known) → StandsFor old.actor k → o ≡ took_by (listener_turn old.actor k way name at).stepped (slice_get old.names 0)
   pub names : (k : Known) → StandsFor old.actor k → new.names ≡ names_after (listener_turn old.actor k way name at).stepped old.names
   pub handshakes : (k : Known) → StandsFor old.actor k → new.handshakes ≡ handshakes_after (listener_turn old.actor k way name at).stepped name old.handshakes
+  pub ends : (k : Known) → StandsFor old.actor k → EndsAre (ends_after (listener_turn old.actor k way name at).stepped name (table.at old.ends)) new.ends
   pub stands : (k : Known) → StandsFor old.actor k → StandsFor new.actor (listener_turn old.actor k way name at).known
   pub arrivals : (k : Known) → StandsFor old.actor k → new.actor.arrivals ≡ (listener_turn old.actor k way name at).arrivals
   pub places : (k : Known) → StandsFor old.actor k → new.actor.places ≡ (listener_turn old.actor k way name at).places

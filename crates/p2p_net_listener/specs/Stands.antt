@@ -1,5 +1,5 @@
 -- When the listener of a node stands for a log.
-use Rattle.std.specs.Prelude.{◌≡◌, ◌==◌, ℕ, Bool, true, false, List, ◌∷◌, [], ◌++◌, map, length, Option, Some, None}
+use Rattle.std.specs.Prelude.{◌≡◌, ◌==◌, ◌≤◌, ℕ, Bool, true, false, List, ◌∷◌, [], ◌++◌, map, length, Option, Some, None}
 use Rattle.p2p_base.specs.declared.key.Key.{Key}
 use Rattle.p2p_gates.specs.Gates.{rules_of}
 use Rattle.p2p_gates.specs.Handshaking.{Handshaking}
@@ -14,28 +14,58 @@ use Rattle.p2p_log.specs.Lines.{name_of, line}
 use Rattle.p2p_log.specs.declared.event.Act.{Act}
 use Rattle.p2p_log.specs.declared.event.Act.TheVariants as act
 use Rattle.p2p_log_rules.specs.Attempting.{dial_rules_at}
-use Rattle.p2p_log_rules.specs.Handshakes.{handshakes_by, handshakes_of, is_handshaking}
+use Rattle.p2p_log_rules.specs.Facts.{taken_at}
+use Rattle.p2p_log_rules.specs.Handshakes.{handshakes_by, handshakes_of, is_handshaking, takes_acceptance, takes_exchange, took_by, is_accepted, is_finished, source_of, peer_of}
 use Rattle.p2p_log_rules.specs.Handshaking.{handshake_deadline}
+use Rattle.p2p_log_rules.specs.Links.{ends_by, listening_ends_of}
 use Rattle.p2p_log_rules.specs.Listening.{gate_rules_at, most_handshakes_at, known_by, known_of}
 use Rattle.p2p_net_queues.specs.Tables as table
+use Rattle.p2p_net_listener.specs.Listening.{EndsAre}
 use Rattle.p2p_net_listener.specs.declared.listening.Listening.{Listening}
 
 -- an arrival, as the item that waits for the listener
 abbrev pub arrival_item : Arrival Key → Item
 arrival_item a = item.Arrival a.from a.key a.link
 
--- the handshake of this name, which is to end at this moment, and whose keys were not exchanged
-pub record IsRunning (until k : ℕ) (h : Handshaking Key) : Type 0 where
+-- ---- a handshake
+
+-- what the log tells of a handshake: until when its keys may be exchanged, whether it took that its peer may connect and that its keys were
+-- exchanged, and what the step that began it took
+pub record HandshakeFacts : Type 0 where
+  pub until : ℕ
+  pub accepted : Bool
+  pub finished : Bool
+  pub began : List Item
+
+abbrev pub facts_of : List Config → List Entry → ℕ → ℕ → HandshakeFacts
+facts_of configs log n name = record {
+  until = handshake_deadline configs log name n;
+  accepted = is_accepted log n name;
+  finished = is_finished log n name;
+  began = taken_at log name;
+}
+
+-- the handshake of this name, of which the log tells this, and which has not ended
+pub record IsRunning (f : HandshakeFacts) (k : ℕ) (h : Handshaking Key) : Type 0 where
   pub name : h.name ≡ k
-  pub deadline : h.deadline ≡ until
-  pub exchanging : h.is_finished ≡ false
+  pub deadline : h.deadline ≡ f.until
+  pub accepted : h.is_accepted ≡ f.accepted
+  pub finished : h.is_finished ≡ f.finished
+  -- its peer is the one that arrived
+  pub key : h.arrival.key ≡ (peer_of f.began).key
+  pub link : h.arrival.link ≡ (peer_of f.began).link
+  pub source : source_of f.began ≡ Some h.arrival.from.ip
   pub runs : h.has_ended ≡ false
   pub works : h.has_failed ≡ false
 
 -- there is a handshake where one runs
-abbrev pub HandshakeIs : ℕ → ℕ → Bool → Option (Handshaking Key) → Type 0
-HandshakeIs deadline name runs None = runs ≡ false
-HandshakeIs deadline name runs (Some h) = (runs ≡ true) × IsRunning deadline name h
+abbrev pub HandshakeIs : HandshakeFacts → ℕ → Bool → Option (Handshaking Key) → Type 0
+HandshakeIs f name runs None = runs ≡ false
+HandshakeIs f name runs (Some h) = (runs ≡ true) × IsRunning f name h
+
+-- nothing was told to a handshake of this name, neither that its peer may connect nor that its keys were exchanged
+abbrev pub IsUntold : List Entry → ℕ → ℕ → Type 0
+IsUntold log n name = (is_accepted log n name ≡ false) × (is_finished log n name ≡ false)
 
 pub record ListenerStands (configs : List Config) (log : List Entry) (n : ℕ) (l : Listening) : Type 0 where
   -- what waits for it is its line
@@ -49,7 +79,13 @@ pub record ListenerStands (configs : List Config) (log : List Entry) (n : ℕ) (
   pub works : l.actor.has_failed ≡ false
   -- and it is kept, until its deadline at the longest
   pub timeout : l.actor.handshake_timeout ≡ (dial_rules_at configs n).handshake_timeout
-  pub handshakes : (k : ℕ) → HandshakeIs (handshake_deadline configs log k n) k (is_handshaking log n k) (table.at l.handshakes k)
+  pub handshakes : (k : ℕ) → HandshakeIs (facts_of configs log n k) k (is_handshaking log n k) (table.at l.handshakes k)
+  -- one that has yet to begin was told nothing
+  pub untold : (k : ℕ) → length log ≤ k → IsUntold log n k
+  -- what has the listening end of each link that leads here
+  pub ends : EndsAre (listening_ends_of log n) l.ends
+
+-- ---- an entry that leaves it alone
 
 -- whether an act is of the node's listener, or of a handshake of it
 abbrev pub is_of_listener : ℕ → Act → Bool
@@ -57,8 +93,20 @@ is_of_listener n (act.Listener m) = m == n
 is_of_listener n (act.Handshake e m) = m == n
 is_of_listener n _ = false
 
--- an entry that leaves it alone
+-- whether an act links an attempt to the node's listener
+abbrev pub links_to : ℕ → Act → Bool
+links_to n (act.Connect e from m to) = to == n
+links_to n _ = false
+
+-- an entry that tells a handshake nothing of its peer or of its keys
+abbrev pub TellsNothing : List Entry → Entry → ℕ → ℕ → Type 0
+TellsNothing log e n name =
+    (took_by takes_acceptance n name log e (is_accepted log n name) ≡ is_accepted log n name)
+    × (took_by takes_exchange n name log e (is_finished log n name) ≡ is_finished log n name)
+
 pub record LeavesListener (configs : List Config) (log : List Entry) (e : Entry) (n : ℕ) : Type 0 where
   pub known : known_by configs n log e (known_of configs log n) ≡ known_of configs log n
   pub handshakes : handshakes_by n log e (handshakes_of log n) ≡ handshakes_of log n
   pub arrivals : line (log ++ e ∷ []) (queue.Arrivals n) ≡ line log (queue.Arrivals n)
+  pub tells : (k : ℕ) → TellsNothing log e n k
+  pub ends : (k : ℕ) → ends_by n log e (listening_ends_of log n) k ≡ listening_ends_of log n k

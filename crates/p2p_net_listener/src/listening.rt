@@ -1,15 +1,19 @@
 //! `Listening`, the listener of a node.
 ghost use Rattle.std.specs.Prelude.{◌≡◌, ◌++◌, ◌∷◌, [], length, slice_get, IfOk, OnOk};
+ghost use Rattle.std.specs.BTreeMap.{insert_entry};
+ghost use Rattle.std.specs.Ordering.{nat_cmp};
 ghost use Rattle.p2p_log.specs.declared.queue.Queue.TheVariants as queue;
 ghost use Rattle.p2p_log.specs.declared.item.Item.TheVariants as item;
-ghost use Rattle.p2p_net_listener.specs.Listening.{IsNew, arrived, Steps, told_in, asked_item, took_of, took_by, names_left, names_after, begun_by, handshakes_after};
+ghost use Rattle.p2p_log_rules.specs.declared.row.ListeningEnd.TheVariants as listening;
+ghost use Rattle.p2p_net_queues.specs.Tables as table;
+ghost use Rattle.p2p_net_listener.specs.Listening.{IsNew, arrived, Steps, told_in, asked_item, took_of, took_by, names_left, names_after, begun_by, handshakes_after, EndsAre, changed_ends, ends_after};
 
 use p2p_address::SocketAddr;
 use p2p_base::Key;
 use p2p_gates::{Arrival, Config as GatesConfig, Handshake, Listener, Outcome, Put, Stepped};
 use p2p_gates_rules::Reply;
 use p2p_log::{Item, Queue};
-use p2p_log_rules::Row;
+use p2p_log_rules::{ListeningEnd, Row};
 use p2p_net_queues::{Deque, Table, Turn};
 use p2p_tracker_mailbox::Mailbox;
 use std::alloc::{AllocError, Global};
@@ -23,6 +27,8 @@ pub struct Listening {
     pub names: Deque<(u64, u64)>,
     /// The handshakes that have not ended, by the events that began them.
     pub handshakes: Table<Handshake<Key>>,
+    /// What has the listening end of each link that leads here, by the link's name.
+    pub ends: Table<ListeningEnd>,
 }
 
 /// What a listener took in a step.
@@ -52,8 +58,8 @@ fn told(outcome: &Outcome<Key>) -> Option<Reply>
     }
 }
 
-/// What a listener asked, as an item of its tracker's mailbox.
-fn asked(put: Option<Put<Key>>) -> Option<Item>
+/// What a listener or a handshake asked, as an item of its tracker's mailbox.
+pub(crate) fn asked(put: Option<Put<Key>>) -> Option<Item>
     ensures { result ≡ asked_item put }
 {
     match put {
@@ -64,6 +70,16 @@ fn asked(put: Option<Put<Key>>) -> Option<Item>
                 ..
             },
         ) => Some(Item::AskAcceptable {
+            handshake,
+            key: public_key,
+        }),
+        Some(
+            Put::Listen {
+                public_key,
+                handshake,
+                ..
+            },
+        ) => Some(Item::AskListen {
             handshake,
             key: public_key,
         }),
@@ -82,6 +98,7 @@ impl Listening {
             actor: Listener::new(alloc, gates)?,
             names: Deque::new(alloc),
             handshakes: Table::new(alloc),
+            ends: Table::new(alloc),
         })
     }
 
@@ -101,6 +118,7 @@ impl Listening {
         let link = turn.entry;
         let place = row.puts.len() as u64;
         self.actor.arrive(from, key, link)?;
+        self.ends.insert(link, ListeningEnd::Arriving)?;
         self.names.push((turn.entry, place))?;
         let queue = Queue::Arrivals(turn.node);
         row.puts.push((queue, Item::Arrival { from, key, link }))?;
@@ -128,6 +146,7 @@ impl Listening {
         ensures took { IfOk result (λ o. o ≡ took_by stepped (slice_get self.old.names 0)) }
         ensures names { OnOk result (self.new.names ≡ names_after stepped self.old.names) }
         ensures handshakes { OnOk result (self.new.handshakes ≡ handshakes_after stepped name self.old.handshakes) }
+        ensures ends { OnOk result (EndsAre (ends_after stepped name (table.at self.old.ends)) self.new.ends) }
         ensures actor { OnOk result (self.new.actor ≡ self.old.actor) }
     {
         match stepped {
@@ -140,19 +159,38 @@ impl Listening {
         }
     }
 
-    /// Keeps the handshake that a step of this name began, if it began one.
+    /// Keeps the handshake that a step of this name began, if it began one, and notes what has the listening end of the
+    /// link: that handshake, or nothing where the arrival was refused.
     fn begin(&mut self, name: u64, outcome: Outcome<Key>) -> Result<(), AllocError>
-        ensures { OnOk result (self.new ≡ record self.old { handshakes = begun_by outcome name self.old.handshakes }) }
+        ensures handshakes { OnOk result (self.new.handshakes ≡ begun_by outcome name self.old.handshakes) }
+        ensures ends { OnOk result (EndsAre (changed_ends outcome name (table.at self.old.ends)) self.new.ends) }
+        ensures rest { OnOk result
+            (self.new ≡ record self.old { handshakes = self.new.handshakes; ends = self.new.ends }) }
     {
         match outcome {
-            Outcome::Admitted(handshake) => Ok(self.handshakes.insert(name, handshake)?),
+            Outcome::Admitted(handshake) => Ok(self.admit(name, handshake)?),
+            Outcome::Refused { link, .. } => {
+                let _ = self.ends.remove(link);
+                Ok(())
+            }
             // Each of these is moved out too, since no proof follows what is moved in part.
             Outcome::Dialed(_attempt) => Ok(()),
             Outcome::Ready(_reservation) => Ok(()),
             Outcome::GoesOn => Ok(()),
-            Outcome::Refused { .. } => Ok(()),
             Outcome::Ended => Ok(()),
         }
+    }
+
+    /// Keeps a handshake of this name, which has the listening end of its link.
+    fn admit(&mut self, name: u64, handshake: Handshake<Key>) -> Result<(), AllocError>
+        ensures { OnOk result (self.new ≡ record self.old {
+          handshakes = insert_entry nat_cmp self.old.handshakes name handshake;
+          ends = insert_entry nat_cmp self.old.ends handshake.arrival.link (listening.Handshake name);
+        }) }
+    {
+        let link = handshake.arrival().link;
+        self.ends.insert(link, ListeningEnd::Handshake(name))?;
+        Ok(self.handshakes.insert(name, handshake)?)
     }
 
     /// What was taken: an arrival, where the gates told it something.
@@ -171,5 +209,12 @@ impl Listening {
                 })
             }
         }
+    }
+
+    /// What has the listening end of a link, if anything has.
+    pub fn end_of(&self, link: u64) -> Option<ListeningEnd>
+        ensures { result ≡ table.at self.now.ends link }
+    {
+        self.ends.get(link)
     }
 }

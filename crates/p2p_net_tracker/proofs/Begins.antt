@@ -39,7 +39,8 @@ use Rattle.p2p_net_queues.specs.Board.{held}
 use Rattle.p2p_net_queues.specs.Tables as table
 use Rattle.p2p_net_tracker.specs.declared.tracker.Tracker.{Tracker}
 use Rattle.p2p_net_tracker.specs.Begins.{IsNew}
-use Rattle.p2p_net_tracker.specs.Stands.{Match, IsTicket, IsMessage, IsAnswer, HeardStands, HandshakeStands, AreDistinct, IsHeldByPeer, ReleasesHeld, TrackerStands}
+use Rattle.p2p_net_queues.specs.Matching.{Match}
+use Rattle.p2p_net_tracker.specs.Stands.{IsTicket, IsMessage, IsAnswer, HeardStands, HandshakeStands, AreDistinct, IsHeldByPeer, ReleasesHeld, TrackerStands}
 use Rattle.p2p_net_tracker.proofs.Serving.{MayRelease, item-may_take}
 
 no_calls : (configs : List Config) (n : ℕ) → calls_of configs [] n ≡ []

@@ -33,9 +33,10 @@ use Rattle.p2p_log_rules.specs.TrackerRows.{answers, was_answered}
 use Rattle.p2p_net_queues.specs.Tables as table
 use Rattle.p2p_net_tracker.specs.declared.question.Question.{Question}
 use Rattle.p2p_net_tracker.specs.declared.question.Question.TheVariants as question
-use Rattle.p2p_net_tracker.specs.Stands.{asks_of, asks_at, AreFresh, is_told, Match, IsTicket, kind_of, HasTicket, Says, IsMessage, IsAnswer, HeardStands, TrackerStands, LeavesTracker}
+use Rattle.p2p_net_queues.specs.Matching.{Match}
+use Rattle.p2p_net_tracker.specs.Stands.{asks_of, asks_at, AreFresh, is_told, IsTicket, kind_of, HasTicket, Says, IsMessage, IsAnswer, HeardStands, TrackerStands, LeavesTracker}
 use Rattle.p2p_net_tracker.proofs.Facts.{asks_at-kept, fresh-longer, was_answered-kept, calls-kept, update_subscriptions-kept, blocked_subscriptions-kept, asked_by-longer, handshaking-kept, source_at-longer}
-use Rattle.p2p_net_tracker.proofs.Matching.{Match-weaker, Match-last, slice_get-last}
+use Rattle.p2p_net_queues.proofs.Matching.{Match-weaker, Match-last, slice_get-last}
 
 -- the tickets are these, and some more
 pub record AreMore (old new : Tickets) : Type 0 where
@@ -61,6 +62,7 @@ IsMessage-longer old new given log more (item.Call e) m h = (h.0, asked_by-longe
 IsMessage-longer old new given log more item.AskDialable m h = h
 IsMessage-longer old new given log more (item.AskDial key) m h = h
 IsMessage-longer old new given log more (item.AskAcceptable name key) m h = (h.0, source_at-longer log more name h.0 h.1, h.2)
+IsMessage-longer old new given log more (item.AskListen name key) m h = (h.0, source_at-longer log more name h.0 h.1, h.2)
 IsMessage-longer old new given log more (item.Release key) m h = h
 IsMessage-longer old new given log more _ m h = absurd h
 

@@ -18,10 +18,11 @@ use Rattle.p2p_log_rules.specs.TrackerRows.{answers}
 use Rattle.p2p_net_queues.specs.Board.{held}
 use Rattle.p2p_net_queues.proofs.Going.{put_in, line-append, first_left}
 use Rattle.p2p_net_tracker.specs.declared.tracker.Tracker.{Tracker}
-use Rattle.p2p_net_tracker.specs.Stands.{asks_of, is_told, Match, IsMessage, IsAnswer, HeardStands, TrackerStands}
+use Rattle.p2p_net_queues.specs.Matching.{Match}
+use Rattle.p2p_net_tracker.specs.Stands.{asks_of, is_told, IsMessage, IsAnswer, HeardStands, TrackerStands}
 use Rattle.p2p_net_tracker.proofs.Changes.{same_tickets, messages-longer}
 use Rattle.p2p_net_tracker.proofs.Facts.{handshaking-kept}
-use Rattle.p2p_net_tracker.proofs.Matching.{Match-drop}
+use Rattle.p2p_net_queues.proofs.Matching.{Match-drop}
 use Rattle.p2p_net_tracker.proofs.Moved.{tracker_moved, by_place}
 use Rattle.p2p_net_tracker.proofs.ToldLines.{away_none}
 

@@ -17,7 +17,8 @@ use Rattle.p2p_log.specs.Lines.{placed, stands_in}
 use Rattle.p2p_log.proofs.Queues.{same_queue-refl}
 use Rattle.p2p_net_tracker.specs.declared.naming.Tickets.{Tickets}
 use Rattle.p2p_net_tracker.specs.Naming.{named_puts, grant_of}
-use Rattle.p2p_net_tracker.specs.Stands.{Match, IsAnswer}
+use Rattle.p2p_net_queues.specs.Matching.{Match}
+use Rattle.p2p_net_tracker.specs.Stands.{IsAnswer}
 
 -- what the dialer is answered, of what was put
 abbrev pub answers_in : List (Put Key) → List (DialerAnswer Key)
@@ -60,4 +61,4 @@ module _ (n : ℕ) (t : Tickets) (k : ℕ) where
   answers-named p (put.Blocked ticket keys dropped ∷ ps) = answers-named (p + 1) ps
   answers-named p (put.PeerSet ticket peers ∷ ps) = answers-named (p + 1) ps
   answers-named p (put.Acceptable handshake acceptable ∷ ps) = answers-named (p + 1) ps
-  answers-named p (put.Listen handshake grant ∷ ps) = answers-named p ps
+  answers-named p (put.Listen handshake grant ∷ ps) = answers-named (p + 1) ps

@@ -1,5 +1,5 @@
 -- What one more entry makes of the facts of a node's tracker.
-use Rattle.std.proofs.Common.{◌≡◌, ℕ, zero, suc, ◌≤◌, Bool, true, false, cond, List, [], ◌∷◌, ◌++◌, take, refl, ap, sym, subst, ◌∙◌, arith, length, length-append, append-nil, Option, Some, None}
+use Rattle.std.proofs.Common.{◌≡◌, ℕ, suc, ◌≤◌, Bool, true, false, cond, List, [], ◌∷◌, ◌++◌, refl, ap, sym, subst, ◌∙◌, arith, length, length-append, append-nil, Option, Some, None}
 use Rattle.std.specs.Prelude.{slice_get, flat_map, nat_lt, ◌==◌, ◌||◌}
 use Rattle.p2p_base.specs.declared.key.Key.{Key}
 use Rattle.std.specs.List.{list_any}
@@ -11,12 +11,13 @@ use Rattle.p2p_log.specs.declared.event.Act.{Act}
 use Rattle.p2p_log.specs.declared.queue.Queue.TheVariants as queue
 use Rattle.p2p_log.specs.Lines.{line}
 use Rattle.p2p_log_rules.specs.Facts.{taken}
-use Rattle.p2p_log_rules.specs.Handshakes.{handshakes_by, handshakes_of, is_handshaking, source_in, source_at}
-use Rattle.p2p_log_rules.specs.Tracking.{asked_by, steps_tracker, rules_at, step_calls, grants_dial, call_where, calls_of, calls_taken, subscribes, subscribes_blocked, update_subscriptions, blocked_subscriptions}
+use Rattle.p2p_log_rules.specs.Handshakes.{handshakes_by, handshakes_of, is_handshaking, source_of, source_at}
+use Rattle.p2p_log_rules.specs.Tracking.{asked_by, steps_tracker, rules_at, step_calls, grants_peer, call_where, calls_of, calls_taken, subscribes, subscribes_blocked, update_subscriptions, blocked_subscriptions}
 use Rattle.p2p_log_rules.proofs.Calls.{calls_of-append}
 use Rattle.p2p_log_rules.proofs.Facts.{history_from-append}
 use Rattle.p2p_log_rules.specs.TrackerRows.{answers, was_answered}
 use Rattle.p2p_log_rules.proofs.Handshakes.{handshakes_of-kept}
+use Rattle.p2p_log_rules.proofs.TakenAt.{taken_at-longer, taken_at-late}
 use Rattle.p2p_log.proofs.Places.{slice_get-append}
 use Rattle.std.proofs.lemmas.Option.{slice_get_past}
 use Rattle.std.proofs.lemmas.Bool.Decides.{nat_tests}
@@ -24,13 +25,13 @@ use Rattle.std.proofs.lemmas.List.Folds.{list_any-append}
 use Rattle.p2p_tracker_mailbox.specs.Lines.{Lines, line_of}
 use Rattle.p2p_tracker_mailbox.specs.declared.answer.HandshakeItem.{HandshakeItem}
 use Rattle.p2p_net_tracker.specs.Stands.{asks_of, asks_at, AreFresh, HandshakeStands}
-use Rattle.p2p_net_tracker.proofs.Matching.{slice_get-longer}
+use Rattle.p2p_net_queues.proofs.Matching.{slice_get-longer}
 
 pub calls-kept : (configs : List Config) (log : List Entry) (e : Entry) (n : ℕ) → steps_tracker n e.event.act ≡ false → calls_of configs (log ++ e ∷ []) n ≡ calls_of configs log n
 calls-kept configs log e n no_step =
     let calls = calls_of configs log n in
     calls_of-append configs log e n
-    ∙ ap (λ b. cond b (step_calls log e.reply (taken log e) e.event.at (jitter_of (rules_at configs n).cooldown e.event.seed) (list_any grants_dial e.puts) calls) calls) no_step
+    ∙ ap (λ b. cond b (step_calls log e.reply (taken log e) e.event.at (jitter_of (rules_at configs n).cooldown e.event.seed) (list_any grants_peer e.puts) calls) calls) no_step
 
 pub update_subscriptions-append : (log : List Entry) (e : Entry) (n : ℕ) → update_subscriptions (log ++ e ∷ []) n ≡ update_subscriptions log n ++ calls_taken subscribes n log e
 unfolding update_subscriptions
@@ -132,16 +133,15 @@ handshaking-kept log e n lines h same stands k =
     (subst (HandshakeStands (line_of lines k) (is_handshaking log n k)) (sym (same k)) (stands k))
 
 -- from where a peer came stays so
-take-longer : {X : Type 0} (xs ys : List X) (i : ℕ) (x : X) → slice_get xs i ≡ Some x → take i (xs ++ ys) ≡ take i xs
-take-longer [] ys i x h = cc
-take-longer (y ∷ xs) ys zero x h = refl
-take-longer (y ∷ xs) ys (suc i) x h = ap (λ l. y ∷ l) (take-longer xs ys i x h)
-
 pub source_at-longer : (log more : List Entry) (name : ℕ) (source : IpAddr) → source_at log name ≡ Some source → source_at (log ++ more) name ≡ Some source
-unfolding source_at
-source_at-longer log more name source h = go (slice_get log name) refl h
+source_at-longer log more name source h = by (nat_lt name (length log)) refl
   where
-    go : (o : Option Entry) → slice_get log name ≡ o → source_in (take name log) o ≡ Some source → source_in (take name (log ++ more)) (slice_get (log ++ more) name) ≡ Some source
-    go None is k = cc
-    go (Some d) is k =
-        ap (source_in (take name (log ++ more))) (slice_get-longer log more name d is) ∙ (ap (λ l. source_in l (Some d)) (take-longer log more name d is) ∙ k)
+    early : (a b : ℕ) → nat_lt a b ≡ true → suc a ≤ b
+    early a b is = grind (arith, nat_tests)
+
+    late : (a b : ℕ) → nat_lt a b ≡ false → b ≤ a
+    late a b is = grind (arith, nat_tests)
+
+    by : (b : Bool) → nat_lt name (length log) ≡ b → source_at (log ++ more) name ≡ Some source
+    by true is = ap source_of (taken_at-longer log more name (early name (length log) is)) ∙ h
+    by false is = let none : None ≡ Some source = sym (ap source_of (taken_at-late log name (late name (length log) is))) ∙ h in cc

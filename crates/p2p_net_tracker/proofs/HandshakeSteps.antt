@@ -1,5 +1,5 @@
--- A step of a handshake of a node's listener takes the oldest of what it was told, or the handshake ends: the tracker stands for the log with that entry.
-use Rattle.std.proofs.Common.{◌≡◌, ℕ, Bool, true, false, cond, List, [], ◌∷◌, ◌++◌, drop, refl, ap, sym, subst, ◌∙◌, arith, append-nil, eq-eqb, Option, Some, None}
+-- A step of a handshake of a node's listener takes the oldest of what it was told, or the handshake ends, and it may ask the tracker something: the tracker stands for the log with that entry.
+use Rattle.std.proofs.Common.{◌≡◌, ℕ, Bool, true, false, cond, List, [], ◌∷◌, ◌++◌, drop, length, refl, ap, sym, subst, ◌∙◌, arith, eq-eqb, Option, Some, None}
 use Rattle.std.specs.Prelude.{◌==◌, ◌&&◌, not, if◌then◌else◌}
 use Rattle.std.specs.BTreeMap.{is_at}
 use Rattle.std.specs.List.{list_any}
@@ -11,10 +11,12 @@ use Rattle.std.proofs.lemmas.Map.{lookup-remove_entry}
 use Rattle.p2p_base.specs.declared.key.Key.{Key}
 use Rattle.p2p_tracker_mailbox.specs.Lines.{Lines, line_of, with_line, ended}
 use Rattle.p2p_tracker_mailbox.specs.declared.answer.HandshakeItem.{HandshakeItem}
+use Rattle.p2p_tracker_mailbox.specs.declared.message.Message.{Message}
 use Rattle.p2p_tracker_mailbox.proofs.Lines.{line_of-with_line}
 use Rattle.p2p_log.specs.declared.config.Config.{Config}
 use Rattle.p2p_log.specs.declared.queue.Queue.{Queue}
 use Rattle.p2p_log.specs.declared.queue.Queue.TheVariants as queue
+use Rattle.p2p_log.specs.declared.item.Item.{Item}
 use Rattle.p2p_log.specs.declared.item.Envelope.{Envelope}
 use Rattle.p2p_log.specs.declared.entry.Entry.{Entry}
 use Rattle.p2p_log.specs.QueueCode.{same_queue}
@@ -24,11 +26,13 @@ use Rattle.p2p_log_rules.specs.Tracking.{steps_tracker}
 use Rattle.p2p_log_rules.specs.TrackerRows.{answers}
 use Rattle.p2p_log_rules.proofs.Handshakes.{handshakes_of-append, among-without}
 use Rattle.p2p_net_queues.specs.Board.{held}
+use Rattle.p2p_net_tracker.specs.Dialed.{names_asked}
 use Rattle.p2p_net_tracker.specs.declared.tracker.Tracker.{Tracker}
-use Rattle.p2p_net_tracker.specs.Stands.{asks_of, is_told, Match, IsAnswer, HeardStands, IsToldHandshake, HandshakeStands, AreDistinct, TrackerStands}
+use Rattle.p2p_net_queues.specs.Matching.{Match}
+use Rattle.p2p_net_tracker.specs.Stands.{asks_of, is_told, IsAnswer, HeardStands, IsToldHandshake, HandshakeStands, AreDistinct, TrackerStands}
 use Rattle.p2p_net_tracker.proofs.Distinct.{distinct-with_line}
-use Rattle.p2p_net_tracker.proofs.Matching.{Match-drop}
-use Rattle.p2p_net_tracker.proofs.Moved.{tracker_moved, by_place}
+use Rattle.p2p_net_queues.proofs.Matching.{Match-drop}
+use Rattle.p2p_net_tracker.proofs.Moved.{tracker_moved, by_place, asked_line, names_are, asked_messages, asked_desk, IsAsked, asked_match, desk_grows}
 
 -- what is left for a handshake of which a step took its oldest item, or which ended
 abbrev pub after_step : Bool → Option (List (HandshakeItem Key)) → Option (List (HandshakeItem Key))
@@ -39,16 +43,17 @@ abbrev pub left_after : Bool → List Envelope → List Envelope
 left_after true l = []
 left_after false l = drop 1 l
 
--- what a step of the handshake h makes of the tracker, which took its oldest item or ended
-pub record HandshakeMoves (log : List Entry) (e : Entry) (n h : ℕ) (t u : Tracker) (ended : Bool) : Type 0 where
+-- what a step of the handshake h makes of the tracker, which took its oldest item or ended, and asked this with this message
+pub record HandshakeMoves (log : List Entry) (e : Entry) (n h : ℕ) (t u : Tracker) (ended : Bool) (asked : Option Item) (put : Option (Message Key)) : Type 0 where
   pub no_step : steps_tracker n e.event.act ≡ false
   pub no_question : asks_of n e.event.act ≡ None
   pub no_answer : (d : ℕ) → answers d e.event.act e.reply ≡ false
   pub names : handshakes_by n log e (handshakes_of log n) ≡ unless_ended ended h (handshakes_of log n)
-  pub rest : u ≡ record t { mailbox = record t.mailbox { handshakes = u.mailbox.handshakes }; told = u.told }
+  pub rest : u ≡ record t { mailbox = record t.mailbox { desk = asked_desk t.mailbox.desk put; handshakes = u.mailbox.handshakes }; names = t.names ++ names_asked (length log) asked; told = u.told }
   pub waiting : (k : ℕ) → line_of u.mailbox.handshakes k ≡ cond (k == h) (after_step ended (line_of t.mailbox.handshakes h)) (line_of t.mailbox.handshakes k)
   pub distinct : AreDistinct u.mailbox.handshakes
-  pub mailbox : line (log ++ e ∷ []) (queue.Tracker n) ≡ line log (queue.Tracker n)
+  pub says : IsAsked t.tickets (log ++ e ∷ []) asked put
+  pub mailbox : line (log ++ e ∷ []) (queue.Tracker n) ≡ line log (queue.Tracker n) ++ asked_line n (length log) asked
   pub lines : (p : Queue) → is_told n p ≡ true → line (log ++ e ∷ []) p ≡ cond (same_queue (queue.Handshake n h) p) (left_after ended (line log p)) (line log p)
   pub told : (p : Queue) → held u.told p ≡ (if same_queue (queue.Handshake n h) p then left_after ended (held t.told p) else held t.told p)
 
@@ -61,23 +66,26 @@ stepped_stands false false o b l h = h
 stepped_stands false true None b l h = (h.0, ap (drop 1) h.1)
 stepped_stands false true (Some items) b l h = (h.0, Match-drop (λ (x : Envelope) i. IsToldHandshake x.item i) l items h.1)
 
-pub tracker_after_handshake : (configs : List Config) (log : List Entry) (e : Entry) (n h : ℕ) (t u : Tracker) (ended : Bool) → TrackerStands configs log n t → HandshakeMoves log e n h t u ended
+pub tracker_after_handshake : (configs : List Config) (log : List Entry) (e : Entry) (n h : ℕ) (t u : Tracker) (ended : Bool) (asked : Option Item) (put : Option (Message Key)) → TrackerStands configs log n t
+    → HandshakeMoves log e n h t u ended asked put
     → TrackerStands configs (log ++ e ∷ []) n u
-tracker_after_handshake configs log e n h t u ended s q =
-    let now : Tracker = record t { mailbox = record t.mailbox { handshakes = u.mailbox.handshakes }; told = u.told } in
-    subst (TrackerStands configs (log ++ e ∷ []) n) (sym q.rest) (tracker_moved configs log e n t now [] [] s (record {
+tracker_after_handshake configs log e n h t u ended asked put s q =
+    let now : Tracker =
+    record t { mailbox = record t.mailbox { desk = asked_desk t.mailbox.desk put; handshakes = u.mailbox.handshakes }; names = t.names ++ names_asked (length log) asked; told = u.told } in
+    let grows = desk_grows t.mailbox.desk put s.is_open in
+    subst (TrackerStands configs (log ++ e ∷ []) n) (sym q.rest) (tracker_moved configs log e n t now (asked_line n (length log) asked) (asked_messages put) s (record {
       no_step = q.no_step;
       no_question = q.no_question;
       no_answer = q.no_answer;
-      rest = ap (λ l. record now { names = l }) (sym (append-nil t.names));
-      items = sym (append-nil t.mailbox.desk.messages.items);
-      closed = refl;
-      capacity = refl;
-      questions = refl;
-      updates = refl;
-      sets = refl;
-      each = tt;
-      waits = q.mailbox ∙ sym (append-nil (line log (queue.Tracker n)));
+      rest = ap (λ l. record now { names = t.names ++ l }) (sym (names_are n (length log) asked));
+      items = grows.items;
+      closed = grows.closed;
+      capacity = grows.capacity;
+      questions = grows.questions;
+      updates = grows.updates;
+      sets = grows.sets;
+      each = asked_match t.tickets (log ++ e ∷ []) n (length log) asked put q.says;
+      waits = q.mailbox;
       dialer = subst (λ l. Match (λ x a. IsAnswer x.item a) l t.mailbox.dialer) (sym (q.lines (queue.Dialer n) (eq-eqb n n refl))) s.dialer;
       heard = subst (HeardStands t.mailbox.heard) (sym (q.lines (queue.Update n) (eq-eqb n n refl))) s.heard;
       handshakes = told_now;

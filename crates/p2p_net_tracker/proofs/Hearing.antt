@@ -23,14 +23,15 @@ use Rattle.p2p_tracker_calls.specs.Overwrites.{overwritten, overwritten_keys}
 use Rattle.p2p_tracker_calls.specs.Peers.{latest_update}
 use Rattle.p2p_tracker_calls.specs.Rules.{Rules}
 use Rattle.p2p_tracker_calls.specs.Sets.{is_above, accepted_sets}
-use Rattle.p2p_tracker_mailbox.specs.Lines.{line_of}
+use Rattle.p2p_tracker_mailbox.specs.Lines.{Lines, line_of, with_item}
 use Rattle.p2p_tracker_mailbox.specs.Mailboxes.{runs_in}
 use Rattle.p2p_tracker_mailbox.specs.declared.answer.HandshakeItem.{HandshakeItem}
 use Rattle.p2p_tracker_mailbox.specs.declared.answer.HandshakeItem.TheVariants as shake
 use Rattle.p2p_tracker_mailbox.specs.declared.mailbox.Mailbox.{Mailbox}
 use Rattle.p2p_tracker_mailbox.specs.declared.message.Message.{Message}
 use Rattle.p2p_tracker_mailbox.proofs.Lines.{line_of-with_line}
-use Rattle.p2p_tracker.specs.Putting.{kills_of, overwrite_kills}
+use Rattle.p2p_tracker_directory.specs.Reserved.{peer_of}
+use Rattle.p2p_tracker.specs.Putting.{kills_of, overwrite_kills, listen_grant}
 use Rattle.p2p_tracker.specs.Steps.{heard_put, registered, unblocked, puts_for}
 use Rattle.p2p_tracker.specs.Telling.{has_any, kill_put, updates_put, told_of_sets, sets_put, after_put, after_puts}
 use Rattle.p2p_tracker.specs.declared.stepped.Put.{Put}
@@ -55,7 +56,7 @@ use Rattle.p2p_net_tracker.specs.Asking.{message_of}
 use Rattle.p2p_net_tracker.specs.Naming.{named_puts, event_at}
 use Rattle.p2p_net_tracker.specs.Stands.{Says, IsMessage, HeardStands, IsToldHandshake, HandshakeStands}
 use Rattle.p2p_net_tracker.proofs.Distinct.{keys-with_line}
-use Rattle.p2p_net_tracker.proofs.Matching.{Match-last}
+use Rattle.p2p_net_queues.proofs.Matching.{Match-last}
 use Rattle.p2p_net_tracker.proofs.Rings.{is_same, count-first}
 
 -- neither the listener nor a handshake is told this
@@ -73,9 +74,15 @@ HearsOnce (put.Acceptable handshake acceptable ∷ ps) = ⊥
 HearsOnce (put.Listen handshake grant ∷ ps) = ⊥
 HearsOnce (_ ∷ ps) = HearsOnce ps
 
--- or one handshake is told whether its peer may connect, where it runs, and that is all
+-- this handshake is told it
+abbrev pub IsFor : ℕ → Put Key → Type 0
+IsFor h (put.Acceptable handshake acceptable) = handshake ≡ h
+IsFor h (put.Listen handshake grant) = handshake ≡ h
+IsFor h _ = ⊥
+
+-- or one handshake is told one thing, where it runs, and that is all
 abbrev pub TellsFew : (ℕ → Bool) → List (Put Key) → Type 0
-TellsFew runs ps = HearsOnce ps ⊎ ((h : ℕ) × (b : Bool) × (ps ≡ cond (runs h) (put.Acceptable h b ∷ []) []))
+TellsFew runs ps = HearsOnce ps ⊎ ((h : ℕ) × (p : Put Key) × IsFor h p × (ps ≡ cond (runs h) (p ∷ []) []))
 
 aside_once : (ps : List (Put Key)) → Each IsAside ps → HearsOnce ps
 aside_once [] h = tt
@@ -177,7 +184,8 @@ module _ (rules : Rules Key) where
     item_few t log (item.Call e) m h = says_few t e h.0 m h.2
     item_few t log item.AskDialable m h = subst PutsFew (sym h) (inl tt)
     item_few t log (item.AskDial key) m h = subst PutsFew (sym h) (inl tt)
-    item_few t log (item.AskAcceptable name key) m h = subst PutsFew (sym h.2) (inr (name, is_acceptable key_cmp rules calls key h.0 now, refl))
+    item_few t log (item.AskAcceptable name key) m h = subst PutsFew (sym h.2) (inr (name, put.Acceptable name (is_acceptable key_cmp rules calls key h.0 now), refl, refl))
+    item_few t log (item.AskListen name key) m h = subst PutsFew (sym h.2) (inr (name, put.Listen name (listen_grant key_cmp rules calls now key h.0), refl, refl))
     item_few t log (item.Release key) m h = subst PutsFew (sym h.2) (inl tt)
     item_few t log _ m h = absurd h
 
@@ -219,6 +227,19 @@ one_told : (o : Option (List (HandshakeItem Key))) (b : Bool) (l : List Envelope
     → HandshakeStands (option_map (λ line. line ++ i ∷ []) o) b (l ++ x ∷ [])
 one_told None b l x i runs is h = cc
 one_told (Some items) b l x i runs is h = (h.0, Match-last (λ (y : Envelope) j. IsToldHandshake y.item j) l items x i h.1 is)
+
+-- what waits for each, once this handshake was told one item more
+pub item_told : (lines : Lines (HandshakeItem Key)) (h k : ℕ) (b : Bool) (l : List Envelope) (x : Envelope) (i : HandshakeItem Key) → is_some (line_of lines h) ≡ true → IsToldHandshake x.item i → HandshakeStands (line_of lines k) b l
+    → HandshakeStands (line_of (with_item lines h i) k) b (l ++ cond (is_at (nat_cmp h) k) (x ∷ []) [])
+item_told lines h k b l x i there is s =
+    subst (λ o. HandshakeStands o b (l ++ cond (is_at (nat_cmp h) k) (x ∷ []) [])) (sym (line_of-with_line lines h k (λ line. line ++ i ∷ []))) (by (is_at (nat_cmp h) k) refl)
+  where
+    named : (h k : ℕ) → is_at (nat_cmp h) k ≡ true → k ≡ h
+    named h k at = grind (arith, nat_tests)
+
+    by : (c : Bool) → is_at (nat_cmp h) k ≡ c → HandshakeStands (cond c (option_map (λ line. line ++ i ∷ []) (line_of lines k)) (line_of lines k)) b (l ++ cond c (x ∷ []) [])
+    by true at = one_told (line_of lines k) b l x i (ap (λ j. is_some (line_of lines j)) (named h k at) ∙ there) is s
+    by false at = subst (HandshakeStands (line_of lines k) b) (sym (append-nil l)) s
 
 module _ (n : ℕ) (t : Tickets) (j : ℕ) where
   -- what the entry j puts in a queue, from this place on
@@ -293,14 +314,19 @@ module _ (n : ℕ) (t : Tickets) (j : ℕ) where
 
   -- what the listener is told
   pub heard-after : (ps : List (Put Key)) (m : Mailbox Key) (l : List Envelope) → TellsFew (runs_in m) ps → HeardStands m.heard l → Heard m l ps
-  heard-after ps m l few s = elim few [ inl once ↦ once_heard 0 ps m l once s | inr one ↦ told one.0 one.1 one.2 ]
+  heard-after ps m l few s = elim few [ inl once ↦ once_heard 0 ps m l once s | inr one ↦ told one.0 one.1 one.2 one.3 ]
     where
-      by_run : (h : ℕ) (b c : Bool) → Heard m l (cond c (put.Acceptable h b ∷ []) [])
-      by_run h b true = subst (HeardStands m.heard) (sym (append-nil l)) s
-      by_run h b false = subst (HeardStands m.heard) (sym (append-nil l)) s
+      unheard : Heard m l []
+      unheard = subst (HeardStands m.heard) (sym (append-nil l)) s
 
-      told : (h : ℕ) (b : Bool) → ps ≡ cond (runs_in m h) (put.Acceptable h b ∷ []) [] → Heard m l ps
-      told h b is = subst (Heard m l) (sym is) (by_run h b (runs_in m h))
+      by_run : (h : ℕ) (p : Put Key) (c : Bool) → IsFor h p → Heard m l (cond c (p ∷ []) [])
+      by_run h p false is = unheard
+      by_run h (put.Acceptable g b) true is = unheard
+      by_run h (put.Listen g grant) true is = unheard
+      by_run h _ true is = absurd is
+
+      told : (h : ℕ) (p : Put Key) → IsFor h p → ps ≡ cond (runs_in m h) (p ∷ []) [] → Heard m l ps
+      told h p is all = subst (Heard m l) (sym all) (by_run h p (runs_in m h) is)
 
   -- what handshakes are told
   module _ (m : Mailbox Key) (runs : ℕ → Bool) (l : ℕ → List Envelope) (s : (k : ℕ) → HandshakeStands (line_of m.handshakes k) (runs k) (l k)) where
@@ -315,35 +341,29 @@ module _ (n : ℕ) (t : Tickets) (j : ℕ) where
         subst (λ d. HandshakeStands (line_of d k) (runs k) (l k ++ added (queue.Handshake n k) 0 ps)) (sym (once_handshakes ps m once))
         (subst (λ d. HandshakeStands (line_of m.handshakes k) (runs k) (l k ++ d)) (sym (once_to_handshake k 0 ps once)) (none_to_handshake k))
 
-    told_one : (h k : ℕ) (b : Bool) → runs_in m h ≡ true → HandshakeTold k (put.Acceptable h b ∷ [])
-    told_one h k b there =
-        let x : Envelope = record { entry = j; place = 0; queue = queue.Handshake n h; item = item.Acceptable b } in
-        let line_is = line_of-with_line m.handshakes h k (λ line. line ++ shake.Acceptable b ∷ []) in
-        subst (λ o. HandshakeStands o (runs k) (l k ++ cond ((n == n) && (k == h)) (x ∷ []) [])) (sym line_is)
-        (subst (λ c. HandshakeStands (cond (is_at (nat_cmp h) k) (option_map (λ line. line ++ shake.Acceptable b ∷ []) (line_of m.handshakes k)) (line_of m.handshakes k)) (runs k) (l k ++ cond c (x ∷ []) []))
-        (sym (same n k h)) (by x (is_at (nat_cmp h) k) refl refl))
+    told_here : (h k : ℕ) (i : Item) (a : HandshakeItem Key) → IsToldHandshake i a → runs_in m h ≡ true
+        → HandshakeStands (line_of (with_item m.handshakes h a) k) (runs k) (l k ++ cond ((n == n) && (k == h)) (record { entry = j; place = 0; queue = queue.Handshake n h; item = i } ∷ []) [])
+    told_here h k i a is there =
+        let x : Envelope = record { entry = j; place = 0; queue = queue.Handshake n h; item = i } in
+        subst (λ c. HandshakeStands (line_of (with_item m.handshakes h a) k) (runs k) (l k ++ cond c (x ∷ []) [])) (sym (same n k h)) (item_told m.handshakes h k (runs k) (l k) x a there is (s k))
       where
         same : (n k h : ℕ) → ((n == n) && (k == h)) ≡ is_at (nat_cmp h) k
         same n k h = grind (arith, nat_tests)
 
-        named : (h k : ℕ) → is_at (nat_cmp h) k ≡ true → k ≡ h
-        named h k is = grind (arith, nat_tests)
-
-        by : (x : Envelope) (c : Bool) → is_at (nat_cmp h) k ≡ c → x.item ≡ item.Acceptable b
-            → HandshakeStands (cond c (option_map (λ line. line ++ shake.Acceptable b ∷ []) (line_of m.handshakes k)) (line_of m.handshakes k)) (runs k) (l k ++ cond c (x ∷ []) [])
-        by x true is said =
-            one_told (line_of m.handshakes k) (runs k) (l k) x (shake.Acceptable b) (ap (runs_in m) (named h k is) ∙ there) (subst (λ i. IsToldHandshake i (shake.Acceptable b)) (sym said) refl) (s k)
-        by x false is said = none_to_handshake k
+    told_one : (h k : ℕ) (p : Put Key) → IsFor h p → runs_in m h ≡ true → HandshakeTold k (p ∷ [])
+    told_one h k (put.Acceptable g b) is there = told_here g k (item.Acceptable b) (shake.Acceptable b) refl (ap (runs_in m) is ∙ there)
+    told_one h k (put.Listen g grant) is there = told_here g k (item.Listen (option_map peer_of grant)) (shake.Listen grant) (grant, refl, refl) (ap (runs_in m) is ∙ there)
+    told_one h k _ is there = absurd is
 
     pub handshakes-after : (ps : List (Put Key)) → TellsFew (runs_in m) ps → (k : ℕ) → HandshakeTold k ps
-    handshakes-after ps few k = elim few [ inl once ↦ once_stands k ps once | inr one ↦ told one.0 one.1 one.2 ]
+    handshakes-after ps few k = elim few [ inl once ↦ once_stands k ps once | inr one ↦ told one.0 one.1 one.2 one.3 ]
       where
-        by_run : (h : ℕ) (b c : Bool) → runs_in m h ≡ c → HandshakeTold k (cond c (put.Acceptable h b ∷ []) [])
-        by_run h b true is = told_one h k b is
-        by_run h b false is = none_to_handshake k
+        by_run : (h : ℕ) (p : Put Key) (c : Bool) → IsFor h p → runs_in m h ≡ c → HandshakeTold k (cond c (p ∷ []) [])
+        by_run h p true is there = told_one h k p is there
+        by_run h p false is there = none_to_handshake k
 
-        told : (h : ℕ) (b : Bool) → ps ≡ cond (runs_in m h) (put.Acceptable h b ∷ []) [] → HandshakeTold k ps
-        told h b is = subst (HandshakeTold k) (sym is) (by_run h b (runs_in m h) refl)
+        told : (h : ℕ) (p : Put Key) → IsFor h p → ps ≡ cond (runs_in m h) (p ∷ []) [] → HandshakeTold k ps
+        told h p is all = subst (HandshakeTold k) (sym all) (by_run h p (runs_in m h) is refl)
 
 -- what is put for handshakes begins and ends none
 pub keys-after : (ps : List (Put Key)) (m : Mailbox Key) → keys_of (after_puts ps m).handshakes ≡ keys_of m.handshakes

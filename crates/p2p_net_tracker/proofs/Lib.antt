@@ -6,10 +6,10 @@ pub mod DialerSteps
 pub mod Dialing
 pub mod Distinct
 pub mod Facts
+pub mod FinishSteps
 pub mod HandshakeSteps
 pub mod Hearing
 pub mod ListenerSteps
-pub mod Matching
 pub mod Moved
 pub mod Named
 pub mod Questions

@@ -27,7 +27,8 @@ use Rattle.p2p_log_rules.proofs.Handshakes.{handshakes_of-append, none_later}
 use Rattle.p2p_net_queues.specs.Board.{held}
 use Rattle.p2p_net_queues.proofs.Tables.{lookup-insert_entry}
 use Rattle.p2p_net_tracker.specs.declared.tracker.Tracker.{Tracker}
-use Rattle.p2p_net_tracker.specs.Stands.{asks_of, is_told, Match, IsAnswer, HeardStands, IsToldHandshake, HandshakeStands, TrackerStands}
+use Rattle.p2p_net_queues.specs.Matching.{Match}
+use Rattle.p2p_net_tracker.specs.Stands.{asks_of, is_told, IsAnswer, HeardStands, IsToldHandshake, HandshakeStands, TrackerStands}
 use Rattle.p2p_net_tracker.proofs.Distinct.{distinct-begun}
 use Rattle.p2p_net_tracker.proofs.Facts.{handshaking-kept}
 use Rattle.p2p_net_tracker.proofs.Hearing.{one_waits}

@@ -1,26 +1,34 @@
 -- A node's tracker after an entry that is neither a step of it nor a question of an oracle: what the entry makes of it, and that it stands for the log then.
-use Rattle.std.proofs.Common.{◌≡◌, ℕ, Bool, true, false, cond, List, [], ◌∷◌, ◌++◌, map, length, ap, sym, subst, ◌∙◌, None}
-use Rattle.std.specs.Prelude.{if◌then◌else◌}
+use Rattle.std.proofs.Common.{◌≡◌, ℕ, Bool, true, false, cond, List, [], ◌∷◌, ◌++◌, map, length, refl, ap, sym, subst, ◌∙◌, append-nil, Option, Some, None}
+use Rattle.std.specs.Prelude.{filter, if◌then◌else◌}
 use Rattle.std.proofs.lemmas.List.{map-append}
 use Rattle.p2p_base.specs.declared.key.Key.{Key}
+use Rattle.p2p_base.specs.Queue.{has_room}
 use Rattle.p2p_tracker.specs.Following.{Follows}
+use Rattle.p2p_tracker_mailbox.specs.Desk.{Desk, with_message}
 use Rattle.p2p_tracker_mailbox.specs.Lines.{line_of}
 use Rattle.p2p_tracker_mailbox.specs.declared.message.Message.{Message}
 use Rattle.p2p_log.specs.declared.config.Config.{Config}
 use Rattle.p2p_log.specs.declared.queue.Queue.{Queue}
 use Rattle.p2p_log.specs.declared.queue.Queue.TheVariants as queue
+use Rattle.p2p_log.specs.declared.item.Item.{Item}
 use Rattle.p2p_log.specs.declared.item.Envelope.{Envelope}
 use Rattle.p2p_log.specs.declared.entry.Entry.{Entry}
-use Rattle.p2p_log.specs.Lines.{name_of, line}
+use Rattle.p2p_log.specs.Lines.{name_of, placed, stands_in, line}
+use Rattle.p2p_log.proofs.Queues.{same_queue-refl}
 use Rattle.p2p_log_rules.specs.Handshakes.{is_handshaking}
 use Rattle.p2p_log_rules.specs.Tracking.{key_cmp, steps_tracker}
 use Rattle.p2p_log_rules.specs.TrackerRows.{answers}
 use Rattle.p2p_net_queues.specs.Board.{held}
+use Rattle.p2p_net_queues.proofs.Going.{put_in}
+use Rattle.p2p_net_tracker.specs.Dialed.{asked_puts, names_asked}
+use Rattle.p2p_net_tracker.specs.declared.naming.Tickets.{Tickets}
 use Rattle.p2p_net_tracker.specs.declared.tracker.Tracker.{Tracker}
-use Rattle.p2p_net_tracker.specs.Stands.{asks_of, is_told, Match, IsTicket, IsMessage, IsAnswer, HeardStands, HandshakeStands, AreDistinct, TrackerStands}
-use Rattle.p2p_net_tracker.proofs.Changes.{same_tickets, messages-longer}
+use Rattle.p2p_net_queues.specs.Matching.{Match}
+use Rattle.p2p_net_tracker.specs.Stands.{asks_of, is_told, IsTicket, IsMessage, IsAnswer, HeardStands, HandshakeStands, AreDistinct, TrackerStands}
+use Rattle.p2p_net_tracker.proofs.Changes.{same_tickets, messages-longer, told_apart, kept_open}
 use Rattle.p2p_net_tracker.proofs.Facts.{asks_at-kept, fresh-longer, was_answered-kept, calls-kept, update_subscriptions-kept, blocked_subscriptions-kept}
-use Rattle.p2p_net_tracker.proofs.Matching.{Match-append}
+use Rattle.p2p_net_queues.proofs.Matching.{Match-append}
 
 -- what the entry makes of the tracker: these messages wait in these envelopes beside those before
 pub record TrackerMoves (log : List Entry) (e : Entry) (n : ℕ) (t u : Tracker) (xs : List Envelope) (ms : List (Message Key)) : Type 0 where
@@ -80,3 +88,65 @@ tracker_moved configs log e n t u xs ms s q =
 pub by_place : (f : List Envelope → List Envelope) (b : Bool) (h l : List Envelope) → h ≡ l → (if b then f h else h) ≡ cond b (f l) l
 by_place f true h l is = ap f is
 by_place f false h l is = is
+
+-- ---- something may be asked of it, by the entry k
+
+-- it waits under the name of the entry
+abbrev pub asked_line : ℕ → ℕ → Option Item → List Envelope
+asked_line n k None = []
+asked_line n k (Some i) = record { entry = k; place = 0; queue = queue.Tracker n; item = i } ∷ []
+
+pub names_are : (n k : ℕ) (asked : Option Item) → map name_of (asked_line n k asked) ≡ names_asked k asked
+names_are n k None = refl
+names_are n k (Some i) = refl
+
+-- an entry that asks this puts it in the mailbox, and nothing where the tracker tells something
+pub asked_in : (log : List Entry) (e : Entry) (n : ℕ) (asked : Option Item) → e.puts ≡ asked_puts n asked → put_in log e (queue.Tracker n) ≡ asked_line n (length log) asked
+asked_in log e n asked is = ap (λ l. filter (stands_in (queue.Tracker n)) (placed (length log) 0 l)) is ∙ by asked
+  where
+    by : (o : Option Item) → filter (stands_in (queue.Tracker n)) (placed (length log) 0 (asked_puts n o)) ≡ asked_line n (length log) o
+    by None = refl
+    by (Some i) = ap (λ b. cond b (asked_line n (length log) (Some i)) []) (same_queue-refl (queue.Tracker n))
+
+pub asked_quiet : (log : List Entry) (e : Entry) (n : ℕ) (asked : Option Item) → e.puts ≡ asked_puts n asked → (p : Queue) → is_told n p ≡ true → put_in log e p ≡ []
+asked_quiet log e n asked is p own = ap (λ l. filter (stands_in p) (placed (length log) 0 l)) is ∙ by asked
+  where
+    by : (o : Option Item) → filter (stands_in p) (placed (length log) 0 (asked_puts n o)) ≡ []
+    by None = refl
+    by (Some i) = ap (λ b. cond b (asked_line n (length log) (Some i)) []) (told_apart n n p own)
+
+-- as a message in the mailbox
+abbrev pub asked_messages : Option (Message Key) → List (Message Key)
+asked_messages None = []
+asked_messages (Some m) = m ∷ []
+
+abbrev pub asked_desk : Desk Key → Option (Message Key) → Desk Key
+asked_desk d None = d
+asked_desk d (Some m) = with_message d m
+
+-- the message is that of the item
+abbrev pub IsAsked : Tickets → List Entry → Option Item → Option (Message Key) → Type 0
+IsAsked t log None None = Unit {0}
+IsAsked t log (Some i) (Some m) = IsMessage t log i m
+IsAsked t log _ _ = ⊥
+
+pub asked_match : (t : Tickets) (log : List Entry) (n k : ℕ) (asked : Option Item) (put : Option (Message Key)) → IsAsked t log asked put
+    → Match (λ x m. IsMessage t log x.item m) (asked_line n k asked) (asked_messages put)
+asked_match t log n k None None h = tt
+asked_match t log n k (Some i) (Some m) h = (h, tt)
+asked_match t log n k None (Some m) h = absurd h
+asked_match t log n k (Some i) None h = absurd h
+
+-- a desk with these messages more, and as many tickets
+pub record GrowsDesk (old new : Desk Key) (ms : List (Message Key)) : Type 0 where
+  pub items : new.messages.items ≡ old.messages.items ++ ms
+  pub closed : new.messages.closed ≡ old.messages.closed
+  pub capacity : new.messages.capacity ≡ old.messages.capacity
+  pub questions : length new.questions ≡ length old.questions
+  pub updates : length new.updates ≡ length old.updates
+  pub sets : length new.sets ≡ length old.sets
+
+pub desk_grows : (d : Desk Key) (put : Option (Message Key)) → d.messages.closed ≡ false → GrowsDesk d (asked_desk d put) (asked_messages put)
+desk_grows d None is_open = record { items = sym (append-nil d.messages.items); closed = refl; capacity = refl; questions = refl; updates = refl; sets = refl }
+desk_grows d (Some m) is_open =
+    record { items = kept_open d.messages.closed (has_room d.messages) d.messages.items m is_open; closed = refl; capacity = refl; questions = refl; updates = refl; sets = refl }

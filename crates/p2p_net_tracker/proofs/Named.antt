@@ -9,7 +9,7 @@ use Rattle.p2p_address.specs.Addresses.{ingress_of}
 use Rattle.p2p_flow.specs.declared.update.PeerSetUpdate.{PeerSetUpdate}
 use Rattle.p2p_tracker_calls.specs.declared.call.Call.{Call}
 use Rattle.p2p_tracker_calls.specs.declared.call.Call.TheVariants as call
-use Rattle.p2p_tracker_calls.specs.Allows.{allows_dial, is_acceptable}
+use Rattle.p2p_tracker_calls.specs.Allows.{allows_dial, allows_listen, is_acceptable}
 use Rattle.p2p_tracker_calls.specs.BlockedKeys.{blocked_keys}
 use Rattle.p2p_tracker_calls.specs.Blocks.{is_blockable}
 use Rattle.p2p_tracker_calls.specs.Keeping.{kept_of}
@@ -19,9 +19,10 @@ use Rattle.p2p_tracker_calls.specs.Overwrites.{overwritten, overwritten_keys}
 use Rattle.p2p_tracker_calls.specs.Peers.{peer_set_of, latest_update}
 use Rattle.p2p_tracker_calls.specs.Rules.{Rules}
 use Rattle.p2p_tracker_calls.specs.Sets.{is_above, accepted_sets}
+use Rattle.p2p_tracker_directory.specs.Reserved.{peer_of}
 use Rattle.p2p_tracker_directory.specs.declared.metadata.Metadata.TheVariants as side
 use Rattle.p2p_tracker_mailbox.specs.declared.message.Message.{Message}
-use Rattle.p2p_tracker.specs.Putting.{kills_of, overwrite_kills}
+use Rattle.p2p_tracker.specs.Putting.{kills_of, overwrite_kills, listen_grant}
 use Rattle.p2p_tracker.specs.Steps.{heard_put, registered, blocked, unblocked, puts_for}
 use Rattle.p2p_tracker.specs.Telling.{has_any, kill_put, updates_put, told_of_sets, sets_put}
 use Rattle.p2p_tracker.specs.declared.stepped.Put.{Put}
@@ -39,8 +40,9 @@ use Rattle.p2p_log_rules.specs.Tracking.{key_cmp}
 use Rattle.p2p_log_rules.specs.TrackerPuts as puts
 use Rattle.p2p_net_tracker.specs.declared.naming.Tickets.{Tickets}
 use Rattle.p2p_net_tracker.specs.Naming.{named_put, before, named_puts, grant_of}
-use Rattle.p2p_net_tracker.specs.Stands.{Match, IsTicket, Says, IsMessage}
-use Rattle.p2p_net_tracker.proofs.Matching.{slice_index-get}
+use Rattle.p2p_net_queues.specs.Matching.{Match}
+use Rattle.p2p_net_tracker.specs.Stands.{IsTicket, Says, IsMessage}
+use Rattle.p2p_net_queues.proofs.Matching.{slice_index-get}
 
 pub has_any-is : {X : Type 0} (xs : List X) → has_any xs ≡ puts.is_some_of xs
 has_any-is [] = refl
@@ -174,10 +176,24 @@ module _ (n : ℕ) (t : Tickets) where
       named-item log (item.AskAcceptable name key) m runs_now h =
           ap (λ d. named_puts n t (puts_for key_cmp rules updates sets waiting heard runs calls now d)) h.2
           ∙ (ap (λ b. named_puts n t (cond b (put.Acceptable name (is_acceptable key_cmp rules calls key h.0 now) ∷ []) [])) (runs_now name)
-          ∙ (answered (is_handshaking log n name) ∙ ap (puts.acceptable_puts rules n now us bs calls name key (is_handshaking log n name)) (sym h.1)))
+          ∙ (answered (is_handshaking log n name) ∙ ap (puts.handshake_puts rules n now us bs calls name (puts.acceptance rules n now us bs calls key) (is_handshaking log n name)) (sym h.1)))
         where
-          answered : (b : Bool) → named_puts n t (cond b (put.Acceptable name (is_acceptable key_cmp rules calls key h.0 now) ∷ []) []) ≡ puts.acceptable_puts rules n now us bs calls name key b (Some h.0)
+          answered : (b : Bool) → named_puts n t (cond b (put.Acceptable name (is_acceptable key_cmp rules calls key h.0 now) ∷ []) [])
+              ≡ puts.handshake_puts rules n now us bs calls name (puts.acceptance rules n now us bs calls key) b (Some h.0)
           answered true = refl
+          answered false = refl
+      named-item log (item.AskListen name key) m runs_now h =
+          ap (λ d. named_puts n t (puts_for key_cmp rules updates sets waiting heard runs calls now d)) h.2
+          ∙ (ap (λ b. named_puts n t (cond b (put.Listen name (listen_grant key_cmp rules calls now key h.0) ∷ []) [])) (runs_now name)
+          ∙ (answered (is_handshaking log n name) ∙ ap (puts.handshake_puts rules n now us bs calls name (puts.listen_grant rules n now us bs calls key) (is_handshaking log n name)) (sym h.1)))
+        where
+          granted : (b : Bool) → option_map peer_of (cond b (Some (side.Listener key)) None) ≡ cond b (Some key) None
+          granted true = refl
+          granted false = refl
+
+          answered : (b : Bool) → named_puts n t (cond b (put.Listen name (listen_grant key_cmp rules calls now key h.0) ∷ []) [])
+              ≡ puts.handshake_puts rules n now us bs calls name (puts.listen_grant rules n now us bs calls key) b (Some h.0)
+          answered true = ap (λ o. (queue.Handshake n name, item.Listen o) ∷ []) (granted (allows_listen key_cmp rules calls key h.0 now))
           answered false = refl
       named-item log (item.Release key) m runs_now h = ap (λ d. named_puts n t (puts_for key_cmp rules updates sets waiting heard runs calls now d)) h.2
       named-item log _ m runs_now h = absurd h

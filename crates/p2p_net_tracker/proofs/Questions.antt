@@ -39,7 +39,7 @@ use Rattle.p2p_net_tracker.specs.Stands.{kind_of, asks_of, asks_at, Says, Tracke
 use Rattle.p2p_net_tracker.proofs.Answering.{still_stands}
 use Rattle.p2p_net_tracker.proofs.Changes.{same_tickets, Asks, tracker_asked}
 use Rattle.p2p_net_tracker.proofs.Facts.{asks_at-longer, asks_at-kept}
-use Rattle.p2p_net_tracker.proofs.Matching.{Match-long, slice_get-longer, slice_get-last}
+use Rattle.p2p_net_queues.proofs.Matching.{Match-long, slice_get-longer, slice_get-last}
 
 -- what the mailbox tells is what the log says
 told_is : (closed : Bool) (items capacity waiting size : ℕ) → closed ≡ false → waiting ≡ items → capacity ≡ size

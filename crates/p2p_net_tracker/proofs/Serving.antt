@@ -7,10 +7,11 @@ use Rattle.std.specs.Map.{lookup}
 use Rattle.std.specs.BTreeMap.{is_at}
 use Rattle.p2p_base.specs.declared.key.Key.{Key}
 use Rattle.p2p_address.specs.Addresses.{ingress_of, is_valid}
+use Rattle.p2p_address.specs.declared.ip.IpAddr.{IpAddr}
 use Rattle.p2p_address.specs.declared.peer.Address.{Address}
 use Rattle.p2p_tracker_calls.specs.declared.call.Call.{Call}
 use Rattle.p2p_tracker_calls.specs.declared.call.Call.TheVariants as call
-use Rattle.p2p_tracker_calls.specs.Allows.{allows_dial, has_valid_ingress, is_free}
+use Rattle.p2p_tracker_calls.specs.Allows.{allows_dial, allows_listen, has_valid_ingress, is_free}
 use Rattle.p2p_tracker_calls.specs.Lives.{address_of, cool}
 use Rattle.p2p_tracker_calls.specs.Sets.{is_primary}
 use Rattle.p2p_tracker_calls.specs.Rules.{Rules}
@@ -27,13 +28,15 @@ use Rattle.p2p_log.specs.declared.asked.Asked.{Asked}
 use Rattle.p2p_log.specs.declared.asked.Asked.TheVariants as ask
 use Rattle.p2p_log.specs.declared.event.Act.{Act}
 use Rattle.p2p_log.specs.declared.event.Act.TheVariants as act
-use Rattle.p2p_log_rules.specs.Tracking.{key_cmp, asked_calls, item_calls, grants_dial, call_where, subscribes, subscribes_blocked}
+use Rattle.p2p_log_rules.specs.Handshakes.{is_handshaking, source_at}
+use Rattle.p2p_log_rules.specs.Tracking.{key_cmp, asked_calls, item_calls, grants_peer, call_where, subscribes, subscribes_blocked}
 use Rattle.p2p_log_rules.specs.TrackerPuts as puts
-use Rattle.p2p_log_rules.specs.TrackerPuts.{dial_grant}
+use Rattle.p2p_log_rules.specs.TrackerPuts.{dial_grant, listen_grant}
 use Rattle.p2p_net_tracker.specs.Asking.{message_of}
 use Rattle.p2p_net_tracker.specs.declared.naming.Tickets.{Tickets}
-use Rattle.p2p_net_tracker.specs.Stands.{Match, IsTicket, Says, kind_of, HasTicket, IsMessage}
-use Rattle.p2p_net_tracker.proofs.Matching.{Match-last}
+use Rattle.p2p_net_queues.specs.Matching.{Match}
+use Rattle.p2p_net_tracker.specs.Stands.{IsTicket, Says, kind_of, HasTicket, IsMessage}
+use Rattle.p2p_net_queues.proofs.Matching.{Match-last}
 
 message-calls : (rules : Rules Key) (what : Asked) (n ticket now jitter : ℕ) (calls : List (Call Key)) → calls_after key_cmp rules (message_of what ticket) now jitter calls ≡ asked_calls (Some (act.Ask what n)) now calls
 message-calls rules (ask.Track index peers) n ticket now jitter calls = refl
@@ -92,6 +95,7 @@ item-updates t log (item.Call e) m ts es h s =
 item-updates t log item.AskDialable m ts es h s = subst (λ d. Match (IsTicket t.updates) (updates_for d ts) (es ++ [])) (sym h) (same_events (IsTicket t.updates) ts es s)
 item-updates t log (item.AskDial key) m ts es h s = subst (λ d. Match (IsTicket t.updates) (updates_for d ts) (es ++ [])) (sym h) (same_events (IsTicket t.updates) ts es s)
 item-updates t log (item.AskAcceptable name key) m ts es h s = subst (λ d. Match (IsTicket t.updates) (updates_for d ts) (es ++ [])) (sym h.2) (same_events (IsTicket t.updates) ts es s)
+item-updates t log (item.AskListen name key) m ts es h s = subst (λ d. Match (IsTicket t.updates) (updates_for d ts) (es ++ [])) (sym h.2) (same_events (IsTicket t.updates) ts es s)
 item-updates t log (item.Release key) m ts es h s = subst (λ d. Match (IsTicket t.updates) (updates_for d ts) (es ++ [])) (sym h.2) (same_events (IsTicket t.updates) ts es s)
 item-updates t log _ m ts es h s = absurd h
 
@@ -102,6 +106,7 @@ item-sets t log (item.Call e) m ts es h s =
 item-sets t log item.AskDialable m ts es h s = subst (λ d. Match (IsTicket t.blocked) (sets_for d ts) (es ++ [])) (sym h) (same_events (IsTicket t.blocked) ts es s)
 item-sets t log (item.AskDial key) m ts es h s = subst (λ d. Match (IsTicket t.blocked) (sets_for d ts) (es ++ [])) (sym h) (same_events (IsTicket t.blocked) ts es s)
 item-sets t log (item.AskAcceptable name key) m ts es h s = subst (λ d. Match (IsTicket t.blocked) (sets_for d ts) (es ++ [])) (sym h.2) (same_events (IsTicket t.blocked) ts es s)
+item-sets t log (item.AskListen name key) m ts es h s = subst (λ d. Match (IsTicket t.blocked) (sets_for d ts) (es ++ [])) (sym h.2) (same_events (IsTicket t.blocked) ts es s)
 item-sets t log (item.Release key) m ts es h s = subst (λ d. Match (IsTicket t.blocked) (sets_for d ts) (es ++ [])) (sym h.2) (same_events (IsTicket t.blocked) ts es s)
 item-sets t log _ m ts es h s = absurd h
 
@@ -115,34 +120,56 @@ item-may_take kept t log (item.Call e) m now h released = says-may_take kept t e
 item-may_take kept t log item.AskDialable m now h released = subst (λ k. MayTake key_cmp kept k now) (sym h) tt
 item-may_take kept t log (item.AskDial key) m now h released = subst (λ k. MayTake key_cmp kept k now) (sym h) tt
 item-may_take kept t log (item.AskAcceptable name key) m now h released = subst (λ k. MayTake key_cmp kept k now) (sym h.2) tt
+item-may_take kept t log (item.AskListen name key) m now h released = subst (λ k. MayTake key_cmp kept k now) (sym h.2) tt
 item-may_take kept t log (item.Release key) m now h released =
     subst (λ k. MayTake key_cmp kept k now) (sym h.2) (ap (λ k. is_held_or_unknown (lookup (is_at (key_cmp k)) kept.records)) h.1 ∙ released)
 item-may_take kept t log _ m now h released = absurd h
 
 -- a dial is granted where the answer reserves someone
 dial-granted : (rules : Rules Key) (n : ℕ) (calls : List (Call Key)) (k : Key) (now : ℕ)
-    → (grants_dial (queue.Dialer n, item.Dial (dial_grant rules n now [] [] calls k)) || false) ≡ allows_dial key_cmp rules calls k now
+    → (grants_peer (queue.Dialer n, item.Dial (dial_grant rules n now [] [] calls k)) || false) ≡ allows_dial key_cmp rules calls k now
 dial-granted rules n calls k now =
     by (is_free key_cmp rules calls k now && not (nat_lt now (cool key_cmp rules calls k)) && is_primary key_cmp rules calls k) (address_of key_cmp rules calls k)
   where
     by : (b : Bool) (o : Option Address)
-        → (grants_dial (queue.Dialer n, item.Dial (cond (b && has_valid_ingress rules.private rules.dns o) (option_map (λ a. (k, ingress_of a)) o) None)) || false) ≡ (b && has_valid_ingress rules.private rules.dns o)
+        → (grants_peer (queue.Dialer n, item.Dial (cond (b && has_valid_ingress rules.private rules.dns o) (option_map (λ a. (k, ingress_of a)) o) None)) || false) ≡ (b && has_valid_ingress rules.private rules.dns o)
     by true None = refl
     by false None = refl
     by false (Some a) = refl
     by true (Some a) = by_valid (is_valid rules.private rules.dns (ingress_of a))
       where
-        by_valid : (v : Bool) → (grants_dial (queue.Dialer n, item.Dial (cond v (Some (k, ingress_of a)) None)) || false) ≡ v
+        by_valid : (v : Bool) → (grants_peer (queue.Dialer n, item.Dial (cond v (Some (k, ingress_of a)) None)) || false) ≡ v
         by_valid true = refl
         by_valid false = refl
 
-pub item-calls : (rules : Rules Key) (n : ℕ) (t : Tickets) (log : List Entry) (i : Item) (m : Message Key) (now jitter : ℕ) (us bs : List ℕ) (calls : List (Call Key)) → IsMessage t log i m
-    → calls_after key_cmp rules m now jitter calls ≡ item_calls log i now jitter (list_any grants_dial (puts.item_puts rules n now us bs calls log i)) calls
-item-calls rules n t log (item.Call e) m now jitter us bs calls h = says-calls rules t e h.0 m now jitter calls h.2 ∙ ap (λ o. asked_calls o now calls) (sym h.1)
-item-calls rules n t log item.AskDialable m now jitter us bs calls h = ap (λ d. calls_after key_cmp rules d now jitter calls) h
-item-calls rules n t log (item.AskDial key) m now jitter us bs calls h =
+-- and a peer is granted to a handshake where it is told so
+listen-granted : (rules : Rules Key) (n : ℕ) (us bs : List ℕ) (calls : List (Call Key)) (name : ℕ) (k : Key) (source : IpAddr) (now : ℕ)
+    → (grants_peer (queue.Handshake n name, listen_grant rules n now us bs calls k source) || false) ≡ allows_listen key_cmp rules calls k source now
+listen-granted rules n us bs calls name k source now = by (allows_listen key_cmp rules calls k source now)
+  where
+    by : (b : Bool) → (grants_peer (queue.Handshake n name, item.Listen (cond b (Some k) None)) || false) ≡ b
+    by true = refl
+    by false = refl
+
+-- a handshake that asks for its peer runs
+abbrev pub AskerRuns : List Entry → ℕ → Item → Type 0
+AskerRuns log n (item.AskListen name key) = is_handshaking log n name ≡ true
+AskerRuns log n _ = Unit {0}
+
+pub item-calls : (rules : Rules Key) (n : ℕ) (t : Tickets) (log : List Entry) (i : Item) (m : Message Key) (now jitter : ℕ) (us bs : List ℕ) (calls : List (Call Key)) → IsMessage t log i m → AskerRuns log n i
+    → calls_after key_cmp rules m now jitter calls ≡ item_calls log i now jitter (list_any grants_peer (puts.item_puts rules n now us bs calls log i)) calls
+item-calls rules n t log (item.Call e) m now jitter us bs calls h runs = says-calls rules t e h.0 m now jitter calls h.2 ∙ ap (λ o. asked_calls o now calls) (sym h.1)
+item-calls rules n t log item.AskDialable m now jitter us bs calls h runs = ap (λ d. calls_after key_cmp rules d now jitter calls) h
+item-calls rules n t log (item.AskDial key) m now jitter us bs calls h runs =
     ap (λ d. calls_after key_cmp rules d now jitter calls) h ∙ ap (λ b. call.Dial key now jitter b ∷ calls) (sym (dial-granted rules n calls key now))
-item-calls rules n t log (item.AskAcceptable name key) m now jitter us bs calls h = ap (λ d. calls_after key_cmp rules d now jitter calls) h.2
-item-calls rules n t log (item.Release key) m now jitter us bs calls h =
+item-calls rules n t log (item.AskAcceptable name key) m now jitter us bs calls h runs = ap (λ d. calls_after key_cmp rules d now jitter calls) h.2
+item-calls rules n t log (item.AskListen name key) m now jitter us bs calls h runs =
+    let told = listen_grant rules n now us bs calls key in
+    let granted : list_any grants_peer (puts.handshake_puts rules n now us bs calls name told (is_handshaking log n name) (source_at log name)) ≡ allows_listen key_cmp rules calls key h.0 now =
+    ap (λ b. list_any grants_peer (puts.handshake_puts rules n now us bs calls name told b (source_at log name))) runs
+    ∙ (ap (λ o. list_any grants_peer (puts.handshake_puts rules n now us bs calls name told true o)) h.1 ∙ listen-granted rules n us bs calls name key h.0 now)
+    in
+    ap (λ d. calls_after key_cmp rules d now jitter calls) h.2 ∙ ap (λ b. call.Listen key now jitter b ∷ calls) (sym granted)
+item-calls rules n t log (item.Release key) m now jitter us bs calls h runs =
     ap (λ d. calls_after key_cmp rules d now jitter calls) h.2 ∙ ap (λ k. call.Release k ∷ calls) h.1
-item-calls rules n t log _ m now jitter us bs calls h = absurd h
+item-calls rules n t log _ m now jitter us bs calls h runs = absurd h

@@ -30,6 +30,7 @@ use Rattle.p2p_log.specs.declared.config.Config.{Config}
 use Rattle.p2p_log.specs.declared.queue.Queue.{Queue}
 use Rattle.p2p_log.specs.declared.queue.Queue.TheVariants as queue
 use Rattle.p2p_log.specs.declared.item.Item.{Item}
+use Rattle.p2p_log.specs.declared.item.Item.TheVariants as item
 use Rattle.p2p_log.specs.declared.item.Envelope.{Envelope}
 use Rattle.p2p_log.specs.declared.entry.Entry.{Entry}
 use Rattle.p2p_log.specs.declared.entry.Reply.TheVariants as reply
@@ -40,7 +41,7 @@ use Rattle.p2p_log_rules.specs.Facts.{taken, item_named}
 use Rattle.p2p_log_rules.specs.Effect.{entry_of}
 use Rattle.p2p_log_rules.specs.Handshakes.{is_handshaking}
 use Rattle.p2p_log_rules.specs.Rows.{only}
-use Rattle.p2p_log_rules.specs.Tracking.{key_cmp, rules_at, item_calls, step_calls, grants_dial, call_where, calls_of, subscribes, subscribes_blocked, update_subscriptions, blocked_subscriptions}
+use Rattle.p2p_log_rules.specs.Tracking.{key_cmp, rules_at, item_calls, step_calls, grants_peer, call_where, calls_of, subscribes, subscribes_blocked, update_subscriptions, blocked_subscriptions}
 use Rattle.p2p_log_rules.specs.TrackerPuts as puts
 use Rattle.p2p_log_rules.specs.TrackerRows.{rings_of, told_row, served_row, tracker_step}
 use Rattle.p2p_log_rules.proofs.Recorded.{item_named-first}
@@ -52,17 +53,18 @@ use Rattle.p2p_net_tracker.specs.declared.tracker.Tracker.{Tracker}
 use Rattle.p2p_net_tracker.specs.Naming.{named_puts}
 use Rattle.p2p_net_tracker.specs.Telling.{lost, told_in, told_to}
 use Rattle.p2p_net_tracker.specs.Stepping.{ActorSteps, Tells, TellsFor, TellsBy, Steps}
-use Rattle.p2p_net_tracker.specs.Stands.{is_told, Match, IsTicket, IsMessage, IsAnswer, HeardStands, HandshakeStands, AreDistinct, TrackerStands}
+use Rattle.p2p_net_queues.specs.Matching.{Match}
+use Rattle.p2p_net_tracker.specs.Stands.{is_told, IsTicket, IsMessage, IsAnswer, HeardStands, HandshakeStands, AreDistinct, AsksRun, TrackerStands}
 use Rattle.p2p_net_tracker.proofs.Changes.{same_tickets, messages-longer}
 use Rattle.p2p_net_tracker.proofs.Desk.{LeavesDesk, all_left}
 use Rattle.p2p_net_tracker.proofs.Dialing.{answers_in, answers-after, answers-named}
 use Rattle.p2p_log_rules.proofs.Calls.{calls_of-append}
 use Rattle.p2p_net_tracker.proofs.Facts.{asks_at-kept, fresh-longer, was_answered-kept, update_subscriptions-append, blocked_subscriptions-append}
 use Rattle.p2p_net_tracker.proofs.Hearing.{TellsFew, runs_is, unblocked_once, item_few, heard-after, handshakes-after, keys-after}
-use Rattle.p2p_net_tracker.proofs.Matching.{Match-append}
+use Rattle.p2p_net_queues.proofs.Matching.{Match-append}
 use Rattle.p2p_net_tracker.proofs.Named.{has_any-is, named-unblocked, named-item}
 use Rattle.p2p_net_tracker.proofs.Rings.{is_same}
-use Rattle.p2p_net_tracker.proofs.Serving.{item-calls, item-updates, item-sets}
+use Rattle.p2p_net_tracker.proofs.Serving.{AskerRuns, item-calls, item-updates, item-sets}
 use Rattle.p2p_net_tracker.proofs.ToldLines.{named-each, Told, holds_told, mailbox-told, dialer-told, heard-told, handshake-told, lost_is, away_none, away_first, mailbox_first}
 
 pub equal_keys : EqualKeysAreOne key_cmp
@@ -131,10 +133,10 @@ stands_after configs log at seed n t u r waits messages s h =
 
 -- once the step's reply and what it took are known
 calls-step : (configs : List Config) (log : List Entry) (at seed n : ℕ) (r : Row) (items : List Item) → taken log (step_entry at seed n r) ≡ items
-    → calls_of configs (log ++ step_entry at seed n r ∷ []) n ≡ step_calls log r.reply items at (jitter_of (rules_at configs n).cooldown seed) (list_any grants_dial r.puts) (calls_of configs log n)
+    → calls_of configs (log ++ step_entry at seed n r ∷ []) n ≡ step_calls log r.reply items at (jitter_of (rules_at configs n).cooldown seed) (list_any grants_peer r.puts) (calls_of configs log n)
 calls-step configs log at seed n r items is =
     let calls = calls_of configs log n in
-    let after : List Item → List (Call Key) = λ l. step_calls log r.reply l at (jitter_of (rules_at configs n).cooldown seed) (list_any grants_dial r.puts) calls in
+    let after : List Item → List (Call Key) = λ l. step_calls log r.reply l at (jitter_of (rules_at configs n).cooldown seed) (list_any grants_peer r.puts) calls in
     calls_of-append configs log (step_entry at seed n r) n
     ∙ (ap (λ b. cond b (after (taken log (step_entry at seed n r))) calls) (eq-eqb n n refl) ∙ ap after is)
 
@@ -274,7 +276,7 @@ module _ (configs : List Config) (log : List Entry) (at seed n : ℕ) (t u : Tra
           cooldown = steps.cooldown;
           works = steps.works;
           follows = follows_next (stepped.EndedBlocks put) (next_message t.mailbox.desk) (calls_of configs (log ++ e ∷ []) n) (steps.follows calls s.follows)
-              (sym (calls-step configs log at seed n r [] none ∙ ap (λ k. step_calls log k [] at (jitter_of rules.cooldown seed) (list_any grants_dial r.puts) calls) reply_is));
+              (sym (calls-step configs log at seed n r [] none ∙ ap (λ k. step_calls log k [] at (jitter_of rules.cooldown seed) (list_any grants_peer r.puts) calls) reply_is));
           subscribed = subst (λ ts. Match (IsTicket t.tickets.updates) ts (update_subscriptions (log ++ e ∷ []) n)) (sym steps.updates)
               (subst (Match (IsTicket t.tickets.updates) t.actor.updates) (sym (updates-step log at seed n r [] none ∙ append-nil us)) s.subscribed);
           subscribed_blocked = subst (λ ts. Match (IsTicket t.tickets.blocked) ts (blocked_subscriptions (log ++ e ∷ []) n)) (sym steps.sets)
@@ -299,13 +301,13 @@ module _ (configs : List Config) (log : List Entry) (at seed n : ℕ) (t u : Tra
 
   -- a message was taken
   after_message : (x : Envelope) (waits : List Envelope) (m : Message Key) (ms : List (Message Key)) (i : Item) (put : List (Put Key))
-      → line log (queue.Tracker n) ≡ x ∷ waits → t.mailbox.desk.messages.items ≡ m ∷ ms → x.item ≡ i → IsMessage t.tickets log i m
+      → line log (queue.Tracker n) ≡ x ∷ waits → t.mailbox.desk.messages.items ≡ m ∷ ms → x.item ≡ i → IsMessage t.tickets log i m → AskerRuns log n i
       → Match (λ y k. IsMessage t.tickets log y.item k) waits ms
       → ActorSteps t.actor u.actor t.mailbox u.mailbox at seed (stepped.Message put) → TellsBy (stepped.Message put) (length log) n t u r
       → u ≡ record t { actor = u.actor; mailbox = u.mailbox; names = u.names; told = u.told }
       → put ≡ puts_for key_cmp rules t.actor.updates t.actor.sets t.mailbox.desk.sets t.mailbox.heard (runs_in t.mailbox) calls at m
       → (r ≡ told_row log (name_of x ∷ []) (puts.item_puts rules n at us bs calls log x.item)) × TrackerStands configs (log ++ e ∷ []) n u
-  after_message x waits m ms i put first items is says each steps tells rest puts_is =
+  after_message x waits m ms i put first items is says asker each steps tells rest puts_is =
       let name : slice_get t.names 0 ≡ Some (name_of x) = ap (λ l. slice_get l 0) (s.names ∙ ap (map name_of) first) in
       let telling : Tells (length log) (taken_row (name_of x)) (named_puts n t.tickets put) t u r = subst (λ o. TellsFor o (length log) (named_puts n t.tickets put) t u r) name tells.0 in
       let next : next_message t.mailbox.desk ≡ Some m = ap (λ l. slice_get l 0) items in
@@ -335,10 +337,10 @@ module _ (configs : List Config) (log : List Entry) (at seed n : ℕ) (t u : Tra
           works = steps.works;
           follows = follows_next (stepped.Message put) (next_message t.mailbox.desk) (calls_of configs (log ++ e ∷ []) n) (steps.follows calls s.follows)
               (ap (λ o. calls_by key_cmp rules (stepped.Message put) o at (jitter_of rules.cooldown seed) calls) next
-              ∙ (item-calls rules n t.tickets log i m at (jitter_of rules.cooldown seed) us bs calls says
+              ∙ (item-calls rules n t.tickets log i m at (jitter_of rules.cooldown seed) us bs calls says asker
               ∙ sym (calls-step configs log at seed n r (i ∷ []) taken_is
-              ∙ (ap (λ k. step_calls log k (i ∷ []) at (jitter_of rules.cooldown seed) (list_any grants_dial r.puts) calls) reply_is
-              ∙ ap (λ l. item_calls log i at (jitter_of rules.cooldown seed) (list_any grants_dial l) calls) puts_are))));
+              ∙ (ap (λ k. step_calls log k (i ∷ []) at (jitter_of rules.cooldown seed) (list_any grants_peer r.puts) calls) reply_is
+              ∙ ap (λ l. item_calls log i at (jitter_of rules.cooldown seed) (list_any grants_peer l) calls) puts_are))));
           subscribed = subst (λ ts. Match (IsTicket t.tickets.updates) ts (update_subscriptions (log ++ e ∷ []) n)) (sym (steps.updates ∙ ap (λ o. by_step (stepped.Message put) o updates_for t.actor.updates) next))
               (subst (Match (IsTicket t.tickets.updates) (updates_for m t.actor.updates)) (sym (updates-step log at seed n r (i ∷ []) taken_is)) (item-updates t.tickets log i m t.actor.updates us says s.subscribed));
           subscribed_blocked = subst (λ ts. Match (IsTicket t.tickets.blocked) ts (blocked_subscriptions (log ++ e ∷ []) n)) (sym (steps.sets ∙ ap (λ o. by_step (stepped.Message put) o sets_for t.actor.sets) next))
@@ -380,7 +382,7 @@ module _ (configs : List Config) (log : List Entry) (at seed n : ℕ) (t u : Tra
           cooldown = steps.cooldown;
           works = steps.works;
           follows = follows_next stepped.Idle (next_message t.mailbox.desk) (calls_of configs (log ++ e ∷ []) n) (steps.follows calls s.follows)
-              (sym (calls-step configs log at seed n r [] none ∙ ap (λ (k : Row). step_calls log k.reply [] at (jitter_of rules.cooldown seed) (list_any grants_dial r.puts) calls) is));
+              (sym (calls-step configs log at seed n r [] none ∙ ap (λ (k : Row). step_calls log k.reply [] at (jitter_of rules.cooldown seed) (list_any grants_peer r.puts) calls) is));
           subscribed = subst (λ ts. Match (IsTicket t.tickets.updates) ts (update_subscriptions (log ++ e ∷ []) n)) (sym steps.updates)
               (subst (Match (IsTicket t.tickets.updates) t.actor.updates) (sym (updates-step log at seed n r [] none ∙ append-nil us)) s.subscribed);
           subscribed_blocked = subst (λ ts. Match (IsTicket t.tickets.blocked) ts (blocked_subscriptions (log ++ e ∷ []) n)) (sym steps.sets)
@@ -417,9 +419,14 @@ module _ (configs : List Config) (log : List Entry) (at seed n : ℕ) (t u : Tra
   abbrev message_is : Message Key → List (Put Key)
   message_is m = puts_for key_cmp rules t.actor.updates t.actor.sets t.mailbox.desk.sets t.mailbox.heard (runs_in t.mailbox) calls at m
 
-  module _ (st : Stepped Key) (steps : ActorSteps t.actor u.actor t.mailbox u.mailbox at seed st) (tells : TellsBy st (length log) n t u r) (rest : u ≡ record t { actor = u.actor; mailbox = u.mailbox; names = u.names; told = u.told }) where
+  module _ (st : Stepped Key) (steps : ActorSteps t.actor u.actor t.mailbox u.mailbox at seed st) (tells : TellsBy st (length log) n t u r) (rest : u ≡ record t { actor = u.actor; mailbox = u.mailbox; names = u.names; told = u.told }) (runs : AsksRun log n) where
     as_step : (k : Stepped Key) → st ≡ k → ActorSteps t.actor u.actor t.mailbox u.mailbox at seed k × TellsBy k (length log) n t u r
     as_step k is = (subst (ActorSteps t.actor u.actor t.mailbox u.mailbox at seed) is steps, subst (λ j. TellsBy j (length log) n t u r) is tells)
+
+    -- who asks for a peer by the oldest message runs
+    asker : (x : Envelope) (l : List Envelope) → line log (queue.Tracker n) ≡ x ∷ l → (i : Item) → x.item ≡ i → AskerRuns log n i
+    asker x l first (item.AskListen name key) is = runs name key x l first is
+    asker x l first _ is = tt
 
     -- the oldest message, where no block is due
     by_line : (l : List Envelope) (ms : List (Message Key)) → line log (queue.Tracker n) ≡ l → t.mailbox.desk.messages.items ≡ ms → Match (λ x m. IsMessage t.tickets log x.item m) l ms
@@ -427,7 +434,7 @@ module _ (configs : List Config) (log : List Entry) (at seed n : ℕ) (t u : Tra
     by_line [] [] empty none match is = let k = as_step stepped.Idle is in after_idle empty none k.0 k.1 rest
     by_line (x ∷ l) (m ∷ ms) first items match is =
         let k = as_step (stepped.Message (message_is m)) is in
-        after_message x l m ms x.item (message_is m) first items refl match.0 match.1 k.0 k.1 rest refl
+        after_message x l m ms x.item (message_is m) first items refl match.0 (asker x l first x.item refl) match.1 k.0 k.1 rest refl
     by_line [] (m ∷ ms) first items match is = absurd match
     by_line (x ∷ l) [] first items match is = absurd match
 
@@ -451,10 +458,10 @@ module _ (configs : List Config) (log : List Entry) (at seed n : ℕ) (t u : Tra
         by_due (has_any (due_keys key_cmp rules calls at)) refl
         (subst (λ k. st ≡ stepped_of key_cmp k t.actor.updates t.actor.sets t.mailbox.desk.sets t.mailbox.heard (runs_in t.mailbox) calls at (next_message t.mailbox.desk)) s.rules (steps.answer calls equal_keys s.follows))
 
--- a step of the tracker of a node that has started
-pub tracker_steps : (configs : List Config) (log : List Entry) (at seed n : ℕ) (t u : Tracker) (r : Row) → TrackerStands configs log n t → Steps (length log) n at seed t u r
+-- a step of the tracker of a node that has started, where a handshake that asks for its peer runs
+pub tracker_steps : (configs : List Config) (log : List Entry) (at seed n : ℕ) (t u : Tracker) (r : Row) → TrackerStands configs log n t → AsksRun log n → Steps (length log) n at seed t u r
     → (r ≡ tracker_step configs log n at) × TrackerStands configs (log ++ step_entry at seed n r ∷ []) n u
-tracker_steps configs log at seed n t u r s h = all_due configs log at seed n t u r s h.stepped h.steps h.tells h.rest
+tracker_steps configs log at seed n t u r s runs h = all_due configs log at seed n t u r s h.stepped h.steps h.tells h.rest runs
 
 -- a step of the tracker of a node that has not started
 pub gone_stands : (configs : List Config) (log : List Entry) (at seed n : ℕ) (t : Tracker) → TrackerStands configs log n t → TrackerStands configs (log ++ step_entry at seed n (only reply.Gone) ∷ []) n t

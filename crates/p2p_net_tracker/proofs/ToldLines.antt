@@ -37,7 +37,7 @@ named-each n t (p ∷ ps) = one p (named-each n t ps)
   where
     one : (p : Put Key) → Each (IsTold n) (named_puts n t ps) → Each (IsTold n) (before (named_put n t p) (named_puts n t ps))
     one (put.Acceptable handshake acceptable) rest = (eq-eqb n n refl, rest)
-    one (put.Listen handshake grant) rest = rest
+    one (put.Listen handshake grant) rest = (eq-eqb n n refl, rest)
     one (put.Kill peer conn) rest = (eq-eqb n n refl, rest)
     one (put.Listenable addresses dropped) rest = (eq-eqb n n refl, rest)
     one (put.Update ticket update) rest = (eq-eqb n n refl, rest)

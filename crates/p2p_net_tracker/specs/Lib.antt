@@ -1,6 +1,7 @@
 pub mod Asking
 pub mod Begins
 pub mod Dialed
+pub mod Finishing
 pub mod Handshaking
 pub mod Naming
 pub mod Reading

@@ -1,5 +1,6 @@
 -- What the tracker put, as items in the queues of its node.
 use Rattle.std.specs.Prelude.{ℕ, List, [], ◌∷◌, Option, Some, None, slice_index_or}
+use Rattle.std.specs.Option.{option_map}
 use Rattle.p2p_base.specs.declared.key.Key.{Key}
 use Rattle.p2p_address.specs.declared.peer.Ingress.{Ingress}
 use Rattle.p2p_tracker_directory.specs.Reserved.{peer_of}
@@ -29,7 +30,7 @@ named_put n t (put.PeerSet ticket peers) = Some (queue.Answer n (event_at t.ques
 named_put n t (put.Dialable list) = Some (queue.Dialer n, item.Dialable list.next_query_at list.peers)
 named_put n t (put.Dial grant) = Some (queue.Dialer n, item.Dial (grant_of grant))
 named_put n t (put.Acceptable handshake acceptable) = Some (queue.Handshake n handshake, item.Acceptable acceptable)
-named_put n t (put.Listen handshake grant) = None
+named_put n t (put.Listen handshake grant) = Some (queue.Handshake n handshake, item.Listen (option_map peer_of grant))
 
 abbrev pub before : {X : Type 0} → Option X → List X → List X
 before None xs = xs

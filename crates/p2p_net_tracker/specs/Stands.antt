@@ -2,6 +2,7 @@
 use Rattle.std.specs.Prelude.{◌≡◌, ℕ, ◌≤◌, Bool, true, false, ◌==◌, cond, is_some, Option, None, List, [], ◌∷◌, ◌++◌, map, length, Some, slice_get}
 use Rattle.std.specs.List.{IsDistinct}
 use Rattle.std.specs.Map.{keys_of}
+use Rattle.std.specs.Option.{option_map}
 use Rattle.std.specs.Ordering.{nat_cmp, eq_by_cmp}
 use Rattle.p2p_base.specs.declared.key.Key.{Key}
 use Rattle.p2p_address.specs.declared.ip.IpAddr.{IpAddr}
@@ -35,6 +36,7 @@ use Rattle.p2p_log_rules.specs.Handshakes.{handshakes_by, handshakes_of, is_hand
 use Rattle.p2p_log_rules.specs.Rows.{mailbox_size_at}
 use Rattle.p2p_log_rules.specs.Tracking.{key_cmp, rules_at, asked_by, steps_tracker, calls_of, update_subscriptions, blocked_subscriptions}
 use Rattle.p2p_log_rules.specs.TrackerRows.{most_peers_at, answers, was_answered}
+use Rattle.p2p_net_queues.specs.Matching.{Match}
 use Rattle.p2p_net_queues.specs.Board.{held}
 use Rattle.p2p_net_queues.specs.Tables as table
 use Rattle.p2p_net_tracker.specs.Asking.{message_of}
@@ -54,12 +56,6 @@ is_told n (queue.Updates m e) = m == n
 is_told n (queue.Blocked m e) = m == n
 is_told n (queue.Handshake m e) = m == n
 is_told n _ = false
-
--- two lists are as long, and what stands at one place goes together
-abbrev pub Match : {A B : Type 0} → (A → B → Type 0) → List A → List B → Type 0
-Match R [] [] = Unit {0}
-Match R (x ∷ xs) (y ∷ ys) = R x y × Match R xs ys
-Match R _ _ = ⊥
 
 -- the ticket is that of the event
 abbrev pub IsTicket : List ℕ → ℕ → ℕ → Type 0
@@ -88,12 +84,13 @@ abbrev pub Says : Tickets → ℕ → Act → Message Key → Type 0
 Says t e (act.Ask what n) m = (ticket : ℕ) × (m ≡ message_of what ticket) × HasTicket t (kind_of what) ticket e
 Says t e _ m = ⊥
 
--- the item names the event that the message is of, or is what a dialer or a listener asks, or gives a reservation of its key back; nobody else asks the tracker yet
+-- the item names the event that the message is of, or is what a dialer, a listener or a handshake asks, or gives a reservation of its key back
 abbrev pub IsMessage : Tickets → List Entry → Item → Message Key → Type 0
 IsMessage t log (item.Call e) m = (a : Act) × (asked_by log e ≡ Some a) × Says t e a m
 IsMessage t log item.AskDialable m = m ≡ message.Dialable
 IsMessage t log (item.AskDial key) m = m ≡ message.Dial key
 IsMessage t log (item.AskAcceptable name key) m = (source : IpAddr) × (source_at log name ≡ Some source) × (m ≡ message.Acceptable key source name)
+IsMessage t log (item.AskListen name key) m = (source : IpAddr) × (source_at log name ≡ Some source) × (m ≡ message.Listen key source name)
 IsMessage t log (item.Release key) m = (reserved : Metadata Key) × (peer_of reserved ≡ key) × (m ≡ message.Release reserved)
 IsMessage t log _ m = ⊥
 
@@ -111,6 +108,8 @@ HeardStands (Some ips) xs = (x : Envelope) × (xs ≡ x ∷ []) × (x.item ≡ i
 -- the item is what a handshake is told
 abbrev pub IsToldHandshake : Item → HandshakeItem Key → Type 0
 IsToldHandshake (item.Acceptable b) i = i ≡ shake.Acceptable b
+IsToldHandshake (item.Finished b) i = i ≡ shake.Finished b
+IsToldHandshake (item.Listen grant) i = (g : Option (Metadata Key)) × (i ≡ shake.Listen g) × (grant ≡ option_map peer_of g)
 IsToldHandshake _ i = ⊥
 
 -- what waits for a handshake is its line, and it waits for one that runs
@@ -129,6 +128,10 @@ IsHeldByPeer configs log n key = (is_held key_cmp (calls_of configs log n) key �
 -- a release that is the oldest of what waits is of a key that is held
 abbrev pub ReleasesHeld : List Config → List Entry → ℕ → Type 0
 ReleasesHeld configs log n = (key : Key) (x : Envelope) (rest : List Envelope) → line log (queue.Tracker n) ≡ x ∷ rest → x.item ≡ item.Release key → IsHeldByPeer configs log n key
+
+-- a handshake that asks for its peer runs while that is the oldest of what waits
+abbrev pub AsksRun : List Entry → ℕ → Type 0
+AsksRun log n = (name : ℕ) (key : Key) (x : Envelope) (rest : List Envelope) → line log (queue.Tracker n) ≡ x ∷ rest → x.item ≡ item.AskListen name key → is_handshaking log n name ≡ true
 
 -- what an act asks of the tracker of a node that may be answered
 abbrev pub asks_of : ℕ → Act → Option Question

@@ -1,4 +1,4 @@
-//! What a node's dialer and its listener took of what they were told, and what they and the attempts asked.
+//! What a node's dialer and its listener took of what they were told, and what they, the attempts and the handshakes asked.
 ghost use Rattle.std.specs.Prelude.{◌≡◌, ◌++◌, ◌&&◌, true, drop, IfOk, OnOk, if◌then◌else◌};
 ghost use Rattle.p2p_log.specs.declared.queue.Queue.{Queue as Name};
 ghost use Rattle.p2p_log.specs.declared.queue.Queue.TheVariants as queue;
@@ -76,8 +76,8 @@ impl Tracker {
         Ok(row)
     }
 
-    /// The row with what the dialer, an attempt of it or the listener put in the actor's mailbox, which has this entry's name.
-    /// It was put there already.
+    /// The row with what the dialer, the listener, an attempt or a handshake put in the actor's mailbox, which has this entry's
+    /// name. It was put there already.
     ///
     /// `Err` only where there is no memory.
     pub fn put_message(

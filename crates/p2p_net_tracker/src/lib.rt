@@ -3,6 +3,7 @@
 
 pub mod asking;
 pub mod dialed;
+pub mod finishing;
 pub mod handshaking;
 pub mod naming;
 pub mod question;

@@ -1,5 +1,7 @@
 //! What the tracker put, as items in the queues of its node.
 ghost use Rattle.std.specs.Prelude.{◌≡◌, [], ◌∷◌, ◌++◌, slice_index_or, IfOk, OnOk};
+ghost use Rattle.std.specs.Option.{option_map};
+ghost use Rattle.p2p_tracker_directory.specs.Reserved.{peer_of};
 ghost use Rattle.p2p_net_tracker.specs.Naming.{named_put, named_puts, grant_of};
 
 use p2p_address::Ingress;
@@ -52,7 +54,17 @@ fn grant(granted: Option<(Metadata<Key>, Ingress)>) -> Option<(Key, Ingress)>
     }
 }
 
-/// What the tracker of a node put, as an item in its queue. No handshake asks for a reservation yet.
+/// Whom a handshake reserved.
+fn reserved_peer(reserved: Option<Metadata<Key>>) -> Option<Key>
+    ensures { result ≡ option_map peer_of reserved }
+{
+    match reserved {
+        Some(metadata) => Some(*metadata.public_key()),
+        None => None,
+    }
+}
+
+/// What the tracker of a node put, as an item in its queue.
 fn name(node: u64, tickets: &Tickets, put: Put<Key>) -> Option<(Queue, Item)>
     ensures { result ≡ named_put node tickets.now put }
 {
@@ -92,7 +104,13 @@ fn name(node: u64, tickets: &Tickets, put: Put<Key>) -> Option<(Queue, Item)>
             Queue::Handshake { node, handshake },
             Item::Acceptable(acceptable),
         )),
-        Put::Listen { .. } => None,
+        Put::Listen {
+            handshake,
+            reserved,
+        } => Some((
+            Queue::Handshake { node, handshake },
+            Item::Listen(reserved_peer(reserved)),
+        )),
     }
 }
 

@@ -1,5 +1,7 @@
 //! `Attempt`, a dial that was granted, until it ends.
+ghost use Rattle.std.specs.Option.{option_map};
 ghost use Rattle.std.specs.Prelude.{◌≡◌, ◌∷◌, ◌++◌, true, false, drop, min, ◌+◌, nat_le, [], not, IfOk, OnOk, OnErr, IsErr, is_some};
+ghost use Rattle.p2p_tracker_directory.specs.Reserved.{peer_of};
 ghost use Rattle.p2p_gates.specs.Attempting.{new_attempt, address_in};
 ghost use Rattle.p2p_gates.specs.AttemptTurns.{may_be_dialed, chosen, with_item, ended_by, ready_by, gives_up, resolves, linked_at, waits, item_turn, attempt_turn};
 ghost use Rattle.p2p_gates.specs.Stepping.{gone_on};
@@ -131,6 +133,16 @@ impl<P: PublicKey> Attempt<P> {
         ensures { result ≡ self.now.address }
     {
         self.address
+    }
+
+    /// The key of its peer: `None` once it has ended.
+    pub fn public_key(&self) -> Option<P>
+        ensures { result ≡ option_map peer_of self.now.reserved }
+    {
+        match &self.reservation {
+            Some(reservation) => Some(*reservation.metadata().public_key()),
+            None => None,
+        }
     }
 
     /// Whether it has ended: each step is idle then, and what is put is dropped.
