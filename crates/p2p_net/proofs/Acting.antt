@@ -16,9 +16,12 @@ use Rattle.p2p_log.specs.declared.event.Act.TheVariants as act
 use Rattle.p2p_log_rules.specs.declared.row.Row.{Row}
 use Rattle.p2p_log_rules.specs.Facts.{events_of, key_at}
 use Rattle.p2p_log_rules.specs.Effect.{only, row, effect, entry_of, may_join}
+use Rattle.p2p_log_rules.specs.Lawful.{IsLawful}
 use Rattle.p2p_log_rules.specs.Valid.{may_act}
+use Rattle.p2p_log_laws.proofs.HandshakeLaws.{each_handshake, asker_runs}
 use Rattle.p2p_net_links.specs.Stands.{LinksStand}
 use Rattle.p2p_net_links.specs.declared.links.Links.{Links}
+use Rattle.p2p_net_tracker.specs.Stands.{AsksRun}
 use Rattle.p2p_net.specs.Places.{Part, router, connections, same_part, at, parts_of, parts_named, names_links, places_at, same_place, names, node_of}
 use Rattle.p2p_net.specs.Acts.{NodeDoes}
 use Rattle.p2p_net.specs.Joining.{Welcomes, Connects, JoinsBy, Joins, OneDoes, Meets, DoesOn, WorldDoes, joined_row}
@@ -33,6 +36,7 @@ use Rattle.p2p_net.proofs.Frames.{part_frame, links_kept}
 use Rattle.p2p_net.proofs.Performing.{asked, Performs, Simulates, part_still, links_still, effect-still}
 use Rattle.p2p_net.proofs.DialAnswers.{refuse_performs}
 use Rattle.p2p_net.proofs.Arrivals.{link_simulates}
+use Rattle.p2p_net.proofs.Exchanged.{finish_simulates}
 use Rattle.p2p_net.proofs.Readying.{key_is}
 use Rattle.p2p_net.proofs.Resolving.{resolve_performs}
 use Rattle.p2p_net.proofs.Calling.{register_performs, start_performs, send_performs, read_performs}
@@ -48,28 +52,34 @@ use Rattle.p2p_net.proofs.Welcoming.{MayJoin-test, may_join-nodes, Told, ready_r
 
 -- ---- acts that name one node
 
+-- in a lawful log a handshake runs whose question its tracker takes next: one that ended has no question that waits
+asks_run : (configs : List Config) (log : List Entry) (n : ℕ) → IsLawful configs (events_of log) log → AsksRun log n
+asks_run configs log n lawful = λ name key x rest first is. asker_runs configs n log (each_handshake configs n (events_of log) log lawful) name key x rest first is
+
 -- each of them, a line each
 node_performs : (configs : List Config) (log : List Entry) (moment seed : ℕ) (a : Act) (x y : Node) (l links : Links) (r : Row) → NodeStands configs log (node_of log a) x → LinksStand log l
-    → may_act configs (events_of log) a ≡ true → meeting_of a ≡ None → NodeDoes (length log) (node_of log a) moment seed a x y l links r → Performs configs log (asked moment seed a) (node_of log a) y links r
-node_performs configs log moment seed (act.Register c n rate) x y l links r s t valid one d = register_performs configs log moment seed n c rate x y l links r s t valid d.0 d.1
-node_performs configs log moment seed (act.Start n) x y l links r s t valid one d = start_performs configs log moment seed n x y l links r s t d.0 d.1
-node_performs configs log moment seed (act.Send bytes c n priority to) x y l links r s t valid one d = send_performs configs log moment seed n c bytes priority to x y l links r s t d.0 d.1
-node_performs configs log moment seed (act.Router n) x y l links r s t valid one d = route_performs configs log moment seed n x y l links r s t d.0 d.1
-node_performs configs log moment seed (act.SendStep conn n) x y l links r s t valid one d = send_step_performs configs log moment seed conn n x y l links r s t d
-node_performs configs log moment seed (act.RecvStep conn n) x y l links r s t valid one d = recv_step_performs configs log moment seed conn n x y l links r s t d
-node_performs configs log moment seed (act.Recv c n) x y l links r s t valid one d = read_performs configs log moment seed n c x y l links r s t d.0 d.1
-node_performs configs log moment seed (act.Ask what n) x y l links r s t valid one d = ask_performs configs log moment seed n what x y l links r s t d.0.0 d.0.1 d.1
-node_performs configs log moment seed (act.Answer e) x y l links r s t valid one d = answer_performs configs log moment seed e x y l links r s t valid d.0.0 d.0.1 d.1
-node_performs configs log moment seed (act.Next e) x y l links r s t valid one d = next_performs configs log moment seed e x y l links r s t valid d.0.0 d.0.1 d.1
-node_performs configs log moment seed (act.Tracker n) x y l links r s t valid one d = tracker_performs configs log moment seed n x y l links r s t d.0 d.1
-node_performs configs log moment seed (act.Dialer n) x y l links r s t valid one d = dialer_performs configs log moment seed n x y l links r s t d.0 d.1
-node_performs configs log moment seed (act.Listener n) x y l links r s t valid one d = listener_performs configs log moment seed n x y l links r s t d.0 d.1
-node_performs configs log moment seed (act.Handshake e n) x y l links r s t valid one d = handshake_performs configs log moment seed e n x y l links r s t d.0 d.1
-node_performs configs log moment seed (act.Attempt e n) x y l links r s t valid one d = attempt_performs configs log moment seed e n x y l links r s t d.0 d.1
-node_performs configs log moment seed (act.Resolve addresses e n) x y l links r s t valid one d = resolve_performs configs log moment seed addresses e n x y l links r s t d.0.0 d.0.1 d.1
-node_performs configs log moment seed (act.Refuse e n) x y l links r s t valid one d = refuse_performs configs log moment seed e n x y l links r s t d.0.0 d.0.1 d.1
-node_performs configs log moment seed (act.Join a b) x y l links r s t valid one d = cc
-node_performs configs log moment seed (act.Connect e from n m) x y l links r s t valid one d = cc
+    → IsLawful configs (events_of log) log → may_act configs (events_of log) a ≡ true → meeting_of a ≡ None → NodeDoes (length log) (node_of log a) moment seed a x y l links r
+    → Performs configs log (asked moment seed a) (node_of log a) y links r
+node_performs configs log moment seed (act.Register c n rate) x y l links r s t lawful valid one d = register_performs configs log moment seed n c rate x y l links r s t valid d.0 d.1
+node_performs configs log moment seed (act.Start n) x y l links r s t lawful valid one d = start_performs configs log moment seed n x y l links r s t d.0 d.1
+node_performs configs log moment seed (act.Send bytes c n priority to) x y l links r s t lawful valid one d = send_performs configs log moment seed n c bytes priority to x y l links r s t d.0 d.1
+node_performs configs log moment seed (act.Router n) x y l links r s t lawful valid one d = route_performs configs log moment seed n x y l links r s t d.0 d.1
+node_performs configs log moment seed (act.SendStep conn n) x y l links r s t lawful valid one d = send_step_performs configs log moment seed conn n x y l links r s t d
+node_performs configs log moment seed (act.RecvStep conn n) x y l links r s t lawful valid one d = recv_step_performs configs log moment seed conn n x y l links r s t d
+node_performs configs log moment seed (act.Recv c n) x y l links r s t lawful valid one d = read_performs configs log moment seed n c x y l links r s t d.0 d.1
+node_performs configs log moment seed (act.Ask what n) x y l links r s t lawful valid one d = ask_performs configs log moment seed n what x y l links r s t d.0.0 d.0.1 d.1
+node_performs configs log moment seed (act.Answer e) x y l links r s t lawful valid one d = answer_performs configs log moment seed e x y l links r s t valid d.0.0 d.0.1 d.1
+node_performs configs log moment seed (act.Next e) x y l links r s t lawful valid one d = next_performs configs log moment seed e x y l links r s t valid d.0.0 d.0.1 d.1
+node_performs configs log moment seed (act.Tracker n) x y l links r s t lawful valid one d = tracker_performs configs log moment seed n x y l links r s t (asks_run configs log n lawful) d.0 d.1
+node_performs configs log moment seed (act.Dialer n) x y l links r s t lawful valid one d = dialer_performs configs log moment seed n x y l links r s t d.0 d.1
+node_performs configs log moment seed (act.Listener n) x y l links r s t lawful valid one d = listener_performs configs log moment seed n x y l links r s t d.0 d.1
+node_performs configs log moment seed (act.Handshake e n) x y l links r s t lawful valid one d = handshake_performs configs log moment seed e n x y l links r s t d.0 d.1
+node_performs configs log moment seed (act.Attempt e n) x y l links r s t lawful valid one d = attempt_performs configs log moment seed e n x y l links r s t d.0 d.1
+node_performs configs log moment seed (act.Resolve addresses e n) x y l links r s t lawful valid one d = resolve_performs configs log moment seed addresses e n x y l links r s t d.0.0 d.0.1 d.1
+node_performs configs log moment seed (act.Refuse e n) x y l links r s t lawful valid one d = refuse_performs configs log moment seed e n x y l links r s t d.0.0 d.0.1 d.1
+node_performs configs log moment seed (act.Join a b) x y l links r s t lawful valid one d = cc
+node_performs configs log moment seed (act.Connect e from n m) x y l links r s t lawful valid one d = cc
+node_performs configs log moment seed (act.Finish link ok) x y l links r s t lawful valid one d = cc
 
 -- the parts of the other nodes are not named
 part_elsewhere : (p q : Part) (n m : ℕ) → (n == m) ≡ false → same_place (at p n) (at q m) ≡ false
@@ -90,6 +100,7 @@ unnamed_at true ps p n m ne = parts_elsewhere ps p n m ne
 others_unnamed : (log : List Entry) (a : Act) (p : Part) (m : ℕ) → meeting_of a ≡ None → (node_of log a == m) ≡ false → names log a (at p m) ≡ false
 others_unnamed log (act.Join a b) p m one ne = cc
 others_unnamed log (act.Connect e from n k) p m one ne = cc
+others_unnamed log (act.Finish link ok) p m one ne = cc
 others_unnamed log a p m one ne = unnamed_at (names_links a) (parts_named a) p (node_of log a) m ne
 
 -- a node that an act does not name
@@ -108,15 +119,15 @@ one_each configs log ev nodes n y l links r s h away m z true same g =
 one_each configs log ev nodes n y l links r s h away m z false ne g = node_frame configs log ev m z (s.each m z g) (λ p. away p m ne)
 
 -- one node changed, as its act says
-one_simulates : (configs : List Config) (log : List Entry) (ev : Event) (nodes new : List Node) (l links : Links) (r : Row) → WorldStands configs log nodes l → may_act configs (events_of log) ev.act ≡ true
-    → meeting_of ev.act ≡ None → OneDoes (length log) (node_of log ev.act) ev nodes new l links r → Simulates configs log ev new links r
-one_simulates configs log ev nodes new l links r s valid one d =
+one_simulates : (configs : List Config) (log : List Entry) (ev : Event) (nodes new : List Node) (l links : Links) (r : Row) → WorldStands configs log nodes l → IsLawful configs (events_of log) log
+    → may_act configs (events_of log) ev.act ≡ true → meeting_of ev.act ≡ None → OneDoes (length log) (node_of log ev.act) ev nodes new l links r → Simulates configs log ev new links r
+one_simulates configs log ev nodes new l links r s lawful valid one d =
     let x : Node = d.0 in
     let y : Node = d.1.0 in
     let n = node_of log ev.act in
     let there : slice_get nodes n ≡ Some x = d.1.1.0 in
     let lt : n < length nodes = below nodes n x there in
-    let h : Performs configs log ev n y links r = node_performs configs log ev.at ev.seed ev.act x y l links r (s.each n x there) s.linked valid one d.1.1.1.1 in
+    let h : Performs configs log ev n y links r = node_performs configs log ev.at ev.seed ev.act x y l links r (s.each n x there) s.linked lawful valid one d.1.1.1.1 in
     record {
       row_is = h.row_is;
       stands = subst (λ (ns : List Node). WorldStands configs (log ++ effect configs log ev ∷ []) ns links) (sym d.1.1.1.0)
@@ -182,7 +193,7 @@ join_by configs log moment seed a b false x y nodes new l links r s first second
             valid = s.valid;
             long = s.long;
             each = λ m z g. let h = s.each m z g in record { own = h.own; each = λ p. part_still p configs log e m z (act.Join a b) reply.Gone (h.each p) (asks configs log ev) refl still };
-            linked = links_still log e reply.Gone l s.linked still;
+            linked = links_still log e (act.Join a b) reply.Gone l s.linked (asks configs log ev) refl still;
           }));
     }
 join_by configs log moment seed a b true x y nodes new l links r s first second may d kept =
@@ -239,17 +250,19 @@ join_simulates configs log moment seed a b nodes new l links r s d kept =
 
 -- ---- all acts
 
-by_meeting : (configs : List Config) (log : List Entry) (moment seed : ℕ) (a : Act) (o : Option Meeting) (nodes new : List Node) (l links : Links) (r : Row) → WorldStands configs log nodes l → may_act configs (events_of log) a ≡ true
-    → meeting_of a ≡ o → DoesOn o (length log) (node_of log a) (asked moment seed a) nodes new l links r → Simulates configs log (asked moment seed a) new links r
-by_meeting configs log moment seed a None nodes new l links r s valid is d = one_simulates configs log (asked moment seed a) nodes new l links r s valid is d
-by_meeting configs log moment seed (act.Join m k) (Some how) nodes new l links r s valid is d =
-    join_simulates configs log moment seed m k nodes new l links r s
-    (subst (λ (h : Meeting). Meets h (length log) nodes new r) (sym (same_Some (meeting.Join (record { dials = m; listens = k })) how is)) d.0) d.1
-by_meeting configs log moment seed (act.Connect e from n m) (Some how) nodes new l links r s valid is d =
+by_meeting : (configs : List Config) (log : List Entry) (moment seed : ℕ) (a : Act) (o : Option Meeting) (nodes new : List Node) (l links : Links) (r : Row) → WorldStands configs log nodes l → IsLawful configs (events_of log) log
+    → may_act configs (events_of log) a ≡ true → meeting_of a ≡ o → DoesOn o (length log) (node_of log a) (asked moment seed a) nodes new l links r → Simulates configs log (asked moment seed a) new links r
+by_meeting configs log moment seed a None nodes new l links r s lawful valid is d = one_simulates configs log (asked moment seed a) nodes new l links r s lawful valid is d
+by_meeting configs log moment seed (act.Join m k) (Some how) nodes new l links r s lawful valid is d =
+    let joins = subst (λ (h : Meeting). Meets h (length log) nodes new l links r) (sym (same_Some (meeting.Join (record { dials = m; listens = k })) how is)) d in
+    join_simulates configs log moment seed m k nodes new l links r s joins.0 joins.1
+by_meeting configs log moment seed (act.Connect e from n m) (Some how) nodes new l links r s lawful valid is d =
     link_simulates configs log moment seed e n m from nodes new l links r s
-    (subst (λ (h : Meeting). Meets h (length log) nodes new r) (sym (same_Some (meeting.Link e from (record { dials = n; listens = m })) how is)) d.0) d.1
-by_meeting configs log moment seed a (Some how) nodes new l links r s valid is d = cc
+    (subst (λ (h : Meeting). Meets h (length log) nodes new l links r) (sym (same_Some (meeting.Link e from (record { dials = n; listens = m })) how is)) d)
+by_meeting configs log moment seed (act.Finish link ok) (Some how) nodes new l links r s lawful valid is d =
+    finish_simulates configs log moment seed link ok nodes new l links r s (subst (λ (h : Meeting). Meets h (length log) nodes new l links r) (sym (same_Some (meeting.Finish link ok) how is)) d)
+by_meeting configs log moment seed a (Some how) nodes new l links r s lawful valid is d = cc
 
-pub simulates : (configs : List Config) (log : List Entry) (ev : Event) (nodes new : List Node) (l links : Links) (r : Row) → WorldStands configs log nodes l → may_act configs (events_of log) ev.act ≡ true
-    → WorldDoes (length log) (node_of log ev.act) ev nodes new l links r → Simulates configs log ev new links r
-simulates configs log ev nodes new l links r s valid d = by_meeting configs log ev.at ev.seed ev.act (meeting_of ev.act) nodes new l links r s valid refl d
+pub simulates : (configs : List Config) (log : List Entry) (ev : Event) (nodes new : List Node) (l links : Links) (r : Row) → WorldStands configs log nodes l → IsLawful configs (events_of log) log
+    → may_act configs (events_of log) ev.act ≡ true → WorldDoes (length log) (node_of log ev.act) ev nodes new l links r → Simulates configs log ev new links r
+simulates configs log ev nodes new l links r s lawful valid d = by_meeting configs log ev.at ev.seed ev.act (meeting_of ev.act) nodes new l links r s lawful valid refl d

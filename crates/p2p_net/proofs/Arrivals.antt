@@ -1,6 +1,7 @@
 -- An attempt of one node is linked to the listener of another: the attempt is told, and the peer arrives.
 use Rattle.std.proofs.Common.{◌≡◌, ℕ, ◌+◌, Bool, true, false, cond, List, [], ◌∷◌, ◌++◌, length, refl, ap, sym, subst, ◌∙◌, append-nil, eqb-true, eq-eqb, Option, Some, None}
-use Rattle.std.specs.Prelude.{filter, slice_get, slice_set, ◌==◌, ◌&&◌, ◌||◌}
+use Rattle.std.specs.Prelude.{filter, slice_get, slice_set, ◌==◌, ◌&&◌, ◌||◌, is_some}
+use Rattle.std.proofs.lemmas.Bool.{false≢true}
 use Rattle.std.proofs.lemmas.Option.{same_Some}
 use Rattle.std.proofs.lemmas.List.{length-set}
 use Rattle.p2p_base.specs.declared.key.Key.{Key}
@@ -8,6 +9,8 @@ use Rattle.p2p_address.specs.declared.ip.SocketAddr.{SocketAddr}
 use Rattle.p2p_log.specs.declared.config.Config.{Config}
 use Rattle.p2p_log.specs.declared.queue.Queue.{Queue}
 use Rattle.p2p_log.specs.declared.queue.Queue.TheVariants as queue
+use Rattle.p2p_log.specs.declared.queue.Side.{Side}
+use Rattle.p2p_log.specs.declared.queue.Side.TheVariants as side
 use Rattle.p2p_log.specs.declared.item.Item.{Item}
 use Rattle.p2p_log.specs.declared.item.Item.TheVariants as item
 use Rattle.p2p_log.specs.declared.item.Envelope.{Envelope}
@@ -19,29 +22,37 @@ use Rattle.p2p_log.specs.declared.event.Act.TheVariants as act
 use Rattle.p2p_log.specs.QueueCode.{same_queue}
 use Rattle.p2p_log.specs.Lines.{placed, stands_in, line}
 use Rattle.p2p_log.proofs.Queues.{same_queue-refl}
+use Rattle.p2p_log_rules.specs.declared.row.Opening.{Opening}
+use Rattle.p2p_log_rules.specs.declared.row.ListeningEnd.{ListeningEnd}
+use Rattle.p2p_log_rules.specs.declared.row.ListeningEnd.TheVariants as listening
 use Rattle.p2p_log_rules.specs.declared.row.Row.{Row}
 use Rattle.p2p_log_rules.specs.Attempting.{Attempt, attempts_of, told_row, answered_row, connected_row}
 use Rattle.p2p_log_rules.specs.Effect.{only, row, effect, entry_of}
 use Rattle.p2p_log_rules.specs.Facts.{key_at, is_up}
+use Rattle.p2p_log_rules.specs.Links.{with_named, openings_by, openings_of, arrived, ends_by, listening_ends_of}
+use Rattle.p2p_log_laws.proofs.Untouched.{line-untouched}
 use Rattle.p2p_net_queues.proofs.Going.{line-kept}
 use Rattle.p2p_net_queues.specs.Tables as table
 use Rattle.p2p_net_dialer.specs.Attempts.{AnswersDial}
 use Rattle.p2p_net_dialer.specs.Stands.{DialerStands}
-use Rattle.p2p_net_listener.specs.Listening.{arrived}
+use Rattle.p2p_net_listener.specs.Listening.{arrived as has_arrived}
 use Rattle.p2p_net_listener.specs.Stands.{ListenerStands}
 use Rattle.p2p_net_listener.specs.declared.listening.Listening.{Listening}
 use Rattle.p2p_net_listener.proofs.Changes.{listener_frame, listener_arrived}
+use Rattle.p2p_net_listener.proofs.Handshakes.{other_tells}
 use Rattle.p2p_net_links.specs.declared.links.Links.{Links}
 use Rattle.p2p_net_links.specs.Stands.{LinksStand}
-use Rattle.p2p_net.specs.Linking.{arrives, with_arrival, Arrives, IsLinked}
+use Rattle.p2p_net_links.proofs.Changes.{links_frame, links_opened, is_ok_reply, openings_unanswered, openings_linkless, openings_opened}
+use Rattle.p2p_net.specs.Linking.{arrives, with_arrival, Arrives, opened, IsLinked}
 use Rattle.p2p_net.specs.Places.{Part, dialer, listener, same_part, at, names}
 use Rattle.p2p_net.specs.Ready.{is_started}
 use Rattle.p2p_net.specs.Stands.{NodeStands, WorldStands}
 use Rattle.p2p_net.specs.declared.node.Node.{Node}
 use Rattle.p2p_net.proofs.Attempting.{DoesTo, does_itself, other_attempt}
+use Rattle.p2p_net.proofs.Between.{IsBetween, dialer_told}
 use Rattle.p2p_net.proofs.DialAnswers.{answer_row, answer_row_is, dial_answered, acted_answer}
 use Rattle.p2p_net.proofs.EachPart.{is_in, each_part}
-use Rattle.p2p_net.proofs.Frames.{part_frame, links_kept}
+use Rattle.p2p_net.proofs.Frames.{part_frame}
 use Rattle.p2p_net.proofs.Nodes.{slice_get-set, below}
 use Rattle.p2p_net.proofs.Performing.{asked, Simulates, line-still}
 use Rattle.p2p_net.proofs.Readying.{started_is, key_is}
@@ -64,20 +75,20 @@ gone_by true m arrival = refl
 gone_by false m arrival = refl
 
 linked_by : (o : Option Attempt) (up : Bool) (name n m : ℕ) (arrival : Item)
-    → elim o [ None ↦ only reply.Gone | Some a ↦ connected_row a.address a.is_answered up name n m arrival ]
+    → elim o [ None ↦ only reply.Gone | Some a ↦ connected_row a.address (is_some a.answer) up name n m arrival ]
     ≡ with_arrival (arrives up (answer_row o up name n).reply) m arrival (answer_row o up name n)
 linked_by None up name n m arrival = gone_by up m arrival
-linked_by (Some a) up name n m arrival = connected_by a.address a.is_answered up name n m arrival
+linked_by (Some a) up name n m arrival = connected_by a.address (is_some a.answer) up name n m arrival
 
 connect_row_is : (configs : List Config) (log : List Entry) (moment seed name n m : ℕ) (from : SocketAddr)
     → row configs log moment seed (act.Connect name from n m)
-    ≡ elim (attempts_of configs log n name) [ None ↦ only reply.Gone | Some a ↦ connected_row a.address a.is_answered (is_up log m) name n m (item.Arrival from (key_at configs n) (length log)) ]
+    ≡ elim (attempts_of configs log n name) [ None ↦ only reply.Gone | Some a ↦ connected_row a.address (is_some a.answer) (is_up log m) name n m (item.Arrival from (key_at configs n) (length log)) ]
 unfolding row
 connect_row_is configs log moment seed name n m from = refl
 
 -- the row of what is told: of nothing, of a refusal, or of a link, with which the peer arrives
 data Told (up : Bool) (name n : ℕ) (told : Row) : Type 0 where
-  nothing : (rep : Reply) → told ≡ only rep → arrives up told.reply ≡ false → Told up name n told
+  nothing : (rep : Reply) → is_ok_reply rep ≡ false → told ≡ only rep → arrives up told.reply ≡ false → Told up name n told
   refused : told ≡ told_row name n item.Refused → arrives up told.reply ≡ false → Told up name n told
   linked : told ≡ told_row name n item.Linked → arrives up told.reply ≡ true → Told up name n told
 
@@ -86,12 +97,12 @@ none_arrives true = (refl, refl)
 none_arrives false = (refl, refl)
 
 told_by : (o : Option Attempt) (up : Bool) (name n : ℕ) → Told up name n (answer_row o up name n)
-told_by None up name n = nothing reply.Gone refl (none_arrives up).0
-told_by (Some a) up name n = by a.address a.is_answered up
+told_by None up name n = nothing reply.Gone refl refl (none_arrives up).0
+told_by (Some a) up name n = by a.address (is_some a.answer) up
   where
     by : (o : Option SocketAddr) (answered up : Bool) → Told up name n (answered_row o answered up name n)
-    by None answered up = nothing reply.Pending refl (none_arrives up).1
-    by (Some s) true up = nothing reply.Gone refl (none_arrives up).0
+    by None answered up = nothing reply.Pending refl refl (none_arrives up).1
+    by (Some s) true up = nothing reply.Gone refl refl (none_arrives up).0
     by (Some s) false true = linked refl refl
     by (Some s) false false = refused refl refl
 
@@ -116,8 +127,8 @@ unnamed log name n m j from p out =
     let two = first_false (same_part listener p) false (second_false (same_part dialer p) (same_part listener p || false) out) in
     ap (λ b. (b && (n == j)) || ((same_part listener p && (m == j)) || false)) one ∙ ap (λ b. (b && (m == j)) || false) two
 
-module _ (configs : List Config) (log : List Entry) (moment seed name n m : ℕ) (from : SocketAddr) (nodes new : List Node) (l : Links) (r : Row) (s : WorldStands configs log nodes l)
-    (c : IsLinked (length log) name n m from nodes new r) where
+module _ (configs : List Config) (log : List Entry) (moment seed name n m : ℕ) (from : SocketAddr) (nodes new : List Node) (l links : Links) (r : Row) (s : WorldStands configs log nodes l)
+    (c : IsLinked (length log) name n m from nodes new l links r) where
   abbrev k : ℕ
   k = length log
 
@@ -199,7 +210,7 @@ module _ (configs : List Config) (log : List Entry) (moment seed name n m : ℕ)
       (h ∙ (sym (append-nil (line log (queue.Arrivals j))) ∙ ap (λ t. line log (queue.Arrivals j) ++ cond t (arrives_at j) []) (sym none ∙ is)))
 
   line_due : (j : ℕ) (b : Bool) → comes ≡ b → (m == j) ≡ true → Told up name n c.told → LineAfter j b due
-  line_due j b is here (nothing rep same none) =
+  line_due j b is here (nothing rep silent same none) =
       nobody_comes j b is (only rep) same none (line-still log (entry_of ev (only rep)) rep (queue.Arrivals j) (record { reply = refl; takes = refl; puts = refl; ends = refl }))
   line_due j b is here (refused same none) =
       nobody_comes j b is (told_row name n item.Refused) same none (line-kept log (entry_of ev (told_row name n item.Refused)) (queue.Arrivals j) refl ∙ append-nil (line log (queue.Arrivals j)))
@@ -217,6 +228,80 @@ module _ (configs : List Config) (log : List Entry) (moment seed name n m : ℕ)
   line_of b is j here =
       subst (λ (z : Entry). line (log ++ z ∷ []) (queue.Arrivals j) ≡ line log (queue.Arrivals j) ++ cond b (arrives_at j) []) is_effect (line_due j b is here kind)
 
+  -- what has the listening ends at the node to which the link leads
+  abbrev ends : ℕ → ℕ → Option ListeningEnd
+  ends j = listening_ends_of log j
+
+  -- what it makes of them, where the peer comes or not
+  abbrev end_with : Bool → (ℕ → Option ListeningEnd) → ℕ → Option ListeningEnd
+  end_with true now i = with_named k (Some listening.Arriving) now i
+  end_with false now i = now i
+
+  arrived_due : (b : Bool) → comes ≡ b → Told up name n c.told → (now : ℕ → Option ListeningEnd) (i : ℕ) → arrived k due.reply due.puts now i ≡ end_with b now i
+  arrived_due b is (nothing rep silent same none) now i = nobody b (with_arrival false m arrival (only rep)) (ap (λ t. with_arrival t m arrival c.told) none ∙ same) (sym none ∙ is) (by_reply rep silent)
+    where
+      by_reply : (p : Reply) → is_ok_reply p ≡ false → arrived k p [] now i ≡ now i
+      by_reply reply.Ok h = refl
+      by_reply _ h = refl
+
+      nobody : (t : Bool) (d : Row) → due ≡ d → false ≡ t → arrived k d.reply d.puts now i ≡ now i → arrived k due.reply due.puts now i ≡ end_with t now i
+      nobody false d due_is_d so h = ap (λ (z : Row). arrived k z.reply z.puts now i) due_is_d ∙ h
+      nobody true d due_is_d so h = cc
+  arrived_due b is (refused same none) now i = nobody b (sym none ∙ is)
+    where
+      told_one : due ≡ told_row name n item.Refused
+      told_one = ap (λ t. with_arrival t m arrival c.told) none ∙ same
+
+      nobody : (t : Bool) → false ≡ t → arrived k due.reply due.puts now i ≡ end_with t now i
+      nobody false so = ap (λ (z : Row). arrived k z.reply z.puts now i) told_one
+      nobody true so = cc
+  arrived_due b is (linked same some) now i = somebody b (sym some ∙ is)
+    where
+      told_two : due ≡ with_arrival true m arrival (told_row name n item.Linked)
+      told_two = ap (λ t. with_arrival t m arrival c.told) some ∙ ap (with_arrival true m arrival) same
+
+      somebody : (t : Bool) → true ≡ t → arrived k due.reply due.puts now i ≡ end_with t now i
+      somebody true so = ap (λ (z : Row). arrived k z.reply z.puts now i) told_two
+      somebody false so = cc
+
+  end_of : (b : Bool) → comes ≡ b → (j : ℕ) → (m == j) ≡ true → (i : ℕ) → ends_by j log e (ends j) i ≡ end_with b (ends j) i
+  end_of b is j here i =
+      subst (λ (z : Entry). ends_by j log z (ends j) i ≡ end_with b (ends j) i) is_effect
+      (ap (λ t. cond t (arrived k due.reply due.puts (ends j) i) (ends j i)) here ∙ arrived_due b is kind (ends j) i)
+
+  -- ---- the links
+
+  abbrev opening : Opening
+  opening = record { node = n; attempt = name; to = m }
+
+  link_lines : (t : Side) (link : ℕ) → line (log ++ e ∷ []) (queue.Link link t) ≡ line log (queue.Link link t)
+  link_lines side.Out link = line-untouched configs log ev (queue.Link link side.Out) refl refl
+  link_lines side.In link = line-untouched configs log ev (queue.Link link side.In) refl refl
+
+  nothing_opened : Told up name n c.told → comes ≡ false → (i : ℕ) → openings_by log e (openings_of log) i ≡ openings_of log i
+  nothing_opened (nothing rep silent same none) no_one =
+      subst (λ (z : Entry). (i : ℕ) → openings_by log z (openings_of log) i ≡ openings_of log i) is_effect
+      (openings_unanswered log (entry_of ev due) (ap (λ (d : Row). is_ok_reply d.reply) (ap (λ t. with_arrival t m arrival c.told) none ∙ same) ∙ silent))
+  nothing_opened (refused same none) no_one =
+      subst (λ (z : Entry). (i : ℕ) → openings_by log z (openings_of log) i ≡ openings_of log i) is_effect
+      (openings_linkless log (entry_of ev due) opening (queue.Attempt n name, item.Refused) refl (ap (λ (d : Row). d.puts) (ap (λ t. with_arrival t m arrival c.told) none ∙ same)))
+  nothing_opened (linked same some) no_one = absurd (false≢true (sym no_one ∙ some))
+
+  one_opened : Told up name n c.told → comes ≡ true → (i : ℕ) → openings_of (log ++ e ∷ []) i ≡ with_named k (Some opening) (openings_of log) i
+  one_opened (nothing rep silent same none) some_one = absurd (false≢true (sym none ∙ some_one))
+  one_opened (refused same none) some_one = absurd (false≢true (sym none ∙ some_one))
+  one_opened (linked same some) some_one =
+      let due_two : due ≡ with_arrival true m arrival (told_row name n item.Linked) = ap (λ t. with_arrival t m arrival c.told) some ∙ ap (with_arrival true m arrival) same in
+      subst (λ (z : Entry). (i : ℕ) → openings_of (log ++ z ∷ []) i ≡ with_named k (Some opening) (openings_of log) i) is_effect
+      (openings_opened log (entry_of ev due) opening (queue.Attempt n name, item.Linked) (queue.Arrivals m, arrival) [] refl (ap (λ (d : Row). d.reply) due_two) (ap (λ (d : Row). d.puts) due_two))
+
+  links_now : (b : Bool) → comes ≡ b → links ≡ opened b k opening l → LinksStand (log ++ e ∷ []) links
+  links_now false none same = subst (LinksStand (log ++ e ∷ [])) (sym same) (links_frame log e l s.linked link_lines (nothing_opened kind none))
+  links_now true some same = subst (LinksStand (log ++ e ∷ [])) (sym same) (links_opened log e l opening s.linked link_lines (one_opened kind some))
+
+  pub linked_stands : LinksStand (log ++ e ∷ []) links
+  linked_stands = links_now comes refl (subst (λ b. links ≡ opened (arrives b c.told.reply) k opening l) runs c.links_are)
+
   -- ---- the nodes
 
   -- a node whose parts are those of another, but for its dialer and its listener
@@ -230,37 +315,23 @@ module _ (configs : List Config) (log : List Entry) (moment seed name n m : ℕ)
   listener_frame_at : (j : ℕ) (w : Node) → NodeStands configs log j w → (m == j) ≡ false → ListenerStands configs (log ++ e ∷ []) j w.listening
   listener_frame_at j w stood other = part_frame listener configs log ev j w (stood.each listener) (ap (λ b. b || false) other)
 
-  -- a node once the attempt is told, and before the peer arrives
-  pub record IsBetween (j : ℕ) (w : Node) : Type 0 where
-    pub before : Node
-    pub stood : NodeStands configs log j before
-    pub same : w ≡ record before { dialing = w.dialing }
-    pub dials : DialerStands configs (log ++ e ∷ []) j w.dialing
-
   abbrev mid : List Node
   mid = slice_set nodes n c.after
 
-  between : (j : ℕ) (w : Node) → slice_get mid j ≡ Some w → IsBetween j w
-  between j w h = by (n == j) refl (sym (slice_get-set nodes n j c.after (below nodes n c.first c.at_first)) ∙ h)
-    where
-      by : (b : Bool) → (n == j) ≡ b → cond b (Some c.after) (slice_get nodes j) ≡ Some w → IsBetween j w
-      by true here g =
-          let it : c.after ≡ w = same_Some c.after w g in
-          let there : n ≡ j = eqb-true n j here in
-          subst (IsBetween j) it
-          (subst (λ i. IsBetween i c.after) there (record { before = c.first; stood = first_stands; same = c.answers.1.1; dials = dialer_now }))
-      by false other g = let stood = s.each j w g in record { before = w; stood = stood; same = refl; dials = dialer_frame j w stood other }
+  -- a node once the attempt is told, and before the peer arrives
+  between : (j : ℕ) (w : Node) → slice_get mid j ≡ Some w → IsBetween configs log e j w
+  between = dialer_told configs log e n nodes c.first c.after s.each c.at_first c.answers.1.1 dialer_now dialer_frame
 
   -- and after it
-  after_arrival : (j : ℕ) (w : Node) (x : Listening) → IsBetween j w → ListenerStands configs (log ++ e ∷ []) j x → NodeStands configs (log ++ e ∷ []) j (record w { listening = x })
+  after_arrival : (j : ℕ) (w : Node) (x : Listening) → IsBetween configs log e j w → ListenerStands configs (log ++ e ∷ []) j x → NodeStands configs (log ++ e ∷ []) j (record w { listening = x })
   after_arrival j w x b listens =
       node_now j b.before (record w { listening = x }) b.stood (ap (λ (z : Node). record z { listening = x }) b.same) b.dials listens
 
-  still_listens : (j : ℕ) (w : Node) → IsBetween j w → ListenerStands configs log j w.listening
+  still_listens : (j : ℕ) (w : Node) → IsBetween configs log e j w → ListenerStands configs log j w.listening
   still_listens j w b = subst (ListenerStands configs log j) (sym (ap (λ (z : Node). z.listening) b.same)) (b.stood.each listener)
 
   -- where the peer does not arrive
-  nobody_listens : (j : ℕ) (w : Node) → IsBetween j w → (m == j) ≡ false → ListenerStands configs (log ++ e ∷ []) j w.listening
+  nobody_listens : (j : ℕ) (w : Node) → IsBetween configs log e j w → (m == j) ≡ false → ListenerStands configs (log ++ e ∷ []) j w.listening
   nobody_listens j w b other = subst (ListenerStands configs (log ++ e ∷ []) j) (sym (ap (λ (z : Node). z.listening) b.same)) (listener_frame_at j b.before b.stood other)
 
   abbrev Each : List Node → Type 0
@@ -271,13 +342,19 @@ module _ (configs : List Config) (log : List Entry) (moment seed name n m : ℕ)
   unfolding effect
   each_told none j w g = let b = between j w g in after_arrival j w w.listening b (by (m == j) refl b)
     where
-      by : (t : Bool) → (m == j) ≡ t → IsBetween j w → ListenerStands configs (log ++ e ∷ []) j w.listening
-      by true here b = listener_frame configs log e j w.listening (still_listens j w b) (record { known = refl; handshakes = refl; arrivals = line_of false none j here ∙ append-nil (line log (queue.Arrivals j)) })
+      by : (t : Bool) → (m == j) ≡ t → IsBetween configs log e j w → ListenerStands configs (log ++ e ∷ []) j w.listening
+      by true here b = listener_frame configs log e j w.listening (still_listens j w b) (record {
+        known = refl;
+        handshakes = refl;
+        tells = λ i. other_tells log e j i refl;
+        ends = λ i. end_of false none j here i;
+        arrivals = line_of false none j here ∙ append-nil (line log (queue.Arrivals j));
+      })
       by false other b = nobody_listens j w b other
 
   -- the peer arrives
   abbrev arrived_at : Node → Node
-  arrived_at y = record y { listening = arrived k (length c.told.puts) from (key_at configs n) y.listening }
+  arrived_at y = record y { listening = has_arrived k (length c.told.puts) from (key_at configs n) y.listening }
 
   each_arrived : comes ≡ true → (y : Node) → slice_get mid m ≡ Some y
       → Each (slice_set mid m (arrived_at y))
@@ -290,7 +367,7 @@ module _ (configs : List Config) (log : List Entry) (moment seed name n m : ℕ)
           let b = between m y there in
           subst (NodeStands configs (log ++ e ∷ []) j) it
           (subst (λ i. NodeStands configs (log ++ e ∷ []) i (arrived_at y)) (eqb-true m j here)
-          (after_arrival m y (arrived_at y).listening b (listener_arrived configs log e m k (length c.told.puts) from (key_at configs n) y.listening (still_listens m y b) refl (line_of true some m (eq-eqb m m refl)))))
+          (after_arrival m y (arrived_at y).listening b (listener_arrived configs log e m k (length c.told.puts) from (key_at configs n) y.listening (still_listens m y b) refl (line_of true some m (eq-eqb m m refl)) (λ i. end_of true some m (eq-eqb m m refl) i))))
       by false other g = let b = between j z g in after_arrival j z z.listening b (nobody_listens j z b other)
 
   arrival_is : Arrives comes m k (length c.told.puts) from (key_at configs n) mid new
@@ -308,16 +385,15 @@ module _ (configs : List Config) (log : List Entry) (moment seed name n m : ℕ)
       subst (λ (ns : List Node). (length ns ≡ length configs) × Each ns) (sym h.1.1) (length-set mid m (arrived_at y) ∙ long_mid, each_arrived some y h.1.0)
 
 pub link_simulates : (configs : List Config) (log : List Entry) (moment seed name n m : ℕ) (from : SocketAddr) (nodes new : List Node) (l links : Links) (r : Row) → WorldStands configs log nodes l
-    → IsLinked (length log) name n m from nodes new r → links ≡ l → Simulates configs log (asked moment seed (act.Connect name from n m)) new links r
-link_simulates configs log moment seed name n m from nodes new l links r s c kept =
-    let ev = asked moment seed (act.Connect name from n m) in
-    let now = nodes_now configs log moment seed name n m from nodes new l r s c (arrives (is_up log m) c.told.reply) refl (arrival_is configs log moment seed name n m from nodes new l r s c) in
+    → IsLinked (length log) name n m from nodes new l links r → Simulates configs log (asked moment seed (act.Connect name from n m)) new links r
+link_simulates configs log moment seed name n m from nodes new l links r s c =
+    let now = nodes_now configs log moment seed name n m from nodes new l links r s c (arrives (is_up log m) c.told.reply) refl (arrival_is configs log moment seed name n m from nodes new l links r s c) in
     record {
-      row_is = row_is configs log moment seed name n m from nodes new l r s c;
+      row_is = row_is configs log moment seed name n m from nodes new l links r s c;
       stands = record {
         valid = s.valid;
         long = now.0;
         each = now.1;
-        linked = subst (LinksStand (log ++ effect configs log ev ∷ [])) (sym kept) (links_kept configs log ev l s.linked refl);
+        linked = linked_stands configs log moment seed name n m from nodes new l links r s c;
       };
     }

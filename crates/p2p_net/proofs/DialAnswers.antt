@@ -1,6 +1,6 @@
 -- The dial of an attempt is answered.
 use Rattle.std.proofs.Common.{◌≡◌, ℕ, Bool, true, false, cond, List, [], ◌∷◌, ◌++◌, length, refl, ap, sym, subst, ◌∙◌, eq-eqb, Option, Some, None}
-use Rattle.std.specs.Prelude.{◌==◌}
+use Rattle.std.specs.Prelude.{◌==◌, is_some}
 use Rattle.std.specs.Option.{option_map}
 use Rattle.p2p_base.specs.declared.key.Key.{Key}
 use Rattle.p2p_address.specs.declared.ip.SocketAddr.{SocketAddr}
@@ -39,7 +39,7 @@ use Rattle.p2p_net.proofs.Performing.{asked, Performs}
 
 -- what the attempt is told, by what is said of it
 abbrev pub answer_row : Option Attempt → Bool → ℕ → ℕ → Row
-answer_row o links name n = elim o [ None ↦ only reply.Gone | Some b ↦ answered_row b.address b.is_answered links name n ]
+answer_row o links name n = elim o [ None ↦ only reply.Gone | Some b ↦ answered_row b.address (is_some b.answer) links name n ]
 
 link_same : (links : Bool) → link_told links ≡ told_item (link_item links)
 link_same true = refl
@@ -52,7 +52,7 @@ answer_row_is configs log name n links d u told s h = by (table.at d.attempts na
   where
     by : (o : Option RunningAttempt) (b : Option Attempt) → AttemptStands (gates_at configs n) name o b (line log (queue.Attempt n name)) → AnswersDial o (length log) n name links d.attempts u.attempts told → told ≡ answer_row b links name n
     by None None stands h = h.0
-    by (Some w) (Some b) stands h = h.0 ∙ ap (λ (z : RunningAttempt). answered_row z.actor.address z.is_answered links name n) stands.2
+    by (Some w) (Some b) stands h = h.0 ∙ ap (λ (z : RunningAttempt). answered_row z.actor.address (is_some z.answer) links name n) stands.2
     by None (Some b) stands h = absurd stands
     by (Some w) None stands h = absurd stands
 
@@ -60,7 +60,7 @@ module _ (configs : List Config) (log : List Entry) (moment seed name n : ℕ) (
     (no_start : starts n a ≡ false) (no_dials : (pace : Pace) (rep : Reply) (items : List Item) (puts : List (Queue × Item)) (dials : Dials) → acted_dials pace n a moment seed rep items puts dials ≡ dials)
     (others : (j : ℕ) → (j == name) ≡ false → (reads configs log a (queue.Attempt n j) ≡ false) × (writes configs log a (queue.Attempt n j) ≡ false))
     (acted : (rep : Reply) (items : List Item) (j : ℕ)
-    → acted_attempts (dial_rules_at configs n) n (length log) moment seed rep items a (attempts_of configs log n) j ≡ cond (j == name) (option_map (told_answer rep) (attempts_of configs log n name)) (attempts_of configs log n j))
+    → acted_attempts (dial_rules_at configs n) n (length log) moment seed rep items a (attempts_of configs log n) j ≡ cond (j == name) (option_map (told_answer (length log) rep) (attempts_of configs log n name)) (attempts_of configs log n j))
     (kept : u.actor ≡ d.actor) where
   abbrev attempts : ℕ → Option Attempt
   attempts = attempts_of configs log n
@@ -71,16 +71,16 @@ module _ (configs : List Config) (log : List Entry) (moment seed name n : ℕ) (
   abbrev Stands : Type 0
   Stands = DialerStands configs (log ++ effect configs log (asked moment seed a) ∷ []) n u
 
-  unanswered : (now : Option RunningAttempt) (rep : Reply) (told : Row) → ((o : Option Attempt) → option_map (told_answer rep) o ≡ o) → told ≡ only rep → DoesTo q (length log) due told
+  unanswered : (now : Option RunningAttempt) (rep : Reply) (told : Row) → ((o : Option Attempt) → option_map (told_answer (length log) rep) o ≡ o) → told ≡ only rep → DoesTo q (length log) due told
       → AreBut name now d.attempts u.attempts → now ≡ table.at d.attempts name → Stands
   unanswered now rep told same is does but now_is =
-      untold_stands configs log moment seed n name a due due_is d u stood no_start no_dials others told_answer acted kept now rep (subst (DoesTo q (length log) due) is does) but (same (attempts name)) now_is
+      untold_stands configs log moment seed n name a due due_is d u stood no_start no_dials others (told_answer (length log)) acted kept now rep (subst (DoesTo q (length log) due) is does) but (same (attempts name)) now_is
 
-  gone_same : (o : Option Attempt) → option_map (told_answer reply.Gone) o ≡ o
+  gone_same : (o : Option Attempt) → option_map (told_answer (length log) reply.Gone) o ≡ o
   gone_same None = refl
   gone_same (Some b) = refl
 
-  pending_same : (o : Option Attempt) → option_map (told_answer reply.Pending) o ≡ o
+  pending_same : (o : Option Attempt) → option_map (told_answer (length log) reply.Pending) o ≡ o
   pending_same None = refl
   pending_same (Some b) = refl
 
@@ -88,20 +88,20 @@ module _ (configs : List Config) (log : List Entry) (moment seed name n : ℕ) (
   now_of b m = attempt_of (gates_at configs n) name m b (line log q)
 
   told_one : (b : Attempt) (m : Metadata Key)
-      → record (with_told (length log) (link_told links) (now_of b m)) { is_answered = true }
-      ≡ attempt_of (gates_at configs n) name m (record b { is_answered = true }) (line log q ++ record { entry = length log; place = 0; queue = q; item = link_item links } ∷ [])
+      → record (with_told (length log) (link_told links) (now_of b m)) { answer = Some (length log) }
+      ≡ attempt_of (gates_at configs n) name m (record b { answer = Some (length log) }) (line log q ++ record { entry = length log; place = 0; queue = q; item = link_item links } ∷ [])
   told_one b m =
-      ap (λ i. record (with_told (length log) i (now_of b m)) { is_answered = true }) (link_same links)
-      ∙ ap (λ (w : RunningAttempt). record w { is_answered = true }) (told_is (gates_at configs n) name (length log) n m b (line log q) (link_item links))
+      ap (λ i. record (with_told (length log) i (now_of b m)) { answer = Some (length log) }) (link_same links)
+      ∙ ap (λ (w : RunningAttempt). record w { answer = Some (length log) }) (told_is (gates_at configs n) name (length log) n m b (line log q) (link_item links))
 
   by_address : (b : Attempt) (m : Metadata Key) (to : Option SocketAddr) (done : Bool) (told : Row) → peer_of m ≡ b.key → attempts name ≡ Some b → table.at d.attempts name ≡ Some (now_of b m)
       → told ≡ answered_row to done links name n → DoesTo q (length log) due told → AreBut name (Some (answered to done links (length log) (now_of b m))) d.attempts u.attempts → Stands
   by_address b m None done told reserved is there row_is does but = unanswered (Some (now_of b m)) reply.Pending told pending_same row_is does but (sym there)
   by_address b m (Some to) true told reserved is there row_is does but = unanswered (Some (now_of b m)) reply.Gone told gone_same row_is does but (sym there)
   by_address b m (Some to) false told reserved is there row_is does but =
-      told_stands configs log moment seed n name a due due_is d u stood no_start no_dials others told_answer acted kept (Some (answered (Some to) false links (length log) (now_of b m))) (link_item links)
+      told_stands configs log moment seed n name a due due_is d u stood no_start no_dials others (told_answer (length log)) acted kept (Some (answered (Some to) false links (length log) (now_of b m))) (link_item links)
       (subst (DoesTo q (length log) due) row_is does) but
-      (subst (λ (o : Option Attempt). AttemptStands (gates_at configs n) name (Some (answered (Some to) false links (length log) (now_of b m))) (option_map (told_answer reply.Ok) o)
+      (subst (λ (o : Option Attempt). AttemptStands (gates_at configs n) name (Some (answered (Some to) false links (length log) (now_of b m))) (option_map (told_answer (length log) reply.Ok) o)
       (line log q ++ record { entry = length log; place = 0; queue = q; item = link_item links } ∷ [])) (sym is) (m, reserved, told_one b m))
 
   by_attempt : (o : Option RunningAttempt) (b : Option Attempt) (told : Row) → table.at d.attempts name ≡ o → attempts name ≡ b → AttemptStands (gates_at configs n) name o b (line log q)
@@ -109,9 +109,9 @@ module _ (configs : List Config) (log : List Entry) (moment seed name n : ℕ) (
   by_attempt None None told there is stands h does = unanswered None reply.Gone told gone_same h.0 does h.1 (sym there)
   by_attempt (Some w) (Some b) told there is stands h does =
       let same : w ≡ now_of b stands.0 = stands.2 in
-      by_address b stands.0 b.address b.is_answered told stands.1 is (there ∙ ap (λ z. Some z) same)
-      (h.0 ∙ ap (λ (z : RunningAttempt). answered_row z.actor.address z.is_answered links name n) same) does
-      (subst (λ (z : RunningAttempt). AreBut name (Some (answered z.actor.address z.is_answered links (length log) z)) d.attempts u.attempts) same h.1)
+      by_address b stands.0 b.address (is_some b.answer) told stands.1 is (there ∙ ap (λ z. Some z) same)
+      (h.0 ∙ ap (λ (z : RunningAttempt). answered_row z.actor.address (is_some z.answer) links name n) same) does
+      (subst (λ (z : RunningAttempt). AreBut name (Some (answered z.actor.address (is_some z.answer) links (length log) z)) d.attempts u.attempts) same h.1)
   by_attempt None (Some b) told there is stands h does = absurd stands
   by_attempt (Some w) None told there is stands h does = absurd stands
 
@@ -121,9 +121,9 @@ module _ (configs : List Config) (log : List Entry) (moment seed name n : ℕ) (
 
 -- an act that answers the dial of an attempt of the node changes the attempt alone
 pub acted_answer : (configs : List Config) (log : List Entry) (n name : ℕ) (rep : Reply) (j : ℕ)
-    → cond (n == n) (with_attempt name (option_map (told_answer rep) (attempts_of configs log n name)) (attempts_of configs log n) j) (attempts_of configs log n j)
-    ≡ cond (j == name) (option_map (told_answer rep) (attempts_of configs log n name)) (attempts_of configs log n j)
-acted_answer configs log n name rep j = ap (λ b. cond b (with_attempt name (option_map (told_answer rep) (attempts_of configs log n name)) (attempts_of configs log n) j) (attempts_of configs log n j)) (eq-eqb n n refl)
+    → cond (n == n) (with_attempt name (option_map (told_answer (length log) rep) (attempts_of configs log n name)) (attempts_of configs log n) j) (attempts_of configs log n j)
+    ≡ cond (j == name) (option_map (told_answer (length log) rep) (attempts_of configs log n name)) (attempts_of configs log n j)
+acted_answer configs log n name rep j = ap (λ b. cond b (with_attempt name (option_map (told_answer (length log) rep) (attempts_of configs log n name)) (attempts_of configs log n) j) (attempts_of configs log n j)) (eq-eqb n n refl)
 
 refuse_row_is : (configs : List Config) (log : List Entry) (moment seed name n : ℕ) → row configs log moment seed (act.Refuse name n) ≡ answer_row (attempts_of configs log n name) false name n
 unfolding row

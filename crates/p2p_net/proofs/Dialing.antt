@@ -50,7 +50,8 @@ use Rattle.p2p_net_links.specs.Stands.{LinksStand}
 use Rattle.p2p_net_links.specs.declared.links.Links.{Links}
 use Rattle.p2p_net_tracker.specs.Dialed.{taken_names, asked_puts, names_asked, dialed_row}
 use Rattle.p2p_net_tracker.specs.Naming.{grant_of}
-use Rattle.p2p_net_tracker.specs.Stands.{is_told, Match, IsMessage, IsAnswer, TrackerStands}
+use Rattle.p2p_net_queues.specs.Matching.{Match}
+use Rattle.p2p_net_tracker.specs.Stands.{is_told, IsMessage, IsAnswer, TrackerStands}
 use Rattle.p2p_net_tracker.specs.declared.naming.Tickets.{Tickets}
 use Rattle.p2p_net_tracker.proofs.Changes.{told_apart, kept_open}
 use Rattle.p2p_net_tracker.proofs.DialerSteps.{is_taken_of, tracker_dialed, told_moved, mailbox_moved, none_left, answer_left}

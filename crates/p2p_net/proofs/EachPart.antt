@@ -12,7 +12,8 @@ use Rattle.p2p_net_connections.specs.Stands.{ConnectionsStand}
 use Rattle.p2p_net_tracker.specs.Stands.{TrackerStands}
 use Rattle.p2p_net_dialer.specs.Stands.{DialerStands}
 use Rattle.p2p_net_listener.specs.Stands.{ListenerStands}
-use Rattle.p2p_net.specs.Places.{Part, router, channels, connections, tracker, dialer, listener, code, same_part, at, links, parts_of, and_links, same_place, names}
+use Rattle.p2p_net_spawner.specs.Stands.{SpawnerStands}
+use Rattle.p2p_net.specs.Places.{Part, router, channels, connections, tracker, dialer, listener, spawner, code, same_part, at, links, parts_of, and_links, same_place, names}
 use Rattle.p2p_net.specs.Stands.{RouterStands, PartStands, OwnStands, NodeStands}
 use Rattle.p2p_net.specs.declared.node.Node.{Node}
 use Rattle.p2p_net.proofs.Touching.{first_false, second_false}
@@ -31,6 +32,7 @@ with_parts ps x y = record x {
   tracker = cond (is_in tracker ps) y.tracker x.tracker;
   dialing = cond (is_in dialer ps) y.dialing x.dialing;
   listening = cond (is_in listener ps) y.listening x.listening;
+  spawning = cond (is_in spawner ps) y.spawning x.spawning;
 }
 
 abbrev pub AllOf : (Part → Type 0) → List Part → Type 0
@@ -45,6 +47,7 @@ kept_part connections ps configs log n x y out s = subst (ConnectionsStand confi
 kept_part tracker ps configs log n x y out s = subst (TrackerStands configs log n) (sym (ap (λ b. cond b y.tracker x.tracker) out)) s
 kept_part dialer ps configs log n x y out s = subst (DialerStands configs log n) (sym (ap (λ b. cond b y.dialing x.dialing) out)) s
 kept_part listener ps configs log n x y out s = subst (ListenerStands configs log n) (sym (ap (λ b. cond b y.listening x.listening) out)) s
+kept_part spawner ps configs log n x y out s = subst (SpawnerStands configs log n) (sym (ap (λ b. cond b y.spawning x.spawning) out)) s
 
 abbrev part_of : ℕ → Part
 part_of zero = router
@@ -52,7 +55,8 @@ part_of (suc zero) = channels
 part_of (suc (suc zero)) = connections
 part_of (suc (suc (suc zero))) = tracker
 part_of (suc (suc (suc (suc zero)))) = dialer
-part_of (suc (suc (suc (suc (suc k))))) = listener
+part_of (suc (suc (suc (suc (suc zero))))) = listener
+part_of (suc (suc (suc (suc (suc (suc k)))))) = spawner
 
 part_of-code : (p : Part) → part_of (code p) ≡ p
 part_of-code router = refl
@@ -61,6 +65,7 @@ part_of-code connections = refl
 part_of-code tracker = refl
 part_of-code dialer = refl
 part_of-code listener = refl
+part_of-code spawner = refl
 
 same_part-is : (q p : Part) → same_part q p ≡ true → q ≡ p
 same_part-is q p h = let same : code q ≡ code p = grind (arith, nat_tests) in sym (part_of-code q) ∙ (ap part_of same ∙ part_of-code p)

@@ -27,7 +27,8 @@ use Rattle.p2p_net_tracker.specs.Stands.{kind_of, asks_of, asks_at, is_told}
 use Rattle.p2p_net_tracker.proofs.Changes.{tracker_frame}
 use Rattle.p2p_net_dialer.specs.Stands.{is_of_dialer}
 use Rattle.p2p_net_dialer.proofs.Changes.{dialer_frame, dialer_unmoved}
-use Rattle.p2p_net_listener.specs.Stands.{is_of_listener}
+use Rattle.p2p_net_listener.specs.Stands.{is_of_listener, links_to}
+use Rattle.p2p_net_listener.proofs.Ends.{ends_unmoved}
 use Rattle.p2p_net_listener.proofs.Changes.{listener_frame, listener_unmoved, handshakes_unmoved}
 use Rattle.p2p_net_router.specs.Names.{is_routers}
 use Rattle.p2p_net_router.specs.Stands.{IsBeside}
@@ -38,8 +39,9 @@ use Rattle.p2p_net_connections.specs.Stands.{MakesNone}
 use Rattle.p2p_net_connections.proofs.Changes.{connections_frame}
 use Rattle.p2p_net_links.specs.Stands.{LinksStand}
 use Rattle.p2p_net_links.specs.declared.links.Links.{Links}
-use Rattle.p2p_net_links.proofs.Changes.{links_frame}
-use Rattle.p2p_net.specs.Places.{Part, router, channels, connections, tracker, dialer, listener, same_part, links, home, names, at, asked_node, or_first, node_asked}
+use Rattle.p2p_net_links.proofs.Changes.{opens_none, openings_unmoved, links_frame}
+use Rattle.p2p_net_spawner.proofs.Changes.{spawner_kept}
+use Rattle.p2p_net.specs.Places.{Part, router, channels, connections, tracker, dialer, listener, spawner, same_part, links, home, names, at, asked_node, or_first, node_asked}
 use Rattle.p2p_net.specs.Stands.{RouterStands, PartStands}
 use Rattle.p2p_net.specs.declared.node.Node.{Node}
 use Rattle.p2p_net.proofs.ActKinds.{registers_unless, starts_unless, half_unless, joins_unless, routes_unless, sends_unless}
@@ -247,6 +249,11 @@ listens_none log n (act.Listener m) h = grind (arith, nat_tests)
 listens_none log n (act.Handshake e m) h = grind (arith, nat_tests)
 listens_none log n _ h = refl
 
+-- and no link leads there
+leads_none : (log : List Entry) (n : ℕ) (a : Act) → names log a (at listener n) ≡ false → links_to n a ≡ false
+leads_none log n (act.Connect e from m to) h = grind (arith, nat_tests)
+leads_none log n _ h = refl
+
 -- a step of it, or of a handshake of it, names its tracker too
 admits_none : (log : List Entry) (n : ℕ) (a : Act) → names log a (at tracker n) ≡ false → is_of_listener n a ≡ false
 admits_none log n (act.Listener m) h = grind (arith, nat_tests)
@@ -291,8 +298,18 @@ part_frame dialer configs log ev n x s h =
 part_frame listener configs log ev n x s h =
     let e = effect configs log ev in
     listener_frame configs log e n x.listening s
-    (listener_unmoved configs log e n (ap (is_of_listener n) (effect-act configs log ev) ∙ listens_none log n ev.act h) (line-unnamed configs log ev (queue.Arrivals n) h))
+    (listener_unmoved configs log e n (ap (is_of_listener n) (effect-act configs log ev) ∙ listens_none log n ev.act h) (line-unnamed configs log ev (queue.Arrivals n) h)
+    (ends_unmoved log e n (ap (is_of_listener n) (effect-act configs log ev) ∙ listens_none log n ev.act h) (ap (links_to n) (effect-act configs log ev) ∙ leads_none log n ev.act h)))
+part_frame spawner configs log ev n x s h = spawner_kept configs log (effect configs log ev) n x.spawning s (line-unnamed configs log ev (queue.Spawner n) h)
+
+-- an act that does not name the links opens none, and ends no exchange over one
+unopened : (log : List Entry) (a : Act) → names log a links ≡ false → opens_none a ≡ true
+unopened log (act.Connect e from n to) h = cc
+unopened log (act.Finish link ok) h = cc
+unopened log _ h = refl
 
 -- the links, where an act does not name them
 pub links_kept : (configs : List Config) (log : List Entry) (ev : Event) (l : Links) → LinksStand log l → names log ev.act links ≡ false → LinksStand (log ++ effect configs log ev ∷ []) l
-links_kept configs log ev l s h = links_frame log (effect configs log ev) l s (λ t link. line-unnamed configs log ev (queue.Link link t) h)
+links_kept configs log ev l s h =
+    links_frame log (effect configs log ev) l s (λ t link. line-unnamed configs log ev (queue.Link link t) h)
+    (openings_unmoved log (effect configs log ev) (ap opens_none (effect-act configs log ev) ∙ unopened log ev.act h))

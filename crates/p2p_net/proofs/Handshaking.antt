@@ -1,15 +1,23 @@
 -- The acts of the handshakes of a node's listener.
-use Rattle.std.proofs.Common.{◌≡◌, ℕ, Bool, true, false, cond, List, [], ◌∷◌, ◌++◌, map, drop, refl, ap, sym, subst, ◌∙◌, append-nil, eq-eqb, eqb-true, Option, Some, None}
+use Rattle.std.proofs.Common.{◌≡◌, ℕ, Bool, true, false, cond, List, [], ◌∷◌, ◌++◌, drop, length, refl, ap, sym, subst, ◌∙◌, eq-eqb, eqb-true, Option, Some, None}
 use Rattle.std.specs.Prelude.{filter, ◌==◌, ◌&&◌, not, nat_le, if◌then◌else◌}
+use Rattle.std.specs.Option.{option_map}
 use Rattle.p2p_base.specs.declared.key.Key.{Key}
+use Rattle.p2p_tracker_directory.specs.Reserved.{peer_of}
+use Rattle.p2p_tracker_directory.specs.declared.metadata.Metadata.{Metadata}
 use Rattle.p2p_tracker_mailbox.specs.Lines.{line_of, first_of, with_line, ended}
+use Rattle.p2p_tracker_mailbox.specs.Mailboxes.{with_message_in}
 use Rattle.p2p_tracker_mailbox.specs.declared.answer.HandshakeItem.{HandshakeItem}
+use Rattle.p2p_tracker_mailbox.specs.declared.answer.HandshakeItem.TheVariants as shake
 use Rattle.p2p_tracker_mailbox.specs.declared.mailbox.Mailbox.{Mailbox}
+use Rattle.p2p_tracker_mailbox.specs.declared.message.Message.TheVariants as message
 use Rattle.p2p_gates.specs.Handshaking.{Handshaking}
-use Rattle.p2p_gates.specs.HandshakeTurns.{without_item, is_due, ends, item_turn, line_turn, handshake_turn}
-use Rattle.p2p_gates.specs.Stepping.{Turn, idle_turn, goes_on}
+use Rattle.p2p_gates.specs.HandshakeTurns.{without_item, without_handshake, is_due, ends, item_turn, line_turn, handshake_turn}
+use Rattle.p2p_gates.specs.Stepping.{Turn, idle_turn, goes_on, asks}
 use Rattle.p2p_gates.specs.declared.stepped.Input.TheVariants as input
+use Rattle.p2p_gates.specs.declared.stepped.Outcome.{Outcome}
 use Rattle.p2p_gates.specs.declared.stepped.Outcome.TheVariants as outcome
+use Rattle.p2p_gates.specs.declared.stepped.Put.TheVariants as put
 use Rattle.p2p_log.specs.declared.config.Config.{Config}
 use Rattle.p2p_log.specs.declared.queue.Queue.{Queue}
 use Rattle.p2p_log.specs.declared.queue.Queue.TheVariants as queue
@@ -27,35 +35,45 @@ use Rattle.p2p_log.proofs.QueueNames.{queue_from_same}
 use Rattle.p2p_log_rules.specs.declared.row.Row.{Row}
 use Rattle.p2p_log_rules.specs.Facts.{taken}
 use Rattle.p2p_log_rules.specs.Effect.{only, row, effect, entry_of}
-use Rattle.p2p_log_rules.specs.Attempting.{gone_on_row}
-use Rattle.p2p_log_rules.specs.Handshakes.{ends_handshake, unless_ended, handshakes_by, handshakes_of, is_handshaking}
+use Rattle.p2p_log_rules.specs.Attempting.{left_ends, gone_on_row, ready_row}
+use Rattle.p2p_log_rules.specs.Handshakes.{ends_handshake, is_handshaking, is_finished, Peer, peer_at, source_at}
 use Rattle.p2p_log_rules.specs.Handshaking as log_rule
-use Rattle.p2p_log_rules.specs.Handshaking.{handshake_deadline, ended_row}
-use Rattle.p2p_log_laws.proofs.LineShape.{left_gone}
+use Rattle.p2p_log_rules.specs.Handshaking.{handshake_deadline, ended_row, exchanged_row}
+use Rattle.p2p_log_rules.specs.Links.{unless_dropped}
+use Rattle.p2p_log_rules.specs.Rows.{is_spawner_full}
 use Rattle.p2p_net_queues.specs.Board.{held}
 use Rattle.p2p_net_queues.specs.Tables as table
-use Rattle.p2p_net_queues.specs.Tables.{AreBut}
-use Rattle.p2p_net_queues.proofs.Going.{line-append, line-kept, first_left}
-use Rattle.p2p_net_listener.specs.Handshaking.{served_by, TurnsHandshake, StepsHandshake}
+use Rattle.p2p_net_queues.proofs.Going.{first_left}
+use Rattle.p2p_net_listener.specs.Handshaking.{ready_over, served_by, TurnsHandshake, LeavesHandshakes, StepsHandshake}
 use Rattle.p2p_net_listener.specs.Handshaking as listening
-use Rattle.p2p_net_listener.specs.Stands.{IsRunning, HandshakeIs, ListenerStands}
+use Rattle.p2p_net_listener.specs.Stands.{facts_of, IsRunning, HandshakeIs, ListenerStands}
 use Rattle.p2p_net_listener.specs.declared.handshake.HandshakeStep.TheVariants as handshake
-use Rattle.p2p_net_listener.proofs.Changes.{listener_same, listener_after_handshake}
+use Rattle.p2p_net_listener.proofs.Changes.{listener_same, listener_untouched, handshakes_stepped, listener_after_handshake}
+use Rattle.p2p_net_listener.proofs.Handshakes.{facts_after}
 use Rattle.p2p_net_links.specs.Stands.{LinksStand}
 use Rattle.p2p_net_links.specs.declared.links.Links.{Links}
+use Rattle.p2p_net_spawner.specs.Spawning.{refuses}
+use Rattle.p2p_net_spawner.specs.Stands.{SpawnerStands}
+use Rattle.p2p_net_spawner.proofs.Changes.{spawner_refuses}
+use Rattle.p2p_net_tracker.specs.Dialed.{names_asked}
 use Rattle.p2p_net_tracker.specs.Handshaking.{left_of, handshake_step_row}
-use Rattle.p2p_net_tracker.specs.Stands.{IsToldHandshake, HandshakeStands, AreDistinct, Match, TrackerStands}
+use Rattle.p2p_net_queues.specs.Matching.{Match}
+use Rattle.p2p_net_tracker.specs.Stands.{IsToldHandshake, HandshakeStands, AreDistinct, TrackerStands}
+use Rattle.p2p_net_tracker.specs.declared.tracker.Tracker.{Tracker}
 use Rattle.p2p_net_tracker.proofs.Distinct.{distinct-with_line, distinct-ended}
+use Rattle.p2p_net_tracker.proofs.Facts.{source_at-longer}
 use Rattle.p2p_net_tracker.proofs.HandshakeSteps.{after_step, left_after, tracker_after_handshake, line_of-dropped, line_of-ended, line_of-dropped_ended}
+use Rattle.p2p_net_tracker.proofs.Moved.{asked_desk, IsAsked}
 use Rattle.p2p_net_tracker.proofs.Steps.{none_taken, first_taken}
-use Rattle.p2p_net.specs.Acts.{HandshakeStepBy, HandshakeSteps}
+use Rattle.p2p_net.specs.Acts.{HandshakeStepBy, HandsOn, HandsOnBy, HandshakeSteps}
 use Rattle.p2p_net.specs.Places as place
 use Rattle.p2p_net.specs.Stands.{NodeStands}
 use Rattle.p2p_net.specs.declared.node.Node.{Node}
 use Rattle.p2p_net.proofs.EachPart.{each_part, not_among}
 use Rattle.p2p_net.proofs.Frames.{links_kept}
+use Rattle.p2p_net.proofs.HandingOn.{Handed, nothing, question, connection, handed_puts, item_in, message_in, spawner_after, HandedOn, nothing_asked, question_asked, connection_refused, connection_asked}
+use Rattle.p2p_net.proofs.HandingOn.{all_gone, none_gone, line_asked, line_elsewhere, line_told, handed_spawner, tracker_after}
 use Rattle.p2p_net.proofs.Performing.{asked, Performs, is_quiet, IsStill, part_still}
-use Rattle.p2p_net.proofs.Trying.{whole_left}
 
 -- whichever way an item is taken, the rest is left
 left_is : (took ended : Bool) → cond ended true took ≡ true → (l : List Envelope) → left_of took ended l ≡ left_after ended l
@@ -64,7 +82,8 @@ left_is false true h l = refl
 left_is true false h l = refl
 left_is false false h l = cc
 
-module _ (configs : List Config) (log : List Entry) (moment seed name n : ℕ) (x y : Node) (l ls : Links) (r : Row) (s : NodeStands configs log n x) (t : LinksStand log l) (steps : HandshakeSteps n name moment x y r) (kept : ls ≡ l) where
+module _ (configs : List Config) (log : List Entry) (moment seed name n : ℕ) (x y : Node) (l ls : Links) (r : Row) (s : NodeStands configs log n x) (t : LinksStand log l)
+    (steps : HandshakeSteps (length log) n name moment x y r) (kept : ls ≡ l) where
   abbrev ev : Event
   ev = asked moment seed (act.Handshake name n)
 
@@ -74,20 +93,33 @@ module _ (configs : List Config) (log : List Entry) (moment seed name n : ℕ) (
   abbrev m : Mailbox Key
   m = x.tracker.mailbox
 
+  -- the node once the step did its part, before anything was handed on
+  abbrev mid : Node
+  mid = steps.mid
+
   abbrev deadline : ℕ
   deadline = handshake_deadline configs log name n
 
   abbrev waits : List Envelope
   waits = line log q
 
-  abbrev hs : List ℕ
-  hs = handshakes_of log n
+  abbrev full : Bool
+  full = is_spawner_full configs log n
+
+  abbrev late : Bool
+  late = log_rule.is_due deadline moment (is_finished log n name)
+
+  abbrev peer : Peer
+  peer = peer_at log name
 
   tracked : TrackerStands configs log n x.tracker
   tracked = s.each place.tracker
 
   listens : ListenerStands configs log n x.listening
   listens = s.each place.listener
+
+  spawns : SpawnerStands configs log n x.spawning
+  spawns = s.each place.spawner
 
   abbrev e : Row → Entry
   e due = entry_of ev due
@@ -96,55 +128,77 @@ module _ (configs : List Config) (log : List Entry) (moment seed name n : ℕ) (
   unfolding effect
   effect_is due is = ap e (sym is)
 
-  row_by : (b : Bool) (xs : List Envelope) → is_handshaking log n name ≡ b → waits ≡ xs → row configs log moment seed (act.Handshake name n) ≡ cond b (log_rule.handshake_turn deadline moment xs) (only reply.Gone)
+  row_by : (b : Bool) (xs : List Envelope) → is_handshaking log n name ≡ b → waits ≡ xs
+      → row configs log moment seed (act.Handshake name n) ≡ cond b (log_rule.handshake_turn n full late name peer xs) (only reply.Gone)
   unfolding row
   row_by b xs runs is =
-      ap (λ c. cond c (log_rule.handshake_turn deadline moment waits) (only reply.Gone)) runs
-      ∙ ap (λ l. cond b (log_rule.handshake_turn deadline moment l) (only reply.Gone)) is
+      ap (λ c. cond c (log_rule.handshake_turn n full late name peer waits) (only reply.Gone)) runs
+      ∙ ap (λ l. cond b (log_rule.handshake_turn n full late name peer l) (only reply.Gone)) is
 
-  -- where both parts stand for the log with this entry
-  performs : (due : Row) → row configs log moment seed (act.Handshake name n) ≡ due → r ≡ due → TrackerStands configs (log ++ e due ∷ []) n y.tracker → ListenerStands configs (log ++ e due ∷ []) n y.listening
-      → Performs configs log ev n y ls r
-  performs due row_is r_is tracks hears =
+  spawning_is : mid.spawning ≡ x.spawning
+  spawning_is = ap (λ (z : Node). z.spawning) steps.rest
+
+  refuses_is : refuses mid.spawning ≡ full
+  refuses_is = ap refuses spawning_is ∙ spawner_refuses configs log n x.spawning spawns
+
+  -- where the three parts stand for the log with this entry
+  abbrev named : List place.Part
+  named = place.tracker ∷ place.listener ∷ place.spawner ∷ []
+
+  performs : (z : Node) (due : Row) → row configs log moment seed (act.Handshake name n) ≡ due → r ≡ due → z ≡ record x { tracker = z.tracker; listening = z.listening; spawning = z.spawning }
+      → TrackerStands configs (log ++ e due ∷ []) n z.tracker → ListenerStands configs (log ++ e due ∷ []) n z.listening → SpawnerStands configs (log ++ e due ∷ []) n z.spawning
+      → Performs configs log ev n z ls r
+  performs z due row_is r_is rest tracks hears makes =
       let same = effect_is due row_is in
       record {
         row_is = r_is ∙ sym row_is;
         node =
-            each_part configs log ev n x y (place.tracker ∷ place.listener ∷ []) s steps.rest (λ p out. not_among (place.tracker ∷ place.listener ∷ []) p n n out) (
-              subst (λ (d : Entry). TrackerStands configs (log ++ d ∷ []) n y.tracker) same tracks,
-              (subst (λ (d : Entry). ListenerStands configs (log ++ d ∷ []) n y.listening) same hears, tt),
+            each_part configs log ev n x z named s rest (λ p out. not_among named p n n out) (
+              subst (λ (d : Entry). TrackerStands configs (log ++ d ∷ []) n z.tracker) same tracks,
+              (subst (λ (d : Entry). ListenerStands configs (log ++ d ∷ []) n z.listening) same hears, (subst (λ (d : Entry). SpawnerStands configs (log ++ d ∷ []) n z.spawning) same makes, tt)),
             );
         linked = subst (LinksStand (log ++ effect configs log ev ∷ [])) (sym kept) (links_kept configs log ev l t refl);
       }
 
   -- ---- nothing is taken, and it goes on
 
-  module _ (rep : Reply) (quiet : is_quiet (act.Handshake name n) rep ≡ true) (row_is : row configs log moment seed (act.Handshake name n) ≡ only rep) (r_is : r ≡ only rep) where
-    still : (o : Option (Handshaking Key)) → table.at x.listening.handshakes name ≡ o → y.tracker ≡ record x.tracker { mailbox = y.tracker.mailbox } → y.tracker.mailbox ≡ m
-        → y.listening ≡ record x.listening { handshakes = y.listening.handshakes } → AreBut name o x.listening.handshakes y.listening.handshakes → Performs configs log ev n y ls r
-    still o there tracks way rest but =
+  module _ (rep : Reply) (quiet : is_quiet (act.Handshake name n) rep ≡ true) (row_is : row configs log moment seed (act.Handshake name n) ≡ only rep) (r_is : steps.taken ≡ only rep) where
+    still : mid.tracker ≡ record x.tracker { mailbox = mid.tracker.mailbox } → mid.tracker.mailbox ≡ m
+        → (ListenerStands configs (log ++ e (only rep) ∷ []) n x.listening → ListenerStands configs (log ++ e (only rep) ∷ []) n mid.listening)
+        → (r ≡ steps.taken) × (y ≡ mid) → Performs configs log ev n y ls r
+    still tracks way hears hands =
         let due : Row = only rep in
         let moves : IsStill (e due) rep = record { reply = refl; takes = refl; puts = refl; ends = refl } in
-        let same : y.tracker ≡ x.tracker = tracks ∙ ap (λ w. record x.tracker { mailbox = w }) way in
-        performs due row_is r_is
+        let same : mid.tracker ≡ x.tracker = tracks ∙ ap (λ w. record x.tracker { mailbox = w }) way in
+        let rest : mid ≡ record x { tracker = mid.tracker; listening = mid.listening; spawning = mid.spawning } =
+        steps.rest ∙ ap (λ w. record x { tracker = mid.tracker; listening = mid.listening; spawning = w }) (sym spawning_is) in
+        subst (λ (z : Node). Performs configs log ev n z ls r) (sym hands.1)
+        (performs mid due row_is (hands.0 ∙ r_is) rest
         (subst (TrackerStands configs (log ++ e due ∷ []) n) (sym same) (part_still place.tracker configs log (e due) n x (act.Handshake name n) rep tracked refl quiet moves))
-        (listener_same configs (log ++ e due ∷ []) n x.listening y.listening (part_still place.listener configs log (e due) n x (act.Handshake name n) rep listens refl quiet moves) rest
-        (λ k. but k ∙ by k (k == name) refl))
-      where
-        by : (k : ℕ) (b : Bool) → (k == name) ≡ b → cond b o (table.at x.listening.handshakes k) ≡ table.at x.listening.handshakes k
-        by k true is = sym there ∙ ap (table.at x.listening.handshakes) (sym (eqb-true k name is))
-        by k false is = refl
+        (hears (part_still place.listener configs log (e due) n x (act.Handshake name n) rep listens refl quiet moves))
+        (subst (SpawnerStands configs (log ++ e due ∷ []) n) (sym spawning_is) (part_still place.spawner configs log (e due) n x (act.Handshake name n) rep spawns refl quiet moves)))
+
+  -- the handshake of this name is what it was
+  unmoved : (o : Option (Handshaking Key)) → table.at x.listening.handshakes name ≡ o → (k : ℕ) → cond (k == name) o (table.at x.listening.handshakes k) ≡ table.at x.listening.handshakes k
+  unmoved o there k = by (k == name) refl
+    where
+      by : (b : Bool) → (k == name) ≡ b → cond b o (table.at x.listening.handshakes k) ≡ table.at x.listening.handshakes k
+      by true is = sym there ∙ ap (table.at x.listening.handshakes) (sym (eqb-true k name is))
+      by false is = refl
 
   -- none of this name runs
   gone : table.at x.listening.handshakes name ≡ None → is_handshaking log n name ≡ false → Performs configs log ev n y ls r
   gone there none =
-      let h : StepsHandshake None name moment x.listening y.listening m y.tracker.mailbox steps.step = subst (λ o. StepsHandshake o name moment x.listening y.listening m y.tracker.mailbox steps.step) there steps.steps in
-      let tracks : HandshakeStepBy handshake.Gone n name x.tracker y.tracker r = subst (λ w. HandshakeStepBy w n name x.tracker y.tracker r) h.0 steps.tracks in
-      still reply.Gone refl (row_by false waits none refl) tracks.0 None there tracks.1 h.1.1.1 h.1.0 h.1.1.0
+      let d : LeavesHandshakes name x.listening mid.listening m mid.tracker.mailbox steps.step =
+      subst (λ o. StepsHandshake o name moment x.listening mid.listening m mid.tracker.mailbox steps.step) there steps.steps in
+      let tracks : HandshakeStepBy handshake.Gone n name x.tracker mid.tracker steps.taken = subst (λ w. HandshakeStepBy w n name x.tracker mid.tracker steps.taken) d.did steps.tracks in
+      still reply.Gone refl (row_by false waits none refl) tracks.0 tracks.1 d.mailbox
+      (λ hears. listener_untouched configs (log ++ e (only reply.Gone) ∷ []) n x.listening mid.listening hears d.rest (λ k. d.others k ∙ unmoved None there k))
+      (subst (λ w. HandsOnBy w (length log) n mid y steps.taken r) d.did steps.hands)
 
   -- ---- one runs
 
-  module _ (h : Handshaking Key) (there : table.at x.listening.handshakes name ≡ Some h) (runs : is_handshaking log n name ≡ true) (is : IsRunning deadline name h) where
+  module _ (h : Handshaking Key) (there : table.at x.listening.handshakes name ≡ Some h) (runs : is_handshaking log n name ≡ true) (is : IsRunning (facts_of configs log n name) name h) where
     abbrev turn : Turn (Handshaking Key) Key
     turn = handshake_turn h m moment
 
@@ -153,129 +207,208 @@ module _ (configs : List Config) (log : List Entry) (moment seed name n : ℕ) (
         ap (λ b. cond b (idle_turn h m) (line_turn (first_of (line_of m.handshakes h.name)) h m moment)) is.runs
         ∙ ap (λ k. line_turn (first_of (line_of m.handshakes k)) h m moment) is.name
 
-    turns : (T : Turn (Handshaking Key) Key) → turn ≡ T → TurnsHandshake T name x.listening y.listening y.tracker.mailbox steps.step
-    turns T so = subst (λ u. TurnsHandshake u name x.listening y.listening y.tracker.mailbox steps.step) so (subst (λ o. StepsHandshake o name moment x.listening y.listening m y.tracker.mailbox steps.step) there steps.steps)
+    turns : (T : Turn (Handshaking Key) Key) → turn ≡ T → TurnsHandshake T name x.listening mid.listening mid.tracker.mailbox steps.step
+    turns T so = subst (λ u. TurnsHandshake u name x.listening mid.listening mid.tracker.mailbox steps.step) so (subst (λ o. StepsHandshake o name moment x.listening mid.listening m mid.tracker.mailbox steps.step) there steps.steps)
 
     -- its deadline has not come
     idle : turn ≡ idle_turn h m → row configs log moment seed (act.Handshake name n) ≡ only reply.Idle → Performs configs log ev n y ls r
     idle so row_is =
         let d = turns (idle_turn h m) so in
-        let tracks : HandshakeStepBy handshake.Idle n name x.tracker y.tracker r = subst (λ w. HandshakeStepBy w n name x.tracker y.tracker r) d.0 steps.tracks in
-        still reply.Idle refl row_is tracks.0 (Some h) there tracks.1 d.1.1.1
-        (d.1.0 ∙ ap (λ b. record x.listening { actor = listening.freed_if b x.listening.actor; handshakes = y.listening.handshakes }) is.runs)
-        (λ k. d.1.1.0 k ∙ ap (λ b. cond (k == name) (cond b None (Some h)) (table.at x.listening.handshakes k)) is.runs)
+        let tracks : HandshakeStepBy handshake.Idle n name x.tracker mid.tracker steps.taken = subst (λ w. HandshakeStepBy w n name x.tracker mid.tracker steps.taken) d.did steps.tracks in
+        still reply.Idle refl row_is tracks.0 tracks.1 d.mailbox
+        (λ hears. listener_same configs (log ++ e (only reply.Idle) ∷ []) n x.listening mid.listening hears
+        (d.rest ∙ ap (λ b. record x.listening { actor = listening.freed_if b x.listening.actor; handshakes = mid.listening.handshakes; ends = mid.listening.ends }) is.runs)
+        (λ k. d.others k ∙ (ap (λ b. cond (k == name) (cond b None (Some h)) (table.at x.listening.handshakes k)) is.runs ∙ unmoved (Some h) there k))
+        (λ k. d.ends k ∙ ap (λ b. unless_dropped b h.arrival.link (table.at x.listening.ends) k) is.runs))
+        (subst (λ w. HandsOnBy w (length log) n mid y steps.taken r) d.did steps.hands)
 
-    -- a turn in which it took its oldest item, or ended
-    module _ (T : Turn (Handshaking Key) Key) (took ended : Bool) (due : Row) (so : turn ≡ T) (served : served_by T.stepped T.actor.has_ended ≡ handshake.Served took ended) (over : T.actor.has_ended ≡ ended)
-        (row_is : row configs log moment seed (act.Handshake name n) ≡ due) (told_row : handshake_step_row took ended waits ≡ due) (moved : cond ended true took ≡ true)
-        (log_ends : unless_ended (ends_handshake due.reply (taken log (e due))) name hs ≡ unless_ended ended name hs)
-        (way : T.way ≡ record m { handshakes = T.way.handshakes })
-        (waiting : (k : ℕ) → line_of T.way.handshakes k ≡ cond (k == name) (after_step ended (line_of m.handshakes name)) (line_of m.handshakes k))
-        (distinct : AreDistinct T.way.handshakes) (lines : (p : Queue) → line (log ++ e due ∷ []) p ≡ cond (same_queue q p) (left_after ended (line log p)) (line log p))
-        (stands : HandshakeIs deadline name (not ended) (cond T.actor.has_ended None (Some T.actor))) where
-      names : handshakes_by n log (e due) hs ≡ unless_ended ended name hs
-      names = ap (λ b. cond b (unless_ended (ends_handshake due.reply (taken log (e due))) name hs) hs) (eq-eqb n n refl) ∙ log_ends
-
+    -- a turn in which it took its oldest item, or ended, and handed something on
+    module _ (T : Turn (Handshaking Key) Key) (took ended : Bool) (ask : Option Item) (ready : Option (ℕ × Metadata Key)) (o : Handed) (way : Mailbox Key) (items : List Item) (due : Row) (so : turn ≡ T)
+        (served : served_by T.stepped T.actor.arrival.link T.actor.has_ended ≡ handshake.Served took ended ask ready) (over : T.actor.has_ended ≡ ended) (link : T.actor.arrival.link ≡ peer.link)
+        (handed : mid.tracker.mailbox ≡ T.way → HandsOn ready (length log) n ask mid y steps.taken r → HandedOn (length log) n o way mid y steps.taken r)
+        (row_is : row configs log moment seed (act.Handshake name n) ≡ due) (told_row : record (handshake_step_row took ended waits) { puts = handed_puts n o } ≡ due) (moved : cond ended true took ≡ true)
+        (took_is : taken log (e due) ≡ items) (log_ends : ends_handshake due.reply items ≡ ended) (puts : due.puts ≡ handed_puts n o)
+        (way_is : way ≡ record m { desk = asked_desk m.desk (message_in o); handshakes = way.handshakes })
+        (waiting : (k : ℕ) → line_of way.handshakes k ≡ cond (k == name) (after_step ended (line_of m.handshakes name)) (line_of m.handshakes k))
+        (distinct : AreDistinct way.handshakes) (says : IsAsked x.tracker.tickets (log ++ e due ∷ []) (item_in o) (message_in o))
+        (stay : (p : Queue) → filter (stands_in p) (filter (stays (goes (e due))) (live log)) ≡ cond (same_queue q p) (left_after ended (line log p)) (line log p))
+        (stands : HandshakeIs (facts_after items (facts_of configs log n name)) name (not ended) (cond T.actor.has_ended None (Some T.actor))) where
       served_performs : Performs configs log ev n y ls r
       served_performs =
           let d = turns T so in
-          let tracks : HandshakeStepBy (handshake.Served took ended) n name x.tracker y.tracker r = subst (λ w. HandshakeStepBy w n name x.tracker y.tracker r) (d.0 ∙ served) steps.tracks in
-          let way_is : y.tracker.mailbox ≡ T.way = d.1.1.1 in
-          let mailbox : y.tracker.mailbox ≡ record m { handshakes = y.tracker.mailbox.handshakes } = way_is ∙ (way ∙ ap (λ (w : Mailbox Key). record m { handshakes = w.handshakes }) (sym way_is)) in
-          performs due row_is (tracks.0 ∙ (ap (handshake_step_row took ended) (tracked.told q (eq-eqb n n refl)) ∙ told_row))
-          (tracker_after_handshake configs log (e due) n name x.tracker y.tracker ended tracked
+          let step_is : steps.step ≡ handshake.Served took ended ask ready = d.did ∙ served in
+          let tracks : HandshakeStepBy (handshake.Served took ended ask ready) n name x.tracker mid.tracker steps.taken =
+          subst (λ w. HandshakeStepBy w n name x.tracker mid.tracker steps.taken) step_is steps.tracks in
+          let on : HandedOn (length log) n o way mid y steps.taken r = handed d.mailbox (subst (λ w. HandsOnBy w (length log) n mid y steps.taken r) step_is steps.hands) in
+          let same : y.listening ≡ mid.listening = ap (λ (z : Node). z.listening) on.rest in
+          let mailbox : y.tracker.mailbox ≡ record m { desk = asked_desk m.desk (message_in o); handshakes = y.tracker.mailbox.handshakes } =
+          on.mailbox ∙ (way_is ∙ ap (λ (w : Mailbox Key). record m { desk = asked_desk m.desk (message_in o); handshakes = w.handshakes }) (sym on.mailbox)) in
+          performs y due row_is
+          (on.row_is ∙ (ap (λ (w : Row). record w { puts = w.puts ++ handed_puts n o }) (tracks.0 ∙ ap (handshake_step_row took ended) (tracked.told q (eq-eqb n n refl))) ∙ told_row))
+          (on.rest
+          ∙ (ap (λ (z : Node). record z { tracker = y.tracker; spawning = y.spawning }) steps.rest ∙ ap (λ w. record x { tracker = y.tracker; listening = w; spawning = y.spawning }) (sym same)))
+          (tracker_after_handshake configs log (e due) n name x.tracker y.tracker ended (item_in o) (message_in o) tracked
           (record {
             no_step = refl;
             no_question = refl;
             no_answer = λ k. refl;
-            names = names;
-            rest = tracks.1.1 ∙ ap (λ w. record x.tracker { mailbox = w; told = y.tracker.told }) mailbox;
-            waiting = λ k. ap (λ (w : Mailbox Key). line_of w.handshakes k) way_is ∙ waiting k;
-            distinct = subst (λ (w : Mailbox Key). AreDistinct w.handshakes) (sym way_is) distinct;
-            mailbox = lines (queue.Tracker n);
-            lines = λ p own. lines p;
-            told = λ p. tracks.1.0 p ∙ ap (λ xs. if same_queue q p then xs else held x.tracker.told p) (left_is took ended moved (held x.tracker.told p));
+            names = handshakes_stepped log (e due) n name items ended refl took_is log_ends;
+            rest = tracker_after x.tracker mid.tracker y.tracker (names_asked (length log) (item_in o)) (record m { desk = asked_desk m.desk (message_in o); handshakes = y.tracker.mailbox.handshakes }) tracks.1.1 on.tracker mailbox;
+            waiting = λ k. ap (λ (w : Mailbox Key). line_of w.handshakes k) on.mailbox ∙ waiting k;
+            distinct = subst (λ (w : Mailbox Key). AreDistinct w.handshakes) (sym on.mailbox) distinct;
+            says = says;
+            mailbox = line_asked log (e due) n o puts (stay (queue.Tracker n));
+            lines = λ p own. line_told log (e due) n o puts p (cond (same_queue q p) (left_after ended (line log p)) (line log p)) own (stay p);
+            told = λ p. ap (λ (w : Tracker). held w.told p) on.tracker ∙ (tracks.1.0 p ∙ ap (λ xs. if same_queue q p then xs else held x.tracker.told p) (left_is took ended moved (held x.tracker.told p)));
           }))
-          (listener_after_handshake configs log (e due) n name x.listening y.listening ended (cond T.actor.has_ended None (Some T.actor)) listens
+          (subst (ListenerStands configs (log ++ e due ∷ []) n) (sym same)
+          (listener_after_handshake configs log (e due) n name x.listening mid.listening items ended (cond T.actor.has_ended None (Some T.actor)) listens
           (record {
-            no_step = refl;
-            names = names;
+            steps = refl;
+            took = took_is;
+            over = log_ends;
             runs = runs;
-            arrivals = lines (queue.Arrivals n);
-            rest = d.1.0 ∙ ap (λ b. record x.listening { actor = listening.freed_if b x.listening.actor; handshakes = y.listening.handshakes }) over;
-            others = d.1.1.0;
+            arrivals = line_elsewhere log (e due) n o puts (queue.Arrivals n) (line log (queue.Arrivals n)) refl refl (stay (queue.Arrivals n));
+            rest = d.rest ∙ ap (λ b. record x.listening { actor = listening.freed_if b x.listening.actor; handshakes = mid.listening.handshakes; ends = mid.listening.ends }) over;
+            others = d.others;
             stands = stands;
-          }))
-
-    -- where nothing waits, nothing is left
-    empty_left : (p : Queue) → waits ≡ [] → line log p ≡ cond (same_queue q p) [] (line log p)
-    empty_left p none = by (same_queue q p) refl
-      where
-        by : (b : Bool) → same_queue q p ≡ b → line log p ≡ cond b [] (line log p)
-        by true there = ap (line log) (queue_from_same q p there) ∙ none
-        by false there = refl
+            ends = λ k. d.ends k ∙ (ap (λ b. unless_dropped b T.actor.arrival.link (table.at x.listening.ends) k) over ∙ ap (λ w. unless_dropped ended w (table.at x.listening.ends) k) link);
+          })))
+          (subst (SpawnerStands configs (log ++ e due ∷ []) n) (sym (on.spawner ∙ ap (spawner_after (length log) o) spawning_is))
+          (handed_spawner log (e due) n o puts configs x.spawning spawns (stay (queue.Spawner n))))
 
     -- its deadline has come
     expired : turn ≡ ends input.Deadline outcome.Ended h m → waits ≡ [] → row configs log moment seed (act.Handshake name n) ≡ ended_row [] [] → Performs configs log ev n y ls r
     expired so none row_is =
         let due : Row = ended_row [] [] in
-        served_performs (ends input.Deadline outcome.Ended h m) false true due so refl refl row_is (ap (handshake_step_row false true) none) refl
-        (ap (λ i. unless_ended (ends_handshake reply.Ok i) name hs) (none_taken log (e due) refl)) refl
+        let way : Mailbox Key = without_handshake m h.name in
+        served_performs (ends input.Deadline outcome.Ended h m) false true None None nothing way [] due so refl refl is.link
+        (λ same hands. nothing_asked (length log) n way mid y steps.taken r same hands)
+        row_is (ap (handshake_step_row false true) none) refl (none_taken log (e due) refl) refl refl refl
         (λ k. ap (λ j. line_of (ended m.handshakes j) k) is.name ∙ line_of-ended m.handshakes name k tracked.distinct) (distinct-ended m.handshakes h.name tracked.distinct)
-        (λ p. line-kept log (e due) p refl ∙ (append-nil (line log p) ∙ empty_left p none)) refl
+        tt (none_gone log q [] none) refl
 
     -- its oldest item is taken
     module _ (z : Envelope) (zs : List Envelope) (first : waits ≡ z ∷ zs) where
-      -- its peer may not connect
-      refused : z.item ≡ item.Acceptable false → turn ≡ ends input.Item outcome.Ended h (without_item m h.name) → Performs configs log ev n y ls r
-      refused said so =
-          let due : Row = ended_row (name_of z ∷ []) zs in
-          let took_is : taken log (e due) ≡ item.Acceptable false ∷ [] = first_taken log (e due) q z zs first refl ∙ ap (λ i. i ∷ []) said in
-          let gone_is : goes (e due) ≡ map name_of waits = ap (λ xs. name_of z ∷ xs) (left_gone zs) ∙ ap (map name_of) (sym first) in
-          served_performs (ends input.Item outcome.Ended h (without_item m h.name)) true true due so refl refl
-          (row_by true (z ∷ zs) runs first ∙ ap (λ i. log_rule.took_row (name_of z) i zs) said) (ap (handshake_step_row true true) first) refl
-          (ap (λ i. unless_ended (ends_handshake reply.Ok i) name hs) took_is) refl
+      abbrev way_left : Mailbox Key
+      way_left = without_item m h.name
+
+      taken_is : (i : Item) (due : Row) → z.item ≡ i → due.takes ≡ name_of z ∷ [] → taken log (e due) ≡ i ∷ []
+      taken_is i due said takes = first_taken log (e due) q z zs first takes ∙ ap (λ j. j ∷ []) said
+
+      due_is : (i : Item) → z.item ≡ i → row configs log moment seed (act.Handshake name n) ≡ log_rule.took_row n full name peer (name_of z) i zs
+      due_is i said = row_by true (z ∷ zs) runs first ∙ ap (λ j. log_rule.took_row n full name peer (name_of z) j zs) said
+
+      -- what is left where it goes on
+      rest_left : (p : Queue) → filter (stands_in p) (filter (stays (name_of z ∷ [])) (live log)) ≡ cond (same_queue q p) (drop 1 (line log p)) (line log p)
+      rest_left p = first_left log q z zs first p ∙ dropped (same_queue q p) refl
+        where
+          dropped : (b : Bool) → same_queue q p ≡ b → cond b zs (line log p) ≡ cond b (drop 1 (line log p)) (line log p)
+          dropped true same = sym (ap (drop 1) (ap (line log) (queue_from_same q p same) ∙ first))
+          dropped false other = refl
+
+      one_dropped : (k : ℕ) → line_of way_left.handshakes k ≡ cond (k == name) (option_map (drop 1) (line_of m.handshakes name)) (line_of m.handshakes k)
+      one_dropped k = ap (λ j. line_of (with_line m.handshakes j (drop 1)) k) is.name ∙ line_of-dropped m.handshakes name k
+
+      distinct_left : AreDistinct way_left.handshakes
+      distinct_left = distinct-with_line m.handshakes h.name (drop 1) tracked.distinct
+
+      abbrev ended_left : Mailbox Key
+      ended_left = without_handshake way_left h.name
+
+      -- it ends, and hands this on
+      abbrev over : Handed → Row
+      over o = record { reply = reply.Ok; takes = name_of z ∷ []; puts = handed_puts n o; ends = left_ends zs }
+
+      ends_here : (i : Item) (done : Outcome Key) (o : Handed) → z.item ≡ i → turn ≡ ends input.Item done h way_left → ends_handshake reply.Ok (i ∷ []) ≡ true
+          → log_rule.took_row n full name peer (name_of z) i zs ≡ over o
+          → (mid.tracker.mailbox ≡ ended_left → HandsOn (ready_over h.arrival.link done) (length log) n None mid y steps.taken r
+          → HandedOn (length log) n o (record ended_left { desk = asked_desk m.desk (message_in o) }) mid y steps.taken r)
+          → IsAsked x.tracker.tickets (log ++ e (over o) ∷ []) (item_in o) (message_in o) → Performs configs log ev n y ls r
+      ends_here i done o said so ending row_is handed says =
+          served_performs (ends input.Item done h way_left) true true None (ready_over h.arrival.link done) o (record ended_left { desk = asked_desk m.desk (message_in o) }) (i ∷ []) (over o) so refl refl is.link
+          handed (due_is i said ∙ row_is) (ap (λ xs. record (handshake_step_row true true xs) { puts = handed_puts n o }) first) refl (taken_is i (over o) said refl) ending refl refl
           (λ k. ap (λ j. line_of (ended (with_line m.handshakes j (drop 1)) j) k) is.name ∙ line_of-dropped_ended m.handshakes name k tracked.distinct)
-          (distinct-ended (with_line m.handshakes h.name (drop 1)) h.name (distinct-with_line m.handshakes h.name (drop 1) tracked.distinct))
-          (λ p. line-append log (e due) p ∙ (ap (λ xs. xs ++ []) (ap (λ g. filter (stands_in p) (filter (stays g) (live log))) gone_is ∙ whole_left log q p) ∙ append-nil (cond (same_queue q p) [] (line log p))))
-          refl
+          (distinct-ended way_left.handshakes h.name distinct_left) says
+          (all_gone log q z zs first) refl
+
+      -- without a connection
+      refused : (i : Item) → z.item ≡ i → turn ≡ ends input.Item outcome.Ended h way_left → ends_handshake reply.Ok (i ∷ []) ≡ true
+          → log_rule.took_row n full name peer (name_of z) i zs ≡ ended_row (name_of z ∷ []) zs → Performs configs log ev n y ls r
+      refused i said so ending row_is =
+          ends_here i outcome.Ended nothing said so ending row_is (λ same hands. nothing_asked (length log) n ended_left mid y steps.taken r same hands) tt
+
+      -- with a reservation, by which a connection is made unless the spawner is full
+      by_room : (b : Bool) (reserved : Metadata Key) → full ≡ b → z.item ≡ item.Listen (Some (peer_of reserved)) → turn ≡ ends input.Item (outcome.Ready reserved) h way_left → Performs configs log ev n y ls r
+      by_room true reserved is_full said so =
+          ends_here (item.Listen (Some (peer_of reserved))) (outcome.Ready reserved) (question (item.Release (peer_of reserved)) (message.Release reserved)) said so refl
+          (ap (λ b. ready_row n b (peer_of reserved) peer.link (name_of z) zs) is_full)
+          (λ same hands. connection_refused (length log) n ended_left mid y steps.taken r same h.arrival.link reserved hands (refuses_is ∙ is_full)) (reserved, refl, refl)
+      by_room false reserved room said so =
+          ends_here (item.Listen (Some (peer_of reserved))) (outcome.Ready reserved) (connection h.arrival.link reserved) said so refl
+          (ap (λ b. ready_row n b (peer_of reserved) peer.link (name_of z) zs) room ∙ ap (λ w. ready_row n false (peer_of reserved) w (name_of z) zs) (sym is.link))
+          (λ same hands. connection_asked (length log) n ended_left mid y steps.taken r same h.arrival.link reserved hands (refuses_is ∙ room)) tt
 
       -- its peer may connect
-      accepted : z.item ≡ item.Acceptable true → turn ≡ goes_on input.Item (record h { is_accepted = true }) (without_item m h.name) → Performs configs log ev n y ls r
+      accepted : z.item ≡ item.Acceptable true → turn ≡ goes_on input.Item (record h { is_accepted = true }) way_left → Performs configs log ev n y ls r
       accepted said so =
           let due : Row = gone_on_row (name_of z) in
-          let took_is : taken log (e due) ≡ item.Acceptable true ∷ [] = first_taken log (e due) q z zs first refl ∙ ap (λ i. i ∷ []) said in
-          served_performs (goes_on input.Item (record h { is_accepted = true }) (without_item m h.name)) true false due so (ap (handshake.Served true) is.runs) is.runs
-          (row_by true (z ∷ zs) runs first ∙ ap (λ i. log_rule.took_row (name_of z) i zs) said) (ap (handshake_step_row true false) first) refl
-          (ap (λ i. unless_ended (ends_handshake reply.Ok i) name hs) took_is) refl
-          (λ k. ap (λ j. line_of (with_line m.handshakes j (drop 1)) k) is.name ∙ line_of-dropped m.handshakes name k) (distinct-with_line m.handshakes h.name (drop 1) tracked.distinct)
-          (λ p. line-append log (e due) p ∙ (ap (λ xs. xs ++ []) (first_left log q z zs first p) ∙ (append-nil (cond (same_queue q p) zs (line log p)) ∙ dropped p (same_queue q p) refl)))
-          (subst (λ b. HandshakeIs deadline name true (cond b None (Some (record h { is_accepted = true })))) (sym is.runs)
-          (refl, record { name = is.name; deadline = is.deadline; exchanging = is.exchanging; runs = is.runs; works = is.works }))
-        where
-          dropped : (p : Queue) (b : Bool) → same_queue q p ≡ b → cond b zs (line log p) ≡ cond b (drop 1 (line log p)) (line log p)
-          dropped p true same = sym (ap (drop 1) (ap (line log) (queue_from_same q p same) ∙ first))
-          dropped p false other = refl
+          let items : List Item = item.Acceptable true ∷ [] in
+          served_performs (goes_on input.Item (record h { is_accepted = true }) way_left) true false None None nothing way_left items due so (ap (λ b. handshake.Served true b None None) is.runs) is.runs is.link
+          (λ same hands. nothing_asked (length log) n way_left mid y steps.taken r same hands)
+          (due_is (item.Acceptable true) said) (ap (handshake_step_row true false) first) refl (taken_is (item.Acceptable true) due said refl) refl refl refl one_dropped distinct_left tt rest_left
+          (subst (λ b. HandshakeIs (facts_after items (facts_of configs log n name)) name true (cond b None (Some (record h { is_accepted = true })))) (sym is.runs)
+          (refl, record { name = is.name; deadline = is.deadline; accepted = refl; finished = is.finished; key = is.key; link = is.link; source = is.source; runs = is.runs; works = is.works }))
 
-      by_item : (i : Item) (a : HandshakeItem Key) → z.item ≡ i → turn ≡ item_turn a h (without_item m h.name) → IsToldHandshake i a → Performs configs log ev n y ls r
-      by_item (item.Acceptable true) a said so told = accepted said (so ∙ ap (λ b. item_turn b h (without_item m h.name)) told)
-      by_item (item.Acceptable false) a said so told = refused said (so ∙ ap (λ b. item_turn b h (without_item m h.name)) told)
+      -- its keys were exchanged, and it asks for its peer
+      exchanged : z.item ≡ item.Finished true → turn ≡ asks input.Item (put.Listen h.arrival.key h.arrival.from.ip h.name) (record h { is_finished = true }) way_left → Performs configs log ev n y ls r
+      exchanged said so =
+          let due : Row = exchanged_row n h.name h.arrival.key (name_of z) in
+          let items : List Item = item.Finished true ∷ [] in
+          let asking : Item = item.AskListen h.name h.arrival.key in
+          let told = message.Listen h.arrival.key h.arrival.from.ip h.name in
+          let way : Mailbox Key = with_message_in way_left told in
+          served_performs (asks input.Item (put.Listen h.arrival.key h.arrival.from.ip h.name) (record h { is_finished = true }) way_left) true false (Some asking) None (question asking told) way items due so
+          (ap (λ b. handshake.Served true b (Some asking) None) is.runs) is.runs is.link
+          (λ same hands. question_asked (length log) n way mid y steps.taken r same asking told hands)
+          (due_is (item.Finished true) said ∙ (ap (λ j. exchanged_row n j peer.key (name_of z)) (sym is.name) ∙ ap (λ w. exchanged_row n h.name w (name_of z)) (sym is.key)))
+          (ap (λ xs. record (handshake_step_row true false xs) { puts = (queue.Tracker n, asking) ∷ [] }) first) refl (taken_is (item.Finished true) due said refl) refl refl refl one_dropped distinct_left
+          (h.arrival.from.ip, ap (source_at (log ++ e due ∷ [])) is.name ∙ source_at-longer log (e due ∷ []) name h.arrival.from.ip is.source, refl) rest_left
+          (subst (λ b. HandshakeIs (facts_after items (facts_of configs log n name)) name true (cond b None (Some (record h { is_finished = true })))) (sym is.runs)
+          (refl, record { name = is.name; deadline = is.deadline; accepted = is.accepted; finished = refl; key = is.key; link = is.link; source = is.source; runs = is.runs; works = is.works }))
+
+      -- it is granted its peer, or is not
+      granted : (key : Key) (g : Option (Metadata Key)) → z.item ≡ item.Listen (Some key) → turn ≡ item_turn (shake.Listen g) h way_left → Some key ≡ option_map peer_of g → Performs configs log ev n y ls r
+      granted key (Some reserved) said so same = by_room full reserved refl (said ∙ ap (λ o. item.Listen o) same) so
+      granted key None said so same = cc
+
+      denied : (g : Option (Metadata Key)) → z.item ≡ item.Listen None → turn ≡ item_turn (shake.Listen g) h way_left → None ≡ option_map peer_of g → Performs configs log ev n y ls r
+      denied None said so same = refused (item.Listen None) said so refl refl
+      denied (Some reserved) said so same = cc
+
+      by_item : (i : Item) (a : HandshakeItem Key) → z.item ≡ i → turn ≡ item_turn a h way_left → IsToldHandshake i a → Performs configs log ev n y ls r
+      by_item (item.Acceptable true) a said so told = accepted said (so ∙ ap (λ b. item_turn b h way_left) told)
+      by_item (item.Acceptable false) a said so told = refused (item.Acceptable false) said (so ∙ ap (λ b. item_turn b h way_left) told) refl refl
+      by_item (item.Finished true) a said so told = exchanged said (so ∙ ap (λ b. item_turn b h way_left) told)
+      by_item (item.Finished false) a said so told = refused (item.Finished false) said (so ∙ ap (λ b. item_turn b h way_left) told) refl refl
+      by_item (item.Listen (Some key)) a said so told = granted key told.0 said (so ∙ ap (λ b. item_turn b h way_left) told.1) told.2
+      by_item (item.Listen None) a said so told = denied told.0 said (so ∙ ap (λ b. item_turn b h way_left) told.1) told.2
       by_item _ a said so told = absurd told
 
     -- whether its deadline has come
-    due_is : is_due h moment ≡ nat_le deadline moment
-    due_is = ap (λ b. not b && nat_le h.deadline moment) is.exchanging ∙ ap (λ d. nat_le d moment) is.deadline
+    late_is : is_due h moment ≡ late
+    late_is = ap (λ b. not b && nat_le h.deadline moment) is.finished ∙ ap (λ d. not (is_finished log n name) && nat_le d moment) is.deadline
 
-    by_due : (b : Bool) → nat_le deadline moment ≡ b → waits ≡ [] → line_of m.handshakes name ≡ Some [] → Performs configs log ev n y ls r
+    by_due : (b : Bool) → late ≡ b → waits ≡ [] → line_of m.handshakes name ≡ Some [] → Performs configs log ev n y ls r
     by_due true due none lines =
-        expired (turn_is ∙ (ap (λ o. line_turn (first_of o) h m moment) lines ∙ ap (λ b. cond b (ends input.Deadline outcome.Ended h m) (idle_turn h m)) (due_is ∙ due))) none
+        expired (turn_is ∙ (ap (λ o. line_turn (first_of o) h m moment) lines ∙ ap (λ b. cond b (ends input.Deadline outcome.Ended h m) (idle_turn h m)) (late_is ∙ due))) none
         (row_by true [] runs none ∙ ap (λ b. cond b (ended_row [] []) (only reply.Idle)) due)
     by_due false early none lines =
-        idle (turn_is ∙ (ap (λ o. line_turn (first_of o) h m moment) lines ∙ ap (λ b. cond b (ends input.Deadline outcome.Ended h m) (idle_turn h m)) (due_is ∙ early)))
+        idle (turn_is ∙ (ap (λ o. line_turn (first_of o) h m moment) lines ∙ ap (λ b. cond b (ends input.Deadline outcome.Ended h m) (idle_turn h m)) (late_is ∙ early)))
         (row_by true [] runs none ∙ ap (λ b. cond b (ended_row [] []) (only reply.Idle)) early)
 
     by_line : (xs : List Envelope) (items : List (HandshakeItem Key)) → waits ≡ xs → line_of m.handshakes name ≡ Some items → Match (λ (z : Envelope) i. IsToldHandshake z.item i) xs items → Performs configs log ev n y ls r
-    by_line [] [] none lines h = by_due (nat_le deadline moment) refl none lines
+    by_line [] [] none lines h = by_due late refl none lines
     by_line (z ∷ zs) (a ∷ as_left) first lines both = by_item z zs first z.item a refl (turn_is ∙ ap (λ o. line_turn (first_of o) h m moment) lines) both.0
     by_line [] (a ∷ as_left) none lines h = absurd h
     by_line (z ∷ zs) [] first lines h = absurd h
@@ -284,7 +417,7 @@ module _ (configs : List Config) (log : List Entry) (moment seed name n : ℕ) (
     by_lines None lines h = let f : true ≡ false = sym runs ∙ h.0 in cc
     by_lines (Some items) lines h = by_line waits items refl lines h.1
 
-  by_handshake : (o : Option (Handshaking Key)) → table.at x.listening.handshakes name ≡ o → HandshakeIs deadline name (is_handshaking log n name) o → Performs configs log ev n y ls r
+  by_handshake : (o : Option (Handshaking Key)) → table.at x.listening.handshakes name ≡ o → HandshakeIs (facts_of configs log n name) name (is_handshaking log n name) o → Performs configs log ev n y ls r
   by_handshake None there none = gone there none
   by_handshake (Some h) there is = by_lines h there is.0 is.1 (line_of m.handshakes name) refl (tracked.handshakes name)
 

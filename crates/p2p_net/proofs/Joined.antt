@@ -58,6 +58,6 @@ joins_both k a b nodes new x y t r first second is allowed row_is connects =
     (x, (y, (first, (second, subst (λ m. JoinsBy m k a b x y nodes new r) (sym allowed ∙ is) (row_is, connects)))))
 
 -- an act that brings nodes together does that alone
-pub meeting_records : (o : Option Meeting) (how : Meeting) (k n : ℕ) (ev : Event) (old new : List Node) (l : Links) (e : Entry) → o ≡ Some how → MeetingRecords k ev how old new e
-    → (r : Row) × ((e ≡ entry_of ev r) × DoesOn o k n ev old new l l r)
-meeting_records o how k n ev old new l e is h = (h.0, (h.1.0, subst (λ (p : Option Meeting). DoesOn p k n ev old new l l h.0) (sym is) (h.1.1, refl)))
+pub meeting_records : (o : Option Meeting) (how : Meeting) (k n : ℕ) (ev : Event) (old new : List Node) (l links : Links) (e : Entry) → o ≡ Some how → MeetingRecords k ev how old new l links e
+    → (r : Row) × ((e ≡ entry_of ev r) × DoesOn o k n ev old new l links r)
+meeting_records o how k n ev old new l links e is h = (h.0, (h.1.0, subst (λ (p : Option Meeting). DoesOn p k n ev old new l links h.0) (sym is) h.1.1))

@@ -1,11 +1,10 @@
 -- The acts of a node's listener.
-use Rattle.std.proofs.Common.{◌≡◌, ℕ, ◌+◌, Bool, true, false, cond, List, [], ◌∷◌, ◌++◌, map, drop, length, refl, ap, sym, subst, ◌∙◌, append-nil, eq-eqb, length-append, Option, Some, None}
-use Rattle.std.specs.Prelude.{slice_get, take}
+use Rattle.std.proofs.Common.{◌≡◌, ℕ, ◌+◌, Bool, true, false, cond, List, [], ◌∷◌, ◌++◌, map, drop, length, refl, ap, sym, subst, ◌∙◌, arith, append-nil, eq-eqb, length-append, Option, Some, None}
+use Rattle.std.specs.Prelude.{◌≤◌, slice_get}
 use Rattle.std.proofs.lemmas.Option.{same_Some}
 use Rattle.p2p_base.specs.declared.key.Key.{Key}
 use Rattle.p2p_base.specs.Queue.{has_room}
 use Rattle.p2p_address.specs.declared.ip.IpAddr.{IpAddr}
-use Rattle.p2p_address.specs.declared.ip.SocketAddr.{SocketAddr}
 use Rattle.p2p_runtime.specs.QuotaPlaces.{Places}
 use Rattle.p2p_tracker_mailbox.specs.Lines.{begun}
 use Rattle.p2p_tracker_mailbox.specs.declared.mailbox.Mailbox.{Mailbox}
@@ -33,20 +32,24 @@ use Rattle.p2p_log.specs.QueueCode.{same_queue}
 use Rattle.p2p_log.specs.Lines.{name_of, line}
 use Rattle.p2p_log.proofs.QueueNames.{queue_from_same}
 use Rattle.p2p_log.proofs.Queues.{same_queue-refl}
+use Rattle.p2p_log_rules.specs.declared.row.ListeningEnd.{ListeningEnd}
 use Rattle.p2p_log_rules.specs.declared.row.Row.{Row}
 use Rattle.p2p_log_rules.specs.Facts.{is_up, taken}
 use Rattle.p2p_log_rules.specs.Effect.{only, row, effect, entry_of}
-use Rattle.p2p_log_rules.specs.Handshakes.{with_admitted, handshakes_by, handshakes_of, source_of, source_in, source_at}
+use Rattle.p2p_log_rules.specs.Handshakes.{with_admitted, handshakes_by, handshakes_of, source_of, peer_of}
+use Rattle.p2p_log_rules.specs.Links.{listened}
 use Rattle.p2p_log_rules.specs.Listening as log_rule
 use Rattle.p2p_log_rules.specs.Listening.{gate_rules_at, most_handshakes_at, took_known, known_of, gates_puts, told_row}
+use Rattle.p2p_log_rules.proofs.TakenAt.{taken_at-last}
 use Rattle.p2p_net_queues.specs.Board.{held}
+use Rattle.p2p_net_queues.specs.Tables as table
 use Rattle.p2p_net_queues.proofs.Going.{put_in, line-append, first_left}
 use Rattle.p2p_net_listener.specs.Listening as listening
-use Rattle.p2p_net_listener.specs.Stands.{arrival_item, ListenerStands}
+use Rattle.p2p_net_listener.specs.Stands.{arrival_item, IsRunning, TellsNothing, ListenerStands}
 use Rattle.p2p_net_listener.specs.declared.listening.Took.{Took}
 use Rattle.p2p_net_listener.specs.declared.listening.Took.TheVariants as takes
-use Rattle.p2p_net_listener.proofs.Changes.{listener_moved}
-use Rattle.p2p_net_listener.proofs.Handshakes.{AreKept, handshakes_kept, handshakes_begun}
+use Rattle.p2p_net_listener.proofs.Changes.{listener_tells, listener_moved}
+use Rattle.p2p_net_listener.proofs.Handshakes.{facts_begun, AreKept, handshakes_kept, handshakes_begun}
 use Rattle.p2p_net_links.specs.Stands.{LinksStand}
 use Rattle.p2p_net_links.specs.declared.links.Links.{Links}
 use Rattle.p2p_net_tracker.specs.Dialed.{taken_names}
@@ -74,20 +77,6 @@ told_no_arrivals n m (queue.Updates j c) h = refl
 told_no_arrivals n m (queue.Blocked j c) h = refl
 told_no_arrivals n m (queue.Handshake j c) h = refl
 told_no_arrivals n m _ h = cc
-
--- the source of the arrival that the last entry took
-last_there : {X : Type 0} (xs : List X) (x : X) → slice_get (xs ++ x ∷ []) (length xs) ≡ Some x
-last_there [] x = refl
-last_there (y ∷ ys) x = last_there ys x
-
-take_all : {X : Type 0} (xs : List X) (x : X) → take (length xs) (xs ++ x ∷ []) ≡ xs
-take_all [] x = refl
-take_all (y ∷ ys) x = ap (λ l. y ∷ l) (take_all ys x)
-
-source_last : (log : List Entry) (e : Entry) (from : SocketAddr) (key : Key) (link : ℕ) → taken log e ≡ item.Arrival from key link ∷ [] → source_at (log ++ e ∷ []) (length log) ≡ Some from.ip
-unfolding source_at
-source_last log e from key link is =
-    ap (source_in (take (length log) (log ++ e ∷ []))) (last_there log e) ∙ (ap (λ l. source_in l (Some e)) (take_all log e) ∙ ap source_of is)
 
 -- what was asked for a handshake that begins, as an item
 abbrev asked_for : ℕ → Key → GatesReply → Option Item
@@ -136,6 +125,10 @@ module _ (configs : List Config) (log : List Entry) (moment seed n : ℕ) (x y :
   abbrev turn : ListenerTurn Key
   turn = listener_turn actor known m k moment
 
+  -- what had the listening ends of the links
+  abbrev had : ℕ → Option ListeningEnd
+  had = table.at x.listening.ends
+
   abbrev e : Row → Entry
   e due = entry_of ev due
 
@@ -148,6 +141,10 @@ module _ (configs : List Config) (log : List Entry) (moment seed n : ℕ) (x y :
   effect_is : (due : Row) → row configs log moment seed (act.Listener n) ≡ due → e due ≡ effect configs log ev
   unfolding effect
   effect_is due is = ap e (sym is)
+
+  -- its step tells no handshake anything
+  tells_none : (due : Row) (j : ℕ) → TellsNothing log (e due) n j
+  tells_none due = listener_tells log (e due) n (eq-eqb n n refl)
 
   -- where both parts stand for the log with this entry
   performs : (due : Row) → row configs log moment seed (act.Listener n) ≡ due → r ≡ due → TrackerStands configs (log ++ e due ∷ []) n y.tracker → ListenerStands configs (log ++ e due ∷ []) n y.listening
@@ -171,8 +168,8 @@ module _ (configs : List Config) (log : List Entry) (moment seed n : ℕ) (x y :
       → T.known ≡ took_known rules moment items known
       → T.places ≡ record { held = length (with_admitted k due.reply hs); max = most_handshakes_at configs n }
       → AreKept configs log (e due) n (log ++ e due ∷ []) (listening.handshakes_after T.stepped k x.listening.handshakes)
-      → ListenerStands configs (log ++ e due ∷ []) n y.listening
-  hears_by due T items is took_is names waits knows places kept_now =
+      → ((j : ℕ) → listening.ends_after T.stepped k had j ≡ listened k due.reply items had j) → ListenerStands configs (log ++ e due ∷ []) n y.listening
+  hears_by due T items is took_is names waits knows places kept_now has =
       listener_moved configs log (e due) n x.listening y.listening items listens
       (record {
         steps = eq-eqb n n refl;
@@ -182,6 +179,7 @@ module _ (configs : List Config) (log : List Entry) (moment seed n : ℕ) (x y :
         known = subst (StandsFor y.listening.actor) (ap (λ (u : ListenerTurn Key). u.known) is ∙ knows) (steps.stands known listens.known);
         places = steps.places known listens.known ∙ (ap (λ (u : ListenerTurn Key). u.places) is ∙ places);
         handshakes = subst (AreKept configs log (e due) n (log ++ e due ∷ [])) (sym (steps.handshakes known listens.known ∙ ap (λ (u : ListenerTurn Key). listening.handshakes_after u.stepped k x.listening.handshakes) is)) kept_now;
+        ends = λ j. steps.ends known listens.known j ∙ (ap (λ (u : ListenerTurn Key). listening.ends_after u.stepped k had j) is ∙ has j);
         rest = steps.rest;
         rates = steps.rates;
       })
@@ -236,7 +234,7 @@ module _ (configs : List Config) (log : List Entry) (moment seed n : ℕ) (x y :
         }))
         (hears_by due_update T_update (item.Addresses ips ∷ []) turn_update took_is
         (listens.names ∙ ap (map name_of) (sym (line_update (queue.Arrivals n)))) (ap (map (λ (w : Envelope). w.item)) (line_update (queue.Arrivals n)) ∙ listens.items) refl listens.places
-        (handshakes_kept configs log (e due_update) n x.listening.handshakes (ap (λ b. cond b hs hs) (eq-eqb n n refl)) listens.handshakes))
+        (handshakes_kept configs log (e due_update) n x.listening.handshakes (ap (λ b. cond b hs hs) (eq-eqb n n refl)) (tells_none due_update) listens.handshakes) (λ j. refl))
 
     update_performs : Tracks what → Performs configs log ev n y ls r
     update_performs tracks = updated (subst Tracks (what_is T_update turn_update) tracks)
@@ -260,7 +258,7 @@ module _ (configs : List Config) (log : List Entry) (moment seed n : ℕ) (x y :
         performs due (row_by [] [] quiet none) nothing.0
         (subst (TrackerStands configs (log ++ e due ∷ []) n) (sym same) (part_still place.tracker configs log (e due) n x (act.Listener n) reply.Idle tracked refl refl still))
         (hears_by due T [] turn_is (none_taken log (e due) refl) (listens.names ∙ ap (map name_of) (sym line_same)) (ap (map (λ (w : Envelope). w.item)) line_same ∙ listens.items) refl listens.places
-        (handshakes_kept configs log (e due) n x.listening.handshakes (ap (λ b. cond b hs hs) (eq-eqb n n refl)) listens.handshakes))
+        (handshakes_kept configs log (e due) n x.listening.handshakes (ap (λ b. cond b hs hs) (eq-eqb n n refl)) (tells_none due) listens.handshakes) (λ j. refl))
 
     -- the oldest arrival is taken
     module _ (z : Envelope) (zs : List Envelope) (a : Arrival Key) (cs : List (Arrival Key)) (first : arrivals ≡ z ∷ zs) (came : actor.arrivals ≡ a ∷ cs) (is : z.item ≡ arrival_item a)
@@ -345,21 +343,48 @@ module _ (configs : List Config) (log : List Entry) (moment seed n : ℕ) (x y :
       admits_told : (told : GatesReply) → handshakes_by n log (e (due told)) hs ≡ with_admitted k (reply.Gates told) hs
       admits_told told = ap (λ b. cond b (with_admitted k (reply.Gates told) hs) hs) (eq-eqb n n refl)
 
+      itself : (c : ℕ) → c ≤ c
+      itself c = omega arith
+
+      -- the one that begins, by what the log tells of it
+      running : IsRunning (facts_begun configs log (e (due gates.Admitted)) n) k (new_handshake k a actor.handshake_timeout moment)
+      running =
+          let took : taken log (e (due gates.Admitted)) ≡ item.Arrival a.from a.key a.link ∷ [] = took_is gates.Admitted in
+          record {
+            name = refl;
+            deadline = ap (λ t. moment + t) listens.timeout;
+            accepted = refl;
+            finished = refl;
+            key = sym (ap (λ (xs : List Item). (peer_of xs).key) took);
+            link = sym (ap (λ (xs : List Item). (peer_of xs).link) took);
+            source = ap source_of took;
+            runs = refl;
+            works = refl;
+          }
+
       kept_told : (told : GatesReply) → AreKept configs log (e (due told)) n (log ++ e (due told) ∷ []) (listening.handshakes_after (T_told told).stepped k x.listening.handshakes)
       kept_told gates.Admitted =
           handshakes_begun configs log (e (due gates.Admitted)) n x.listening.handshakes (new_handshake k a actor.handshake_timeout moment) (admits_told gates.Admitted)
-          (record { name = refl; deadline = ap (λ t. moment + t) listens.timeout; exchanging = refl; runs = refl; works = refl }) listens.handshakes
-      kept_told gates.Private = handshakes_kept configs log (e (due gates.Private)) n x.listening.handshakes (admits_told gates.Private) listens.handshakes
-      kept_told gates.Unregistered = handshakes_kept configs log (e (due gates.Unregistered)) n x.listening.handshakes (admits_told gates.Unregistered) listens.handshakes
-      kept_told (gates.Limited i j) = handshakes_kept configs log (e (due (gates.Limited i j))) n x.listening.handshakes (admits_told (gates.Limited i j)) listens.handshakes
-      kept_told gates.TooMany = handshakes_kept configs log (e (due gates.TooMany)) n x.listening.handshakes (admits_told gates.TooMany) listens.handshakes
+          (tells_none (due gates.Admitted)) (listens.untold k (itself k)) running listens.handshakes
+      kept_told gates.Private = handshakes_kept configs log (e (due gates.Private)) n x.listening.handshakes (admits_told gates.Private) (tells_none (due gates.Private)) listens.handshakes
+      kept_told gates.Unregistered = handshakes_kept configs log (e (due gates.Unregistered)) n x.listening.handshakes (admits_told gates.Unregistered) (tells_none (due gates.Unregistered)) listens.handshakes
+      kept_told (gates.Limited i j) = handshakes_kept configs log (e (due (gates.Limited i j))) n x.listening.handshakes (admits_told (gates.Limited i j)) (tells_none (due (gates.Limited i j))) listens.handshakes
+      kept_told gates.TooMany = handshakes_kept configs log (e (due gates.TooMany)) n x.listening.handshakes (admits_told gates.TooMany) (tells_none (due gates.TooMany)) listens.handshakes
+
+      -- what has the link's listening end
+      ends_told : (told : GatesReply) (j : ℕ) → listening.ends_after (T_told told).stepped k had j ≡ listened k (reply.Gates told) (item.Arrival a.from a.key a.link ∷ []) had j
+      ends_told gates.Admitted j = refl
+      ends_told gates.Private j = refl
+      ends_told gates.Unregistered j = refl
+      ends_told (gates.Limited i m) j = refl
+      ends_told gates.TooMany j = refl
 
       hears : (told : GatesReply) → turn ≡ T_told told → ListenerStands configs (log ++ e (due told) ∷ []) n y.listening
       hears told so =
           hears_by (due told) (T_told told) (item.Arrival a.from a.key a.link ∷ []) so (took_is told)
           (names_told told ∙ (ap (drop 1) (listens.names ∙ ap (map name_of) first) ∙ ap (map name_of) (sym (arrivals_left told))))
           (ap (map (λ (w : Envelope). w.item)) (arrivals_left told) ∙ (others ∙ sym (ap (λ xs. map arrival_item (drop 1 xs)) came)))
-          (ap (λ g. rule.known_after g known a.from.ip moment) listens.rules) (places_told told) (kept_told told)
+          (ap (λ g. rule.known_after g known a.from.ip moment) listens.rules) (places_told told) (kept_told told) (ends_told told)
 
       tracks_told : (told : GatesReply) → turn ≡ T_told told → Tracks what → Tracks (Some (takes.Arrival (name_of z) told (asked_for k a.key told)))
       tracks_told told so tracks = subst Tracks (what_is (T_told told) so ∙ took_told told (slice_get x.listening.names 0) name_is) tracks
@@ -404,7 +429,7 @@ module _ (configs : List Config) (log : List Entry) (moment seed n : ℕ) (x y :
             no_question = refl;
             no_answer = λ q. refl;
             admits = admits_told gates.Admitted;
-            source_is = source_last log (e d) a.from a.key a.link (took_is gates.Admitted);
+            source_is = ap source_of (taken_at-last log (e d) ∙ took_is gates.Admitted);
             rest = it.1 ∙ ap (λ (u : Mailbox Key). record x.tracker { mailbox = u; names = x.tracker.names ++ (k, 0) ∷ [] }) (w ∙ sym (mailbox_now w));
             items = ap (λ (u : Mailbox Key). u.desk.messages.items) w ∙ kept_open m.desk.messages.closed (has_room m.desk.messages) m.desk.messages.items (message.Acceptable a.key a.from.ip k) open_mailbox;
             closed = ap (λ (u : Mailbox Key). u.desk.messages.closed) w;

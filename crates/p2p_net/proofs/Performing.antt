@@ -19,7 +19,8 @@ use Rattle.p2p_net_dialer.proofs.Changes.{dialer_frame}
 use Rattle.p2p_net_listener.proofs.Changes.{listener_frame}
 use Rattle.p2p_log_rules.specs.Facts.{starts, registers_at, taken, item_named, steps_router, steps_sender, is_answer, half_of, joins}
 use Rattle.p2p_log_rules.specs.Effect.{only, row, effect}
-use Rattle.p2p_log_rules.specs.Handshakes.{steps_listener, acted_handshakes, handshakes_by, handshakes_of}
+use Rattle.p2p_log_rules.specs.Links.{openings_by, openings_of}
+use Rattle.p2p_log_rules.specs.Handshakes.{ends_handshake, steps_listener, acted_handshakes, handshakes_by, handshakes_of}
 use Rattle.p2p_log_rules.specs.Listening.{gate_rules_at, took_known, known_of}
 use Rattle.p2p_log_rules.specs.Tracking.{steps_tracker}
 use Rattle.p2p_log_rules.specs.TrackerRows.{answers}
@@ -30,8 +31,11 @@ use Rattle.p2p_net_channels.proofs.Changes.{channels_frame}
 use Rattle.p2p_net_connections.proofs.Changes.{connections_frame}
 use Rattle.p2p_net_links.specs.Stands.{LinksStand}
 use Rattle.p2p_net_links.specs.declared.links.Links.{Links}
-use Rattle.p2p_net_links.proofs.Changes.{links_frame}
-use Rattle.p2p_net.specs.Places.{Part, router, channels, connections, tracker, dialer, listener}
+use Rattle.p2p_net_links.proofs.Changes.{opens_none, openings_unmoved, is_ok_reply, openings_unanswered, links_frame}
+use Rattle.p2p_net_listener.proofs.Ends.{ends_quiet}
+use Rattle.p2p_net_listener.proofs.Handshakes.{nothing_tells}
+use Rattle.p2p_net_spawner.proofs.Changes.{spawner_kept}
+use Rattle.p2p_net.specs.Places.{Part, router, channels, connections, tracker, dialer, listener, spawner}
 use Rattle.p2p_net.specs.Stands.{PartStands, NodeStands, WorldStands}
 use Rattle.p2p_net.specs.declared.node.Node.{Node}
 use Rattle.p2p_net.proofs.ActKinds.{registers_unless, starts_unless, half_unless, joins_unless}
@@ -76,6 +80,8 @@ is_quiet (act.Attempt e n) r = false
 is_quiet (act.Resolve addresses e n) r = false
 is_quiet (act.Connect e from n to) r = false
 is_quiet (act.Refuse e n) r = false
+is_quiet (act.Finish link ok) reply.Ok = false
+is_quiet (act.Finish link ok) r = true
 is_quiet a r = true
 
 quiet_registers : (configs : List Config) (n : ℕ) (a : Act) (r : Reply) → is_quiet a r ≡ true → registers_at configs n a ≡ []
@@ -133,6 +139,14 @@ quiet_handshakes n name reply.Idle items (act.Handshake e m) names h = either_sa
 quiet_handshakes n name reply.Gone items (act.Handshake e m) names h = either_same (m == n) names
 quiet_handshakes n name _ items (act.Handshake e m) names h = cc
 quiet_handshakes n name r items _ names h = refl
+
+-- a step of a handshake with such a reply ends none
+quiet_shakes : (a : Act) (r : Reply) (h m : ℕ) → a ≡ act.Handshake h m → is_quiet a r ≡ true → ends_handshake r [] ≡ false
+quiet_shakes a r h m is q = by r (sym (ap (λ b. is_quiet b r) is) ∙ q)
+  where
+    by : (r : Reply) → is_quiet (act.Handshake h m) r ≡ true → ends_handshake r [] ≡ false
+    by reply.Ok q = cc
+    by _ q = refl
 
 handshakes_still : (log : List Entry) (e : Entry) (n : ℕ) (a : Act) (rep : Reply) → e.event.act ≡ a → e.reply ≡ rep → is_quiet a rep ≡ true → handshakes_by n log e (handshakes_of log n) ≡ handshakes_of log n
 handshakes_still log e n a rep is told q =
@@ -227,15 +241,28 @@ part_still listener configs log e n x a rep s is q h =
     let known = known_of configs log n in
     listener_frame configs log e n x.listening s
     (record {
+      tells = λ k. nothing_tells log e n k (taken-none log e h.takes);
+      ends = ends_quiet log e n (taken-none log e h.takes) h.puts (λ j m acts. ap (λ r. ends_handshake r []) h.reply ∙ quiet_shakes a rep j m (sym is ∙ acts) q);
       known =
           ap (λ l. cond (steps_listener n e.event.act) (took_known (gate_rules_at configs n) e.event.at l known) known) (taken-none log e h.takes)
           ∙ either_same (steps_listener n e.event.act) known;
       handshakes = handshakes_still log e n a rep is h.reply q;
       arrivals = line-still log e rep (queue.Arrivals n) h;
     })
+part_still spawner configs log e n x a rep s is q h = spawner_kept configs log e n x.spawning s (line-still log e rep (queue.Spawner n) h)
 
-pub links_still : (log : List Entry) (e : Entry) (rep : Reply) (l : Links) → LinksStand log l → IsStill e rep → LinksStand (log ++ e ∷ []) l
-links_still log e rep l s h = links_frame log e l s (λ t link. line-still log e rep (queue.Link link t) h)
+-- no link is opened, and no exchange over one ends
+quiet_opens : (log : List Entry) (e : Entry) (a : Act) (rep : Reply) → e.event.act ≡ a → is_quiet a rep ≡ true → e.reply ≡ rep → (k : ℕ) → openings_by log e (openings_of log) k ≡ openings_of log k
+quiet_opens log e (act.Connect d from n to) rep is q told k = cc
+quiet_opens log e (act.Finish link ok) rep is q told k = openings_unanswered log e (ap is_ok_reply told ∙ unanswered rep q) k
+  where
+    unanswered : (r : Reply) → is_quiet (act.Finish link ok) r ≡ true → is_ok_reply r ≡ false
+    unanswered reply.Ok h = cc
+    unanswered _ h = refl
+quiet_opens log e _ rep is q told k = openings_unmoved log e (ap opens_none is) k
+
+pub links_still : (log : List Entry) (e : Entry) (a : Act) (rep : Reply) (l : Links) → LinksStand log l → e.event.act ≡ a → is_quiet a rep ≡ true → IsStill e rep → LinksStand (log ++ e ∷ []) l
+links_still log e a rep l s is q h = links_frame log e l s (λ t link. line-still log e rep (queue.Link link t) h) (quiet_opens log e a rep is q h.reply)
 
 -- the entry of an act whose row moves nothing
 pub effect-still : (configs : List Config) (log : List Entry) (ev : Event) (rep : Reply) → row configs log ev.at ev.seed ev.act ≡ only rep → IsStill (effect configs log ev) rep
@@ -260,5 +287,5 @@ stays_performs configs log ev n x y l links r rep s t is quiet row_is same kept 
     record {
       row_is = row_is ∙ sym is;
       node = subst (NodeStands configs (log ++ e ∷ []) n) (sym same) (record { own = s.own; each = λ p. part_still p configs log e n x ev.act rep (s.each p) (effect-asks configs log ev) quiet still });
-      linked = subst (LinksStand (log ++ e ∷ [])) (sym kept) (links_still log e rep l t still);
+      linked = subst (LinksStand (log ++ e ∷ [])) (sym kept) (links_still log e ev.act rep l t (effect-asks configs log ev) quiet still);
     }

@@ -24,9 +24,13 @@ use Rattle.p2p_net_links.specs.declared.links.Links.{Links}
 use Rattle.p2p_net.specs.Places as place
 use Rattle.p2p_net_tracker.proofs.Begins.{may_take}
 use Rattle.p2p_net_listener.proofs.Changes.{place_held}
-use Rattle.p2p_net.specs.Places.{asked_node, or_first, node_asked, node_of, other_of}
-use Rattle.p2p_net.specs.Ready.{is_started, capacity_by, may_register, names_node, asks_set, subscribes, may_ask, may_at, may_act, IsReady, MayPerform, names_dialer, names_listener}
-use Rattle.p2p_net.specs.Meetings.{meeting_of, ends_in}
+use Rattle.p2p_log_rules.specs.declared.row.Opening.{Opening}
+use Rattle.p2p_net_queues.specs.Tables as table
+use Rattle.p2p_net_links.specs.Stands.{LinksStand}
+use Rattle.p2p_net.specs.Places.{asked_node, or_first, node_asked, node_linked, linked_to, node_of, other_of}
+use Rattle.p2p_net.proofs.LinkedNodes.{opening_made}
+use Rattle.p2p_net.specs.Ready.{is_started, capacity_by, may_register, names_node, asks_set, subscribes, may_ask, may_at, may_act, IsReady, MayPerform, names_dialer, names_listener, is_link, links_attempt}
+use Rattle.p2p_net.specs.Meetings.{meeting_of, MeetsThere}
 use Rattle.p2p_net.specs.Stands.{RouterStands, OwnStands, NodeStands, WorldStands}
 use Rattle.p2p_net.specs.declared.meeting.Meeting.{Meeting}
 use Rattle.p2p_net.specs.declared.meeting.Meeting.TheVariants as meeting
@@ -109,6 +113,26 @@ listened_is : (log : List Entry) (e : ℕ) → names_listener (slice_get log e) 
 listened_is [] e = refl
 listened_is (d ∷ ds) zero = refl
 listened_is (d ∷ ds) (suc i) = listened_is ds i
+
+-- an event that links an attempt of a node to another
+linked_is : (configs : List Config) (log : List Entry) (link : ℕ)
+    → (nat_lt (node_linked (slice_get log link)) (length configs) && (nat_lt (linked_to (slice_get log link)) (length configs) && links_attempt (slice_get log link)))
+    ≡ valid.names_link configs (events_of log) link
+linked_is configs [] link = nowhere (nat_lt 0 (length configs))
+  where
+    nowhere : (b : Bool) → (b && (b && false)) ≡ false
+    nowhere true = refl
+    nowhere false = refl
+linked_is configs (d ∷ ds) zero = by d.event.act
+  where
+    nowhere : (b : Bool) → (b && (b && false)) ≡ false
+    nowhere true = refl
+    nowhere false = refl
+
+    by : (a : Act) → (nat_lt (elim a [ act.Connect e from n to ↦ n | _ ↦ 0 ]) (length configs) && (nat_lt (elim a [ act.Connect e from n to ↦ to | _ ↦ 0 ]) (length configs) && is_link a)) ≡ valid.links_nodes configs a
+    by (act.Connect e from n to) = ap (λ b. nat_lt n (length configs) && b) (and-true (nat_lt to (length configs)))
+    by _ = nowhere (nat_lt 0 (length configs))
+linked_is configs (d ∷ ds) (suc i) = linked_is configs ds i
 
 -- by whether the node is there
 there : (b : Bool) (at rest : Bool) → (b ≡ true → at ≡ rest) → (b && (b && at)) ≡ (b && rest)
@@ -201,6 +225,13 @@ module _ (configs : List Config) (log : List Entry) (nodes : List Node) (links :
       ∙ (ap (λ b. b && (nat_lt to (length nodes) && valid.names_dialer (events_of log) n e)) (counted n)
       ∙ ap (λ b. nat_lt n (length configs) && (b && valid.names_dialer (events_of log) n e)) (counted to))
   may_by (act.Refuse e n) = of_dialer n e (act.Refuse e n) (λ x. refl)
+  may_by (act.Finish link ok) =
+      let n = node_linked (slice_get log link) in
+      let to = linked_to (slice_get log link) in
+      all_there (nat_lt n (length nodes)) (nat_lt to (length nodes)) (may_at (slice_get nodes n) log (act.Finish link ok)) (links_attempt (slice_get log link))
+      (λ lt. asks (act.Finish link ok) (links_attempt (slice_get log link)) lt (λ x t. refl))
+      ∙ (ap (λ b. b && (nat_lt to (length nodes) && links_attempt (slice_get log link))) (counted n)
+      ∙ (ap (λ b. nat_lt n (length configs) && (b && links_attempt (slice_get log link))) (counted to) ∙ linked_is configs log link))
   may_by a = free a (λ x. refl)
 
 pub may_act-nodes : (configs : List Config) (log : List Entry) (nodes : List Node) (links : Links) (a : Act) → WorldStands configs log nodes links → may_act nodes log a ≡ valid.may_act configs (events_of log) a
@@ -262,27 +293,34 @@ releases_held configs log n lawful key x rest first is =
     (held, held_is_others configs (events_of log) log lawful n key held)
 
 -- the nodes that an act brings together are those that it names
-ends_named : (log : List Entry) (a : Act) (how : Meeting) → meeting_of a ≡ Some how → (node_of log a ≡ (ends_in how).dials) × (other_of (node_of log a) a ≡ (ends_in how).listens)
-ends_named log (act.Join m k) how is = subst (λ (h : Meeting). (m ≡ (ends_in h).dials) × (k ≡ (ends_in h).listens)) (same_Some (meeting.Join (record { dials = m; listens = k })) how is) (refl, refl)
-ends_named log (act.Connect e from m k) how is =
-    subst (λ (h : Meeting). (m ≡ (ends_in h).dials) × (k ≡ (ends_in h).listens)) (same_Some (meeting.Link e from (record { dials = m; listens = k })) how is) (refl, refl)
-ends_named log _ how is = cc
+ends_there : (log : List Entry) (nodes : List Node) (l : Links) → LinksStand log l → (a : Act) → node_of log a < length nodes → other_of log (node_of log a) a < length nodes
+    → (how : Meeting) → meeting_of a ≡ Some how → MeetsThere how nodes l
+ends_there log nodes l t (act.Join m k) first second how is =
+    subst (λ h. MeetsThere h nodes l) (same_Some (meeting.Join (record { dials = m; listens = k })) how is) (first, second)
+ends_there log nodes l t (act.Connect e from m k) first second how is =
+    subst (λ h. MeetsThere h nodes l) (same_Some (meeting.Link e from (record { dials = m; listens = k })) how is) (first, second)
+ends_there log nodes l t (act.Finish link ok) first second how is = subst (λ h. MeetsThere h nodes l) (same_Some (meeting.Finish link ok) how is) open_there
+  where
+    open_there : (o : Opening) → table.at l.openings link ≡ Some o → (o.node < length nodes) × (o.to < length nodes)
+    open_there o at =
+        let made = opening_made log link o (sym (t.openings link) ∙ at) in
+        (subst (λ i. i < length nodes) made.0 first, subst (λ i. i < length nodes) made.1 second)
+ends_there log nodes l t _ first second how is = cc
 
 -- an act that may be asked for finds its nodes there, and ready
 pub may_perform : (configs : List Config) (log : List Entry) (nodes : List Node) (links : Links) (a : Act) → WorldStands configs log nodes links → IsLawful configs (events_of log) log → valid.may_act configs (events_of log) a ≡ true
-    → MayPerform nodes (node_of log a) a
+    → MayPerform nodes links (node_of log a) a
 may_perform configs log nodes links a s lawful may =
     let n = node_of log a in
-    let m = other_of n a in
+    let m = other_of log n a in
     let test : may_act nodes log a ≡ true = may_act-nodes configs log nodes links a s ∙ may in
     let one = and_parts (nat_lt n (length nodes)) (nat_lt m (length nodes) && may_at (slice_get nodes n) log a) test in
     let two = and_parts (nat_lt m (length nodes)) (may_at (slice_get nodes n) log a) one.1 in
     record {
       first = lower n (length nodes) one.0;
-      second = lower m (length nodes) two.0;
       ready = λ x there.
           ready_by configs log n a x (s.each n x there) (releases_held configs log n lawful) (sizes_there configs log nodes links s n x there) (sym (ap (λ o. may_at o log a) there) ∙ two.1);
-      ends = λ how is. ends_named log a how is;
+      ends = λ how is. ends_there log nodes links s.linked a (lower n (length nodes) one.0) (lower m (length nodes) two.0) how is;
       sizes = λ i x there. one_mailbox x.config (sizes_there configs log nodes links s i x there);
       numbers = λ i x there. let r : RouterStands configs log i x.router = (s.each i x there).each place.router in r.number;
     }

@@ -38,7 +38,7 @@ use Rattle.p2p_net_connections.specs.declared.connections.Connections.{Connectio
 use Rattle.p2p_net_links.specs.Links.{way_of, with_way}
 use Rattle.p2p_net_links.specs.Stands.{LinksStand}
 use Rattle.p2p_net_links.specs.declared.links.Links.{Links}
-use Rattle.p2p_net_links.proofs.Changes.{links_taken}
+use Rattle.p2p_net_links.proofs.Changes.{opens_none, openings_unmoved, links_taken}
 use Rattle.p2p_net.specs.Places as place
 use Rattle.p2p_net.specs.Acts.{accepted_row, accepted_into, accepted_off, arrived_row, arrived_into, arrived_off, received_row, received_into, received_off, first_in, ReceivesBy, ReceivesOn, RecvSteps}
 use Rattle.p2p_net.specs.Stands.{NodeStands}
@@ -117,14 +117,15 @@ channel_link n c j side.In = refl
 
 -- the links, of which one frame less is in flight
 off_links : (log : List Entry) (e : Entry) (conn n : ℕ) (s : Side) (y : Envelope) (ys : List Envelope) (l : Links) (full : Bool) (from : Key) (m : Arrived) → LinksStand log l → TakesFrame log e conn s y ys
-    → e.puts ≡ (delivered full n from m (taken_row (name_of y))).puts → LinksStand (log ++ e ∷ []) (with_way l s (popped_at (way_of l s) conn))
-off_links log e conn n s y ys l full from m t h puts =
+    → e.puts ≡ (delivered full n from m (taken_row (name_of y))).puts → opens_none e.event.act ≡ true → LinksStand (log ++ e ∷ []) (with_way l s (popped_at (way_of l s) conn))
+off_links log e conn n s y ys l full from m t h puts opens =
     links_taken log e l s conn y ys t h.first
     (λ u j.
     line_off log e conn s y ys (queue.Link j u) h
     ∙ (ap (λ p. cond (same_queue (queue.Link conn s) (queue.Link j u)) ys (line log (queue.Link j u)) ++ filter (stands_in (queue.Link j u)) (placed (length log) 0 p)) puts
     ∙ (ap (λ w. cond (same_queue (queue.Link conn s) (queue.Link j u)) ys (line log (queue.Link j u)) ++ w) (none_put full j u)
     ∙ append-nil (cond (same_queue (queue.Link conn s) (queue.Link j u)) ys (line log (queue.Link j u))))))
+    (openings_unmoved log e opens)
   where
     none_put : (b : Bool) (j : ℕ) (u : Side) → filter (stands_in (queue.Link j u)) (placed (length log) 0 (delivered b n from m (taken_row (name_of y))).puts) ≡ []
     none_put true j u = refl
@@ -199,7 +200,7 @@ accepted_performs configs log at seed conn n u from f fs m (Some capacity) x y l
     let puts : e.puts ≡ (delivered full n from m (taken_row (name_of f))).puts = ap (λ (z : Row). z.puts) is in
     built configs log at seed conn n x y (delivered_to full (length log) 0 n from m x.channels) l links r s (row_is ∙ sym is) parts
     (off_channels configs log e conn n u f fs x.channels full from m (s.each place.channels) took refl puts)
-    (subst (LinksStand (log ++ e ∷ [])) (sym off) (off_links log e conn n u f fs l full from m t took puts))
+    (subst (LinksStand (log ++ e ∷ [])) (sym off) (off_links log e conn n u f fs l full from m t took puts refl))
 
 -- by its message
 arrived_performs : (configs : List Config) (log : List Entry) (at seed conn n : ℕ) (u : Side) (from : Key) (f : Envelope) (fs : List Envelope) (o : Option Arrived) (x y : Node) (l links : Links) (r : Row) → NodeStands configs log n x → LinksStand log l

@@ -68,11 +68,11 @@ unfolding effect
 entry_of-effect configs log v r h = ap (entry_of v) h
 
 -- what the code records of an event
-pub recorded : (configs : List Config) (log later : List Entry) (v : Event) (k : ℕ) (nodes new : List Node) (l links : Links) (e : Entry) → WorldStands configs log nodes l → is_valid_event configs (events_of log) v ≡ true
-    → k ≡ length log → WorldRecords k (node_of log v.act) v nodes new l links e → later ≡ log ++ e ∷ [] → IsRecorded configs log v later new links
-recorded configs log later v k nodes new l links e s valid at made grown =
+pub recorded : (configs : List Config) (log later : List Entry) (v : Event) (k : ℕ) (nodes new : List Node) (l links : Links) (e : Entry) → WorldStands configs log nodes l → IsLawful configs (events_of log) log
+    → is_valid_event configs (events_of log) v ≡ true → k ≡ length log → WorldRecords k (node_of log v.act) v nodes new l links e → later ≡ log ++ e ∷ [] → IsRecorded configs log v later new links
+recorded configs log later v k nodes new l links e s lawful valid at made grown =
     let r : Row = made.0 in
-    let h : Simulates configs log v new links r = simulates configs log v nodes new l links r s (valid_act configs (events_of log) v valid) (subst (λ i. WorldDoes i (node_of log v.act) v nodes new l links r) at made.1.1) in
+    let h : Simulates configs log v new links r = simulates configs log v nodes new l links r s lawful (valid_act configs (events_of log) v valid) (subst (λ i. WorldDoes i (node_of log v.act) v nodes new l links r) at made.1.1) in
     let log_is : later ≡ log ++ effect configs log v ∷ [] = grown ∙ (ap (λ x. log ++ x ∷ []) made.1.0 ∙ ap (λ x. log ++ x ∷ []) (entry_of-effect configs log v r h.row_is)) in
     record { log_is = log_is; stands = subst (λ ls. WorldStands configs ls new links) (sym log_is) h.stands }
 

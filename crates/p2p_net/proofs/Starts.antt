@@ -29,6 +29,10 @@ use Rattle.p2p_net_tracker.specs.Begins.{IsNew}
 use Rattle.p2p_net_tracker.proofs.Begins.{tracker_new}
 use Rattle.p2p_net_queues.specs.Lines.{HoldsLines}
 use Rattle.p2p_net_queues.proofs.Holding.{holds_none}
+use Rattle.p2p_net_spawner.specs.Spawning.{no_spawning}
+use Rattle.p2p_net_spawner.specs.Stands.{SpawnerStands}
+use Rattle.p2p_net_spawner.proofs.Changes.{spawner_new}
+use Rattle.p2p_net_links.proofs.Changes.{openings_new}
 use Rattle.p2p_net_links.specs.Links.{no_links, way_of}
 use Rattle.p2p_net_links.specs.Stands.{LinksStand}
 use Rattle.p2p_net.specs.Places as place
@@ -86,13 +90,15 @@ links_new = record {
     | side.Out ↦ holds_none (λ link. queue.Link link side.Out)
     | side.In ↦ holds_none (λ link. queue.Link link side.In)
   ];
+  openings = openings_new;
 }
 
 -- a node that was asked for nothing
 pub node_new :
     (configs : List Config) (n : ℕ) (x : Node) → slice_get configs n ≡ Some x.config → x.retained ≡ x.config.max_peers_per_set * x.config.tracked_peer_sets → x.failed ≡ false → x.config.mailbox_size < 2 ^ 64
-    → x.router.number ≡ n → StandsFor configs [] x.router → ((c : ℕ) → tree.get nat_cmp x.router.peers c ≡ None) → x.channels ≡ no_channels → x.connections ≡ no_connections → IsNew x.config x.tracker → x.dialing ≡ no_dialing → IsNewListening (gates_of x.config) x.listening → NodeStands configs [] n x
-node_new configs n x config retained works small number stands none ch cs tr di li = record {
+    → x.router.number ≡ n → StandsFor configs [] x.router → ((c : ℕ) → tree.get nat_cmp x.router.peers c ≡ None) → x.channels ≡ no_channels → x.connections ≡ no_connections → IsNew x.config x.tracker → x.dialing ≡ no_dialing → IsNewListening (gates_of x.config) x.listening → x.spawning ≡ no_spawning x.config.mailbox_size
+    → NodeStands configs [] n x
+node_new configs n x config retained works small number stands none ch cs tr di li sp = record {
   own = record { config = config; retained = retained; works = works };
   each = λ p. elim p as (λ q. PartStands q configs [] n x) [
     | place.router ↦
@@ -114,6 +120,7 @@ node_new configs n x config retained works small number stands none ch cs tr di 
         listener_new configs n (gates_of x.config) x.listening li (sym (ap (λ (o : Option Config). elim o [ None ↦ no_gates | Some c ↦ gate_rules_of c ]) config))
         (sym (ap (λ (o : Option Config). elim o [ None ↦ 0 | Some c ↦ c.max_concurrent_handshakes ]) config))
         (sym (ap (λ (o : Option Config). (dial_rules_in o).handshake_timeout) config))
+    | place.spawner ↦ subst (SpawnerStands configs [] n) (sym sp) (spawner_new configs n x.config config)
   ];
 }
 

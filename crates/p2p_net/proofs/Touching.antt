@@ -1,6 +1,7 @@
 -- A queue of a place that an act does not name stays as it was.
 use Rattle.std.proofs.Common.{◌≡◌, ℕ, Bool, true, false, List, [], ◌∷◌, ◌++◌, refl, ◌∙◌, arith, Option, Some, None}
 use Rattle.std.specs.Prelude.{◌||◌, ◌==◌, slice_get}
+use Rattle.std.specs.List.{list_any}
 use Rattle.std.proofs.lemmas.Bool.Decides.{nat_tests}
 use Rattle.p2p_log.specs.declared.config.Config.{Config}
 use Rattle.p2p_log.specs.declared.queue.Queue.{Queue}
@@ -13,11 +14,13 @@ use Rattle.p2p_log.specs.declared.event.Act.TheVariants as act
 use Rattle.p2p_log.specs.QueueCode.{same_queue}
 use Rattle.p2p_log.specs.Lines.{line}
 use Rattle.p2p_log.proofs.Queues.{same_queue-sym}
+use Rattle.p2p_log_rules.specs.declared.row.Opening.{Opening}
 use Rattle.p2p_log_rules.specs.Effect.{effect}
-use Rattle.p2p_log_rules.proofs.Touches.{in_router, in_half, in_link, in_channels, in_tracker, is_told_to, reads, writes, away}
+use Rattle.p2p_log_rules.specs.Links.{openings_of}
+use Rattle.p2p_log_rules.proofs.Touches.{in_router, in_half, in_link, in_channels, in_tracker, in_handshakes, in_ends, is_told_to, reads, writes, away}
 use Rattle.p2p_log_rules.specs.Tracking.{asked_by}
 use Rattle.p2p_log_laws.proofs.Untouched.{line-untouched}
-use Rattle.p2p_net.specs.Places.{home, names, at, router, channels, connections, tracker, dialer, listener, links, same_place, asked_node, or_first, node_asked}
+use Rattle.p2p_net.specs.Places.{home, names, at, router, channels, connections, tracker, dialer, listener, spawner, links, same_place, ends_named, asked_node, or_first, node_asked}
 
 -- ---- what the kinds of queues that an act reaches are of
 
@@ -71,6 +74,13 @@ attempt_queue n e q h = same_queue-sym (queue.Attempt n e) q ∙ away (λ r. sam
 arrivals_queue : (n : ℕ) (q : Queue) → same_place (at listener n) (home q) ≡ false → same_queue (queue.Arrivals n) q ≡ false
 arrivals_queue n q h = same_queue-sym (queue.Arrivals n) q ∙ away (λ r. same_place (at listener n) (home r)) q (queue.Arrivals n) h (eqb-refl n)
 
+spawner_queue : (n : ℕ) (q : Queue) → same_place (at spawner n) (home q) ≡ false → same_queue (queue.Spawner n) q ≡ false
+spawner_queue n q h = same_queue-sym (queue.Spawner n) q ∙ away (λ r. same_place (at spawner n) (home r)) q (queue.Spawner n) h (eqb-refl n)
+
+handshake_kinds : (n : ℕ) (q : Queue) → same_place (at tracker n) (home q) ≡ false → in_handshakes n q ≡ false
+handshake_kinds n (queue.Handshake m e) h = grind (arith, nat_tests)
+handshake_kinds n _ h = refl
+
 tracker_kinds : (n : ℕ) (q : Queue) → same_place (at tracker n) (home q) ≡ false → in_tracker n q ≡ false
 tracker_kinds n (queue.Tracker m) h = grind (arith, nat_tests)
 tracker_kinds n (queue.Update m) h = grind (arith, nat_tests)
@@ -113,9 +123,23 @@ second_false true true h = h
 second_of_two : (a b : Bool) → (a || (b || false)) ≡ false → b ≡ false
 second_of_two a b h = first_false b false (second_false a (b || false) h)
 
+third_of_three : (a b c : Bool) → (a || (b || (c || false))) ≡ false → c ≡ false
+third_of_three a b c h = second_of_two b c (second_false a (b || (c || false)) h)
+
+second_of_three : (a b c : Bool) → (a || (b || (c || false))) ≡ false → b ≡ false
+second_of_three a b c h = first_false b (c || false) (second_false a (b || (c || false)) h)
+
 both_false : (a b : Bool) → a ≡ false → b ≡ false → (a || b) ≡ false
 both_false true b h k = h
 both_false false b h k = k
+
+-- what both ends of a link are told
+ends_queue : (o : Option Opening) (q : Queue) → list_any (λ p. same_place p (home q)) (ends_named o) ≡ false → in_ends o q ≡ false
+ends_queue None q h = refl
+ends_queue (Some o) q h =
+    both_false (same_queue (queue.Attempt o.node o.attempt) q) (in_handshakes o.to q)
+    (attempt_queue o.node o.attempt q (first_false (same_place (at dialer o.node) (home q)) (same_place (at tracker o.to) (home q) || false) h))
+    (handshake_kinds o.to q (second_of_two (same_place (at dialer o.node) (home q)) (same_place (at tracker o.to) (home q)) h))
 
 reads-named : (configs : List Config) (log : List Entry) (a : Act) (q : Queue) → names log a (home q) ≡ false → reads configs log a q ≡ false
 reads-named configs log (act.Router n) q h = router_queue n q (first_false (same_place (at router n) (home q)) (same_place (at connections n) (home q) || false) h)
@@ -136,8 +160,9 @@ reads-named configs log (act.Listener n) q h =
     both_false (same_queue (queue.Update n) q) (same_queue (queue.Arrivals n) q)
     (update_queue n q (first_false (same_place (at tracker n) (home q)) (same_place (at listener n) (home q) || false) h))
     (arrivals_queue n q (second_of_two (same_place (at tracker n) (home q)) (same_place (at listener n) (home q)) h))
-reads-named configs log (act.Handshake e n) q h = handshake_queue n e q (first_false (same_place (at tracker n) (home q)) (same_place (at listener n) (home q) || false) h)
-reads-named configs log (act.Attempt e n) q h = attempt_queue n e q (second_of_two (same_place (at tracker n) (home q)) (same_place (at dialer n) (home q)) h)
+reads-named configs log (act.Handshake e n) q h =
+    handshake_queue n e q (first_false (same_place (at tracker n) (home q)) (same_place (at listener n) (home q) || (same_place (at spawner n) (home q) || false)) h)
+reads-named configs log (act.Attempt e n) q h = attempt_queue n e q (second_of_three (same_place (at tracker n) (home q)) (same_place (at dialer n) (home q)) (same_place (at spawner n) (home q)) h)
 reads-named configs log _ q h = refl
 
 writes-named : (configs : List Config) (log : List Entry) (a : Act) (q : Queue) → names log a (home q) ≡ false → writes configs log a q ≡ false
@@ -158,17 +183,25 @@ writes-named configs log (act.Ask what n) q h = tracker_queue n q (first_false (
 writes-named configs log (act.Tracker n) q h = tracker_kinds n q (first_false (same_place (at tracker n) (home q)) false h)
 writes-named configs log (act.Dialer n) q h = tracker_queue n q (first_false (same_place (at tracker n) (home q)) (same_place (at dialer n) (home q) || false) h)
 writes-named configs log (act.Listener n) q h = tracker_queue n q (first_false (same_place (at tracker n) (home q)) (same_place (at listener n) (home q) || false) h)
-writes-named configs log (act.Handshake e n) q h = reads-named configs log (act.Handshake e n) q h
+writes-named configs log (act.Handshake e n) q h =
+    let first = first_false (same_place (at tracker n) (home q)) (same_place (at listener n) (home q) || (same_place (at spawner n) (home q) || false)) h in
+    both_false (same_queue (queue.Tracker n) q) (same_queue (queue.Spawner n) q || same_queue (queue.Handshake n e) q) (tracker_queue n q first)
+    (both_false (same_queue (queue.Spawner n) q) (same_queue (queue.Handshake n e) q)
+    (spawner_queue n q (third_of_three (same_place (at tracker n) (home q)) (same_place (at listener n) (home q)) (same_place (at spawner n) (home q)) h)) (handshake_queue n e q first))
 writes-named configs log (act.Attempt e n) q h =
-    both_false (same_queue (queue.Tracker n) q) (same_queue (queue.Attempt n e) q)
-    (tracker_queue n q (first_false (same_place (at tracker n) (home q)) (same_place (at dialer n) (home q) || false) h))
-    (attempt_queue n e q (second_of_two (same_place (at tracker n) (home q)) (same_place (at dialer n) (home q)) h))
+    both_false (same_queue (queue.Tracker n) q) (same_queue (queue.Spawner n) q || same_queue (queue.Attempt n e) q)
+    (tracker_queue n q (first_false (same_place (at tracker n) (home q)) (same_place (at dialer n) (home q) || (same_place (at spawner n) (home q) || false)) h))
+    (both_false (same_queue (queue.Spawner n) q) (same_queue (queue.Attempt n e) q)
+    (spawner_queue n q (third_of_three (same_place (at tracker n) (home q)) (same_place (at dialer n) (home q)) (same_place (at spawner n) (home q)) h))
+    (attempt_queue n e q (second_of_three (same_place (at tracker n) (home q)) (same_place (at dialer n) (home q)) (same_place (at spawner n) (home q)) h)))
 writes-named configs log (act.Resolve addresses e n) q h = attempt_queue n e q (first_false (same_place (at dialer n) (home q)) false h)
 writes-named configs log (act.Connect e from n to) q h =
     both_false (same_queue (queue.Attempt n e) q) (same_queue (queue.Arrivals to) q)
-    (attempt_queue n e q (first_false (same_place (at dialer n) (home q)) (same_place (at listener to) (home q) || false) h))
-    (arrivals_queue to q (second_of_two (same_place (at dialer n) (home q)) (same_place (at listener to) (home q)) h))
+    (attempt_queue n e q (second_of_three (same_place links (home q)) (same_place (at dialer n) (home q)) (same_place (at listener to) (home q)) h))
+    (arrivals_queue to q (third_of_three (same_place links (home q)) (same_place (at dialer n) (home q)) (same_place (at listener to) (home q)) h))
 writes-named configs log (act.Refuse e n) q h = attempt_queue n e q (first_false (same_place (at dialer n) (home q)) false h)
+writes-named configs log (act.Finish link ok) q h =
+    ends_queue (openings_of log link) q (second_false (same_place links (home q)) (list_any (λ p. same_place p (home q)) (ends_named (openings_of log link))) h)
 writes-named configs log _ q h = refl
 
 pub line-unnamed : (configs : List Config) (log : List Entry) (ev : Event) (q : Queue) → names log ev.act (home q) ≡ false → line (log ++ effect configs log ev ∷ []) q ≡ line log q

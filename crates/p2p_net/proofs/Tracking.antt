@@ -20,7 +20,7 @@ use Rattle.p2p_net_links.specs.Stands.{LinksStand}
 use Rattle.p2p_net_links.specs.declared.links.Links.{Links}
 use Rattle.p2p_net_tracker.specs.Asking.{ask_answer, after_asking}
 use Rattle.p2p_net_tracker.specs.Reading.{Answers, Continues}
-use Rattle.p2p_net_tracker.specs.Stands.{TrackerStands}
+use Rattle.p2p_net_tracker.specs.Stands.{AsksRun, TrackerStands}
 use Rattle.p2p_net_tracker.specs.declared.tracker.Tracker.{Tracker}
 use Rattle.p2p_net_tracker.proofs.Answering.{tracker_answers, tracker_updates, tracker_sets}
 use Rattle.p2p_net_tracker.proofs.Questions.{ask_stands}
@@ -126,17 +126,17 @@ next_performs configs log moment seed e x y l ls r s t may goes alone kept =
 
 -- ---- its step
 
-pub tracker_performs : (configs : List Config) (log : List Entry) (moment seed n : ℕ) (x y : Node) (l ls : Links) (r : Row) → NodeStands configs log n x → LinksStand log l
+pub tracker_performs : (configs : List Config) (log : List Entry) (moment seed n : ℕ) (x y : Node) (l ls : Links) (r : Row) → NodeStands configs log n x → LinksStand log l → AsksRun log n
     → TrackerStepsBy (is_started x) (length log) n moment seed x y r → ls ≡ l → Performs configs log (asked moment seed (act.Tracker n)) n y ls r
 unfolding row
-tracker_performs configs log moment seed n x y l ls r s t steps kept = by (is_started x) (sym (started_is configs log n x s)) steps
+tracker_performs configs log moment seed n x y l ls r s t runs steps kept = by (is_started x) (sym (started_is configs log n x s)) steps
   where
     named : NamesTracker log (asked moment seed (act.Tracker n)) n
     named = record { parts = λ p out. not_among (tracker ∷ []) p n n out; unlinked = refl }
 
     by : (b : Bool) → is_up log n ≡ b → TrackerStepsBy b (length log) n moment seed x y r → Performs configs log (asked moment seed (act.Tracker n)) n y ls r
     by true up h =
-        let done = tracker_steps configs log moment seed n x.tracker y.tracker r (s.each tracker) h.0 in
+        let done = tracker_steps configs log moment seed n x.tracker y.tracker r (s.each tracker) runs h.0 in
         track_alone configs log (asked moment seed (act.Tracker n)) n x y l ls r s t named h.1 kept
         (done.0 ∙ ap (λ b. cond b (tracker_step configs log n moment) (only reply.Gone)) (sym up), done.1)
     by false down h =

@@ -41,7 +41,7 @@ use Rattle.p2p_net_connections.proofs.Changes.{connections_moved, half_on-ran, r
 use Rattle.p2p_net_links.specs.Links.{write_frames_row}
 use Rattle.p2p_net_links.specs.Stands.{LinksStand}
 use Rattle.p2p_net_links.specs.declared.links.Links.{Links}
-use Rattle.p2p_net_links.proofs.Changes.{frames_put, links_frame, links_written}
+use Rattle.p2p_net_links.proofs.Changes.{openings_unmoved, frames_put, links_frame, links_written}
 use Rattle.p2p_net.specs.Places as place
 use Rattle.p2p_net.specs.Acts.{Writes, Begins, WritesBy, WritesOn, SendSteps}
 use Rattle.p2p_net.specs.Stands.{RouterStands, NodeStands}
@@ -171,7 +171,7 @@ begin_on configs log at seed conn n k [] x y l links r s t there idle is d =
               tt,
             ),
           );
-      linked = subst (LinksStand (log ++ e ∷ [])) (sym d.1.1) (links_still log e reply.Idle l t still);
+      linked = subst (LinksStand (log ++ e ∷ [])) (sym d.1.1) (links_still log e (act.SendStep conn n) reply.Idle l t refl refl still);
     }
 begin_on configs log at seed conn n k (w ∷ ws) x y l links r s t there idle is d =
     let ev = asked at seed (act.SendStep conn n) in
@@ -199,7 +199,7 @@ begin_on configs log at seed conn n k (w ∷ ws) x y l links r s t there idle is
             ),
           );
       linked = subst (LinksStand (log ++ e ∷ [])) (sym d.1.1)
-          (links_frame log e l t (λ u link. line_begun log e n conn w ws (queue.Link link u) takes ∙ ap (λ b. cond b ws (line log (queue.Link link u))) (link_other n conn link u)));
+          (links_frame log e l t (λ u link. line_begun log e n conn w ws (queue.Link link u) takes ∙ ap (λ b. cond b ws (line log (queue.Link link u))) (link_other n conn link u)) (openings_unmoved log e refl));
     }
 
 -- ---- a batch
@@ -349,7 +349,7 @@ write_on configs log at seed conn n k x y l links r s t there runs d =
             ),
           );
       linked = subst (LinksStand (log ++ e ∷ [])) (sym d.1.1.1.1)
-          (links_written log e l side_of conn (length log) frames t (λ u j. line_written log e n conn size side_of frames (queue.Link j u) (high_link n conn j u) (low_link n conn j u) took takes ends puts));
+          (links_written log e l side_of conn (length log) frames t (λ u j. line_written log e n conn size side_of frames (queue.Link j u) (high_link n conn j u) (low_link n conn j u) took takes ends puts) (openings_unmoved log e refl));
     }
 
 -- ---- a step

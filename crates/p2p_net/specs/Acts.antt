@@ -5,7 +5,6 @@ use Rattle.p2p_log.specs.declared.queue.Queue.{Queue}
 use Rattle.p2p_log.specs.declared.queue.Queue.TheVariants as queue
 use Rattle.p2p_log.specs.declared.queue.Side.{Side}
 use Rattle.p2p_log.specs.declared.item.Item.{Item}
-use Rattle.p2p_log.specs.declared.item.Item.TheVariants as item
 use Rattle.p2p_log.specs.declared.item.Envelope.{Envelope}
 use Rattle.p2p_log.specs.declared.entry.Reply.TheVariants as reply
 use Rattle.p2p_log.specs.declared.event.Rate.{Rate}
@@ -47,7 +46,9 @@ use Rattle.p2p_net_tracker.specs.Handshaking.{left_of, handshake_step_row}
 use Rattle.p2p_net_tracker.specs.Stepping as tracking
 use Rattle.p2p_net_tracker.specs.declared.tracker.Tracker.{Tracker}
 use Rattle.p2p_net.specs.Ready.{is_started, capacity_by}
+use Rattle.p2p_tracker_directory.specs.declared.metadata.Metadata.{Metadata}
 use Rattle.p2p_net.specs.Routing as routing
+use Rattle.p2p_net.specs.Spawning.{release_item, Spawns}
 use Rattle.p2p_net.specs.declared.node.Node.{Node}
 use Rattle.p2p_net.specs.declared.steps.Arrival.{Arrival}
 
@@ -239,39 +240,57 @@ abbrev pub ListenerStepsBy : Bool → ℕ → ℕ → ℕ → Node → Node → 
 ListenerStepsBy false k n at old new r = Stays old new r (only reply.Gone)
 ListenerStepsBy true k n at old new r = ListenerSteps k n at old new r
 
+-- ---- what is handed on
+
+-- the tracker is asked this
+abbrev pub Asks : ℕ → ℕ → Option Item → Node → Node → Row → Row → Type 0
+Asks k n asked old new row after =
+    (after ≡ record row { puts = row.puts ++ asked_puts n asked }) × (new ≡ record old { tracker = record old.tracker { names = old.tracker.names ++ names_asked k asked } })
+
+-- a connection is made of a reservation, over this link, or else the tracker is asked this
+abbrev pub HandsOn : Option (ℕ × Metadata Key) → ℕ → ℕ → Option Item → Node → Node → Row → Row → Type 0
+HandsOn None k n asked old new row after = Asks k n asked old new row after
+HandsOn (Some ready) k n asked old new row after = Spawns k n ready.0 ready.1 old new row after
+
 -- ---- the listener's handshakes
 
 -- what one did, at the tracker
 abbrev pub HandshakeStepBy : HandshakeStep → ℕ → ℕ → Tracker → Tracker → Row → Type 0
 HandshakeStepBy handshake.Gone n name old new r = (r ≡ only reply.Gone) × (new ≡ record old { mailbox = new.mailbox })
 HandshakeStepBy handshake.Idle n name old new r = (r ≡ only reply.Idle) × (new ≡ record old { mailbox = new.mailbox })
-HandshakeStepBy (handshake.Served took ended) n name old new r =
+HandshakeStepBy (handshake.Served took ended asked ready) n name old new r =
     (r ≡ handshake_step_row took ended (held old.told (queue.Handshake n name)))
     × (((q : Queue) → held new.told q ≡ (if same_queue (queue.Handshake n name) q then left_of took ended (held old.told q) else held old.told q))
     × (new ≡ record old { mailbox = new.mailbox; told = new.told }))
 
+-- what one asked is put, or a connection is made of its reservation
+abbrev pub HandsOnBy : HandshakeStep → ℕ → ℕ → Node → Node → Row → Row → Type 0
+HandsOnBy (handshake.Served took ended asked ready) k n old new row after = HandsOn ready k n asked old new row after
+HandsOnBy _ k n old new row after = (after ≡ row) × (new ≡ old)
+
 -- a step of the handshake of this name, for which items wait in the tracker's mailbox
-pub record HandshakeSteps (n name at : ℕ) (old new : Node) (r : Row) : Type 0 where
+pub record HandshakeSteps (k n name at : ℕ) (old new : Node) (r : Row) : Type 0 where
   pub step : HandshakeStep
-  pub steps : StepsHandshake (table.at old.listening.handshakes name) name at old.listening new.listening old.tracker.mailbox new.tracker.mailbox step
-  pub tracks : HandshakeStepBy step n name old.tracker new.tracker r
-  pub rest : new ≡ record old { tracker = new.tracker; listening = new.listening }
+  -- its node once it did that, and its row so far
+  pub mid : Node
+  pub taken : Row
+  pub steps : StepsHandshake (table.at old.listening.handshakes name) name at old.listening mid.listening old.tracker.mailbox mid.tracker.mailbox step
+  pub tracks : HandshakeStepBy step n name old.tracker mid.tracker taken
+  pub rest : mid ≡ record old { tracker = mid.tracker; listening = mid.listening }
+  pub hands : HandsOnBy step k n mid new taken r
 
 -- ---- the dialer's attempts
 
--- what gives the reservation of a key back
-abbrev pub release_item : Option Key → Option Item
-release_item None = None
-release_item (Some key) = Some (item.Release key)
-
--- a step of the attempt of this name, which gives its reservation back into the tracker's mailbox where it ends
+-- a step of the attempt of this name, which gives its reservation back into the tracker's mailbox where it ends without a connection
 pub record AttemptSteps (k n name at seed : ℕ) (old new : Node) (r : Row) : Type 0 where
   pub tried : Tried
-  pub tries : Tries (table.at old.dialing.attempts name) name at seed old.dialing.attempts new.dialing.attempts old.tracker.mailbox new.tracker.mailbox tried
-  pub row : r ≡ record tried.row { puts = tried.row.puts ++ asked_puts n (release_item tried.released) }
-  pub tracker : new.tracker ≡ record old.tracker { mailbox = new.tracker.mailbox; names = old.tracker.names ++ names_asked k (release_item tried.released) }
-  pub actor : new.dialing.actor ≡ old.dialing.actor
-  pub rest : new ≡ record old { tracker = new.tracker; dialing = new.dialing }
+  -- its node once it did that
+  pub mid : Node
+  pub tries : Tries (table.at old.dialing.attempts name) name at seed old.dialing.attempts mid.dialing.attempts old.tracker.mailbox mid.tracker.mailbox tried
+  pub tracker : mid.tracker ≡ record old.tracker { mailbox = mid.tracker.mailbox }
+  pub actor : mid.dialing.actor ≡ old.dialing.actor
+  pub rest : mid ≡ record old { tracker = mid.tracker; dialing = mid.dialing }
+  pub hands : HandsOn tried.ready k n (release_item tried.released) mid new tried.row r
 
 -- what an attempt is told changes the attempts alone
 abbrev pub TellsAttempt : Node → Node → Type 0
@@ -290,13 +309,14 @@ NodeDoes k n at seed (act.RecvStep conn m) old new l links r = RecvSteps k n con
 NodeDoes k n at seed (act.Recv c m) old new l links r = Reads c old new r × (links ≡ l)
 NodeDoes k n at seed (act.Join a b) old new l links r = Stays old new r (only reply.Idle) × (links ≡ l)
 NodeDoes k n at seed (act.Connect e from m to) old new l links r = Stays old new r (only reply.Idle) × (links ≡ l)
+NodeDoes k n at seed (act.Finish link ok) old new l links r = Stays old new r (only reply.Idle) × (links ≡ l)
 NodeDoes k n at seed (act.Ask what m) old new l links r = ((r ≡ ask_answer old.tracker n k what) × Tracks (after_asking old.tracker k what) old new) × (links ≡ l)
 NodeDoes k n at seed (act.Answer e) old new l links r = (Answers n e old.tracker new.tracker r × Tracks new.tracker old new) × (links ≡ l)
 NodeDoes k n at seed (act.Next e) old new l links r = (Continues n e old.tracker new.tracker r × Tracks new.tracker old new) × (links ≡ l)
 NodeDoes k n at seed (act.Tracker m) old new l links r = TrackerStepsBy (is_started old) k n at seed old new r × (links ≡ l)
 NodeDoes k n at seed (act.Dialer m) old new l links r = DialerStepsBy (is_started old) k n at seed old new r × (links ≡ l)
 NodeDoes k n at seed (act.Listener m) old new l links r = ListenerStepsBy (is_started old) k n at old new r × (links ≡ l)
-NodeDoes k n at seed (act.Handshake e m) old new l links r = HandshakeSteps n e at old new r × (links ≡ l)
+NodeDoes k n at seed (act.Handshake e m) old new l links r = HandshakeSteps k n e at old new r × (links ≡ l)
 NodeDoes k n at seed (act.Attempt e m) old new l links r = AttemptSteps k n e at seed old new r × (links ≡ l)
 NodeDoes k n at seed (act.Resolve addresses e m) old new l links r =
     (Resolves (table.at old.dialing.attempts e) k n e addresses old.dialing.attempts new.dialing.attempts r × TellsAttempt old new) × (links ≡ l)

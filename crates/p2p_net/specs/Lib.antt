@@ -1,5 +1,6 @@
 pub mod Acts
 pub mod Applying
+pub mod Finishing
 pub mod Joining
 pub mod Linking
 pub mod Meetings
@@ -7,5 +8,6 @@ pub mod Places
 pub mod Ready
 pub mod Refusals
 pub mod Routing
+pub mod Spawning
 pub mod Stands
 pub mod World

@@ -1,5 +1,7 @@
 -- What linking an attempt of one node to the listener of another comes to.
 use Rattle.std.specs.Prelude.{◌≡◌, ℕ, Bool, true, false, List, [], ◌∷◌, ◌++◌, length, Some, slice_get, slice_set}
+use Rattle.std.specs.BTreeMap.{insert_entry}
+use Rattle.std.specs.Ordering.{nat_cmp}
 use Rattle.p2p_base.specs.declared.key.Key.{Key}
 use Rattle.p2p_address.specs.declared.ip.SocketAddr.{SocketAddr}
 use Rattle.p2p_log.specs.declared.queue.Queue.TheVariants as queue
@@ -7,7 +9,9 @@ use Rattle.p2p_log.specs.declared.item.Item.{Item}
 use Rattle.p2p_log.specs.declared.item.Item.TheVariants as item
 use Rattle.p2p_log.specs.declared.entry.Reply.{Reply}
 use Rattle.p2p_log.specs.declared.entry.Reply.TheVariants as reply
+use Rattle.p2p_log_rules.specs.declared.row.Opening.{Opening}
 use Rattle.p2p_log_rules.specs.declared.row.Row.{Row}
+use Rattle.p2p_net_links.specs.declared.links.Links.{Links}
 use Rattle.p2p_net_queues.specs.Tables as table
 use Rattle.p2p_net_dialer.specs.Attempts.{AnswersDial}
 use Rattle.p2p_net_listener.specs.Listening.{arrived}
@@ -35,8 +39,13 @@ Arrives false m k place from key old new = (new ≡ old)
 Arrives true m k place from key old new =
     (y : Node) × ((slice_get old m ≡ Some y) × (new ≡ slice_set old m (record y { listening = arrived k place from key y.listening })))
 
+-- a link over which keys are exchanged has this name, where the peer arrives
+abbrev pub opened : Bool → ℕ → Opening → Links → Links
+opened false k o l = l
+opened true k o l = record l { openings = insert_entry nat_cmp l.openings k o }
+
 -- the entry k links this attempt of the node n to the listener of the node m, where that has started
-pub record IsLinked (k name n m : ℕ) (from : SocketAddr) (old new : List Node) (r : Row) : Type 0 where
+pub record IsLinked (k name n m : ℕ) (from : SocketAddr) (old new : List Node) (l links : Links) (r : Row) : Type 0 where
   pub first : Node
   pub second : Node
   pub at_first : slice_get old n ≡ Some first
@@ -47,3 +56,4 @@ pub record IsLinked (k name n m : ℕ) (from : SocketAddr) (old new : List Node)
   pub answers : Answers k n name (is_started second) first after told
   pub row : r ≡ with_arrival (arrives (is_started second) told.reply) m (item.Arrival from first.config.public_key k) told
   pub arrival : Arrives (arrives (is_started second) told.reply) m k (length told.puts) from first.config.public_key (slice_set old n after) new
+  pub links_are : links ≡ opened (arrives (is_started second) told.reply) k (record { node = n; attempt = name; to = m }) l

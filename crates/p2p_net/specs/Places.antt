@@ -7,6 +7,8 @@ use Rattle.p2p_log.specs.declared.queue.Queue.TheVariants as queue
 use Rattle.p2p_log.specs.declared.entry.Entry.{Entry}
 use Rattle.p2p_log.specs.declared.event.Act.{Act}
 use Rattle.p2p_log.specs.declared.event.Act.TheVariants as act
+use Rattle.p2p_log_rules.specs.declared.row.Opening.{Opening}
+use Rattle.p2p_log_rules.specs.Links.{openings_of}
 
 pub data Part : Type 0 where
   router : Part
@@ -15,6 +17,7 @@ pub data Part : Type 0 where
   tracker : Part
   dialer : Part
   listener : Part
+  spawner : Part
 
 -- where queues stand: at a part of a node, or at the links
 pub data Place : Type 0 where
@@ -29,6 +32,7 @@ code connections = 2
 code tracker = 3
 code dialer = 4
 code listener = 5
+code spawner = 6
 
 abbrev pub same_part : Part → Part → Bool
 same_part p q = code p == code q
@@ -47,6 +51,7 @@ home (queue.Dialer n) = at tracker n
 home (queue.Handshake n e) = at tracker n
 home (queue.Attempt n e) = at dialer n
 home (queue.Arrivals n) = at listener n
+home (queue.Spawner n) = at spawner n
 home (queue.Control n conn) = at tracker n
 home (queue.Answer n e) = at tracker n
 home (queue.Updates n e) = at tracker n
@@ -72,8 +77,8 @@ parts_named (act.RecvStep conn n) = channels ∷ []
 parts_named (act.Recv c n) = channels ∷ []
 parts_named (act.Dialer n) = tracker ∷ dialer ∷ []
 parts_named (act.Listener n) = tracker ∷ listener ∷ []
-parts_named (act.Handshake e n) = tracker ∷ listener ∷ []
-parts_named (act.Attempt e n) = tracker ∷ dialer ∷ []
+parts_named (act.Handshake e n) = tracker ∷ listener ∷ spawner ∷ []
+parts_named (act.Attempt e n) = tracker ∷ dialer ∷ spawner ∷ []
 parts_named (act.Resolve addresses e n) = dialer ∷ []
 parts_named (act.Connect e from n to) = dialer ∷ listener ∷ []
 parts_named (act.Refuse e n) = dialer ∷ []
@@ -83,6 +88,8 @@ parts_named _ = tracker ∷ []
 abbrev pub names_links : Act → Bool
 names_links (act.SendStep conn n) = true
 names_links (act.RecvStep conn n) = true
+names_links (act.Connect e from n to) = true
+names_links (act.Finish link ok) = true
 names_links _ = false
 
 abbrev pub places_at : Bool → ℕ → List Part → List Place
@@ -108,6 +115,15 @@ abbrev pub node_asked : Option Entry → ℕ
 node_asked None = 0
 node_asked (Some e) = or_first (asked_node e.event.act)
 
+-- the nodes between which the event of this number made a link, or the first
+abbrev pub node_linked : Option Entry → ℕ
+node_linked None = 0
+node_linked (Some e) = elim e.event.act [ act.Connect a from n to ↦ n | _ ↦ 0 ]
+
+abbrev pub linked_to : Option Entry → ℕ
+linked_to None = 0
+linked_to (Some e) = elim e.event.act [ act.Connect a from n to ↦ to | _ ↦ 0 ]
+
 -- the node that an act names, where it names one, after these entries
 abbrev pub node_of : List Entry → Act → ℕ
 node_of log (act.Register c n rate) = n
@@ -129,17 +145,25 @@ node_of log (act.Attempt e n) = n
 node_of log (act.Resolve addresses e n) = n
 node_of log (act.Connect e from n to) = n
 node_of log (act.Refuse e n) = n
+node_of log (act.Finish link ok) = node_linked (slice_get log link)
 
 -- and the other one that it names
-abbrev pub other_of : ℕ → Act → ℕ
-other_of n (act.Join a b) = b
-other_of n (act.Connect e from m to) = to
-other_of n a = n
+abbrev pub other_of : List Entry → ℕ → Act → ℕ
+other_of log n (act.Join a b) = b
+other_of log n (act.Connect e from m to) = to
+other_of log n (act.Finish link ok) = linked_to (slice_get log link)
+other_of log n a = n
+
+-- the parts at both ends of a link
+abbrev pub ends_named : Option Opening → List Place
+ends_named None = []
+ends_named (Some o) = at dialer o.node ∷ at tracker o.to ∷ []
 
 -- the places that an act names
 abbrev pub places : List Entry → Act → List Place
 places log (act.Join a b) = parts_of a (parts_named (act.Join a b)) ++ parts_of b (parts_named (act.Join a b))
-places log (act.Connect e from n to) = at dialer n ∷ at listener to ∷ []
+places log (act.Connect e from n to) = links ∷ at dialer n ∷ at listener to ∷ []
+places log (act.Finish link ok) = links ∷ ends_named (openings_of log link)
 places log a = places_at (names_links a) (node_of log a) (parts_named a)
 
 abbrev pub names : List Entry → Act → Place → Bool

@@ -12,7 +12,8 @@ use Rattle.p2p_net_queues.specs.Tables as table
 use Rattle.p2p_log_rules.specs.Tracking.{key_cmp}
 use Rattle.p2p_tracker_mailbox.specs.Desk.{next_message}
 use Rattle.p2p_tracker.specs.Serving.{MayTake}
-use Rattle.p2p_net.specs.Meetings.{meeting_of, ends_in}
+use Rattle.p2p_net_links.specs.declared.links.Links.{Links}
+use Rattle.p2p_net.specs.Meetings.{meeting_of, MeetsThere}
 use Rattle.p2p_net.specs.Places.{node_of, other_of}
 use Rattle.p2p_net.specs.declared.meeting.Meeting.{Meeting}
 use Rattle.p2p_net.specs.declared.node.Node.{Node}
@@ -54,6 +55,14 @@ abbrev pub names_listener : Option Entry → Bool
 names_listener None = false
 names_listener (Some e) = is_listened e.event.act
 
+abbrev pub is_link : Act → Bool
+is_link a = elim a [ act.Connect e from n to ↦ true | _ ↦ false ]
+
+-- whether this entry links an attempt to a node
+abbrev pub links_attempt : Option Entry → Bool
+links_attempt None = false
+links_attempt (Some e) = is_link e.event.act
+
 -- whether this entry is of a question for a peer set
 abbrev pub asks_set : Option Entry → Bool
 asks_set None = false
@@ -78,6 +87,7 @@ may_ask log x (act.Attempt e n) = names_dialer n (slice_get log e)
 may_ask log x (act.Resolve addresses e n) = names_dialer n (slice_get log e)
 may_ask log x (act.Connect e from n to) = names_dialer n (slice_get log e)
 may_ask log x (act.Refuse e n) = names_dialer n (slice_get log e)
+may_ask log x (act.Finish link ok) = links_attempt (slice_get log link)
 may_ask log x _ = true
 
 -- the sizes of a node, where it is asked for an act, that its tracker may take what waits for it, and that a handshake holds a place
@@ -100,18 +110,17 @@ may_at (Some x) log a = may_ask log x a
 -- whether an act names nodes that are there, and its node may be asked
 abbrev pub may_act : List Node → List Entry → Act → Bool
 may_act nodes log a =
-    nat_lt (node_of log a) (length nodes) && (nat_lt (other_of (node_of log a) a) (length nodes) && may_at (slice_get nodes (node_of log a)) log a)
+    nat_lt (node_of log a) (length nodes) && (nat_lt (other_of log (node_of log a) a) (length nodes) && may_at (slice_get nodes (node_of log a)) log a)
 
 -- whether an event may be asked for, after these entries and this last moment
 abbrev pub may_apply : List Node → List Entry → ℕ → Event → Bool
 may_apply nodes log last v = nat_le last v.at && may_act nodes log v.act
 
 -- an act that names the node n first finds its nodes there, and ready
-pub record MayPerform (nodes : List Node) (n : ℕ) (a : Act) : Type 0 where
+pub record MayPerform (nodes : List Node) (l : Links) (n : ℕ) (a : Act) : Type 0 where
   pub first : n < length nodes
-  pub second : other_of n a < length nodes
   pub ready : (x : Node) → slice_get nodes n ≡ Some x → IsReady a x
-  -- one that brings two together names these
-  pub ends : (how : Meeting) → meeting_of a ≡ Some how → (n ≡ (ends_in how).dials) × (other_of n a ≡ (ends_in how).listens)
+  -- and those that it brings together are there
+  pub ends : (how : Meeting) → meeting_of a ≡ Some how → MeetsThere how nodes l
   pub sizes : (n : ℕ) (x : Node) → slice_get nodes n ≡ Some x → 1 ≤ x.config.mailbox_size
   pub numbers : (n : ℕ) (x : Node) → slice_get nodes n ≡ Some x → x.router.number ≡ n

@@ -15,9 +15,10 @@ use Rattle.p2p_net_connections.specs.Stands.{ConnectionsStand}
 use Rattle.p2p_net_tracker.specs.Stands.{TrackerStands}
 use Rattle.p2p_net_dialer.specs.Stands.{DialerStands}
 use Rattle.p2p_net_listener.specs.Stands.{ListenerStands}
+use Rattle.p2p_net_spawner.specs.Stands.{SpawnerStands}
 use Rattle.p2p_net_links.specs.Stands.{LinksStand}
 use Rattle.p2p_net_links.specs.declared.links.Links.{Links}
-use Rattle.p2p_net.specs.Places.{Part, router, channels, connections, tracker, dialer, listener}
+use Rattle.p2p_net.specs.Places.{Part, router, channels, connections, tracker, dialer, listener, spawner}
 use Rattle.p2p_net.specs.declared.node.Node.{Node}
 
 -- a node's router was told of no connection to come, and of none with a node that its own was not joined to
@@ -39,6 +40,7 @@ PartStands connections configs log n x = ConnectionsStand configs log n x.connec
 PartStands tracker configs log n x = TrackerStands configs log n x.tracker
 PartStands dialer configs log n x = DialerStands configs log n x.dialing
 PartStands listener configs log n x = ListenerStands configs log n x.listening
+PartStands spawner configs log n x = SpawnerStands configs log n x.spawning
 
 -- what a node has beside its parts: the sizes of its configuration, and it has found memory so far
 pub record OwnStands (configs : List Config) (n : ℕ) (x : Node) : Type 0 where

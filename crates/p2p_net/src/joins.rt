@@ -3,9 +3,10 @@ ghost use Rattle.std.specs.Prelude.{◌≡◌, ◌==◌, ℕ, ◌<◌, ◌≤◌
 ghost use Rattle.p2p_router.specs.Messenger.{is_bound};
 ghost use Rattle.p2p_net.specs.Ready.{IsReady, MayPerform};
 ghost use Rattle.p2p_net.specs.Joining.{Welcomes, Connects, may_join as may_join_test, joined_row, Joins, OneRecords, Meets, MeetingRecords, WorldRecords};
-ghost use Rattle.p2p_net.specs.Meetings.{ends_in};
+ghost use Rattle.p2p_net.specs.Meetings.{EndsThere, MeetsThere};
 ghost use Rattle.p2p_net.specs.declared.node.Node.{Node};
 
+use crate::finishing::finish;
 use crate::linking::link;
 use crate::meeting::{Ends, Meeting, meeting_of};
 use crate::node::{Node, entry_of};
@@ -110,8 +111,7 @@ fn connect(
 
 /// Joins two nodes, where they may be.
 fn join(alloc: Global, nodes: &mut Vec<Node>, entry: u64, ends: Ends) -> Result<Row, AllocError>
-    requires first_in_range { ends.dials < length nodes.old.items }
-    requires second_in_range { ends.listens < length nodes.old.items }
+    requires in_range { EndsThere ends nodes.old.items }
     requires sizes { (n : ℕ) (x : Node) → slice_get nodes.old.items n ≡ Some x → 1 ≤ x.config.mailbox_size }
     ensures { IfOk result (λ r. Joins entry ends.dials ends.listens nodes.old.items nodes.new.items r) }
 {
@@ -151,13 +151,13 @@ fn apply_at(
 fn meet(
     alloc: Global,
     nodes: &mut Vec<Node>,
+    links: &mut Links,
     entry: u64,
     meeting: Meeting,
 ) -> Result<Row, AllocError>
-    requires first_in_range { (ends_in meeting).dials < length nodes.old.items }
-    requires second_in_range { (ends_in meeting).listens < length nodes.old.items }
+    requires in_range { MeetsThere meeting nodes.old.items links.old }
     requires sizes { (n : ℕ) (x : Node) → slice_get nodes.old.items n ≡ Some x → 1 ≤ x.config.mailbox_size }
-    ensures { IfOk result (λ r. Meets meeting entry nodes.old.items nodes.new.items r) }
+    ensures { IfOk result (λ r. Meets meeting entry nodes.old.items nodes.new.items links.old links.new r) }
 {
     match meeting {
         Meeting::Join(ends) => Ok(join(alloc, nodes, entry, ends)?),
@@ -165,7 +165,8 @@ fn meet(
             attempt,
             from,
             ends,
-        } => Ok(link(alloc, nodes, entry, attempt, from, ends)?),
+        } => Ok(link(alloc, nodes, links, entry, attempt, from, ends)?),
+        Meeting::Finish { link, ok } => Ok(finish(alloc, nodes, links, entry, link, ok)?),
     }
 }
 
@@ -173,16 +174,16 @@ fn meet(
 fn meet_at(
     alloc: Global,
     nodes: &mut Vec<Node>,
+    links: &mut Links,
     entry: u64,
     event: &Event,
     meeting: Meeting,
 ) -> Result<Entry, AllocError>
-    requires first_in_range { (ends_in meeting).dials < length nodes.old.items }
-    requires second_in_range { (ends_in meeting).listens < length nodes.old.items }
+    requires in_range { MeetsThere meeting nodes.old.items links.old }
     requires sizes { (n : ℕ) (x : Node) → slice_get nodes.old.items n ≡ Some x → 1 ≤ x.config.mailbox_size }
-    ensures { IfOk result (λ e. MeetingRecords entry event.now meeting nodes.old.items nodes.new.items e) }
+    ensures { IfOk result (λ e. MeetingRecords entry event.now meeting nodes.old.items nodes.new.items links.old links.new e) }
 {
-    let row = meet(alloc, nodes, entry, meeting)?;
+    let row = meet(alloc, nodes, links, entry, meeting)?;
     Ok(entry_of(alloc, event, row)?)
 }
 
@@ -196,11 +197,11 @@ pub fn perform(
     node: u64,
     event: &Event,
 ) -> Result<Entry, AllocError>
-    requires { MayPerform nodes.old.items node event.now.act }
+    requires { MayPerform nodes.old.items links.old node event.now.act }
     ensures { IfOk result (λ e. WorldRecords entry node event.now nodes.old.items nodes.new.items links.old links.new e) }
 {
     match meeting_of(&event.act) {
-        Some(meeting) => Ok(meet_at(alloc, nodes, entry, event, meeting)?),
+        Some(meeting) => Ok(meet_at(alloc, nodes, links, entry, event, meeting)?),
         None => Ok(apply_at(alloc, nodes, links, entry, node, event)?),
     }
 }

@@ -5,10 +5,12 @@
 mod calls;
 mod configs;
 mod error;
+mod finishing;
 mod joins;
 mod linking;
 mod meeting;
 mod node;
+mod spawning;
 mod steps;
 mod valid;
 mod world;

@@ -1,12 +1,14 @@
 //! Linking an attempt of one node to the listener of another.
 ghost use Rattle.std.specs.Prelude.{◌≡◌, ◌<◌, length, IfOk};
 ghost use Rattle.p2p_net.specs.Linking.{arrives as arrives_test, IsLinked};
+ghost use Rattle.p2p_net.specs.Meetings.{EndsThere};
 
 use crate::meeting::Ends;
 use crate::node::Node;
 use p2p_address::SocketAddr;
 use p2p_log::Reply;
-use p2p_log_rules::Row;
+use p2p_log_rules::{Opening, Row};
+use p2p_net_links::Links;
 use p2p_net_queues::Turn;
 use std::alloc::{AllocError, Global};
 
@@ -24,16 +26,16 @@ fn arrives(links: bool, reply: &Reply) -> bool
 pub fn link(
     alloc: Global,
     nodes: &mut Vec<Node>,
+    links: &mut Links,
     entry: u64,
     attempt: u64,
     from: SocketAddr,
     ends: Ends,
 ) -> Result<Row, AllocError>
-    requires first_in_range { ends.dials < length nodes.old.items }
-    requires second_in_range { ends.listens < length nodes.old.items }
-    ensures { IfOk result (λ r. IsLinked entry attempt ends.dials ends.listens from nodes.old.items nodes.new.items r) }
+    requires in_range { EndsThere ends nodes.old.items }
+    ensures { IfOk result (λ r. IsLinked entry attempt ends.dials ends.listens from nodes.old.items nodes.new.items links.old links.new r) }
 {
-    let links = nodes[ends.listens as usize].is_started();
+    let runs = nodes[ends.listens as usize].is_started();
     let first = &mut nodes[ends.dials as usize];
     let key = first.config.public_key;
     let turn = Turn {
@@ -41,8 +43,8 @@ pub fn link(
         entry,
         node: ends.dials,
     };
-    let mut row = first.dialing.answer_dial(turn, attempt, links)?;
-    if !arrives(links, &row.reply) {
+    let mut row = first.dialing.answer_dial(turn, attempt, runs)?;
+    if !arrives(runs, &row.reply) {
         return Ok(row);
     }
     let turn = Turn {
@@ -52,5 +54,11 @@ pub fn link(
     };
     let second = &mut nodes[ends.listens as usize];
     second.listening.arrive(turn, &mut row, from, key)?;
+    let opening = Opening {
+        node: ends.dials,
+        attempt,
+        to: ends.listens,
+    };
+    links.open(entry, opening)?;
     Ok(row)
 }

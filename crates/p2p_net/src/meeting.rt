@@ -23,6 +23,11 @@ pub enum Meeting {
         from: SocketAddr,
         ends: Ends,
     },
+    /// By the end of the exchange of keys over the link of this event.
+    Finish {
+        link: u64,
+        ok: bool,
+    },
 }
 
 /// How an act brings two nodes together, where it does.
@@ -46,6 +51,10 @@ pub fn meeting_of(act: &Act) -> Option<Meeting>
                 dials: *node,
                 listens: *to,
             },
+        }),
+        Act::Finish { link, ok } => Some(Meeting::Finish {
+            link: *link,
+            ok: *ok,
         }),
         _ => None,
     }

@@ -9,8 +9,9 @@ ghost use Rattle.p2p_net_connections.specs.Connections.{no_connections};
 ghost use Rattle.p2p_net_dialer.specs.Dialing.{no_dialing, gates_of};
 ghost use Rattle.p2p_net_listener.specs.Listening.{IsNew as IsNewListening};
 ghost use Rattle.p2p_net_router.specs.Stands.{StandsFor};
+ghost use Rattle.p2p_net_spawner.specs.Spawning.{no_spawning};
 ghost use Rattle.p2p_net_tracker.specs.Begins.{IsNew};
-ghost use Rattle.p2p_net.specs.Places.{asked_node as asked_node_of, node_asked as node_asked_by, node_of as node_of_act, other_of as other_of_act};
+ghost use Rattle.p2p_net.specs.Places.{asked_node as asked_node_of, node_asked as node_asked_by, node_linked as node_linked_by, linked_to as linked_to_by, node_of as node_of_act, other_of as other_of_act};
 ghost use Rattle.p2p_net.specs.Ready.{is_started as started_test, IsReady};
 ghost use Rattle.p2p_net.specs.Acts.{NodeDoes};
 ghost use Rattle.p2p_net.specs.Applying.{NodeRecords, NodeApplies, NodeRefused};
@@ -26,6 +27,7 @@ use p2p_net_links::Links;
 use p2p_net_listener::Listening;
 use p2p_net_queues::{Turn, only};
 use p2p_net_router::Router;
+use p2p_net_spawner::Spawning;
 use p2p_net_tracker::Tracker;
 use std::alloc::{AllocError, Global};
 
@@ -48,6 +50,8 @@ pub struct Node {
     pub dialing: Dialing,
     /// Its listener.
     pub listening: Listening,
+    /// The connections that its spawner is to make.
+    pub spawning: Spawning,
     /// Whether it found no memory.
     pub failed: bool,
 }
@@ -96,6 +100,32 @@ fn node_asked(log: &[Entry], question: u64) -> u64
     }
 }
 
+/// The node whose attempt the event of this number linked, or the first.
+fn node_linked(log: &[Entry], link: u64) -> u64
+    ensures { result ≡ node_linked_by (slice_get log.now link) }
+{
+    match log.get(link as usize) {
+        Some(entry) => match &entry.event.act {
+            Act::Connect { node, .. } => *node,
+            _ => 0,
+        },
+        None => 0,
+    }
+}
+
+/// The node to which the event of this number linked an attempt, or the first.
+fn linked_to(log: &[Entry], link: u64) -> u64
+    ensures { result ≡ linked_to_by (slice_get log.now link) }
+{
+    match log.get(link as usize) {
+        Some(entry) => match &entry.event.act {
+            Act::Connect { to, .. } => *to,
+            _ => 0,
+        },
+        None => 0,
+    }
+}
+
 /// The node that an act names first, after these entries.
 pub fn node_of(log: &[Entry], act: &Act) -> u64
     ensures { result ≡ node_of_act log.now act.now }
@@ -120,16 +150,18 @@ pub fn node_of(log: &[Entry], act: &Act) -> u64
         Act::Resolve { node, .. } => *node,
         Act::Connect { node, .. } => *node,
         Act::Refuse { node, .. } => *node,
+        Act::Finish { link, .. } => node_linked(log, *link),
     }
 }
 
-/// The other node that an act names, or the first one again.
-pub fn other_of(first: u64, act: &Act) -> u64
-    ensures { result ≡ other_of_act first act.now }
+/// The other node that an act names, or the first one again, after these entries.
+pub fn other_of(log: &[Entry], first: u64, act: &Act) -> u64
+    ensures { result ≡ other_of_act log.now first act.now }
 {
     match act {
         Act::Join { b, .. } => *b,
         Act::Connect { to, .. } => *to,
+        Act::Finish { link, .. } => linked_to(log, *link),
         _ => first,
     }
 }
@@ -151,12 +183,14 @@ impl Node {
         ensures connections { IfOk result (λ x. x.connections ≡ no_connections) }
         ensures dialing { IfOk result (λ x. x.dialing ≡ no_dialing) }
         ensures listening { IfOk result (λ x. IsNewListening (gates_of config) x.listening) }
+        ensures spawning { IfOk result (λ x. x.spawning ≡ no_spawning config.mailbox_size) }
         ensures works { IfOk result (λ x. x.failed ≡ false) }
     {
         let size = config.mailbox_size;
         prove!(size <= usize::MAX);
         let tracker = Tracker::new(alloc, &config)?;
         let listening = Listening::new(alloc, gates_config(&config))?;
+        let spawning = Spawning::new(alloc, size)?;
         Ok(Node {
             config,
             retained: retained(&config),
@@ -166,6 +200,7 @@ impl Node {
             tracker,
             dialing: Dialing::new(alloc),
             listening,
+            spawning,
             failed: false,
         })
     }
@@ -242,6 +277,7 @@ impl Node {
             Act::Recv { channel, .. } => Ok(self.read(turn, *channel)?),
             Act::Join { .. } => Ok(only(turn.alloc, Reply::Idle)),
             Act::Connect { .. } => Ok(only(turn.alloc, Reply::Idle)),
+            Act::Finish { .. } => Ok(only(turn.alloc, Reply::Idle)),
             Act::Ask { asked, .. } => Ok(self.tracker.ask(turn, asked)?),
             Act::Answer { question } => Ok(self.tracker.answer(turn, *question)?),
             Act::Next { question } => Ok(self.tracker.next(turn, *question)?),

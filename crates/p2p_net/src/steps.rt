@@ -9,9 +9,10 @@ ghost use Rattle.p2p_log_rules.specs.Tracking.{key_cmp};
 ghost use Rattle.p2p_tracker_mailbox.specs.Desk.{next_message};
 ghost use Rattle.p2p_tracker.specs.Serving.{MayTake};
 ghost use Rattle.p2p_net.specs.Ready.{is_started as is_started_test};
-ghost use Rattle.p2p_net.specs.Acts.{TrackerStepsBy, DialerStepsBy, ListenerStepsBy, HandshakeSteps, AttemptSteps, release_item, Routes, Writes, Begins, SendSteps, Receives, RecvSteps, arrived_row, arrived_into, arrived_off, accepted_row, accepted_into, accepted_off, first_in, frame_in};
+ghost use Rattle.p2p_net.specs.Acts.{TrackerStepsBy, DialerStepsBy, ListenerStepsBy, HandshakeSteps, AttemptSteps, HandsOn, Routes, Writes, Begins, SendSteps, Receives, RecvSteps, arrived_row, arrived_into, arrived_off, accepted_row, accepted_into, accepted_off, first_in, frame_in};
 
 use crate::node::Node;
+use crate::spawning::release_of;
 use p2p_base::Key;
 use p2p_log::{Item, Reply, Side};
 use p2p_log_rules::Row;
@@ -20,6 +21,7 @@ use p2p_net_dialer::{Dialed, Tried};
 use p2p_net_links::Links;
 use p2p_net_listener::{HandshakeStep, Took};
 use p2p_net_queues::{Turn, only, taking};
+use p2p_tracker_directory::Reservation;
 use std::alloc::AllocError;
 
 /// The direction opposite to this one.
@@ -50,16 +52,6 @@ fn look(links: &Links, conn: u64, side: Side, limit: u32) -> Result<Option<Arriv
             let message = open(&first.item, limit as usize)?;
             Ok(Some(Arrival { name, message }))
         }
-    }
-}
-
-/// What gives the reservation of a key back, in a tracker's mailbox.
-fn release_of(released: Option<Key>) -> Option<Item>
-    ensures { result ≡ release_item released }
-{
-    match released {
-        Some(key) => Some(Item::Release(key)),
-        None => None,
     }
 }
 
@@ -135,16 +127,40 @@ impl Node {
     ) -> Result<Row, AllocError>
         requires places { is_some (table.at self.old.listening.handshakes handshake) ≡ true
             → 0 < self.old.listening.actor.places.held }
-        ensures does { IfOk result (λ r. HandshakeSteps turn.node handshake at self.old self.new r) }
+        ensures does { IfOk result (λ r. HandshakeSteps turn.entry turn.node handshake at self.old self.new r) }
         ensures failed { OnOk result (self.new.failed ≡ self.old.failed) }
     {
         let way = &mut self.tracker.mailbox;
         match self.listening.handshake(handshake, way, at)? {
             HandshakeStep::Gone => Ok(only(turn.alloc, Reply::Gone)),
             HandshakeStep::Idle => Ok(only(turn.alloc, Reply::Idle)),
-            HandshakeStep::Served { took, ended } => {
-                Ok(self.tracker.handshake_step(turn, handshake, took, ended)?)
+            HandshakeStep::Served {
+                took,
+                ended,
+                asked,
+                ready,
+            } => {
+                let mut row = self.tracker.handshake_step(turn, handshake, took, ended)?;
+                self.hand_on(turn, asked, ready, &mut row)?;
+                Ok(row)
             }
+        }
+    }
+
+    /// Puts what was asked of the tracker, or makes a connection of a reservation that is ready for one, as the row's next put.
+    fn hand_on(
+        &mut self,
+        turn: Turn,
+        asked: Option<Item>,
+        ready: Option<(u64, Reservation<Key>)>,
+        row: &mut Row,
+    ) -> Result<(), AllocError>
+        ensures does { OnOk result (HandsOn ready turn.entry turn.node asked self.old self.new row.old row.new) }
+        ensures failed { OnOk result (self.new.failed ≡ self.old.failed) }
+    {
+        match ready {
+            Some((link, reservation)) => Ok(self.spawn(turn, link, reservation, row)?),
+            None => Ok(self.tracker.put_message(turn, asked, row)?),
         }
     }
 
@@ -161,9 +177,12 @@ impl Node {
     {
         let way = &mut self.tracker.mailbox;
         let tried = self.dialing.attempt(turn.alloc, attempt, way, at, seed)?;
-        let Tried { mut row, released } = tried;
-        self.tracker
-            .put_message(turn, release_of(released), &mut row)?;
+        let Tried {
+            mut row,
+            released,
+            ready,
+        } = tried;
+        self.hand_on(turn, release_of(released), ready, &mut row)?;
         Ok(row)
     }
 

@@ -1,6 +1,6 @@
 //! Whether an event may be asked for, after those before it.
 ghost use Rattle.std.specs.Prelude.{◌≡◌, ◌<◌, ◌^◌, ◌&&◌, Some, slice_get, length, nat_le};
-ghost use Rattle.p2p_net.specs.Ready.{capacity_by, is_join_of as is_join_of_test, names_node, names_dialer, names_listener, asks_set as asks_set_test, subscribes as subscribes_test, may_register as may_register_test, may_ask as may_ask_test, may_at as may_at_test, may_act as may_act_test};
+ghost use Rattle.p2p_net.specs.Ready.{capacity_by, is_join_of as is_join_of_test, names_node, names_dialer, names_listener, links_attempt, asks_set as asks_set_test, subscribes as subscribes_test, may_register as may_register_test, may_ask as may_ask_test, may_at as may_at_test, may_act as may_act_test};
 
 use crate::node::{Node, node_of, other_of};
 use p2p_log::{Act, Asked, Entry, Event, Rate};
@@ -86,6 +86,16 @@ fn is_listened(log: &[Entry], handshake: u64) -> bool
     }
 }
 
+/// Whether the entry of this number links an attempt to a node.
+fn is_linked(log: &[Entry], link: u64) -> bool
+    ensures { result ≡ links_attempt (slice_get log.now link) }
+{
+    match log.get(link as usize) {
+        Some(entry) => matches!(&entry.event.act, Act::Connect { .. }),
+        None => false,
+    }
+}
+
 /// Whether a node may be asked for an act, after these entries.
 fn may_ask(log: &[Entry], node: &Node, act: &Act) -> bool
     ensures { result ≡ may_ask_test log.now node.now act.now }
@@ -103,6 +113,7 @@ fn may_ask(log: &[Entry], node: &Node, act: &Act) -> bool
         Act::Resolve { attempt, node, .. } => is_dialed(log, *attempt, *node),
         Act::Connect { attempt, node, .. } => is_dialed(log, *attempt, *node),
         Act::Refuse { attempt, node } => is_dialed(log, *attempt, *node),
+        Act::Finish { link, .. } => is_linked(log, *link),
         _ => true,
     }
 }
@@ -113,7 +124,9 @@ fn may_act(nodes: &[Node], log: &[Entry], act: &Act) -> bool
 {
     let count = nodes.len() as u64;
     let number = node_of(log, act);
-    number < count && other_of(number, act) < count && may_ask(log, &nodes[number as usize], act)
+    number < count
+        && other_of(log, number, act) < count
+        && may_ask(log, &nodes[number as usize], act)
 }
 
 /// Whether an event may be asked for after these entries, of which the last was at the moment `last`.

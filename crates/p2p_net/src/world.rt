@@ -66,8 +66,9 @@ fn record(
     report: &mut Report,
     event: &Event,
 ) -> Result<(), AllocError>
-    requires { MayPerform nodes.old.items (node_of_act report.old.log event.now.act) event.now.act }
-    ensures ok { OnOk result ((configs : List Config) → WorldStands configs report.old.log nodes.old.items links.old → is_valid_event configs (events_of report.old.log) event.now ≡ true
+    requires { MayPerform nodes.old.items links.old (node_of_act report.old.log event.now.act) event.now.act }
+    ensures ok { OnOk result ((configs : List Config) → WorldStands configs report.old.log nodes.old.items links.old
+        → IsLawful configs (events_of report.old.log) report.old.log → is_valid_event configs (events_of report.old.log) event.now ≡ true
         → IsRecorded configs report.old.log event.now report.new.log nodes.new.items links.new) }
     ensures err { OnErr result (report.new.log ≡ report.old.log) }
 {

@@ -1,19 +1,12 @@
-use Rattle.std.proofs.Common.{◌<◌, length, sym, subst, ◌∙◌}
+use Rattle.std.proofs.Common.{sym, ◌∙◌}
 use Rattle.p2p_net.specs.Meetings.{meeting_of}
 use Rattle.p2p_net.proofs.Joined.{meeting_records}
 use Rattle.p2p_net.proofs.joins.perform.Goals as goal
 
-pub meet_at-requires-clause-first_in_range : goal.meet_at-requires-clause-first_in_range
-meet_at-requires-clause-first_in_range c =
-    let named = c.requires.ends c.in-Some.meeting (sym c.meeting_of.ensures ∙ c.in-Some.is) in
-    subst (λ i. i < length c.args.nodes.now.items) named.0 c.requires.first
-
-pub meet_at-requires-clause-second_in_range : goal.meet_at-requires-clause-second_in_range
-meet_at-requires-clause-second_in_range c =
-    let named = c.requires.ends c.in-Some.meeting (sym c.meeting_of.ensures ∙ c.in-Some.is) in
-    subst (λ i. i < length c.args.nodes.now.items) named.1 c.requires.second
+pub meet_at-requires-clause-in_range : goal.meet_at-requires-clause-in_range
+meet_at-requires-clause-in_range c = c.requires.ends c.in-Some.meeting (sym c.meeting_of.ensures ∙ c.in-Some.is)
 
 pub returns-in_ok-meet_at-in-Some : goal.returns-in_ok-meet_at-in-Some
 returns-in_ok-meet_at-in-Some c =
-    meeting_records (meeting_of c.args.event.now.act) c.in-Some.meeting c.args.entry c.args.node c.args.event.now c.args.nodes.now.items c.meet_at.new.nodes.items c.args.links.now c.in_ok-meet_at-in-Some.field-0
-    (sym c.meeting_of.ensures ∙ c.in-Some.is) c.in_ok-meet_at-in-Some.ensures
+    meeting_records (meeting_of c.args.event.now.act) c.in-Some.meeting c.args.entry c.args.node c.args.event.now c.args.nodes.now.items c.meet_at.new.nodes.items c.args.links.now c.meet_at.new.links
+    c.in_ok-meet_at-in-Some.field-0 (sym c.meeting_of.ensures ∙ c.in-Some.is) c.in_ok-meet_at-in-Some.ensures

@@ -4,6 +4,7 @@ use Rattle.std.proofs.lemmas.Option.{slice_get-get_or}
 use Rattle.p2p_log.specs.declared.config.Config.{Config}
 use Rattle.p2p_net_dialer.specs.Dialing.{gates_of}
 use Rattle.p2p_net_listener.specs.Listening.{IsNew as IsNewListening}
+use Rattle.p2p_net_spawner.specs.Spawning.{no_spawning}
 use Rattle.p2p_net_tracker.specs.Begins.{IsNew}
 use Rattle.p2p_net.specs.Stands.{NodeStands}
 use Rattle.p2p_net.proofs.Starts.{absent, fits_there, each-append, node_new, links_new}
@@ -26,6 +27,7 @@ loop-number-preserved c =
     (subst (λ (z : Config). z.mailbox_size < 2 ^ 64) (sym c.in_ok-new.ensures.config) c.in_ok-new.ensures.counted) c.in_ok-new.ensures.number (c.in_ok-new.ensures.router configs) c.in_ok-new.ensures.peers
     c.in_ok-new.ensures.channels c.in_ok-new.ensures.connections (subst (λ (z : Config). IsNew z new.tracker) (sym c.in_ok-new.ensures.config) c.in_ok-new.ensures.tracker) c.in_ok-new.ensures.dialing
     (subst (λ (z : Config). IsNewListening (gates_of z) new.listening) (sym c.in_ok-new.ensures.config) c.in_ok-new.ensures.listening)
+    (subst (λ (z : Config). new.spawning ≡ no_spawning z.mailbox_size) (sym c.in_ok-new.ensures.config) c.in_ok-new.ensures.spawning)
     in
     record {
       long = ap length c.in_ok-push.ensures.items ∙ (length-append old (new ∷ []) ∙ ap (λ k. k + 1) c.loop-number.invariant.long);

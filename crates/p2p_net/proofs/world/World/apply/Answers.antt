@@ -41,7 +41,9 @@ is_valid c =
     ∙ (ap (λ nodes. may_apply nodes w.report.log w.last v) (sym c.as_slice.ensures.value) ∙ c.in_ok-allow.ensures.ok)
 
 is_recorded : (c : goal.After-self-3-1) → IsRecorded c.self.inside.configs c.self.inside.report.log c.args.event.now c.record.new.report.log c.record.new.nodes.items c.record.new.links
-is_recorded c = c.in_ok-record.ensures.ok c.self.inside.configs (c.self.invariant c.if-self.false).world (is_valid c)
+is_recorded c =
+    let kept = c.self.invariant c.if-self.false in
+    c.in_ok-record.ensures.ok c.self.inside.configs kept.world kept.lawful (is_valid c)
 
 pub invariant_of-self-2 : goal.invariant_of-self-2
 invariant_of-self-2 c = λ _.
