@@ -50,7 +50,7 @@ pub record HasRunScript (configs : List Config) (script : List Event) (world : W
 -- in the log, each copy of each accepted send has exactly one end: delivered once, or waiting in a queue, or dropped;
 -- what is delivered was sent, is read, and in order; each drop shows its cause; the fate of each copy, which the report
 -- tells, is true; each key that is reserved at a node is held by one thing there, or its one release waits; and each handshake
--- has one question or one answer at a time, and neither once it was accepted
+-- waits for one answer at a time, is told once how the exchange over its link ended, and asks for its peer once after that
 pub record IsAccounted (configs : List Config) (log : List Entry) : Type 0 where
   pub one_end : EachHasOneEnd log
   pub nothing_else : NothingElseEnds log

@@ -8,7 +8,7 @@ use Rattle.p2p_sim_report.specs.Text.{number_onto, flag_onto, key_onto, hex_onto
 use Rattle.p2p_sim_report.specs.QueueText.{queue_onto}
 use Rattle.p2p_sim_report.specs.AddressText.{ip_onto}
 use Rattle.p2p_sim_report.specs.PeersText.{peer_set_onto, update_onto}
-use Rattle.p2p_sim_report.specs.TrackerItemText.{call_onto, connect_onto, ask_dial_onto, ask_acceptable_onto, release_onto, dialable_onto, dial_onto, acceptable_onto, resolved_onto, arrival_onto}
+use Rattle.p2p_sim_report.specs.TrackerItemText.{call_onto, connect_onto, ask_dial_onto, ask_acceptable_onto, ask_listen_onto, release_onto, dialable_onto, dial_onto, acceptable_onto, listen_onto, resolved_onto, finished_onto, arrival_onto, spawn_onto}
 
 abbrev pub subscribe_onto : List ℕ → ℕ → List ℕ
 subscribe_onto out c = number_onto (out ++ codes "{\"subscribe\":") c ++ codes "}"
@@ -51,6 +51,7 @@ item_onto out (item.Connect conn k) = connect_onto out conn k
 item_onto out item.AskDialable = out ++ codes "{\"dialable\":true}"
 item_onto out (item.AskDial k) = ask_dial_onto out k
 item_onto out (item.AskAcceptable handshake k) = ask_acceptable_onto out handshake k
+item_onto out (item.AskListen handshake k) = ask_listen_onto out handshake k
 item_onto out (item.Release k) = release_onto out k
 item_onto out (item.Addresses addresses) = list_onto ip_onto out addresses
 item_onto out (item.Dialable next peers) = dialable_onto out next peers
@@ -58,8 +59,11 @@ item_onto out (item.Dial grant) = dial_onto out grant
 item_onto out (item.Resolved addresses) = resolved_onto out addresses
 item_onto out item.Linked = out ++ codes "\"linked\""
 item_onto out item.Refused = out ++ codes "\"refused\""
+item_onto out (item.Finished ok) = finished_onto out ok
 item_onto out (item.Arrival from k link) = arrival_onto out from k link
 item_onto out (item.Acceptable accepts) = acceptable_onto out accepts
+item_onto out (item.Listen grant) = listen_onto out grant
+item_onto out (item.Spawn k link) = spawn_onto out k link
 item_onto out item.Kill = out ++ codes "\"kill\""
 item_onto out (item.PeerSet peers) = peer_set_onto out peers
 item_onto out (item.Update update) = update_onto out update

@@ -40,3 +40,4 @@ queue_onto out (queue.Blocked n e) = number_end_onto (out ++ codes "\"blocked:")
 queue_onto out (queue.Attempt n e) = numbers_onto (out ++ codes "\"attempt:") n e
 queue_onto out (queue.Arrivals n) = number_end_onto (out ++ codes "\"arrivals:") n
 queue_onto out (queue.Handshake n e) = numbers_onto (out ++ codes "\"handshake:") n e
+queue_onto out (queue.Spawner n) = number_end_onto (out ++ codes "\"spawner:") n

@@ -6,8 +6,9 @@ ghost use Rattle.p2p_sim_report.specs.ItemText.{subscribe_onto, ready_onto, cont
 use crate::peers::{put_peer_set, put_update};
 use crate::text::{ToText, put, put_flag, put_hex, put_list, put_number};
 use crate::tracker_item::{
-    put_acceptable, put_arrival, put_ask_acceptable, put_ask_dial, put_call, put_connect, put_dial,
-    put_dialable, put_release, put_resolved,
+    put_acceptable, put_arrival, put_ask_acceptable, put_ask_dial, put_ask_listen, put_call,
+    put_connect, put_dial, put_dialable, put_finished, put_listen, put_release, put_resolved,
+    put_spawn,
 };
 use p2p_base::Key;
 use p2p_log::{Item, Queue};
@@ -133,6 +134,7 @@ impl ToText for Item {
             Item::AskDialable => put(out, "{\"dialable\":true}"),
             Item::AskDial(key) => put_ask_dial(out, *key),
             Item::AskAcceptable { handshake, key } => put_ask_acceptable(out, *handshake, *key),
+            Item::AskListen { handshake, key } => put_ask_listen(out, *handshake, *key),
             Item::Release(key) => put_release(out, *key),
             Item::Addresses(addresses) => put_list(out, addresses.as_slice()),
             Item::Dialable { next, peers } => put_dialable(out, *next, peers.as_slice()),
@@ -140,8 +142,11 @@ impl ToText for Item {
             Item::Resolved(addresses) => put_resolved(out, addresses.as_slice()),
             Item::Linked => put(out, "\"linked\""),
             Item::Refused => put(out, "\"refused\""),
+            Item::Finished(ok) => put_finished(out, *ok),
             Item::Arrival { from, key, link } => put_arrival(out, *from, *key, *link),
             Item::Acceptable(accepts) => put_acceptable(out, *accepts),
+            Item::Listen(grant) => put_listen(out, *grant),
+            Item::Spawn { key, link } => put_spawn(out, *key, *link),
             Item::Kill => put(out, "\"kill\""),
             Item::PeerSet(peers) => put_peer_set(out, peers),
             Item::Update(update) => put_update(out, update),

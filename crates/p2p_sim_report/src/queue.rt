@@ -72,6 +72,7 @@ impl ToText for Queue {
             Queue::Handshake { node, handshake } => {
                 put_numbers(out, "\"handshake:", node, handshake)
             }
+            Queue::Spawner(node) => put_one(out, "\"spawner:", node),
         }
     }
 }

@@ -1,7 +1,8 @@
-//! The text of what a node's tracker is asked, of what it answers, of what attempts are told, and of what listeners take.
+//! The text of what a node's tracker is asked, of what it answers, of what attempts and handshakes are told, of what
+//! listeners take, and of what spawners are to make.
 ghost use Rattle.std.specs.Prelude.{◌≡◌, OnOk};
 ghost use Rattle.std.specs.String.{string_bytes};
-ghost use Rattle.p2p_sim_report.specs.TrackerItemText.{call_onto, connect_onto, ask_dial_onto, ask_acceptable_onto, release_onto, digits_onto, next_onto, dialable_onto, granted_onto, dial_onto, acceptable_onto, resolved_onto, arrival_onto};
+ghost use Rattle.p2p_sim_report.specs.TrackerItemText.{call_onto, connect_onto, ask_dial_onto, ask_acceptable_onto, ask_listen_onto, release_onto, digits_onto, next_onto, dialable_onto, granted_onto, dial_onto, acceptable_onto, listen_onto, resolved_onto, finished_onto, arrival_onto, spawn_onto};
 
 use crate::address::put_ingress;
 use crate::text::{ToText, put, put_count, put_flag, put_list, put_number};
@@ -39,6 +40,16 @@ pub fn put_ask_acceptable(out: &mut String, handshake: u64, key: Key) -> Result<
     ensures { OnOk result (string_bytes out.new ≡ ask_acceptable_onto (string_bytes out.old) handshake key) }
 {
     put(out, "{\"acceptable\":{\"handshake\":")?;
+    put_number(out, handshake)?;
+    put(out, ",\"key\":")?;
+    key.write_onto(out)?;
+    put(out, "}}")
+}
+
+pub fn put_ask_listen(out: &mut String, handshake: u64, key: Key) -> Result<(), AllocError>
+    ensures { OnOk result (string_bytes out.new ≡ ask_listen_onto (string_bytes out.old) handshake key) }
+{
+    put(out, "{\"listen\":{\"handshake\":")?;
     put_number(out, handshake)?;
     put(out, ",\"key\":")?;
     key.write_onto(out)?;
@@ -107,11 +118,27 @@ pub fn put_acceptable(out: &mut String, accepts: bool) -> Result<(), AllocError>
     put(out, "}")
 }
 
+pub fn put_listen(out: &mut String, grant: Option<Key>) -> Result<(), AllocError>
+    ensures { OnOk result (string_bytes out.new ≡ listen_onto (string_bytes out.old) grant) }
+{
+    put(out, "{\"listen\":")?;
+    put_flag(out, grant.is_some())?;
+    put(out, "}")
+}
+
 pub fn put_resolved(out: &mut String, addresses: &[SocketAddr]) -> Result<(), AllocError>
     ensures { OnOk result (string_bytes out.new ≡ resolved_onto (string_bytes out.old) addresses.now) }
 {
     put(out, "{\"addresses\":")?;
     put_list(out, addresses)?;
+    put(out, "}")
+}
+
+pub fn put_finished(out: &mut String, ok: bool) -> Result<(), AllocError>
+    ensures { OnOk result (string_bytes out.new ≡ finished_onto (string_bytes out.old) ok) }
+{
+    put(out, "{\"finished\":")?;
+    put_flag(out, ok)?;
     put(out, "}")
 }
 
@@ -130,4 +157,14 @@ pub fn put_arrival(
     put(out, ",\"link\":")?;
     put_number(out, link)?;
     put(out, "}")
+}
+
+pub fn put_spawn(out: &mut String, key: Key, link: u64) -> Result<(), AllocError>
+    ensures { OnOk result (string_bytes out.new ≡ spawn_onto (string_bytes out.old) key link) }
+{
+    put(out, "{\"spawn\":{\"key\":")?;
+    key.write_onto(out)?;
+    put(out, ",\"link\":")?;
+    put_number(out, link)?;
+    put(out, "}}")
 }

@@ -1,6 +1,7 @@
--- The form of each act of a node's dialer, of its attempts, of its listener and of its handshakes.
+-- The form of each act of a node's dialer, of its attempts, of its listener, of its handshakes and of links.
 use Rattle.std.specs.Prelude.{ℕ, List, [], ◌∷◌, codes, bytes_eq, Option, Some, None, if◌then◌else◌}
 use Rattle.serde_json.specs.Data.{Data}
+use Rattle.serde_json.specs.Find.{as_bool}
 use Rattle.p2p_log.specs.declared.event.Act.{Act}
 use Rattle.p2p_log.specs.declared.event.Act.TheVariants as act
 use Rattle.p2p_sim_script.specs.AddressForm.{socket_of}
@@ -61,7 +62,15 @@ connect_of d = do
   to ← field "to" whole d
   Some (act.Connect attempt from node to)
 
--- the act of a dialer, an attempt, a listener or a handshake that this word asks for
+-- the event that made the link, and whether keys were exchanged over it
+abbrev pub finish_of : Data → Option Act
+finish_of d = do
+  has ("link" ∷ "ok" ∷ []) d
+  link ← field "link" whole d
+  ok ← field "ok" as_bool d
+  Some (act.Finish link ok)
+
+-- the act of a dialer, an attempt, a listener, a handshake or a link that this word asks for
 abbrev pub dialer_act_named : List ℕ → Data → Option Act
 dialer_act_named word d =
     if bytes_eq word (codes "dialer") then dialer_of d
@@ -69,6 +78,7 @@ dialer_act_named word d =
     else if bytes_eq word (codes "resolve") then resolve_of d
     else if bytes_eq word (codes "connect") then connect_of d
     else if bytes_eq word (codes "refuse") then refuse_of d
+    else if bytes_eq word (codes "finish") then finish_of d
     else if bytes_eq word (codes "listener") then listener_of d
     else if bytes_eq word (codes "handshake") then handshake_of d
     else None

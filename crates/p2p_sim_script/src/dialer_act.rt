@@ -1,7 +1,8 @@
-//! The acts of a node's dialer, of its attempts, of its listener and of its handshakes, each by its own names.
+//! The acts of a node's dialer, of its attempts, of its listener, of its handshakes and of links, each by its own
+//! names.
 ghost use Rattle.std.specs.Prelude.{◌≡◌};
 ghost use Rattle.serde_json.specs.View.{view};
-ghost use Rattle.p2p_sim_script.specs.DialerActForm.{attempt_named_of, attempt_of, connect_of, dialer_act_named, dialer_of, handshake_of, listener_of, refuse_of, resolve_of};
+ghost use Rattle.p2p_sim_script.specs.DialerActForm.{attempt_named_of, attempt_of, connect_of, dialer_act_named, dialer_of, finish_of, handshake_of, listener_of, refuse_of, resolve_of};
 ghost use Rattle.p2p_sim_script.specs.Gives.{Gives};
 
 use crate::error::ScriptError;
@@ -96,7 +97,18 @@ fn read_connect(alloc: Global, tree: &Value) -> Result<Act, ScriptError>
     })
 }
 
-/// The act of a dialer, an attempt, a listener or a handshake that `word` asks for.
+fn read_finish(alloc: Global, tree: &Value) -> Result<Act, ScriptError>
+    ensures { Gives result (finish_of (view tree.now)) }
+{
+    if !only(tree, &["at", "seed", "do", "link", "ok"]) {
+        return Err(ScriptError::NotScript);
+    }
+    let link = field(alloc, tree, "link")?;
+    let ok = field(alloc, tree, "ok")?;
+    Ok(Act::Finish { link, ok })
+}
+
+/// The act of a dialer, an attempt, a listener, a handshake or a link that `word` asks for.
 pub(crate) fn read_dialer_named(alloc: Global, word: &str, tree: &Value) -> Result<Act, ScriptError>
     ensures { Gives result (dialer_act_named word.now (view tree.now)) }
 {
@@ -106,6 +118,7 @@ pub(crate) fn read_dialer_named(alloc: Global, word: &str, tree: &Value) -> Resu
         "resolve" => return read_resolve(alloc, tree),
         "connect" => return read_connect(alloc, tree),
         "refuse" => read_refuse(tree),
+        "finish" => return read_finish(alloc, tree),
         "listener" => read_listener(tree),
         "handshake" => read_handshake(tree),
         _ => None,
