@@ -6,10 +6,10 @@ use p2p_net::RunError;
 use std::alloc::Global;
 
 // A started node, which tracks three peers and whose listener was told of their addresses.
-const LISTENING: &[Do] = &[Do::Start, Do::Track(3, 3), Do::Tracker, Do::Listener];
+pub const LISTENING: &[Do] = &[Do::Start, Do::Track(3, 3), Do::Tracker, Do::Listener];
 
 // A started node, the peer of key 2, whose dialer began two attempts.
-const DIALING: &[Do] = &[
+pub const DIALING: &[Do] = &[
     Do::Start,
     Do::Track(3, 3),
     Do::Tracker,

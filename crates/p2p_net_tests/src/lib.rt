@@ -3,14 +3,16 @@
 //!
 //! Of `p2p_router` are `router` and `lists`, over the stand of `routing`; of `p2p_net_queues` is `queues`, of `p2p_net_router`
 //! `routers`, of `p2p_net_channels` and `p2p_net_links` `parts`. Of `p2p_net` are `world` and, with the parts of these names,
-//! `tracker`, `dialer`, `attempts`, `listener` and `handshakes`: they are scripts, which `scripts` runs, and `seen` has what an
-//! event shows.
+//! `tracker`, `dialer`, `attempts`, `listener`, `handshakes`, `finishing` and `spawning`: they are scripts, which `scripts`
+//! runs, and `seen` has what an event shows.
 #![tactic(auto)]
 
 #[cfg(test)]
 mod attempts;
 #[cfg(test)]
 mod dialer;
+#[cfg(test)]
+mod finishing;
 #[cfg(test)]
 mod handshakes;
 #[cfg(test)]
@@ -31,6 +33,8 @@ mod routing;
 mod scripts;
 #[cfg(test)]
 mod seen;
+#[cfg(test)]
+mod spawning;
 #[cfg(test)]
 mod tracker;
 #[cfg(test)]

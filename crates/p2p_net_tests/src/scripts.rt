@@ -1,5 +1,5 @@
-//! Scripts of a world of one node, or of one and another that dials it: what is asked of it, event by event, and what each
-//! event shows.
+//! Scripts of a world of one node, of one and another that dials it, or of three: what is asked of it, event by event, and what
+//! each event shows.
 use crate::seen::{Seen, newest};
 use p2p_address::{Address, IpAddr, SocketAddr};
 use p2p_base::{Key, Map};
@@ -41,6 +41,8 @@ pub enum Do {
     Start,
     // Its tracker is asked for a set of this index and of so many peers, which are the keys from 2 on,
     Track(u64, u8),
+    // or of this key alone,
+    TrackKey(u64, u8),
     // who is in the set of this index,
     PeerSet(u64),
     // for the peer sets to come,
@@ -61,22 +63,27 @@ pub enum Do {
     Handshake(u64),
     // The attempt is told that there is no link,
     Refuse(u64),
-    // or it is linked to the listener of its own node, at which it arrives from this host.
+    // or it is linked to the listener of the first node, at which it arrives from this host,
     Link(u64, u8),
+    // or to that of the node of this number.
+    LinkTo(u64, u64, u8),
     // An attempt of the other node is linked to the listener of this one, at which it arrives from this host.
     Arrive(u64, u8),
-    // A step, at the other node, of the handshake that this event began.
+    // A step, at the other node, of the attempt or the handshake that this event began.
+    AttemptThere(u64),
     HandshakeThere(u64),
+    // The exchange of keys over the link that this event made ends: they were exchanged, or they were not.
+    Finish(u64, bool),
 }
 
 // A started node, whose tracker took one set of two peers.
 pub const TRACKING: &[Do] = &[Do::Start, Do::Track(3, 2), Do::Tracker];
 
-// The keys from 2 on, so many, each with its address.
-fn pairs(alloc: Global, peers: u8) -> Result<Vec<(Key, Address)>, AllocError> {
+// The keys from this one on, so many, each with its address.
+fn pairs(alloc: Global, first: u8, peers: u8) -> Result<Vec<(Key, Address)>, AllocError> {
     let mut pairs = Vec::new(alloc);
     for i in 0..peers {
-        let key = i.saturating_add(2);
+        let key = i.saturating_add(first);
         let socket = SocketAddr {
             ip: IpAddr::V4([10, 0, 0, key]),
             port: 3000,
@@ -87,8 +94,8 @@ fn pairs(alloc: Global, peers: u8) -> Result<Vec<(Key, Address)>, AllocError> {
 }
 
 // These as the primary peers of a set.
-fn track(alloc: Global, index: u64, peers: u8) -> Result<Asked, AllocError> {
-    match Map::try_from(pairs(alloc, peers)?) {
+fn track(alloc: Global, index: u64, first: u8, peers: u8) -> Result<Asked, AllocError> {
+    match Map::try_from(pairs(alloc, first, peers)?) {
         Ok(primary) => Ok(Asked::Track {
             index,
             peers: AddressableTrackedPeers::primary(alloc, primary),
@@ -97,8 +104,8 @@ fn track(alloc: Global, index: u64, peers: u8) -> Result<Asked, AllocError> {
     }
 }
 
-// The attempt of a node is linked to the listener of the first one, at which it arrives from this host.
-fn link(node: u64, attempt: u64, host: u8) -> Act {
+// The attempt of a node is linked to the listener of another, at which it arrives from this host.
+fn link(node: u64, to: u64, attempt: u64, host: u8) -> Act {
     let from = SocketAddr {
         ip: IpAddr::V4([10, 0, 0, host]),
         port: 40_000,
@@ -107,7 +114,7 @@ fn link(node: u64, attempt: u64, host: u8) -> Act {
         attempt,
         from,
         node,
-        to: 0,
+        to,
     }
 }
 
@@ -120,7 +127,8 @@ fn of_tracker(node: u64, asked: Asked) -> Act {
 fn act(alloc: Global, node: u64, what: Do) -> Result<Act, AllocError> {
     match what {
         Do::Start => Ok(Act::Start { node }),
-        Do::Track(index, peers) => Ok(of_tracker(node, track(alloc, index, peers)?)),
+        Do::Track(index, peers) => Ok(of_tracker(node, track(alloc, index, 2, peers)?)),
+        Do::TrackKey(index, key) => Ok(of_tracker(node, track(alloc, index, key, 1)?)),
         Do::PeerSet(index) => Ok(of_tracker(node, Asked::PeerSet { index })),
         Do::Subscribe => Ok(of_tracker(node, Asked::Subscribe)),
         Do::Blocked => Ok(of_tracker(node, Asked::Blocked)),
@@ -133,9 +141,12 @@ fn act(alloc: Global, node: u64, what: Do) -> Result<Act, AllocError> {
         Do::Attempt(attempt) => Ok(Act::Attempt { attempt, node }),
         Do::Handshake(handshake) => Ok(Act::Handshake { handshake, node }),
         Do::Refuse(attempt) => Ok(Act::Refuse { attempt, node }),
-        Do::Link(attempt, host) => Ok(link(node, attempt, host)),
-        Do::Arrive(attempt, host) => Ok(link(1, attempt, host)),
+        Do::Link(attempt, host) => Ok(link(node, 0, attempt, host)),
+        Do::LinkTo(to, attempt, host) => Ok(link(node, to, attempt, host)),
+        Do::Arrive(attempt, host) => Ok(link(1, 0, attempt, host)),
+        Do::AttemptThere(attempt) => Ok(Act::Attempt { attempt, node: 1 }),
         Do::HandshakeThere(handshake) => Ok(Act::Handshake { handshake, node: 1 }),
+        Do::Finish(link, ok) => Ok(Act::Finish { link, ok }),
     }
 }
 
@@ -187,10 +198,10 @@ fn listening() -> Config {
     }
 }
 
-// The node of key 2, which dials one peer right after another.
-fn dialing() -> Config {
+// The node of this key, which dials one peer right after another.
+fn dialing(key: u64) -> Config {
     Config {
-        public_key: Key(2),
+        public_key: Key(key),
         max_peers_per_set: 4,
         dial_frequency: 0,
         ..CONFIG
@@ -205,8 +216,27 @@ pub fn first_other_of_two(
     there: &[Do],
     script: &[(u64, Do, Seen)],
 ) -> Result<Option<usize>, RunError> {
-    let mut world = World::new(alloc, &[listening(), dialing()])?;
+    let mut world = World::new(alloc, &[listening(), dialing(2)])?;
     ask_all(alloc, &mut world, 0, before)?;
     ask_all(alloc, &mut world, 1, there)?;
+    first_other_of(alloc, &mut world, script)
+}
+
+// Asks for all of this at the moment 0, each of the node of this number.
+fn ask_each(alloc: Global, world: &mut World, before: &[(u64, Do)]) -> Result<(), RunError> {
+    for step in before {
+        ask(alloc, world, 0, step.0, step.1)?;
+    }
+    Ok(())
+}
+
+// The same in a new world of three nodes, of the keys 1, 2 and 3, where this was asked of them before.
+pub fn first_other_of_three(
+    alloc: Global,
+    before: &[(u64, Do)],
+    script: &[(u64, Do, Seen)],
+) -> Result<Option<usize>, RunError> {
+    let mut world = World::new(alloc, &[dialing(1), dialing(2), dialing(3)])?;
+    ask_each(alloc, &mut world, before)?;
     first_other_of(alloc, &mut world, script)
 }

@@ -1,7 +1,7 @@
 //! What the entries of a world show, in plain data.
 use p2p_base::Feedback;
 use p2p_gates_rules::Reply as GatesReply;
-use p2p_net::{Entry, Item, Reply};
+use p2p_net::{Entry, Item, Queue, Reply};
 
 // What an entry shows: its reply, how many items it took, and what it put.
 #[derive(Clone, Copy, PartialEq)]
@@ -54,6 +54,14 @@ pub enum Put {
     Arrival,
     WhetherAcceptable,
     Acceptable(bool),
+    // Whether keys were exchanged, as an attempt or a handshake is told.
+    AttemptFinished(bool),
+    HandshakeFinished(bool),
+    // A handshake's peer is to be reserved, or whether it is.
+    Reserve,
+    Reserved(bool),
+    // With whom a connection is to be made, and over which link.
+    Spawn(u64, u64),
     PeerSet,
     Update,
     Blocked,
@@ -77,8 +85,17 @@ fn said_by(reply: &Reply) -> Said {
     }
 }
 
-fn put_of(item: &Item) -> Put {
-    match item {
+// How an exchange of keys ended, for what this queue tells it.
+fn finished(queue: &Queue, ok: bool) -> Put {
+    match queue {
+        Queue::Attempt { .. } => Put::AttemptFinished(ok),
+        Queue::Handshake { .. } => Put::HandshakeFinished(ok),
+        _ => Put::Other,
+    }
+}
+
+fn put_of(put: &(Queue, Item)) -> Put {
+    match &put.1 {
         Item::Call(_) => Put::Call,
         Item::AskDialable => Put::WhomToDial,
         Item::AskDial(_) => Put::Dial,
@@ -92,6 +109,10 @@ fn put_of(item: &Item) -> Put {
         Item::Arrival { .. } => Put::Arrival,
         Item::AskAcceptable { .. } => Put::WhetherAcceptable,
         Item::Acceptable(accepts) => Put::Acceptable(*accepts),
+        Item::Finished(ok) => finished(&put.0, *ok),
+        Item::AskListen { .. } => Put::Reserve,
+        Item::Listen(grant) => Put::Reserved(grant.is_some()),
+        Item::Spawn { key, link } => Put::Spawn(key.0, *link),
         Item::PeerSet(_) => Put::PeerSet,
         Item::Update(_) => Put::Update,
         Item::Blocked(_) => Put::Blocked,
@@ -102,8 +123,8 @@ fn put_of(item: &Item) -> Put {
 fn puts_of(entry: &Entry) -> Puts {
     match entry.puts.as_slice() {
         [] => Puts::Nothing,
-        [only] => Puts::One(put_of(&only.1)),
-        [first, last] => Puts::Two(put_of(&first.1), put_of(&last.1)),
+        [only] => Puts::One(put_of(only)),
+        [first, last] => Puts::Two(put_of(first), put_of(last)),
         more => Puts::More(more.len()),
     }
 }

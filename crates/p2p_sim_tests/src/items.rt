@@ -23,6 +23,7 @@ pub enum Thing {
     AskDialable,
     AskDial,
     AskAcceptable,
+    AskListen,
     Release,
     Addresses(&'static [IpAddr]),
     // From when on others may be dialed, and who may.
@@ -36,6 +37,10 @@ pub enum Thing {
     Refused,
     Arrival,
     Acceptable(bool),
+    Finished(bool),
+    // The key that is reserved.
+    Listen(Option<Key>),
+    Spawn,
     Kill,
     NoSet,
     // Its one primary peer.
@@ -123,6 +128,23 @@ fn listed(alloc: Global, thing: Thing) -> Result<Item, AllocError> {
     }
 }
 
+// The items of a link over which keys were exchanged, or were not.
+fn of_link(alloc: Global, thing: Thing) -> Result<Item, AllocError> {
+    match thing {
+        Thing::AskListen => Ok(Item::AskListen {
+            handshake: 9,
+            key: Key(3),
+        }),
+        Thing::Finished(ok) => Ok(Item::Finished(ok)),
+        Thing::Listen(grant) => Ok(Item::Listen(grant)),
+        Thing::Spawn => Ok(Item::Spawn {
+            key: Key(3),
+            link: 8,
+        }),
+        other => listed(alloc, other),
+    }
+}
+
 // The item.
 pub fn item_of(alloc: Global, thing: Thing) -> Result<Item, AllocError> {
     match thing {
@@ -161,6 +183,6 @@ pub fn item_of(alloc: Global, thing: Thing) -> Result<Item, AllocError> {
         Thing::Acceptable(accepts) => Ok(Item::Acceptable(accepts)),
         Thing::Kill => Ok(Item::Kill),
         Thing::NoSet => Ok(Item::PeerSet(None)),
-        other => listed(alloc, other),
+        other => of_link(alloc, other),
     }
 }

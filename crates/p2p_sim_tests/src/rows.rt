@@ -108,3 +108,20 @@ pub const RELAY_REPORT: &[&str] = &[
     r#"{"copy":[10,0],"fate":["dropped","relay_full",11]}"#,
     r#"{"copies":2,"entries":12}"#,
 ];
+
+// A dialer that has no peer to dial yet, so that there is nothing to link, and nothing to finish.
+pub const NO_LINK: &str = r#"{"configs":[
+    {"key":1,"preset":"local","max_peers_per_set":2,"max_message_size":1024,"mailbox_size":4}],
+"script":[
+    {"node":0,"at":0,"do":"start"},
+    {"node":0,"at":0,"do":"dialer"},
+    {"attempt":1,"from":{"ip":[10,0,0,1],"port":40000},"node":0,"to":0,"at":0,"do":"connect"},
+    {"link":2,"ok":true,"at":0,"do":"finish"}]}"#;
+
+pub const NO_LINK_REPORT: &[&str] = &[
+    r#"{"end":[],"n":0,"put":[],"reply":"ok","take":[]}"#,
+    r#"{"end":[],"n":1,"put":[["tracker:0",{"dialable":true}]],"reply":"ok","take":[]}"#,
+    r#"{"end":[],"n":2,"put":[],"reply":"gone","take":[]}"#,
+    r#"{"end":[],"n":3,"put":[],"reply":"gone","take":[]}"#,
+    r#"{"copies":0,"entries":4}"#,
+];

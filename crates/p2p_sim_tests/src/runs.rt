@@ -2,8 +2,8 @@
 use crate::command::{ended, sink, source};
 use crate::entries::is_text;
 use crate::rows::{
-    HELLO, HELLO_REPORT, RELAY, RELAY_REPORT, SUBSCRIPTION, SUBSCRIPTION_REPORT, UNBOUND,
-    UNBOUND_REPORT,
+    HELLO, HELLO_REPORT, NO_LINK, NO_LINK_REPORT, RELAY, RELAY_REPORT, SUBSCRIPTION,
+    SUBSCRIPTION_REPORT, UNBOUND, UNBOUND_REPORT,
 };
 use p2p_sim_command::Status;
 use std::alloc::{AllocError, Global};
@@ -28,6 +28,7 @@ const SCRIPTS: &[(&str, Status, &[&str])] = &[
     (UNBOUND, Status::Ok, UNBOUND_REPORT),
     (SUBSCRIPTION, Status::Ok, SUBSCRIPTION_REPORT),
     (RELAY, Status::Ok, RELAY_REPORT),
+    (NO_LINK, Status::Ok, NO_LINK_REPORT),
 ];
 
 // The place of the first script with another outcome. `None` where each has what is written.
@@ -56,5 +57,20 @@ const NO_WHOLE_MOMENT: &str = r#"{"configs":[
 fn a_moment_that_is_no_whole_number_is_no_script(rt: HostRuntime) {
     let line = [r#"{"error":"script"}"#];
     let found = has_outcome(rt.alloc(), NO_WHOLE_MOMENT, Status::NotScript, &line);
+    assert_eq!(rt; found, Ok(true));
+}
+
+// The event that is to have made the link is a step of a dialer.
+const LINK_OF_A_DIALER: &str = r#"{"configs":[
+    {"key":1,"preset":"local","max_peers_per_set":2,"max_message_size":1024,"mailbox_size":4}],
+    "script":[
+    {"node":0,"at":0,"do":"start"},
+    {"node":0,"at":0,"do":"dialer"},
+    {"link":1,"ok":true,"at":0,"do":"finish"}]}"#;
+
+#[test]
+fn only_what_a_connect_links_is_finished(rt: HostRuntime) {
+    let line = [r#"{"error":"script"}"#];
+    let found = has_outcome(rt.alloc(), LINK_OF_A_DIALER, Status::NotScript, &line);
     assert_eq!(rt; found, Ok(true));
 }

@@ -1,4 +1,4 @@
-//! The text of a report with each queue, item and reply of a node's tracker, its dialer and its listener.
+//! The text of a report with each queue, item and reply of a node's tracker, its dialer, its listener and its spawner.
 use crate::entries::{Do, Row, Said, is_written};
 use crate::items::Thing;
 use p2p_address::IpAddr;
@@ -44,6 +44,7 @@ const PUTS: &[(Queue, Thing)] = &[
     (Queue::Tracker(7), Thing::AskDialable),
     (Queue::Tracker(7), Thing::AskDial),
     (Queue::Tracker(7), Thing::AskAcceptable),
+    (Queue::Tracker(7), Thing::AskListen),
     (Queue::Tracker(7), Thing::Release),
     (Queue::Update(7), Thing::Addresses(ADDRESSES)),
     (Queue::Update(7), Thing::Addresses(&[])),
@@ -66,6 +67,11 @@ const PUTS: &[(Queue, Thing)] = &[
     (Queue::Arrivals(7), Thing::Arrival),
     (HANDSHAKE, Thing::Acceptable(true)),
     (HANDSHAKE, Thing::Acceptable(false)),
+    (ATTEMPT, Thing::Finished(true)),
+    (HANDSHAKE, Thing::Finished(false)),
+    (HANDSHAKE, Thing::Listen(Some(Key(3)))),
+    (HANDSHAKE, Thing::Listen(None)),
+    (Queue::Spawner(7), Thing::Spawn),
 ];
 
 const BY_ADDRESS: GatesReply = GatesReply::Limited {
@@ -188,7 +194,7 @@ const ROWS: &[Row] = &[
 ];
 
 const LINES: &[&str] = &[
-    r#"{"end":[],"n":0,"put":[["tracker:7",{"call":3}],["tracker:7",{"connect":{"conn":4,"key":2}}],["tracker:7",{"dialable":true}],["tracker:7",{"dial":2}],["tracker:7",{"acceptable":{"handshake":9,"key":3}}],["tracker:7",{"release":2}],["update:7",[[10,0,0,255],[0,1,2,3,4,5,6,7,8,9,10,11,12,13,14,255]]],["update:7",[]],["dialer:7",{"dialable":{"next":"18446744073709551616","peers":[2,3]}}],["dialer:7",{"dialable":{"next":null,"peers":[]}}],["dialer:7",{"dial":null}],["dialer:7",{"dial":{"ingress":{"ip":[10,0,0,2],"port":3000},"key":2}}],["dialer:7",{"dial":{"ingress":{"host":"a\"\\/\n\r\t\b\f\u0000\u001fé","port":65535},"key":3}}],["control:7:4","kill"],["answer:5",null],["answer:5",{"primary":[1],"secondary":[]}],["updates:5",{"all":{"primary":[1,2,4],"secondary":[3]},"index":6,"latest":{"primary":[1,2],"secondary":[3]}}],["blocked:5",[8,9]],["attempt:7:6",{"addresses":[{"ip":[10,0,0,2],"port":3000}]}],["attempt:7:6","linked"],["attempt:7:6","refused"],["arrivals:7",{"from":{"ip":[10,0,0,3],"port":40000},"key":3,"link":8}],["handshake:7:9",{"acceptable":true}],["handshake:7:9",{"acceptable":false}]],"reply":"ok","take":[]}"#,
+    r#"{"end":[],"n":0,"put":[["tracker:7",{"call":3}],["tracker:7",{"connect":{"conn":4,"key":2}}],["tracker:7",{"dialable":true}],["tracker:7",{"dial":2}],["tracker:7",{"acceptable":{"handshake":9,"key":3}}],["tracker:7",{"listen":{"handshake":9,"key":3}}],["tracker:7",{"release":2}],["update:7",[[10,0,0,255],[0,1,2,3,4,5,6,7,8,9,10,11,12,13,14,255]]],["update:7",[]],["dialer:7",{"dialable":{"next":"18446744073709551616","peers":[2,3]}}],["dialer:7",{"dialable":{"next":null,"peers":[]}}],["dialer:7",{"dial":null}],["dialer:7",{"dial":{"ingress":{"ip":[10,0,0,2],"port":3000},"key":2}}],["dialer:7",{"dial":{"ingress":{"host":"a\"\\/\n\r\t\b\f\u0000\u001fé","port":65535},"key":3}}],["control:7:4","kill"],["answer:5",null],["answer:5",{"primary":[1],"secondary":[]}],["updates:5",{"all":{"primary":[1,2,4],"secondary":[3]},"index":6,"latest":{"primary":[1,2],"secondary":[3]}}],["blocked:5",[8,9]],["attempt:7:6",{"addresses":[{"ip":[10,0,0,2],"port":3000}]}],["attempt:7:6","linked"],["attempt:7:6","refused"],["arrivals:7",{"from":{"ip":[10,0,0,3],"port":40000},"key":3,"link":8}],["handshake:7:9",{"acceptable":true}],["handshake:7:9",{"acceptable":false}],["attempt:7:6",{"finished":true}],["handshake:7:9",{"finished":false}],["handshake:7:9",{"listen":true}],["handshake:7:9",{"listen":false}],["spawner:7",{"spawn":{"key":3,"link":8}}]],"reply":"ok","take":[]}"#,
     r#"{"end":[],"n":1,"put":[],"reply":{"feedback":"ok"},"take":[]}"#,
     r#"{"end":[],"n":2,"put":[],"reply":{"feedback":"backoff"},"take":[]}"#,
     r#"{"end":[],"n":3,"put":[],"reply":{"feedback":"closed"},"take":[]}"#,
