@@ -12,6 +12,9 @@ COLOURS = ('#1f6fb4', '#d2691e', '#2e8b57', '#8a4fbf', '#b8860b', '#008b8b', '#c
 DROPPED = '#c0262d'
 QUIET = '#bbb'
 
+# What an item says that ends an attempt or a handshake, by the name at which it says false.
+REFUSALS = {'acceptable': 'not acceptable', 'finished': 'not finished', 'listen': 'not reserved'}
+
 
 def peers_text(peers):
     """The keys of a peer set, each role after the other, or that there is none."""
@@ -43,8 +46,9 @@ def event_text(event):
     """The act of a script's event and what it names."""
     if not isinstance(event.get('do'), str):
         return ''
-    if 'question' in event:
-        return '%s of event %s: ' % (event['do'], event['question'])
+    asked = [event[name] for name in ('question', 'link') if name in event]
+    if asked:
+        return '%s of event %s: ' % (event['do'], asked[0])
     names = [str(event[name]) for name in ('node', 'a', 'b') if name in event]
     begun = [event[name] for name in ('attempt', 'handshake') if name in event]
     act = '%s of event %s' % (event['do'], begun[0]) if begun else event['do']
@@ -55,9 +59,12 @@ def end_text(queue, item):
     """What a put says of the end of a connection, an attempt or a handshake; nothing, if it is another one."""
     if item in ('kill', 'refused'):
         return '%s: %s' % (item, queue)
-    if isinstance(item, dict) and item.get('acceptable') is False:
-        return 'not acceptable: %s' % queue
-    return 'release of key %s: %s' % (item['release'], queue) if isinstance(item, dict) and 'release' in item else ''
+    if not isinstance(item, dict):
+        return ''
+    for name, words in REFUSALS.items():
+        if item.get(name) is False:
+            return '%s: %s' % (words, queue)
+    return 'release of key %s: %s' % (item['release'], queue) if 'release' in item else ''
 
 
 class Chart:

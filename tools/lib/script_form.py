@@ -82,6 +82,7 @@ ACT_FORMS = {
     'resolve': {'addresses': some_sockets, 'attempt': whole, 'node': whole},
     'connect': {'attempt': whole, 'from': a_socket, 'node': whole, 'to': whole},
     'refuse': {'attempt': whole, 'node': whole},
+    'finish': {'link': whole, 'ok': a_flag},
     'listener': {'node': whole},
     'handshake': {'handshake': whole, 'node': whole},
 }

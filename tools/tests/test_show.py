@@ -72,6 +72,20 @@ LISTENER_SCRIPT = r'''{"configs":[],"script":[
 {"at":0,"do":"handshake","handshake":4,"node":0},
 {"at":0,"do":"tracker","node":0}]}
 '''
+FINISH = r'''{"end":[],"n":0,"put":[["attempt:0:5",{"finished":true}],["handshake:1:6",{"finished":true}]],"reply":"ok","take":[]}
+{"end":[],"n":1,"put":[["spawner:0",{"spawn":{"key":2,"link":3}}]],"reply":"ok","take":[[0,0]]}
+{"end":[],"n":2,"put":[["tracker:1",{"listen":{"handshake":6,"key":1}}]],"reply":"ok","take":[[0,1]]}
+{"end":[],"n":3,"put":[["handshake:1:6",{"listen":false}]],"reply":"ok","take":[[2,0]]}
+{"end":[],"n":4,"put":[["attempt:0:7",{"finished":false}],["handshake:1:8",{"finished":false}]],"reply":"ok","take":[]}
+{"copies":0,"entries":5}
+'''
+FINISH_SCRIPT = r'''{"configs":[],"script":[
+{"at":0,"do":"finish","link":3,"ok":true},
+{"at":0,"do":"attempt","attempt":5,"node":0},
+{"at":0,"do":"handshake","handshake":6,"node":1},
+{"at":0,"do":"tracker","node":1},
+{"at":0,"do":"finish","link":4,"ok":false}]}
+'''
 BAD = {
     '': 'the last line, with the counts, is missing',
     '{"copies":0,"entries":0}': 'line 1: the line has no end, so the report was cut off',
@@ -152,6 +166,14 @@ class Show(unittest.TestCase):
         drawn = self.assert_drawn(LISTENER, LISTENER_SCRIPT, (
             '9  node 0 handshake of event 4: ok', 'not acceptable: handshake:0:4'))
         self.assertNotIn('acceptable: tracker:0', drawn)
+
+    def test_a_report_of_links_is_drawn_with_what_was_not_finished_and_who_was_not_reserved(self):
+        drawn = self.assert_drawn(FINISH, FINISH_SCRIPT, (
+            '0  finish of event 3: ok', 'not reserved: handshake:1:6', '4  finish of event 4: ok',
+            'not finished: attempt:0:7', 'not finished: handshake:1:8'))
+        for queue in ('attempt:0:5', 'handshake:1:6', 'tracker:1', 'spawner:0'):
+            self.assertNotIn('not finished: %s' % queue, drawn)
+        self.assertNotIn('not reserved: tracker:1', drawn)
 
     def test_a_part_of_a_report_can_be_drawn(self):
         with tempfile.TemporaryDirectory() as folder:
