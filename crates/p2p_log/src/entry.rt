@@ -25,6 +25,8 @@ pub enum Reply {
     Sent(List<Key>),
     /// A message, and the key of its sender.
     Message { bytes: Bytes, from: Key },
+    /// The message has this many bytes, and this many it may have.
+    MessageTooLarge { size: usize, limit: usize },
     /// What the tracker's mailbox made of a question.
     Feedback(Feedback),
     /// The set has this many keys, and this many it may have.

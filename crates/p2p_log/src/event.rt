@@ -98,6 +98,10 @@ pub enum Act {
         handshake: u64,
         node: u64,
     },
+    /// One step of a node's spawner, which makes a connection.
+    Spawner {
+        node: u64,
+    },
     /// One step of the attempt that a step of a node's dialer began.
     Attempt {
         attempt: u64,
@@ -221,6 +225,7 @@ impl Act {
                 handshake: *handshake,
                 node: *node,
             }),
+            Act::Spawner { node } => Ok(Act::Spawner { node: *node }),
             Act::Attempt { attempt, node } => Ok(Act::Attempt {
                 attempt: *attempt,
                 node: *node,

@@ -92,7 +92,7 @@ module _ (w : Words) (n name : ℕ) where
       ∙ (ap (λ b. b || (same_queue (queue.Handshake n name) q && tells w i)) (and_false (same_queue (queue.Tracker n) q)) ∙ ap (λ b. b && tells w i) s)
 
   -- where its act changes neither queue
-  silent_out_of_reach : (configs : List Config) (a : Act) (log : List Entry) (r : Row) (m : Moves log r) → Reach configs a log r m
+  pub silent_out_of_reach : (configs : List Config) (a : Act) (log : List Entry) (r : Row) (m : Moves log r) → Reach configs a log r m
       → writes configs log a (queue.Tracker n) ≡ false → writes configs log a (queue.Handshake n name) ≡ false → Each Silent r.puts
   silent_out_of_reach configs a log r m reach t s =
       Each-weaker (λ x. writes configs log a x.0 ≡ true) Silent

@@ -7,32 +7,21 @@ use Rattle.p2p_log.specs.declared.config.Config.{Config}
 use Rattle.p2p_log.specs.declared.entry.Entry.{Entry}
 use Rattle.p2p_log.specs.declared.entry.Reply.{Reply}
 use Rattle.p2p_log.specs.declared.entry.Reply.TheVariants as reply
-use Rattle.p2p_log_rules.specs.Attempting.{Attempt, told_addresses, told_answer, with_attempt, with_begun, and_then, attempts_by, attempts_of}
+use Rattle.p2p_log_rules.specs.Attempting.{Attempt, told_addresses, told_answer, and_then, attempts_by, attempts_of}
 use Rattle.p2p_log_rules.proofs.Attempts.{attempts_of-append, attempts_of-late}
 use Rattle.p2p_log_laws.specs.Grants.{one}
 use Rattle.p2p_log_laws.specs.NodeGrants.{count_below, is_attempt_of}
-use Rattle.p2p_log_laws.proofs.CountBelow.{count_kept, count_begun, count_changed}
+use Rattle.p2p_log_laws.proofs.CountBelow.{test_cond, begun_test, count_kept, count_begun, count_changed}
 use Rattle.p2p_log_laws.proofs.StandingAttempts.{Attempts, stands_before, longer}
+use Rattle.p2p_log_rules.specs.Facts.{with_named, with_begun}
 
 module _ (key : Key) where
   abbrev pub holds : Option Attempt → Bool
   holds o = is_attempt_of key o
 
-  test_cond : (b : Bool) (o u : Option Attempt) → holds (cond b o u) ≡ cond b (holds o) (holds u)
-  test_cond true o u = refl
-  test_cond false o u = refl
-
-  begun_test : (o : Option Attempt) (m k : ℕ) (f : Attempts) → f m ≡ None → holds (with_begun o m f k) ≡ cond (k == m) (holds o) (holds (f k))
-  begun_test (Some a) m k f none = test_cond (k == m) (Some a) (f k)
-  begun_test None m k f none = go (k == m) refl
-    where
-      go : (b : Bool) → (k == m) ≡ b → holds (f k) ≡ cond b false (holds (f k))
-      go true same = ap holds (ap f (eqb-true k m same) ∙ none)
-      go false other = refl
-
   -- what an attempt is told leaves its key
   pub told_kept : (t : Bool) (g : Attempt → Attempt) (e k : ℕ) (f : Attempts) → ((a : Attempt) → holds (Some (g a)) ≡ holds (Some a))
-      → holds (cond t (with_attempt e (option_map g (f e)) f k) (f k)) ≡ holds (f k)
+      → holds (cond t (with_named e (option_map g (f e)) f k) (f k)) ≡ holds (f k)
   told_kept false g e k f same = refl
   told_kept true g e k f same = go (k == e) refl
     where
@@ -45,7 +34,7 @@ module _ (key : Key) where
       go false other = refl
 
   -- what does not stand does not begin by its own step
-  pub none_kept : (t : Bool) (g : Attempt → Option Attempt) (e k : ℕ) (f : Attempts) → f e ≡ None → holds (cond t (with_attempt e (and_then g (f e)) f k) (f k)) ≡ holds (f k)
+  pub none_kept : (t : Bool) (g : Attempt → Option Attempt) (e k : ℕ) (f : Attempts) → f e ≡ None → holds (cond t (with_named e (and_then g (f e)) f k) (f k)) ≡ holds (f k)
   none_kept false g e k f none = refl
   none_kept true g e k f none = go (k == e) refl
     where
@@ -94,13 +83,13 @@ module _ (configs : List Config) (n : ℕ) (key : Key) (log : List Entry) (e : E
       → held_by_attempts configs n key (log ++ e ∷ []) ≡ held_by_attempts configs n key log + one (is_attempt_of key o)
   holds_begun o h =
       count_begun (length log) (length (log ++ e ∷ [])) (longer log e) p q (ap (is_attempt_of key) none) (is_attempt_of key o)
-      (λ k. ap (is_attempt_of key) (attempts_of-append configs log e n k ∙ h k) ∙ begun_test key o (length log) k f none)
+      (λ k. ap (is_attempt_of key) (attempts_of-append configs log e n k ∙ h k) ∙ begun_test (is_attempt_of key) o (length log) k f none)
 
   -- one goes on or ends
-  pub holds_changed : (i : ℕ) (a : Attempt) (o : Option Attempt) → f i ≡ Some a → ((k : ℕ) → attempts_by configs n log e f k ≡ with_attempt i o f k)
+  pub holds_changed : (i : ℕ) (a : Attempt) (o : Option Attempt) → f i ≡ Some a → ((k : ℕ) → attempts_by configs n log e f k ≡ with_named i o f k)
       → held_by_attempts configs n key (log ++ e ∷ []) + one (a.key.0 == key.0) ≡ held_by_attempts configs n key log + one (is_attempt_of key o)
   holds_changed i a o stands h =
       ap (λ b. held_by_attempts configs n key (log ++ e ∷ []) + one b) (sym (ap (is_attempt_of key) stands))
       ∙ count_changed (length log) (length (log ++ e ∷ [])) (longer log e) p q (ap (is_attempt_of key) none) i (is_attempt_of key o)
       (stands_before configs n log i a stands)
-      (λ k. ap (is_attempt_of key) (attempts_of-append configs log e n k ∙ h k) ∙ test_cond key (k == i) o (f k))
+      (λ k. ap (is_attempt_of key) (attempts_of-append configs log e n k ∙ h k) ∙ test_cond (is_attempt_of key) (k == i) o (f k))

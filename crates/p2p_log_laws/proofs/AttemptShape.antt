@@ -54,17 +54,17 @@ module _ (configs : List Config) (log : List Entry) (e n : ℕ) where
 
   -- it takes these, of which it is left these, and ends
   given_up_shape : (took left : List Envelope) → line log q ≡ took ++ left → (key : Key) → Shape configs log a (given_up_row n key (map name_of took) left)
-  given_up_shape took left first key = ended_shape configs log a q (same_queue-refl q) written refl (λ r. refl) took left first ((queue.Tracker n, item.Release key) ∷ []) ((refl, refl), tt) (asks, tt)
+  given_up_shape took left first key = ended_shape configs log a q (same_queue-refl q) refl (λ r. refl) written took left first ((queue.Tracker n, item.Release key) ∷ []) ((refl, refl), tt) (asks, tt)
 
   -- it takes this, and goes on
   taken_shape : (x : Envelope) (rest : List Envelope) → line log q ≡ x ∷ rest → Shape configs log a (gone_on_row (name_of x))
-  taken_shape x rest first = gone_on_shape configs log a q (same_queue-refl q) written refl (λ r. refl) x rest first
+  taken_shape x rest first = gone_on_shape configs log a q (same_queue-refl q) refl (λ r. refl) x rest first
 
   -- its keys were exchanged
   ready_shape : (full : Bool) (key : Key) (link : ℕ) (x : Envelope) (rest : List Envelope) → line log q ≡ x ∷ rest → Shape configs log a (ready_row n full key link (name_of x) rest)
   ready_shape true key link x rest first = given_up_shape (x ∷ []) rest first key
   ready_shape false key link x rest first =
-      ended_shape configs log a q (same_queue-refl q) written refl (λ r. refl) (x ∷ []) rest first ((queue.Spawner n, item.Spawn key link) ∷ []) ((refl, refl), tt) (spawns, tt)
+      ended_shape configs log a q (same_queue-refl q) refl (λ r. refl) written (x ∷ []) rest first ((queue.Spawner n, item.Spawn key link) ∷ []) ((refl, refl), tt) (spawns, tt)
 
   resolved_shape : (o : Option Attempt) (key : Key) (x : Envelope) (rest : List Envelope) → line log q ≡ x ∷ rest → Shape configs log a (resolved_row o n key (name_of x) rest)
   resolved_shape None key x rest first = given_up_shape (x ∷ []) rest first key

@@ -5,7 +5,7 @@ use Rattle.p2p_log_rules.specs.Reading.{reading_of, told, is_read}
 use Rattle.p2p_log.specs.Sending.Sender.{Node}
 use Rattle.p2p_log.specs.declared.entry.Reply.{Reply}
 use Rattle.p2p_log.specs.Sending.{Sending, sending_of, keys_sent}
-use Rattle.std.proofs.Common.{◌≡◌, ℕ, suc, ◌+◌, ◌<◌, Bool, true, false, cond, List, [], ◌∷◌, map, length, Some, None, inl, inr, refl, ap, sym, ◌∙◌, arith, eq-eqb, subst}
+use Rattle.std.proofs.Common.{◌≡◌, ℕ, suc, ◌+◌, ◌<◌, Bool, true, false, cond, List, [], ◌∷◌, map, length, Some, None, inl, inr, refl, ap, sym, ◌∙◌, arith, subst}
 use Rattle.std.specs.Prelude.{◌==◌, ◌&&◌, ◌||◌, not, nat_le, nat_lt, count_by, flat_map, slice_get, filter}
 use Rattle.std.specs.List.{AllByRecursion as Each}
 use Rattle.std.proofs.lemmas.Bool.{and_parts}
@@ -14,7 +14,6 @@ use Rattle.p2p_base.specs.declared.key.Key.{Key}
 use Rattle.p2p_log.specs.declared.config.Config.{Config}
 use Rattle.p2p_log.specs.declared.queue.Queue.{Queue}
 use Rattle.p2p_log.specs.declared.queue.Queue.TheVariants as queue
-use Rattle.p2p_log.specs.declared.queue.Side.TheVariants as side
 use Rattle.p2p_log.specs.declared.item.Item.{Item}
 use Rattle.p2p_log.specs.declared.item.Item.TheVariants as item
 use Rattle.p2p_log.specs.declared.item.Envelope.{Envelope}
@@ -30,7 +29,7 @@ use Rattle.p2p_log.specs.declared.event.Recipients.{Recipients}
 use Rattle.p2p_log_rules.specs.declared.row.Row.{Row}
 use Rattle.p2p_log.specs.QueueCode.{same_queue}
 use Rattle.p2p_log.specs.Lines.{name_of, same_name, ended_item, line}
-use Rattle.p2p_log_rules.specs.Facts.{is_up, channels, capacity_in, capacity_for, key_at, half_of, is_joined}
+use Rattle.p2p_log_rules.specs.Facts.{is_up, channels, capacity_in, capacity_for, key_at, is_joined}
 use Rattle.p2p_log_rules.specs.Frames.{frame_of}
 use Rattle.p2p_log.specs.Copies.{keys_of_recipients, carries_copy, ends_copy, copies_from, copies_of}
 use Rattle.p2p_log_rules.specs.Effect
@@ -41,6 +40,7 @@ use Rattle.p2p_log_rules.proofs.Moves.{one_taken}
 use Rattle.p2p_log.proofs.Queues.{same_queue-refl}
 use Rattle.p2p_log_rules.proofs.Touches.{reads, writes}
 use Rattle.p2p_log_laws.proofs.Carried.{IsSublist-put}
+use Rattle.p2p_log_laws.proofs.Halves.{dialing_half, dialed_half, half_of-dialing, half_of-dialed}
 use Rattle.p2p_log_laws.proofs.Shape.{Shape, IsQuiet, Moved-nothing, accepts, still, no_moves, bare_laws, quiet_laws, no_delivery, accepts-sent}
 use Rattle.p2p_log_laws.proofs.Showing.{EndShows}
 use Rattle.p2p_log_laws.proofs.Spreading.{from_place, from_first, one, count_by-copies_end}
@@ -65,17 +65,6 @@ start_shape configs log n =
 
 -- ---- join
 
-peer_out : (configs : List Config) (a b : ℕ) → half_of configs a (act.Join a b) reply.Ok ≡ Some (record { peer = key_at configs b; writes = side.Out })
-peer_out configs a b =
-    ap (λ t. cond t (Some (record { peer = key_at configs b; writes = side.Out }))
-    (cond (a == b) (Some (record { peer = key_at configs a; writes = side.In })) None)) (eq-eqb a a refl)
-
-peer_in : (configs : List Config) (a b : ℕ) → (b == a) ≡ false → half_of configs b (act.Join a b) reply.Ok ≡ Some (record { peer = key_at configs a; writes = side.In })
-peer_in configs a b h =
-    ap (λ t. cond t (Some (record { peer = key_at configs b; writes = side.Out }))
-    (cond (b == b) (Some (record { peer = key_at configs a; writes = side.In })) None)) h
-    ∙ ap (λ t. cond t (Some (record { peer = key_at configs a; writes = side.In })) None) (eq-eqb b b refl)
-
 joined_row : List Config → List Entry → ℕ → ℕ → Row
 joined_row configs log a b = record {
   reply = reply.Ok;
@@ -98,8 +87,8 @@ joined_shape configs log a b h =
       reach = record { taken = tt; ended = tt; puts = (first a b, (second a b, tt)) };
       laws = λ stand. bare_laws configs log (act.Join a b) (joined_row configs log a b) (no_moves log (joined_row configs log a b) refl refl) refl refl tt tt tt
           (refl, (refl, tt)) (
-            inr (inl (record { peer = key_at configs b; writes = side.Out }, peer_out configs a b, refl)),
-            (inr (inl (record { peer = key_at configs a; writes = side.In }, peer_in configs a b (other a b two.0), refl)), tt),
+            inr (inl (dialing_half configs b (length log), half_of-dialing configs a b (length log), refl)),
+            (inr (inl (dialed_half configs a (length log), half_of-dialed configs a b (length log) (other a b two.0), refl)), tt),
           )
           (refl, (refl, tt));
     }
@@ -192,14 +181,21 @@ pub send_shape : (configs : List Config) (log : List Entry) (bytes : List ℕ) (
     → Shape configs log (act.Send bytes c n priority to) (Effect.send_row configs log bytes c n priority to)
 send_shape configs log bytes c n priority to =
     let full : Bool = nat_le (Effect.router_capacity configs log n) (length (line log (queue.Router n))) in
+    let sent : Row = Effect.sent_row (is_up log n) full n (length log) c priority (frame_of c bytes) (keys_of_recipients to) in
     elim (capacity_in (channels configs log n) c) as (λ o. Shape configs log (act.Send bytes c n priority to) (elim o [
       | None ↦ Effect.only reply.Gone
-      | Some _ ↦ Effect.sent_row (is_up log n) full n (length log) c priority (frame_of c bytes) (keys_of_recipients to)
+      | Some _ ↦ Effect.fitting_row (nat_lt (Effect.limit_at configs n) (length bytes)) (length bytes) (Effect.limit_at configs n) sent
     ])) [
       | None ↦ still configs log (act.Send bytes c n priority to) reply.Gone refl refl
-      | Some _ ↦ sent_shape configs log (act.Send bytes c n priority to) (record { by = Node n; channel = c; priority = priority; bytes = bytes; keys = keys_of_recipients to })
-          n (is_up log n) full refl refl refl refl (same_queue-refl (queue.Router n))
+      | Some _ ↦ by_size (nat_lt (Effect.limit_at configs n) (length bytes)) sent
+          (sent_shape configs log (act.Send bytes c n priority to) (record { by = Node n; channel = c; priority = priority; bytes = bytes; keys = keys_of_recipients to })
+          n (is_up log n) full refl refl refl refl (same_queue-refl (queue.Router n)))
     ]
+  where
+    by_size : (b : Bool) (sent : Row) → Shape configs log (act.Send bytes c n priority to) sent
+        → Shape configs log (act.Send bytes c n priority to) (Effect.fitting_row b (length bytes) (Effect.limit_at configs n) sent)
+    by_size true sent shape = still configs log (act.Send bytes c n priority to) (reply.MessageTooLarge (length bytes) (Effect.limit_at configs n)) refl refl
+    by_size false sent shape = shape
 
 -- ---- reading
 

@@ -51,7 +51,8 @@ pub record HasCome (configs : List Config) (log : List Entry) (copy : ℕ × ℕ
 module _ (configs : List Config) (log : List Entry) (copy : ℕ × ℕ) where
   -- a message that arrived at a node
   message_came : (q : Queue) (bytes : List ℕ) (other : ℕ × ℕ) (from : Key) (n c : ℕ) → other ≡ copy → IsArrived configs log bytes other from n c
-      → ((link : ℕ) (side : Side) (far : Half) → half_at configs log n link ≡ Some far → side ≡ other_side far.writes → ComesTo configs log q link side) → HasCome configs log copy q
+      → ((link : ℕ) (side : Side) (conn : ℕ) (far : Half) → half_at configs log n conn ≡ Some far → far.link ≡ link → side ≡ other_side far.writes → ComesTo configs log q link side)
+      → HasCome configs log copy q
   message_came q bytes other from n c same a to =
       let here : IsArrived configs log bytes copy from n c = subst (λ o. IsArrived configs log bytes o from n c) same a in
       record {
@@ -64,7 +65,7 @@ module _ (configs : List Config) (log : List Entry) (copy : ℕ × ℕ) where
         side = here.side;
         over = here.over;
         begins = here.begins;
-        ends = to here.link here.side here.far here.far_at here.ends;
+        ends = to here.link here.side here.conn here.far here.far_at here.far_over here.ends;
       }
 
   -- a frame in its link
@@ -81,8 +82,8 @@ module _ (configs : List Config) (log : List Entry) (copy : ℕ × ℕ) where
       } in
       elim told [
         | inl of ↦
-            let a = of.3 in
-            record { sender = Node of.0; channel = a.channel; bytes = a.bytes; key = of.1.peer; sent = a.sent; link = link; side = side; over = over; begins = (of.1, a.at, of.2); ends = (refl, refl) }
+            let a = of.5 in
+            record { sender = Node of.0; channel = a.channel; bytes = a.bytes; key = of.2.peer; sent = a.sent; link = link; side = side; over = over; begins = (of.1, of.2, a.at, of.3, of.4); ends = (refl, refl) }
         | inr raw ↦
             record { sender = Raw link; channel = raw.channel; bytes = raw.bytes; key = key_at configs raw.node; sent = raw.sent; link = link; side = side; over = over; begins = refl; ends = (refl, refl) }
       ]
@@ -91,7 +92,7 @@ module _ (configs : List Config) (log : List Entry) (copy : ℕ × ℕ) where
   has_come x put fit told carried reads = go x.queue x.item refl refl fit told carried reads
     where
       go : (q : Queue) (i : Item) → x.queue ≡ q → x.item ≡ i → fits q i ≡ true → Tells configs log i q → copies_of i ≡ copy ∷ [] → can_read q ≡ true → HasCome configs log copy q
-      go (queue.Channel n c) (item.Message bytes other from) stood is f t k r = message_came (queue.Channel n c) bytes other from n c (cc) t (λ link side far at e. (far, at, e))
+      go (queue.Channel n c) (item.Message bytes other from) stood is f t k r = message_came (queue.Channel n c) bytes other from n c (cc) t (λ link side conn far at over e. (conn, far, at, over, e))
       go (queue.Link link side) (item.Frame (Some other) frame) stood is f t k r =
           let same : other ≡ copy = cc in
           frame_came x link side frame put stood (is ∙ ap (λ o. item.Frame (Some o) frame) same) (subst (λ o. Tells configs log (item.Frame (Some o) frame) (queue.Link link side)) same t)

@@ -72,12 +72,12 @@ written_carry copy q (y ∷ ys) =
     ∙ sym (sum_by-cons (λ (z : Queue × Item). one (carries_copy copy z.1)) (q, y.item) (map (λ z. (q, z.item)) ys)))
 
 written_moved : (configs : List Config) (log : List Entry) (conn n : ℕ) (half : Half) (ys : List Envelope) → half_at configs log n conn ≡ Some half → Each (IsRelayed n conn) ys
-    → Moved configs log (act.SendStep conn n) reply.Ok ys (map (λ (z : Envelope). (queue.Link conn half.writes, z.item)) ys)
+    → Moved configs log (act.SendStep conn n) reply.Ok ys (map (λ (z : Envelope). (queue.Link half.link half.writes, z.item)) ys)
 written_moved configs log conn n half [] at relayed = Moved-nothing configs log (act.SendStep conn n) reply.Ok
 written_moved configs log conn n half (y ∷ ys) at relayed =
-    let q : Queue = queue.Link conn half.writes in
+    let q : Queue = queue.Link half.link half.writes in
     Moved-put configs log (act.SendStep conn n) reply.Ok y ys (q, y.item) (map (λ z. (q, z.item)) ys)
-    (record { node = n; priority = relayed.0.0; half = half; stood = relayed.0.1; at = at; writes = refl; put = refl }) refl (written_moved configs log conn n half ys at relayed.1)
+    (record { node = n; conn = conn; priority = relayed.0.0; half = half; stood = relayed.0.1; at = at; over = refl; writes = refl; put = refl }) refl (written_moved configs log conn n half ys at relayed.1)
 
 or_left : (b c : Bool) → b ≡ true → (b || c) ≡ true
 or_left b c h = ap (λ t. t || c) h
@@ -85,30 +85,37 @@ or_left b c h = ap (λ t. t || c) h
 both : (n conn : ℕ) → ((n == n) && (conn == conn)) ≡ true
 both n conn = grind (arith, nat_tests)
 
-relay_in_half : (priority : Bool) (n conn : ℕ) → in_half n conn (Effect.relay_queue priority n conn) ≡ true
-relay_in_half true n conn = both n conn
-relay_in_half false n conn = both n conn
+-- what a half has yet to write is its own
+relay_in_half : (o : Option Half) (priority : Bool) (n conn : ℕ) → in_half o n conn (Effect.relay_queue priority n conn) ≡ true
+relay_in_half o true n conn = both n conn
+relay_in_half o false n conn = both n conn
+
+-- as is its link, in either direction
+link_in_half : (o : Option Half) (half : Half) (n conn : ℕ) (s : Side) → o ≡ Some half → in_half o n conn (queue.Link half.link s) ≡ true
+link_in_half o half n conn s at = ap (λ p. in_half p n conn (queue.Link half.link s)) at ∙ eq-eqb half.link half.link refl
 
 write_shape : (configs : List Config) (log : List Entry) (conn n : ℕ) (half : Half) (ys : List Envelope) → half_at configs log n conn ≡ Some half
-    → AreTaken (live log) ys → Each (IsRelayed n conn) ys → Shape configs log (act.SendStep conn n) (Effect.write_row (queue.Link conn half.writes) ys)
+    → AreTaken (live log) ys → Each (IsRelayed n conn) ys → Shape configs log (act.SendStep conn n) (Effect.write_row (queue.Link half.link half.writes) ys)
 write_shape configs log conn n half [] at stood relayed = still configs log (act.SendStep conn n) reply.Idle refl refl
 write_shape configs log conn n half (y ∷ rest) at stood relayed =
     let ys : List Envelope = y ∷ rest in
-    let q : Queue = queue.Link conn half.writes in
+    let q : Queue = queue.Link half.link half.writes in
     let put : Envelope → Queue × Item = λ z. (q, z.item) in
+    let own : Option Half = half_at configs log n conn in
     record {
       moves = record { taken = y ∷ rest; ended = []; names = refl; gone = refl; stood = subst (AreTaken (live log)) (sym (append-nil ys)) stood };
       reach = record {
-        taken = Each-weaker (IsRelayed n conn) (λ x. reads configs log (act.SendStep conn n) x.queue ≡ true) (λ x r. ap (in_half n conn) r.1 ∙ relay_in_half r.0 n conn) ys relayed;
+        taken = Each-weaker (IsRelayed n conn) (λ x. reads configs log (act.SendStep conn n) x.queue ≡ true) (λ x r. ap (in_half own n conn) r.1 ∙ relay_in_half own r.0 n conn) ys relayed;
         ended = tt;
-        puts = Each-map (λ (x : Queue × Item). in_half n conn x.0 ≡ true) put ys (Each-weaker (IsRelayed n conn) (λ z. in_half n conn (put z).0 ≡ true) (λ z r. eq-eqb conn conn refl) ys relayed);
+        puts = Each-map (λ (x : Queue × Item). in_half own n conn x.0 ≡ true) put ys
+            (Each-weaker (IsRelayed n conn) (λ z. in_half own n conn (put z).0 ≡ true) (λ z r. link_in_half own half n conn half.writes at) ys relayed);
       };
       laws = λ stand.
           let stand_fit : Each StandsFit ys = Each-taken StandsFit (live log) ys stand.fitting stood in
           record {
             fitting = Each-map Fits put ys (Each-from_has (λ z. Fits (put z)) ys (λ z has.
                 let r = Each-has (IsRelayed n conn) ys z relayed has in
-                relayed_fits r.0 n conn conn half.writes z.item (subst (λ p. fits p z.item ≡ true) r.1 (Each-has StandsFit ys z stand_fit has))));
+                relayed_fits r.0 n conn half.link half.writes z.item (subst (λ p. fits p z.item ≡ true) r.1 (Each-has StandsFit ys z stand_fit has))));
             moved = written_moved configs log conn n half ys at relayed;
             balanced = λ copy.
                 let none : accepts log (act.SendStep conn n) reply.Ok copy ≡ 0 = accepts-none log (act.SendStep conn n) reply.Ok copy refl in
@@ -126,13 +133,13 @@ answer_bare n c (item.Message bytes copy from) h = absurd (cc)
 answer_bare n c _ h = refl
 
 begin_shape : (configs : List Config) (log : List Entry) (conn n : ℕ) (xs : List Envelope) → line log (queue.Ready n conn) ≡ xs
-    → Shape configs log (act.SendStep conn n) (Effect.begin_row xs)
+    → Shape configs log (act.SendStep conn n) (Effect.takes_oldest xs)
 begin_shape configs log conn n [] e = still configs log (act.SendStep conn n) reply.Idle refl refl
 begin_shape configs log conn n (x ∷ rest) e =
-    let r : Row = Effect.begin_row (x ∷ rest) in
+    let r : Row = Effect.takes_oldest (x ∷ rest) in
     record {
       moves = one_move log (queue.Ready n conn) x rest e r refl refl;
-      reach = record { taken = (first_in (in_half n conn) log (queue.Ready n conn) x rest e (both n conn), tt); ended = tt; puts = tt };
+      reach = record { taken = (first_in (in_half (half_at configs log n conn) n conn) log (queue.Ready n conn) x rest e (both n conn), tt); ended = tt; puts = tt };
       laws = λ stand.
           let fit : fits x.queue x.item ≡ true = first_has StandsFit log (queue.Ready n conn) x rest stand.fitting e in
           let light : is_bare x.item ≡ true = answer_bare n conn x.item (subst (λ q. fits q x.item ≡ true) (one_taken log (queue.Ready n conn) x rest e) fit) in
@@ -144,13 +151,13 @@ send_step_cases : (configs : List Config) (log : List Entry) (conn n : ℕ) (o :
       | None ↦ Effect.only reply.Gone
       | Some half ↦
           cond (is_running log n conn)
-          (Effect.write_row (queue.Link conn half.writes) (Effect.batch configs log n conn))
-          (Effect.begin_row (line log (queue.Ready n conn)))
+          (Effect.write_row (queue.Link half.link half.writes) (Effect.batch configs log n conn))
+          (Effect.takes_oldest (line log (queue.Ready n conn)))
     ])
 send_step_cases configs log conn n None at = still configs log (act.SendStep conn n) reply.Gone refl refl
 send_step_cases configs log conn n (Some half) at =
     elim (is_running log n conn) as (λ b. Shape configs log (act.SendStep conn n)
-    (cond b (Effect.write_row (queue.Link conn half.writes) (Effect.batch configs log n conn)) (Effect.begin_row (line log (queue.Ready n conn))))) [
+    (cond b (Effect.write_row (queue.Link half.link half.writes) (Effect.batch configs log n conn)) (Effect.takes_oldest (line log (queue.Ready n conn))))) [
       | true ↦ write_shape configs log conn n half (Effect.batch configs log n conn) at (batch_moved configs log n conn) (batch_relayed configs log n conn)
       | false ↦ begin_shape configs log conn n (line log (queue.Ready n conn)) refl
     ]
@@ -162,7 +169,11 @@ send_step_shape configs log conn n = send_step_cases configs log conn n (half_at
 -- ---- receiving
 
 module _ (configs : List Config) (log : List Entry) (conn n : ℕ) (half : Half) (at : half_at configs log n conn ≡ Some half)
-    (x : Envelope) (rest : List Envelope) (first : line log (queue.Link conn (Effect.other_side half.writes)) ≡ x ∷ rest) where
+    (x : Envelope) (rest : List Envelope) (first : line log (queue.Link half.link (Effect.other_side half.writes)) ≡ x ∷ rest) where
+  -- what the half reads is in its link
+  in_its_link : reads configs log (act.RecvStep conn n) (queue.Link half.link (Effect.other_side half.writes)) ≡ true
+  in_its_link = link_in_half (half_at configs log n conn) half n conn (Effect.other_side half.writes) at
+
   idle_shape : Shape configs log (act.RecvStep conn n) (Effect.only reply.Idle)
   idle_shape = still configs log (act.RecvStep conn n) reply.Idle refl refl
 
@@ -176,7 +187,7 @@ module _ (configs : List Config) (log : List Entry) (conn n : ℕ) (half : Half)
         frame = frame;
         limit = Effect.limit_at configs n;
         bytes = message.1;
-        stood = one_taken log (queue.Link conn (Effect.other_side half.writes)) x rest first;
+        stood = one_taken log (queue.Link half.link (Effect.other_side half.writes)) x rest first;
         at = at;
         is = is;
         read = read;
@@ -190,12 +201,12 @@ module _ (configs : List Config) (log : List Entry) (conn n : ℕ) (half : Half)
       (record { reply = reply.Ok; takes = name_of x ∷ []; puts = []; ends = end.Copy copy.0 copy.1 (outcome.Dropped cause.MailboxFull) ∷ [] })
       (record { reply = reply.Ok; takes = name_of x ∷ []; puts = (queue.Channel n message.0, item.Message message.1 copy half.peer) ∷ []; ends = [] }))
   deliver_shape copy frame message capacity true is read known size =
-      let link = queue.Link conn (Effect.other_side half.writes) in
-      spent_shape configs log (act.RecvStep conn n) reply.Ok refl link x rest first (eq-eqb conn conn refl) copy (outcome.Dropped cause.MailboxFull)
+      let link = queue.Link half.link (Effect.other_side half.writes) in
+      spent_shape configs log (act.RecvStep conn n) reply.Ok refl link x rest first in_its_link copy (outcome.Dropped cause.MailboxFull)
       (λ other. ap (carries_copy other) is)
       (λ stand ev steps.
       let told = first_tells configs log link x rest (item.Frame (Some copy) frame) stand.tells first is in
-      let a : Arrives configs log n conn half copy message = arrives configs frames_give log n conn half copy frame (Effect.limit_at configs n) message at told read in
+      let a : Arrives configs log n half copy message = arrives configs frames_give log n conn half copy frame (Effect.limit_at configs n) message at told read in
       record {
         conn = conn;
         node = n;
@@ -218,7 +229,7 @@ module _ (configs : List Config) (log : List Entry) (conn n : ℕ) (half : Half)
       })
       (no_delivery configs log (act.RecvStep conn n) reply.Ok (x ∷ []) (end.Copy copy.0 copy.1 (outcome.Dropped cause.MailboxFull) ∷ []) refl)
   deliver_shape copy frame message capacity false is read known size =
-      handed_shape configs log (act.RecvStep conn n) reply.Ok refl (queue.Link conn (Effect.other_side half.writes)) x rest first (eq-eqb conn conn refl)
+      handed_shape configs log (act.RecvStep conn n) reply.Ok refl (queue.Link half.link (Effect.other_side half.writes)) x rest first in_its_link
       (queue.Channel n message.0) (item.Message message.1 copy half.peer) refl (eq-eqb n n refl) refl (sym (ap copies_of is))
       (λ other. ap (carries_copy other) is) (arrives_here copy frame message is read)
 
@@ -238,7 +249,7 @@ module _ (configs : List Config) (log : List Entry) (conn n : ℕ) (half : Half)
   frame_shape _ is = idle_shape
 
 receive_shape : (configs : List Config) (log : List Entry) (conn n : ℕ) (half : Half) (xs : List Envelope) → half_at configs log n conn ≡ Some half
-    → line log (queue.Link conn (Effect.other_side half.writes)) ≡ xs → Shape configs log (act.RecvStep conn n) (Effect.receive_row configs log n half.peer xs)
+    → line log (queue.Link half.link (Effect.other_side half.writes)) ≡ xs → Shape configs log (act.RecvStep conn n) (Effect.receive_row configs log n half.peer xs)
 receive_shape configs log conn n half [] at e = still configs log (act.RecvStep conn n) reply.Idle refl refl
 receive_shape configs log conn n half (x ∷ rest) at e = frame_shape configs log conn n half at x rest e x.item refl
 
@@ -247,14 +258,14 @@ recv_step_cases : (configs : List Config) (log : List Entry) (conn n : ℕ) (o :
       | None ↦ Effect.only reply.Gone
       | Some half ↦
           cond (is_running log n conn)
-          (Effect.receive_row configs log n half.peer (line log (queue.Link conn (Effect.other_side half.writes))))
+          (Effect.receive_row configs log n half.peer (line log (queue.Link half.link (Effect.other_side half.writes))))
           (Effect.only reply.Idle)
     ])
 recv_step_cases configs log conn n None at = still configs log (act.RecvStep conn n) reply.Gone refl refl
 recv_step_cases configs log conn n (Some half) at =
     elim (is_running log n conn) as (λ b. Shape configs log (act.RecvStep conn n)
-    (cond b (Effect.receive_row configs log n half.peer (line log (queue.Link conn (Effect.other_side half.writes)))) (Effect.only reply.Idle))) [
-      | true ↦ receive_shape configs log conn n half (line log (queue.Link conn (Effect.other_side half.writes))) at refl
+    (cond b (Effect.receive_row configs log n half.peer (line log (queue.Link half.link (Effect.other_side half.writes)))) (Effect.only reply.Idle))) [
+      | true ↦ receive_shape configs log conn n half (line log (queue.Link half.link (Effect.other_side half.writes))) at refl
       | false ↦ still configs log (act.RecvStep conn n) reply.Idle refl refl
     ]
 

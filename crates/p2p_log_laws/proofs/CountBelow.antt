@@ -1,7 +1,8 @@
 -- How many numbers below one pass a test, and what that comes to for a test that is another at one place, or at none.
-use Rattle.std.proofs.Common.{◌≡◌, ℕ, zero, suc, ◌+◌, ◌<◌, ◌≤◌, Bool, true, false, cond, refl, ap, ◌∙◌, arith, eqb-true}
+use Rattle.std.proofs.Common.{◌≡◌, ℕ, zero, suc, ◌+◌, ◌<◌, ◌≤◌, Bool, true, false, cond, Option, Some, None, refl, ap, sym, ◌∙◌, arith, eqb-true}
 use Rattle.std.specs.Prelude.{◌==◌}
 use Rattle.std.proofs.lemmas.Bool.Decides.{nat_tests}
+use Rattle.p2p_log_rules.specs.Facts.{with_begun}
 use Rattle.p2p_log_laws.specs.Grants.{one}
 use Rattle.p2p_log_laws.specs.NodeGrants.{count_below}
 
@@ -45,6 +46,41 @@ module _ (p q : ℕ → Bool) where
             let others = rest (below_it m e lt other) in
             omega (arith, new, others)
 
+-- what is counted of numbers that pass
+module _ (p : ℕ → Bool) where
+  below_last : (m i : ℕ) → i < suc m → (i == m) ≡ false → i < m
+  below_last m i lt other = grind (arith, nat_tests)
+
+  pub count_below-one : (m i : ℕ) → i < m → p i ≡ true → 1 ≤ count_below m p
+  unfolding count_below
+  count_below-one zero i lt is = absurd (omega (arith, lt))
+  count_below-one (suc m) i lt is = go (i == m) refl (count_below-one m i)
+    where
+      go : (b : Bool) → (i == m) ≡ b → (i < m → p i ≡ true → 1 ≤ count_below m p) → 1 ≤ one (p m) + count_below m p
+      go true same rest = let last : one (p m) ≡ 1 = ap (λ k. one (p k)) (sym (eqb-true i m same)) ∙ ap one is in omega (arith, last)
+      go false other rest = let more = rest (below_last m i lt other) is in omega (arith, more)
+
+  -- two that are not one count twice
+  pub count_below-two : (m i j : ℕ) → i < m → j < m → (i == j) ≡ false → p i ≡ true → p j ≡ true → 2 ≤ count_below m p
+  unfolding count_below
+  count_below-two zero i j lt less two is it = absurd (omega (arith, lt))
+  count_below-two (suc m) i j lt less two is it = go (i == m) (j == m) refl refl (count_below-two m i j)
+    where
+      not_both : (a b k : ℕ) → (a == b) ≡ false → (a == k) ≡ true → (b == k) ≡ true → ⊥
+      not_both a b k two first second = grind (arith, nat_tests)
+
+      go : (b c : Bool) → (i == m) ≡ b → (j == m) ≡ c → (i < m → j < m → (i == j) ≡ false → p i ≡ true → p j ≡ true → 2 ≤ count_below m p) → 2 ≤ one (p m) + count_below m p
+      go true true same also rest = absurd (not_both i j m two same also)
+      go true false same other rest =
+          let last : one (p m) ≡ 1 = ap (λ k. one (p k)) (sym (eqb-true i m same)) ∙ ap one is in
+          let more = count_below-one m j (below_last m j less other) it in
+          omega (arith, last, more)
+      go false true other same rest =
+          let last : one (p m) ≡ 1 = ap (λ k. one (p k)) (sym (eqb-true j m same)) ∙ ap one it in
+          let more = count_below-one m i (below_last m i lt other) is in
+          omega (arith, last, more)
+      go false false other also rest = let more = rest (below_last m i lt other) (below_last m j less also) two is it in omega (arith, more)
+
 -- one number more is counted, which passed no test before
 module _ (m more : ℕ) (next : more ≡ suc m) (p q : ℕ → Bool) (none : p m ≡ false) where
   next_counted : count_below more q ≡ one (q m) + count_below m q
@@ -80,3 +116,17 @@ module _ (m more : ℕ) (next : more ≡ suc m) (p q : ℕ → Bool) (none : p m
     where
       differ_from : (k i : ℕ) → i < k → (k == i) ≡ false
       differ_from k i lt = grind (arith, nat_tests)
+
+-- a test of what may stand under a name, once something else does
+module _ {X : Type 0} (holds : Option X → Bool) where
+  pub test_cond : (b : Bool) (o u : Option X) → holds (cond b o u) ≡ cond b (holds o) (holds u)
+  test_cond true o u = refl
+  test_cond false o u = refl
+
+  pub begun_test : (o : Option X) (m k : ℕ) (f : ℕ → Option X) → f m ≡ None → holds (with_begun o m f k) ≡ cond (k == m) (holds o) (holds (f k))
+  begun_test (Some x) m k f none = test_cond (k == m) (Some x) (f k)
+  begun_test None m k f none = go (k == m) refl
+    where
+      go : (b : Bool) → (k == m) ≡ b → holds (f k) ≡ cond b (holds None) (holds (f k))
+      go true same = ap holds (ap f (eqb-true k m same) ∙ none)
+      go false other = refl

@@ -1,5 +1,5 @@
 -- The shape of a dialer's step: it moves no copy.
-use Rattle.std.proofs.Common.{◌≡◌, ℕ, Bool, true, false, cond, List, [], ◌∷◌, Option, Some, None, refl, subst}
+use Rattle.std.proofs.Common.{◌≡◌, ℕ, Bool, true, false, cond, List, [], ◌∷◌, Option, Some, None, refl}
 use Rattle.std.specs.Prelude.{◌&&◌, not, nat_le}
 use Rattle.std.specs.List.{AllByRecursion as Each}
 use Rattle.p2p_base.specs.declared.key.Key.{Key}
@@ -18,10 +18,9 @@ use Rattle.p2p_log_rules.specs.Facts.{is_up}
 use Rattle.p2p_log_rules.specs.Rows.{only}
 use Rattle.p2p_log_rules.specs.Dialing.{Dials, dials_of, in_drawn_order, last_key, dial_puts, dials_row, answered_row, due_row, dialer_turn, dialer_row}
 use Rattle.p2p_log.proofs.Queues.{same_queue-refl}
-use Rattle.p2p_log_rules.proofs.Moves.{one_taken, first_has}
-use Rattle.p2p_log_rules.proofs.Touches.{reads, writes}
-use Rattle.p2p_log_laws.proofs.Fitting.{StandsFit, fits, bare_there}
-use Rattle.p2p_log_laws.proofs.Shape.{Shape, IsQuiet, quiet_laws, still, no_moves, one_move, first_in}
+use Rattle.p2p_log_rules.proofs.Touches.{writes}
+use Rattle.p2p_log_laws.proofs.LineShape as shapes
+use Rattle.p2p_log_laws.proofs.Shape.{Shape, IsQuiet, quiet_laws, still, no_moves}
 
 module _ (configs : List Config) (log : List Entry) (n : ℕ) where
   quiet_dial : (o : Option Key) → Each IsQuiet (dial_puts n o)
@@ -36,16 +35,7 @@ module _ (configs : List Config) (log : List Entry) (n : ℕ) where
   taken_shape : (x : Envelope) (rest : List Envelope) (puts : List (Queue × Item)) → line log (queue.Dialer n) ≡ x ∷ rest → Each IsQuiet puts → Each (λ p. writes configs log (act.Dialer n) p.0 ≡ true) puts
       → Shape configs log (act.Dialer n) (record { reply = reply.Ok; takes = name_of x ∷ []; puts = puts; ends = [] })
   taken_shape x rest puts first quiet near =
-      let r : Row = record { reply = reply.Ok; takes = name_of x ∷ []; puts = puts; ends = [] } in
-      let q = queue.Dialer n in
-      record {
-        moves = one_move log q x rest first r refl refl;
-        reach = record { taken = (first_in (reads configs log (act.Dialer n)) log q x rest first (same_queue-refl q), tt); ended = tt; puts = near };
-        laws = λ stand.
-            let whole : fits x.queue x.item ≡ true = first_has StandsFit log q x rest stand.fitting first in
-            let fit : fits q x.item ≡ true = subst (λ p. fits p x.item ≡ true) (one_taken log q x rest first) whole in
-            quiet_laws configs log (act.Dialer n) r (one_move log q x rest first r refl refl) refl refl (bare_there q x.item refl fit, tt) tt tt quiet;
-      }
+      shapes.asking_shape configs log (act.Dialer n) (queue.Dialer n) (same_queue-refl (queue.Dialer n)) refl (λ r. refl) x rest first puts quiet near
 
   -- nothing is taken
   asking_shape : (puts : List (Queue × Item)) → Each IsQuiet puts → Each (λ p. writes configs log (act.Dialer n) p.0 ≡ true) puts

@@ -1,10 +1,12 @@
 -- What the end of an exchange puts for a handshake: one word, of an exchange of keys where the handshake was accepted.
 use Rattle.std.proofs.Common.{◌≡◌, ℕ, ◌+◌, ◌≤◌, Bool, true, false, cond, List, [], ◌∷◌, ◌++◌, Option, Some, None, inr, refl, ap, sym, subst, ◌∙◌, arith, eqb-true}
-use Rattle.std.specs.Prelude.{◌==◌, ◌&&◌, ◌||◌, not, count_by}
+use Rattle.std.specs.Prelude.{◌==◌, ◌&&◌, ◌||◌, not, count_by, is_some}
 use Rattle.std.specs.List.{AllByRecursion as Each}
+use Rattle.std.specs.Option.{option_map}
 use Rattle.std.proofs.lemmas.Bool.{and_parts}
 use Rattle.std.proofs.lemmas.List.Sums.{sum_by-append}
 use Rattle.std.proofs.lemmas.Bool.Decides.{nat_tests}
+use Rattle.p2p_base.specs.declared.key.Key.{Key}
 use Rattle.p2p_log.specs.declared.config.Config.{Config}
 use Rattle.p2p_log.specs.declared.queue.Queue.{Queue}
 use Rattle.p2p_log.specs.declared.queue.Queue.TheVariants as queue
@@ -22,7 +24,7 @@ use Rattle.p2p_log_rules.specs.declared.row.ListeningEnd.TheVariants as listenin
 use Rattle.p2p_log_rules.specs.declared.row.Row.{Row}
 use Rattle.p2p_log_rules.specs.Attempting.{Attempt, attempts_of}
 use Rattle.p2p_log_rules.specs.Handshakes.{is_accepted}
-use Rattle.p2p_log_rules.specs.Links.{openings_of, listening_ends_of, dials_key, stands, accepts, exchanged, dialing_puts, listening_puts, finished_row, verdict, finish_by, finish_row}
+use Rattle.p2p_log_rules.specs.Links.{openings_of, listening_ends_of, is_dialed, accepts, exchanged, dialing_puts, listening_puts, finished_row, verdict, finish_by, finish_row}
 use Rattle.p2p_log_rules.specs.Facts.{key_at}
 use Rattle.p2p_log_rules.specs.Rows.{only}
 use Rattle.p2p_log_laws.specs.Grants.{one}
@@ -126,12 +128,12 @@ module _ (w : Words) (sound : (w.acceptance && w.refusal) ≡ false) (n name : �
           told_answers o is both.0 h both.1 ends agree dialing
           (λ so. subst (λ m. is_accepted log m name ≡ true) (eqb-true o.to n both.0) (subst (λ k. is_accepted log o.to k ≡ true) (eqb-true h name both.1) (accepted so)))
 
-  by_verdict : (o : Opening) → openings_of log link ≡ Some o → (dialing : Option Attempt) (end : Option ListeningEnd) → listening_ends_of log o.to link ≡ end
-      → (v : Option Bool) → verdict configs log ok o.to dialing end ≡ v → Answers w n name log ev (finished_row o dialing end v)
-  by_verdict o is dialing end ends None said = quiet w n name log ev (only reply.Pending) (no_moves log (only reply.Pending) refl refl) tt refl
-  by_verdict o is dialing end ends (Some agree) said =
+  by_verdict : (o : Opening) → openings_of log link ≡ Some o → (dialing : Option Attempt) (dialed : Option Key) (end : Option ListeningEnd) → listening_ends_of log o.to link ≡ end
+      → (v : Option Bool) → verdict configs log ok o.to dialed end ≡ v → Answers w n name log ev (finished_row o dialing end v)
+  by_verdict o is dialing dialed end ends None said = quiet w n name log ev (only reply.Pending) (no_moves log (only reply.Pending) refl refl) tt refl
+  by_verdict o is dialing dialed end ends (Some agree) said =
       by_end o is agree dialing end ends
-      (λ so. agreed (stands dialing && stands end) (ok && dials_key (key_at configs o.to) dialing) (accepts log o.to end) (said ∙ ap Some so))
+      (λ so. agreed (is_some dialed && is_some end) (ok && is_dialed (key_at configs o.to) dialed) (accepts log o.to end) (said ∙ ap Some so))
 
   pub finish_answers : Answers w n name log ev (finish_row configs log link ok)
   finish_answers = by (openings_of log link) refl
@@ -143,5 +145,6 @@ module _ (w : Words) (sound : (w.acceptance && w.refusal) ≡ false) (n name : �
       by None is = quiet w n name log ev (only reply.Gone) (no_moves log (only reply.Gone) refl refl) tt refl
       by (Some o) is =
           let dialing : Option Attempt = attempts_of configs log o.node o.attempt in
+          let dialed : Option Key = option_map (λ (a : Attempt). a.key) dialing in
           let end : Option ListeningEnd = listening_ends_of log o.to link in
-          by_verdict o is dialing end refl (verdict configs log ok o.to dialing end) refl
+          by_verdict o is dialing dialed end refl (verdict configs log ok o.to dialed end) refl

@@ -2,6 +2,7 @@
 use Rattle.std.proofs.Common.{◌≡◌, ℕ, Bool, true, false, List, [], ◌∷◌, ◌++◌, Option, Some, None, refl, ap, ◌∙◌, eq-eqb}
 use Rattle.std.specs.Prelude.{◌||◌}
 use Rattle.std.specs.List.{AllByRecursion as Each}
+use Rattle.std.specs.Option.{option_map}
 use Rattle.p2p_base.specs.declared.key.Key.{Key}
 use Rattle.p2p_log.specs.declared.config.Config.{Config}
 use Rattle.p2p_log.specs.declared.queue.Queue.{Queue}
@@ -84,7 +85,7 @@ module _ (configs : List Config) (log : List Entry) (link : ℕ) (ok : Bool) whe
       by_opening (Some o) is =
           let dialing : Option Attempt = attempts_of configs log o.node o.attempt in
           let end : Option ListeningEnd = listening_ends_of log o.to link in
-          finished_shape o is dialing end (verdict configs log ok o.to dialing end)
+          finished_shape o is dialing end (verdict configs log ok o.to (option_map (λ (a : Attempt). a.key) dialing) end)
 
 -- and neither grants a key nor releases one
 pub finish_plain : (n : ℕ) (key : Key) (o : Opening) (ok : Bool) (dialing : Option Attempt) (end : Option ListeningEnd)

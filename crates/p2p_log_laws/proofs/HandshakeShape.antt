@@ -49,16 +49,16 @@ module _ (configs : List Config) (log : List Entry) (e n : ℕ) where
   -- it takes these, of which it is left these, puts these, and ends
   left_shape : (took left : List Envelope) → line log q ≡ took ++ left → (puts : List (Queue × Item)) → Each IsQuiet puts → Each (λ x. writes configs log a x.0 ≡ true) puts
       → Shape configs log a (record { reply = reply.Ok; takes = map name_of took; puts = puts; ends = left_ends left })
-  left_shape took left first puts quiet near = ended_shape configs log a q (same_queue-refl q) written refl (λ r. refl) took left first puts quiet near
+  left_shape took left first puts quiet near = ended_shape configs log a q (same_queue-refl q) refl (λ r. refl) written took left first puts quiet near
 
   -- it takes this, and goes on
   taken_shape : (x : Envelope) (rest : List Envelope) → line log q ≡ x ∷ rest → Shape configs log a (gone_on_row (name_of x))
-  taken_shape x rest first = gone_on_shape configs log a q (same_queue-refl q) written refl (λ r. refl) x rest first
+  taken_shape x rest first = gone_on_shape configs log a q (same_queue-refl q) refl (λ r. refl) x rest first
 
   -- and asks for its peer
   exchanged_shape : (x : Envelope) (rest : List Envelope) → line log q ≡ x ∷ rest → (key : Key) → Shape configs log a (exchanged_row n e key (name_of x))
   exchanged_shape x rest first key =
-      asking_shape configs log a q (same_queue-refl q) written refl (λ r. refl) x rest first ((queue.Tracker n, item.AskListen e key) ∷ []) ((refl, refl), tt) (asks, tt)
+      asking_shape configs log a q (same_queue-refl q) refl (λ r. refl) x rest first ((queue.Tracker n, item.AskListen e key) ∷ []) ((refl, refl), tt) (asks, tt)
 
   -- its peer is reserved
   ready_shape : (full : Bool) (key : Key) (link : ℕ) (x : Envelope) (rest : List Envelope) → line log q ≡ x ∷ rest → Shape configs log a (ready_row n full key link (name_of x) rest)

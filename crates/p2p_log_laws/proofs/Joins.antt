@@ -1,5 +1,5 @@
 -- Two nodes are joined once.
-use Rattle.std.proofs.Common.{◌≡◌, ℕ, zero, suc, ◌<◌, Bool, true, false, cond, List, [], ◌∷◌, length, take, Option, Some, None, ◌⊎◌, inl, inr, refl, ap, sym, ◌∙◌, arith, eqb-true}
+use Rattle.std.proofs.Common.{◌≡◌, ℕ, zero, suc, ◌<◌, Bool, true, false, cond, List, [], ◌∷◌, length, take, Some, ◌⊎◌, inl, inr, refl, ap, sym, ◌∙◌, arith, eqb-true}
 use Rattle.std.specs.Prelude.{◌==◌, ◌&&◌, ◌||◌, not, slice_get}
 use Rattle.std.specs.List.{list_any}
 use Rattle.std.proofs.lemmas.Bool.{and_parts, cases_lt, false≢true}
@@ -7,7 +7,6 @@ use Rattle.std.proofs.lemmas.Bool.Decides.{nat_tests}
 use Rattle.std.proofs.lemmas.Option.{same_Some}
 use Rattle.p2p_log.specs.declared.config.Config.{Config}
 use Rattle.p2p_log.specs.declared.queue.Queue.TheVariants as queue
-use Rattle.p2p_log.specs.declared.queue.Side.TheVariants as side
 use Rattle.p2p_log.specs.declared.item.Item.TheVariants as item
 use Rattle.p2p_log.specs.declared.entry.Entry.{Entry}
 use Rattle.p2p_log.specs.declared.entry.Reply.{Reply}
@@ -15,54 +14,18 @@ use Rattle.p2p_log.specs.declared.entry.Reply.TheVariants as reply
 use Rattle.p2p_log.specs.declared.event.Event.{Event}
 use Rattle.p2p_log.specs.declared.event.Act.{Act}
 use Rattle.p2p_log.specs.declared.event.Act.TheVariants as act
-use Rattle.p2p_log_rules.specs.declared.row.Half.{Half}
 use Rattle.p2p_log_rules.specs.declared.row.Row.{Row}
 use Rattle.p2p_log_rules.specs.Lawful.{IsLawful}
-use Rattle.p2p_log_rules.specs.Facts.{is_up, key_at, half_of, half_in, half_at, joins, is_joined}
+use Rattle.p2p_log_rules.specs.Facts.{is_up, key_at, joins, is_joined}
 use Rattle.p2p_log_rules.specs.Effect
-use Rattle.p2p_log_rules.specs.Effect.{effect, row, may_join, other_side}
+use Rattle.p2p_log_rules.specs.Effect.{effect, row, may_join}
 use Rattle.p2p_log_laws.proofs.Prefixes.{entry_due}
-use Rattle.p2p_log_laws.proofs.Truth.{half_is}
-
--- ---- which event a connection is
 
 -- the event joined these two nodes
 pub record IsJoin (log : List Entry) (conn a b : ℕ) : Type 0 where
   pub entry : Entry
   pub at : slice_get log conn ≡ Some entry
   pub joined : joins a b entry.event.act entry.reply ≡ true
-
-straight : (a b x y : ℕ) → a ≡ x → b ≡ y → (((x == a) && (y == b)) || ((x == b) && (y == a))) ≡ true
-straight a b x y h k = grind (arith, nat_tests)
-
-crossed : (a b x y : ℕ) → a ≡ y → b ≡ x → (((x == a) && (y == b)) || ((x == b) && (y == a))) ≡ true
-crossed a b x y h k = grind (arith, nat_tests)
-
-joins_of : (configs : List Config) (a b : ℕ) (near far : Half) (c : Act) (r : Reply) → half_of configs a c r ≡ Some near → half_of configs b c r ≡ Some far
-    → near.writes ≡ other_side far.writes → joins a b c r ≡ true
-joins_of configs a b near far (act.Join x y) reply.Ok h k w = elim (half_is configs x y a near h) [
-  | inl near_out ↦ elim (half_is configs x y b far k) [
-    | inl far_out ↦ let e : side.Out ≡ side.In = sym near_out.writes ∙ (w ∙ ap other_side far_out.writes) in absurd (cc)
-    | inr far_in ↦ straight a b x y near_out.node far_in.node
-  ]
-  | inr near_in ↦ elim (half_is configs x y b far k) [
-    | inl far_out ↦ crossed a b x y near_in.node far_out.node
-    | inr far_in ↦ let e : side.In ≡ side.Out = sym near_in.writes ∙ (w ∙ ap other_side far_in.writes) in absurd (cc)
-  ]
-]
-joins_of configs a b near far _ r h k w = absurd (cc)
-
--- the event of a connection joined the nodes of its halves
-pub join_of : (configs : List Config) (log : List Entry) (conn a b : ℕ) (near far : Half) → half_at configs log a conn ≡ Some near → half_at configs log b conn ≡ Some far
-    → near.writes ≡ other_side far.writes → IsJoin log conn a b
-unfolding half_at
-join_of configs log conn a b near far h k w = go (slice_get log conn) refl h k
-  where
-    go : (o : Option Entry) → slice_get log conn ≡ o → half_in configs a o ≡ Some near → half_in configs b o ≡ Some far → IsJoin log conn a b
-    go None e h k = absurd (cc)
-    go (Some d) e h k = record { entry = d; at = e; joined = joins_of configs a b near far d.event.act d.reply h k w }
-
--- ---- no second one
 
 -- a join that was done
 record Joins (a b : ℕ) (c : Act) (r : Reply) : Type 0 where

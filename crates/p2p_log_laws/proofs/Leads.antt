@@ -1,7 +1,7 @@
 -- From where the copies of one sender come that enter a stage of their way: from the stage before.
 use Rattle.p2p_log.specs.Sending.{Sender, Sending, sending_at, sending_of}
 use Rattle.p2p_log.specs.Sending.Sender.{Node, Raw}
-use Rattle.p2p_log_laws.proofs.Telling.{StandTells}
+use Rattle.p2p_log_laws.proofs.Telling.{StandTells, half_at-longer}
 use Rattle.p2p_log_laws.proofs.Stages.{Fail, OwnFails, ItemsFail, OthersFail}
 use Rattle.p2p_log.proofs.Sending.{sending_at-longer}
 use Rattle.p2p_log.specs.Copies.{copies_of}
@@ -21,9 +21,12 @@ use Rattle.p2p_log.specs.declared.entry.Reply.{Reply}
 use Rattle.p2p_log.specs.declared.event.Act.{Act}
 use Rattle.p2p_log.specs.Lines.{stands_in}
 use Rattle.p2p_log_rules.specs.Effect.{relay_queue, other_side}
+use Rattle.p2p_log_rules.specs.Facts.{half_at}
 use Rattle.p2p_log.proofs.Queues.{same_queue-refl}
+use Rattle.p2p_log_laws.specs.Order.{Writes}
 use Rattle.p2p_log_laws.proofs.ConnShapes.{relayed_fits}
 use Rattle.p2p_log_laws.proofs.Fitting.{StandsFit, fits}
+use Rattle.p2p_log_laws.proofs.Halves.{same_end}
 use Rattle.p2p_log_laws.proofs.Marks.{IsSentBy, Marks, StandMarks, relay_marked}
 use Rattle.p2p_log_laws.proofs.Shape.{OfAct, IsWritten, spread_relay}
 use Rattle.p2p_log_laws.proofs.OneLink.{all_puts, WasPut}
@@ -142,7 +145,7 @@ module _ (configs : List Config) (log more all : List Entry) (whole : log ++ mor
       subst Fails (sym h.put) (
         one_fails h.copy (λ passes.
             elsewhere (queue.Link link side) y away
-            (h.stood ∙ by_link h.copy passes h.conn s h.frame (was_put y h.conn s h.copy h.frame known h.stood h.is))),
+            (h.stood ∙ by_link h.copy passes h.half.link s h.frame (was_put y h.half.link s h.copy h.frame known h.stood h.is))),
         tt,
       )
 
@@ -150,29 +153,33 @@ module _ (configs : List Config) (log more all : List Entry) (whole : log ++ mor
   written_by : (y : Envelope) (i : Item) → Known configs log all taken y → (h : IsWritten configs log y link side i)
       → ((copy : ℕ × ℕ) → test copy ≡ true → Node h.node ≡ sender → h.priority ≡ priority → ⊥) → Fails i
   written_by y i known h clash =
-      let fit : fits (queue.Link link side) y.item ≡ true = relayed_fits h.priority h.node link link side y.item (subst (λ q. fits q y.item ≡ true) h.stood known.0) in
+      let fit : fits (queue.Link link side) y.item ≡ true = relayed_fits h.priority h.node h.conn link side y.item (subst (λ q. fits q y.item ≡ true) h.stood known.0) in
       subst Fails (sym h.put) (go y.item refl fit)
     where
       go : (j : Item) → y.item ≡ j → fits (queue.Link link side) j ≡ true → Fails j
       go (item.Frame None frame) is fit = tt
       go (item.Frame (Some copy) frame) is fit = (
         one_fails copy (λ passes.
-            let marked : Marks all (item.Frame (Some copy) frame) (relay_queue h.priority h.node link) =
+            let marked : Marks all (item.Frame (Some copy) frame) (relay_queue h.priority h.node h.conn) =
             subst (λ q. Marks all (item.Frame (Some copy) frame) q) h.stood (subst (λ j. Marks all j y.queue) is known.1)
             in
-            let parts = by_parts all sender (Node h.node) channel priority h.priority copy (relay_marked all h.priority h.node link copy frame marked) (by_sender copy passes) in
+            let parts = by_parts all sender (Node h.node) channel priority h.priority copy (relay_marked all h.priority h.node h.conn copy frame marked) (by_sender copy passes) in
             clash copy passes parts.0 parts.1),
         tt,
       )
       go _ is fit = absurd (cc)
 
-  -- into the link, from the relay
-  pub into_link : (n : ℕ) → sender ≡ Node n → Others (queue.Link link side) (relay_queue priority n link)
-  into_link n is_node y i known is_put h away =
-      written_by y i known h (λ copy passes by with_priority.
-      let nodes : Node h.node ≡ Node n = by ∙ is_node in
-      let same : h.node ≡ n = cc in
-      elsewhere (relay_queue priority n link) y away (h.stood ∙ (ap (λ m. relay_queue h.priority m link) same ∙ ap (λ b. relay_queue b n link) with_priority)))
+  -- into the link, from the relay of the connection by which the node writes there: no other half writes there
+  pub into_link : (n : ℕ) (begins : Writes configs all (Node n) link side) → Others (queue.Link link side) (relay_queue priority n begins.0)
+  into_link n begins y i known is_put h away =
+      let at : half_at configs all h.node h.conn ≡ Some h.half =
+      subst (λ (l : List Entry). half_at configs l h.node h.conn ≡ Some h.half) whole (half_at-longer configs log more h.node h.conn h.half h.at)
+      in
+      let same = same_end configs all h.node n h.conn begins.0 h.half begins.1 at begins.2 (h.over ∙ sym begins.3) (h.writes ∙ sym begins.4) in
+      let relays : relay_queue h.priority h.node h.conn ≡ relay_queue h.priority n begins.0 =
+      ap (λ m. relay_queue h.priority m h.conn) same.0 ∙ ap (λ c. relay_queue h.priority n c) same.1
+      in
+      written_by y i known h (λ copy passes by with_priority. elsewhere (relay_queue priority n begins.0) y away (h.stood ∙ (relays ∙ ap (λ b. relay_queue b n begins.0) with_priority)))
 
   -- a raw peer's writes are none of a node's
   pub own_link : (n : ℕ) → sender ≡ Node n → Own (queue.Link link side)
@@ -190,12 +197,12 @@ module _ (configs : List Config) (log more all : List Entry) (whole : log ++ mor
   raw_link e is_raw y i known h = written_by y i known h (λ copy passes by with_priority. let clash : Node h.node ≡ Raw e = by ∙ is_raw in absurd (cc))
 
   -- into the relay, from the mailbox
-  pub into_relay : (n : ℕ) → Others (relay_queue priority n link) (queue.Router n)
-  into_relay n y i known is_put h away = absurd (elsewhere (queue.Router n) y away (spread_relay configs log y priority n link i h).stood)
+  pub into_relay : (n conn : ℕ) → Others (relay_queue priority n conn) (queue.Router n)
+  into_relay n conn y i known is_put h away = absurd (elsewhere (queue.Router n) y away (spread_relay configs log y priority n conn i h).stood)
 
-  pub own_relay : (n : ℕ) → Own (relay_queue priority n link)
-  own_relay n i h = absurd (clash priority h)
+  pub own_relay : (n conn : ℕ) → Own (relay_queue priority n conn)
+  own_relay n conn i h = absurd (clash priority h)
     where
-      clash : (p : Bool) → OfAct configs log a r (relay_queue p n link) i → ⊥
+      clash : (p : Bool) → OfAct configs log a r (relay_queue p n conn) i → ⊥
       clash true k = k
       clash false k = k

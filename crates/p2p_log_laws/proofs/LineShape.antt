@@ -56,15 +56,15 @@ module _ (log : List Entry) (q : Queue) where
       both [] in_queue fit = tt
       both (x ∷ xs) in_queue fit = (bare_there q x.item bare (subst (λ p. fits p x.item ≡ true) in_queue.0 fit.0), both xs in_queue.1 fit.1)
 
-module _ (configs : List Config) (log : List Entry) (a : Act) (q : Queue) (read : reads configs log a q ≡ true) (written : writes configs log a q ≡ true) (bare : holds_bare q ≡ true)
+module _ (configs : List Config) (log : List Entry) (a : Act) (q : Queue) (read : reads configs log a q ≡ true) (bare : holds_bare q ≡ true)
     (none : (r : Reply) → keys_sent (sending_of a r) ≡ []) where
   split : (took left : List Envelope) → line log q ≡ took ++ left → (P : Envelope → Type 0) → Each P (line log q) → Each P took × Each P left
   split took left first P h = parts P took left (subst (Each P) first h)
 
   -- it takes these, of which it is left these, which end, and puts these
-  pub ended_shape : (took left : List Envelope) → line log q ≡ took ++ left → (puts : List (Queue × Item)) → Each IsQuiet puts → Each (λ x. writes configs log a x.0 ≡ true) puts
+  pub ended_shape : writes configs log a q ≡ true → (took left : List Envelope) → line log q ≡ took ++ left → (puts : List (Queue × Item)) → Each IsQuiet puts → Each (λ x. writes configs log a x.0 ≡ true) puts
       → Shape configs log a (record { reply = reply.Ok; takes = map name_of took; puts = puts; ends = left_ends left })
-  ended_shape took left first puts quiet near =
+  ended_shape written took left first puts quiet near =
       let r : Row = record { reply = reply.Ok; takes = map name_of took; puts = puts; ends = left_ends left } in
       let m : Moves log r = record { taken = took; ended = left; names = refl; gone = left_gone left; stood = subst (AreTaken (live log)) first (whole_taken log q) } in
       let here = split took left first (λ x. x.queue ≡ q) (in_line log q) in

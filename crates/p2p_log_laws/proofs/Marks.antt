@@ -94,9 +94,9 @@ module _ (configs : List Config) (log : List Entry) (ev : Event) (r : Row) (m : 
   item_marks : (y : Envelope) (q : Queue) (i : Item) → StandMarks all y → OfItem configs log y q i → Marks all i q
   item_marks y (queue.High n conn) i marked h = spread_marks y n true conn i marked h
   item_marks y (queue.Low n conn) i marked h = spread_marks y n false conn i marked h
-  item_marks y (queue.Link conn s) i marked h =
-      subst (λ j. Marks all j (queue.Link conn s)) (sym h.put)
-      (link_marks all h.priority h.node conn y.item conn s (subst (λ p. Marks all y.item p) h.stood marked))
+  item_marks y (queue.Link link s) i marked h =
+      subst (λ j. Marks all j (queue.Link link s)) (sym h.put)
+      (link_marks all h.priority h.node h.conn y.item link s (subst (λ p. Marks all y.item p) h.stood marked))
   item_marks y (queue.Channel n c) i marked h = subst (λ j. Marks all j (queue.Channel n c)) (sym h.put) tt
   item_marks y _ i marked h = absurd h
 

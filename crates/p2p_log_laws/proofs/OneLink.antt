@@ -171,7 +171,7 @@ module _ (copy : ℕ × ℕ) where
     elsewhere_none : (y : Envelope) → is_low y.queue ≡ false → (q : Queue) (i : Item) → OfItem configs log y q i → early copy (q, i) ≡ false
     elsewhere_none y away (queue.High n e) i h = absurd (false≢true (sym away ∙ ap is_low h.stood))
     elsewhere_none y away (queue.Low n e) i h = absurd (false≢true (sym away ∙ ap is_low h.stood))
-    elsewhere_none y away (queue.Link e s) i h = absurd (false≢true (sym away ∙ (ap is_low h.stood ∙ relay_low h.priority h.node e)))
+    elsewhere_none y away (queue.Link e s) i h = absurd (false≢true (sym away ∙ (ap is_low h.stood ∙ relay_low h.priority h.node h.conn)))
     elsewhere_none y away (queue.Router n) i h = absurd h
     elsewhere_none y away _ i h = refl
 

@@ -107,115 +107,116 @@ module _ (configs : List Config) (all : List Entry) (sender : Sender) (channel :
       in
       ap (λ (x : Queue × Item). x.0) same ∙ queue_from_same (queue.Link link side) found.0.0 parts.0
 
-  -- from the link back to where the sender put it
-  abbrev before_link : Sender → List Queue
-  before_link (Node n) = relay_queue priority n link ∷ queue.Router n ∷ []
-  before_link (Raw e) = []
-
-  -- from the queue that is read back to the link, and before it
-  abbrev stages_of : Queue → List Queue
-  stages_of (queue.Link e s) = before_link sender
-  stages_of _ = queue.Link link side ∷ before_link sender
-
   -- a link that is read is this one
   abbrev pub IsAtEnd : Queue → Type 0
   IsAtEnd (queue.Link e s) = (e ≡ link) × (s ≡ side)
   IsAtEnd _ = Unit {0}
 
-  abbrev pub on_way : List Entry → List (ℕ × ℕ)
-  on_way log = way configs test q (stages_of q) log
+  -- from the link back to where the sender put it: through the connection by which it writes there
+  abbrev before_link : (s : Sender) → Writes configs all s link side → List Queue
+  before_link (Node n) writes = relay_queue priority n writes.0 ∷ queue.Router n ∷ []
+  before_link (Raw e) writes = []
 
-  record IsOrdered (log : List Entry) : Type 0 where
-    put : Each (WasPut all) (live log)
-    marks : Each (StandMarks all) (live log)
-    order : AreInOrder (on_way log)
-    early : Each (λ c. c.0 < length log) (on_way log)
+  -- from the queue that is read back to the link, and before it
+  abbrev stages_of : Writes configs all sender link side → Queue → List Queue
+  stages_of writes (queue.Link e s) = before_link sender writes
+  stages_of writes _ = queue.Link link side ∷ before_link sender writes
 
-  ordered_none : IsOrdered []
-  ordered_none =
-      let none : on_way [] ≡ [] = way-none configs test q (stages_of q) in
-      record {
-        put = subst (Each (WasPut all)) (sym live-none) tt;
-        marks = subst (Each (StandMarks all)) (sym live-none) tt;
-        order = subst AreInOrder (sym none) tt;
-        early = subst (Each (λ (c : ℕ × ℕ). c.0 < 0)) (sym none) tt;
-      }
+  module _ (begins : Writes configs all sender link side) where
+    abbrev pub on_way : List Entry → List (ℕ × ℕ)
+    on_way log = way configs test q (stages_of begins q) log
 
-  -- the queue is one that is read
-  module _ (reads : can_read q ≡ true) (there : IsAtEnd q) where
-    module _ (log more : List Entry) (ev : Event) (r : Row) (m : Moves log r) (laws : Laws configs log ev.act r m) (whole : log ++ entry_of ev r ∷ more ≡ all) (told : Told configs log)
-        (ordered : IsOrdered log) where
-      here : sending_at all (length log) ≡ sending_of ev.act r.reply
-      here = subst (λ (l : List Entry). sending_at l (length log) ≡ sending_of ev.act r.reply) whole (sending_at-at log (entry_of ev r) more)
+    record IsOrdered (log : List Entry) : Type 0 where
+      put : Each (WasPut all) (live log)
+      marks : Each (StandMarks all) (live log)
+      order : AreInOrder (on_way log)
+      early : Each (λ c. c.0 < length log) (on_way log)
 
-      abbrev Before : Envelope → Type 0
-      Before y = StandsFit y × StandMarks all y × WasPut all y × StandTells configs log y
+    ordered_none : IsOrdered []
+    ordered_none =
+        let none : on_way [] ≡ [] = way-none configs test q (stages_of begins q) in
+        record {
+          put = subst (Each (WasPut all)) (sym live-none) tt;
+          marks = subst (Each (StandMarks all)) (sym live-none) tt;
+          order = subst AreInOrder (sym none) tt;
+          early = subst (Each (λ (c : ℕ × ℕ). c.0 < 0)) (sym none) tt;
+        }
 
-      before : Each Before m.taken
-      before =
-          Each-taken Before (live log) m.taken
-          (Each-from_has Before (live log) (λ y has. (
-            Each-has StandsFit (live log) y told.standing.fitting has,
-            Each-has (StandMarks all) (live log) y ordered.marks has,
-            Each-has (WasPut all) (live log) y ordered.put has,
-            Each-has (StandTells configs log) (live log) y told.standing.tells has,
-          )))
-          (taken_stood log ev r m)
+    -- the queue is one that is read
+    module _ (reads : can_read q ≡ true) (there : IsAtEnd q) where
+      module _ (log more : List Entry) (ev : Event) (r : Row) (m : Moves log r) (laws : Laws configs log ev.act r m) (whole : log ++ entry_of ev r ∷ more ≡ all) (told : Told configs log)
+          (ordered : IsOrdered log) where
+        here : sending_at all (length log) ≡ sending_of ev.act r.reply
+        here = subst (λ (l : List Entry). sending_at l (length log) ≡ sending_of ev.act r.reply) whole (sending_at-at log (entry_of ev r) more)
 
-      known : Each (Known configs log all m.taken) m.taken
-      known = Each-from_has (Known configs log all m.taken) m.taken (λ y has. let b = Each-has Before m.taken y before has in (b.0, b.1, b.2, b.3, has))
+        abbrev Before : Envelope → Type 0
+        Before y = StandsFit y × StandMarks all y × WasPut all y × StandTells configs log y
 
-      abbrev Led : Queue → List Queue → Type 0
-      Led p qs = AreLed test configs log ev r m laws (Known configs log all m.taken) known p qs
+        before : Each Before m.taken
+        before =
+            Each-taken Before (live log) m.taken
+            (Each-from_has Before (live log) (λ y has. (
+              Each-has StandsFit (live log) y told.standing.fitting has,
+              Each-has (StandMarks all) (live log) y ordered.marks has,
+              Each-has (WasPut all) (live log) y ordered.put has,
+              Each-has (StandTells configs log) (live log) y told.standing.tells has,
+            )))
+            (taken_stood log ev r m)
 
-      link_led : (s : Sender) → sender ≡ s → Led (queue.Link link side) (before_link s)
-      link_led (Node n) is = inl (
-        own_link configs log (entry_of ev r ∷ more) all whole sender channel priority link side test by_sender by_link ev.act r.reply here m.taken r.puts n is,
-        into_link configs log (entry_of ev r ∷ more) all whole sender channel priority link side test by_sender by_link ev.act r.reply here m.taken r.puts n is,
-        inl (
-          own_relay configs log (entry_of ev r ∷ more) all whole sender channel priority link side test by_sender by_link ev.act r.reply here m.taken r.puts n,
-          into_relay configs log (entry_of ev r ∷ more) all whole sender channel priority link side test by_sender by_link ev.act r.reply here m.taken r.puts n,
-          (λ y i k h. absurd h),
-        ),
-      )
-      link_led (Raw e) is = raw_link configs log (entry_of ev r ∷ more) all whole sender channel priority link side test by_sender by_link ev.act r.reply here m.taken r.puts e is
+        known : Each (Known configs log all m.taken) m.taken
+        known = Each-from_has (Known configs log all m.taken) m.taken (λ y has. let b = Each-has Before m.taken y before has in (b.0, b.1, b.2, b.3, has))
 
-      led : (p : Queue) → can_read p ≡ true → IsAtEnd p → Led p (stages_of p)
-      led (queue.Channel n c) f at = inl (
-        (λ i h. absurd h),
-        into_channel configs log (entry_of ev r ∷ more) all whole sender channel priority link side test by_sender by_link ev.act r.reply here m.taken r.puts n c,
-        link_led sender refl,
-      )
-      led (queue.Link e s) f at = subst (λ c. Led (queue.Link c s) (before_link sender)) (sym at.0) (subst (λ d. Led (queue.Link link d) (before_link sender)) (sym at.1) (link_led sender refl))
-      led _ f at = absurd (cc)
+        abbrev Led : Queue → List Queue → Type 0
+        Led p qs = AreLed test configs log ev r m laws (Known configs log all m.taken) known p qs
 
-      ordered_more : IsOrdered (log ++ entry_of ev r ∷ [])
-      ordered_more =
-          let puts : (x : Queue × Item) → Has r.puts x → Has (all_puts all) x = λ x h.
-          subst (λ (l : List Entry). Has (all_puts l) x) whole (has_seam log (entry_of ev r) more x h)
-          in
-          let kept = order_kept configs test q (stages_of q) log ev r m laws (Known configs log all m.taken) known (led q reads there) ordered.order ordered.early in
-          record { put = put_kept all log ev r puts ordered.put; marks = marks_kept configs log ev r m laws all here ordered.marks; order = kept.0; early = kept.1 }
-
-    -- in each beginning of the log
-    abbrev OrderedIn : List Entry → Type 0
-    OrderedIn log = Told configs log × ((more : List Entry) → log ++ more ≡ all → IsOrdered log)
-
-    ordered_step : (before : List Entry) (ev : Event) → OrderedIn before → OrderedIn (before ++ effect configs before ev ∷ [])
-    unfolding effect
-    ordered_step before ev h =
-        let r = row configs before ev.at ev.seed ev.act in
-        let e = entry_of ev r in
-        let shape : Shape configs before ev.act r = row_shape configs before ev.at ev.seed ev.act in (
-          Told-more configs before ev h.0,
-          λ more whole.
-              let parts : before ++ e ∷ more ≡ all = sym (append_assoc before (e ∷ []) more) ∙ whole in
-              ordered_more before more ev r shape.moves (shape.laws h.0.standing) parts h.0 (h.1 (e ∷ more) parts),
+        link_led : (s : Sender) → sender ≡ s → (w : Writes configs all s link side) → Led (queue.Link link side) (before_link s w)
+        link_led (Node n) is w = inl (
+          own_link configs log (entry_of ev r ∷ more) all whole sender channel priority link side test by_sender by_link ev.act r.reply here m.taken r.puts n is,
+          into_link configs log (entry_of ev r ∷ more) all whole sender channel priority link side test by_sender by_link ev.act r.reply here m.taken r.puts n w,
+          inl (
+            own_relay configs log (entry_of ev r ∷ more) all whole sender channel priority link side test by_sender by_link ev.act r.reply here m.taken r.puts n w.0,
+            into_relay configs log (entry_of ev r ∷ more) all whole sender channel priority link side test by_sender by_link ev.act r.reply here m.taken r.puts n w.0,
+            (λ y i k h. absurd h),
+          ),
         )
+        link_led (Raw e) is w = raw_link configs log (entry_of ev r ∷ more) all whole sender channel priority link side test by_sender by_link ev.act r.reply here m.taken r.puts e is
 
-    pub way_in_order : (script : List Event) → IsLawful configs script all → AreInOrder (on_way all)
-    way_in_order script lawful =
-        ((at_end configs OrderedIn (Told-none configs, λ more whole. ordered_none) ordered_step script all lawful).1 [] (append-nil all)).order
+        led : (p : Queue) → can_read p ≡ true → IsAtEnd p → Led p (stages_of begins p)
+        led (queue.Channel n c) f at = inl (
+          (λ i h. absurd h),
+          into_channel configs log (entry_of ev r ∷ more) all whole sender channel priority link side test by_sender by_link ev.act r.reply here m.taken r.puts n c,
+          link_led sender refl begins,
+        )
+        led (queue.Link e s) f at = subst (λ c. Led (queue.Link c s) (before_link sender begins)) (sym at.0) (subst (λ d. Led (queue.Link link d) (before_link sender begins)) (sym at.1) (link_led sender refl begins))
+        led _ f at = absurd (cc)
+
+        ordered_more : IsOrdered (log ++ entry_of ev r ∷ [])
+        ordered_more =
+            let puts : (x : Queue × Item) → Has r.puts x → Has (all_puts all) x = λ x h.
+            subst (λ (l : List Entry). Has (all_puts l) x) whole (has_seam log (entry_of ev r) more x h)
+            in
+            let kept = order_kept configs test q (stages_of begins q) log ev r m laws (Known configs log all m.taken) known (led q reads there) ordered.order ordered.early in
+            record { put = put_kept all log ev r puts ordered.put; marks = marks_kept configs log ev r m laws all here ordered.marks; order = kept.0; early = kept.1 }
+
+      -- in each beginning of the log
+      abbrev OrderedIn : List Entry → Type 0
+      OrderedIn log = Told configs log × ((more : List Entry) → log ++ more ≡ all → IsOrdered log)
+
+      ordered_step : (before : List Entry) (ev : Event) → OrderedIn before → OrderedIn (before ++ effect configs before ev ∷ [])
+      unfolding effect
+      ordered_step before ev h =
+          let r = row configs before ev.at ev.seed ev.act in
+          let e = entry_of ev r in
+          let shape : Shape configs before ev.act r = row_shape configs before ev.at ev.seed ev.act in (
+            Told-more configs before ev h.0,
+            λ more whole.
+                let parts : before ++ e ∷ more ≡ all = sym (append_assoc before (e ∷ []) more) ∙ whole in
+                ordered_more before more ev r shape.moves (shape.laws h.0.standing) parts h.0 (h.1 (e ∷ more) parts),
+          )
+
+      pub way_in_order : (script : List Event) → IsLawful configs script all → AreInOrder (on_way all)
+      way_in_order script lawful =
+          ((at_end configs OrderedIn (Told-none configs, λ more whole. ordered_none) ordered_step script all lawful).1 [] (append-nil all)).order
 
 -- ---- what is delivered went over a link
 
@@ -307,9 +308,9 @@ module _ (configs : List Config) (script : List Event) (log : List Entry) (lawfu
           both (is_copy_by log sender channel priority copy) (list_any put_it (all_puts log))
           (by_sent log sender channel priority copy d.bytes d.keys d.sends) found
 
-      gives : (copy : ℕ × ℕ) (n : ℕ) → IsDelivered configs log copy sender channel priority q n → WentOver log copy link side
-          → Gives (delivers configs pass q (stages_of configs log sender channel priority link side q linked_once q)) log copy n
-      gives copy n d over =
+      gives : (stages : List Queue) (copy : ℕ × ℕ) (n : ℕ) → IsDelivered configs log copy sender channel priority q n → WentOver log copy link side
+          → Gives (delivers configs pass q stages) log copy n
+      gives stages copy n d over =
           let r = (came sender channel priority q copy n d).reads in
           let reads : is_queue q (reading_of configs (take n log) d.read.event.act) ≡ true = ap (is_queue q) d.reads ∙ same_queue-refl q in
           let is : delivered_by configs q (take n log) d.read ≡ copy ∷ [] =
@@ -328,13 +329,15 @@ module _ (configs : List Config) (script : List Event) (log : List Entry) (lawfu
     earlier : (link : ℕ) (side : Side) (first second : ℕ × ℕ) (m n : ℕ) → IsDelivered configs log first sender channel priority q m → IsDelivered configs log second sender channel priority q n
         → WentOver log first link side → WentOver log second link side → m < n → is_before first second ≡ true
     earlier link side first second m n a b over_first over_second h =
-        let stages = stages_of configs log sender channel priority link side q linked_once q in
         let c = came sender channel priority q first m a in
+        let same = one_way first c.link c.side c.over link side over_first in
+        let begins : Writes configs log sender link side = subst (λ d. Writes configs log sender link d) same.1 (subst (λ l. Writes configs log sender l c.side) same.0 c.begins) in
+        let stages = stages_of configs log sender channel priority link side q linked_once begins q in
         let order : AreInOrder (delivered configs (pass link side) q stages log) =
         delivered_in_order configs (pass link side) q stages log
-        (way_in_order configs log sender channel priority link side q linked_once c.can (ends_there link side first over_first q c.link c.side c.over c.ends) script lawful)
+        (way_in_order configs log sender channel priority link side q linked_once begins c.can (ends_there link side first over_first q c.link c.side c.over c.ends) script lawful)
         in
-        given_before (delivers configs (pass link side) q stages) IsBefore log first second m n order (gives link side first m a over_first) (gives link side second n b over_second) h
+        given_before (delivers configs (pass link side) q stages) IsBefore log first second m n order (gives link side stages first m a over_first) (gives link side stages second n b over_second) h
 
     -- one entry delivers one copy
     same_entry : (first second : ℕ × ℕ) (m n : ℕ) → IsDelivered configs log first sender channel priority q m → IsDelivered configs log second sender channel priority q n → m ≡ n

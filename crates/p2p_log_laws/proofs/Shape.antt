@@ -48,7 +48,7 @@ accepts log a r copy = one ((length log == copy.0) && nat_lt copy.1 (length (key
 
 -- the act is a join of this node with this peer
 abbrev pub IsBegun : List Config → List Entry → Act → Reply → ℕ → Item → Type 0
-IsBegun configs log a r n i = (half : Half) × (half_of configs n a r ≡ Some half) × (i ≡ item.Ready (length log) half.peer)
+IsBegun configs log a r n i = (half : Half) × (half_of configs n (length log) a r ≡ Some half) × (i ≡ item.Ready (length log) half.peer)
 
 -- the act is a send of this node that was accepted
 abbrev pub IsSent : List Config → List Entry → Act → Reply → ℕ → Item → Type 0
@@ -61,8 +61,10 @@ pub record IsRaw (configs : List Config) (log : List Entry) (a : Act) (r : Reply
   pub sends : sending_of a r ≡ Some sending
   pub by : sending.by ≡ Raw link
   pub node : ℕ
+  pub conn : ℕ
   pub far : Half
-  pub at : half_at configs log node link ≡ Some far
+  pub at : half_at configs log node conn ≡ Some far
+  pub over : far.link ≡ link
   pub ends : side ≡ other_side far.writes
   pub keys : sending.keys ≡ key_at configs node ∷ []
   pub put : i ≡ item.Frame (Some (length log, 0)) (frame_of sending.channel sending.bytes)
@@ -82,12 +84,14 @@ pub record IsSpread (log : List Entry) (y : Envelope) (n : ℕ) (priority : Bool
   pub put : i ≡ item.Frame (Some (send, place)) frame
 
 -- what a half took to write it
-pub record IsWritten (configs : List Config) (log : List Entry) (y : Envelope) (conn : ℕ) (s : Side) (i : Item) : Type 0 where
+pub record IsWritten (configs : List Config) (log : List Entry) (y : Envelope) (link : ℕ) (s : Side) (i : Item) : Type 0 where
   pub node : ℕ
+  pub conn : ℕ
   pub priority : Bool
   pub half : Half
   pub stood : y.queue ≡ relay_queue priority node conn
   pub at : half_at configs log node conn ≡ Some half
+  pub over : half.link ≡ link
   pub writes : half.writes ≡ s
   pub put : i ≡ y.item
 
@@ -99,7 +103,7 @@ pub record IsReceived (configs : List Config) (log : List Entry) (y : Envelope) 
   pub frame : List ℕ
   pub limit : ℕ
   pub bytes : List ℕ
-  pub stood : y.queue ≡ queue.Link conn (other_side half.writes)
+  pub stood : y.queue ≡ queue.Link half.link (other_side half.writes)
   pub at : half_at configs log n conn ≡ Some half
   pub is : y.item ≡ item.Frame (Some copy) frame
   pub read : message_in frame limit ≡ Some (c, bytes)
@@ -115,7 +119,7 @@ OfAct configs log a r _ i = ⊥
 abbrev pub OfItem : List Config → List Entry → Envelope → Queue → Item → Type 0
 OfItem configs log y (queue.High n conn) i = IsSpread log y n true conn i
 OfItem configs log y (queue.Low n conn) i = IsSpread log y n false conn i
-OfItem configs log y (queue.Link conn s) i = IsWritten configs log y conn s i
+OfItem configs log y (queue.Link link s) i = IsWritten configs log y link s i
 OfItem configs log y (queue.Channel n c) i = IsReceived configs log y n c i
 OfItem configs log y _ i = ⊥
 

@@ -14,6 +14,7 @@ use Rattle.p2p_log_laws.proofs.DialerShape.{dialer_shape}
 use Rattle.p2p_log_laws.proofs.FinishShape.{finish_shape}
 use Rattle.p2p_log_laws.proofs.HandshakeShape.{handshake_shape}
 use Rattle.p2p_log_laws.proofs.ListenerShape.{listener_shape}
+use Rattle.p2p_log_laws.proofs.SpawnerShape.{spawner_shape}
 use Rattle.p2p_log_laws.proofs.TrackerShape.{ask_shape, answer_shape, next_shape, tracker_shape}
 
 -- each act has a shape
@@ -33,6 +34,7 @@ row_shape configs log at seed (act.Next question) = next_shape configs log quest
 row_shape configs log at seed (act.Dialer n) = dialer_shape configs log n at seed
 row_shape configs log at seed (act.Listener n) = listener_shape configs log n at
 row_shape configs log at seed (act.Handshake e n) = handshake_shape configs log e n at
+row_shape configs log at seed (act.Spawner n) = spawner_shape configs log n
 row_shape configs log at seed (act.Attempt e n) = attempt_shape configs log e n at seed
 row_shape configs log at seed (act.Resolve addresses e n) = resolve_shape configs log addresses e n
 row_shape configs log at seed (act.Connect e from n to) = connect_shape configs log e from n to

@@ -30,9 +30,9 @@ pub half_at-longer : (configs : List Config) (log more : List Entry) (n conn : �
 unfolding half_at
 half_at-longer configs log more n conn half h = go (slice_get log conn) refl h
   where
-    go : (o : Option Entry) → slice_get log conn ≡ o → half_in configs n o ≡ Some half → half_in configs n (slice_get (log ++ more) conn) ≡ Some half
+    go : (o : Option Entry) → slice_get log conn ≡ o → half_in configs n conn o ≡ Some half → half_in configs n conn (slice_get (log ++ more) conn) ≡ Some half
     go None e h = absurd (cc)
-    go (Some d) e h = ap (half_in configs n) (get_longer log more conn d e) ∙ h
+    go (Some d) e h = ap (half_in configs n conn) (get_longer log more conn d e) ∙ h
 
 pub IsCopyOf-longer : (log more : List Entry) (copy : ℕ × ℕ) (sender : Sender) (channel : ℕ) (bytes : List ℕ) (key : Key)
     → IsCopyOf log copy sender channel bytes key → IsCopyOf (log ++ more) copy sender channel bytes key
@@ -75,8 +75,10 @@ IsAddressed-longer configs log more node conn half copy frame h = record {
 -- the frame is of what the raw peer of this link sent, for the node at the other end
 pub record IsRawFrame (configs : List Config) (log : List Entry) (link : ℕ) (side : Side) (copy : ℕ × ℕ) (frame : List ℕ) : Type 0 where
   pub node : ℕ
+  pub conn : ℕ
   pub far : Half
-  pub at : half_at configs log node link ≡ Some far
+  pub at : half_at configs log node conn ≡ Some far
+  pub over : far.link ≡ link
   pub ends : side ≡ other_side far.writes
   pub channel : ℕ
   pub bytes : List ℕ
@@ -87,8 +89,10 @@ pub IsRawFrame-longer : (configs : List Config) (log more : List Entry) (link : 
     → IsRawFrame configs log link side copy frame → IsRawFrame configs (log ++ more) link side copy frame
 IsRawFrame-longer configs log more link side copy frame h = record {
   node = h.node;
+  conn = h.conn;
   far = h.far;
-  at = half_at-longer configs log more h.node link h.far h.at;
+  at = half_at-longer configs log more h.node h.conn h.far h.at;
+  over = h.over;
   ends = h.ends;
   channel = h.channel;
   bytes = h.bytes;
@@ -102,15 +106,15 @@ WentOver-longer log more copy link side h =
 
 pub HasKey-longer : (configs : List Config) (log more : List Entry) (sender : Sender) (key : Key) → HasKey configs log sender key → HasKey configs (log ++ more) sender key
 HasKey-longer configs log more (Node n) key h = h
-HasKey-longer configs log more (Raw link) key h = (h.0, h.1, half_at-longer configs log more h.0 link h.1 h.2, h.3)
+HasKey-longer configs log more (Raw link) key h = (h.0, h.1, h.2, half_at-longer configs log more h.0 h.1 h.2 h.3, h.4, h.5)
 
 pub Writes-longer : (configs : List Config) (log more : List Entry) (sender : Sender) (link : ℕ) (side : Side) → Writes configs log sender link side → Writes configs (log ++ more) sender link side
-Writes-longer configs log more (Node n) link side h = (h.0, half_at-longer configs log more n link h.0 h.1, h.2)
+Writes-longer configs log more (Node n) link side h = (h.0, h.1, half_at-longer configs log more n h.0 h.1 h.2, h.3, h.4)
 Writes-longer configs log more (Raw e) link side h = h
 
 pub ComesTo-longer : (configs : List Config) (log more : List Entry) (q : Queue) (link : ℕ) (side : Side) → ComesTo configs log q link side → ComesTo configs (log ++ more) q link side
 ComesTo-longer configs log more (queue.Link e s) link side h = h
-ComesTo-longer configs log more q link side h = (h.0, half_at-longer configs log more (owner_of q) link h.0 h.1, h.2)
+ComesTo-longer configs log more q link side h = (h.0, h.1, half_at-longer configs log more (owner_of q) h.0 h.1 h.2, h.3, h.4)
 
 -- the message is of a copy for this node, and came over a link from the one of this key, who sent it
 pub record IsArrived (configs : List Config) (log : List Entry) (bytes : List ℕ) (copy : ℕ × ℕ) (from : Key) (node channel : ℕ) : Type 0 where
@@ -121,8 +125,10 @@ pub record IsArrived (configs : List Config) (log : List Entry) (bytes : List �
   pub side : Side
   pub over : WentOver log copy link side
   pub begins : Writes configs log sender link side
+  pub conn : ℕ
   pub far : Half
-  pub far_at : half_at configs log node link ≡ Some far
+  pub far_at : half_at configs log node conn ≡ Some far
+  pub far_over : far.link ≡ link
   pub ends : side ≡ other_side far.writes
 
 pub IsArrived-longer : (configs : List Config) (log more : List Entry) (bytes : List ℕ) (copy : ℕ × ℕ) (from : Key) (node channel : ℕ)
@@ -135,21 +141,23 @@ IsArrived-longer configs log more bytes copy from node channel h = record {
   side = h.side;
   over = WentOver-longer log more copy h.link h.side h.over;
   begins = Writes-longer configs log more h.sender h.link h.side h.begins;
+  conn = h.conn;
   far = h.far;
-  far_at = half_at-longer configs log more node h.link h.far h.far_at;
+  far_at = half_at-longer configs log more node h.conn h.far h.far_at;
+  far_over = h.far_over;
   ends = h.ends;
 }
 
--- the copy is for the peer of the half that writes here, or a raw peer's
+-- the copy is for the peer of a half that writes here, or a raw peer's
 abbrev pub IsOnLink : List Config → List Entry → ℕ → Side → ℕ × ℕ → List ℕ → Type 0
-IsOnLink configs log conn side copy frame =
-    ((n : ℕ) × (half : Half) × (half.writes ≡ side) × IsAddressed configs log n conn half copy frame) ⊎ IsRawFrame configs log conn side copy frame
+IsOnLink configs log link side copy frame =
+    ((n : ℕ) × (conn : ℕ) × (half : Half) × (half.link ≡ link) × (half.writes ≡ side) × IsAddressed configs log n conn half copy frame) ⊎ IsRawFrame configs log link side copy frame
 
-pub IsOnLink-longer : (configs : List Config) (log more : List Entry) (conn : ℕ) (side : Side) (copy : ℕ × ℕ) (frame : List ℕ)
-    → IsOnLink configs log conn side copy frame → IsOnLink configs (log ++ more) conn side copy frame
-IsOnLink-longer configs log more conn side copy frame h = elim h [
-  | inl of ↦ inl (of.0, of.1, of.2, IsAddressed-longer configs log more of.0 conn of.1 copy frame of.3)
-  | inr raw ↦ inr (IsRawFrame-longer configs log more conn side copy frame raw)
+pub IsOnLink-longer : (configs : List Config) (log more : List Entry) (link : ℕ) (side : Side) (copy : ℕ × ℕ) (frame : List ℕ)
+    → IsOnLink configs log link side copy frame → IsOnLink configs (log ++ more) link side copy frame
+IsOnLink-longer configs log more link side copy frame h = elim h [
+  | inl of ↦ inl (of.0, of.1, of.2, of.3, of.4, IsAddressed-longer configs log more of.0 of.1 of.2 copy frame of.5)
+  | inr raw ↦ inr (IsRawFrame-longer configs log more link side copy frame raw)
 ]
 
 -- what is true of an item in its queue
@@ -161,7 +169,7 @@ Tells configs log (item.Content c frame priority send to) (queue.Router n) = (by
 -- the copy is for the peer of this half
 Tells configs log (item.Frame (Some copy) frame) (queue.High n conn) = (half : Half) × IsAddressed configs log n conn half copy frame
 Tells configs log (item.Frame (Some copy) frame) (queue.Low n conn) = (half : Half) × IsAddressed configs log n conn half copy frame
-Tells configs log (item.Frame (Some copy) frame) (queue.Link conn side) = IsOnLink configs log conn side copy frame
+Tells configs log (item.Frame (Some copy) frame) (queue.Link link side) = IsOnLink configs log link side copy frame
 -- the copy arrived here
 Tells configs log (item.Message bytes copy from) (queue.Channel n c) = IsArrived configs log bytes copy from n c
 Tells configs log (item.Frame None frame) q = Unit {0}
@@ -174,7 +182,7 @@ Tells-longer configs log more (item.Ready conn key) (queue.Router n) h = (h.0, h
 Tells-longer configs log more (item.Content c frame priority send to) (queue.Router n) h = (h.0, h.1, IsSend-longer log more send n c h.0 to h.2)
 Tells-longer configs log more (item.Frame (Some copy) frame) (queue.High n conn) h = (h.0, IsAddressed-longer configs log more n conn h.0 copy frame h.1)
 Tells-longer configs log more (item.Frame (Some copy) frame) (queue.Low n conn) h = (h.0, IsAddressed-longer configs log more n conn h.0 copy frame h.1)
-Tells-longer configs log more (item.Frame (Some copy) frame) (queue.Link conn side) h = IsOnLink-longer configs log more conn side copy frame h
+Tells-longer configs log more (item.Frame (Some copy) frame) (queue.Link link side) h = IsOnLink-longer configs log more link side copy frame h
 Tells-longer configs log more (item.Message bytes copy from) (queue.Channel n c) h = IsArrived-longer configs log more bytes copy from n c h
 Tells-longer configs log more _ _ h = h
 

@@ -2,8 +2,8 @@
 use Rattle.p2p_log.proofs.Sending.{sending_at-last}
 use Rattle.p2p_log.specs.Sending.{Sender, Sending, sending_of, sending_at}
 use Rattle.p2p_log.specs.Sending.Sender.{Node, Raw}
-use Rattle.std.proofs.Common.{◌≡◌, ℕ, Bool, true, false, cond, List, [], ◌∷◌, ◌++◌, length, Option, Some, None, ◌⊎◌, inl, inr, refl, ap, sym, subst, ◌∙◌, eqb-true}
-use Rattle.std.specs.Prelude.{◌==◌, slice_get, filter}
+use Rattle.std.proofs.Common.{◌≡◌, ℕ, Bool, true, false, List, [], ◌∷◌, ◌++◌, length, Some, None, inl, inr, refl, ap, sym, subst, ◌∙◌}
+use Rattle.std.specs.Prelude.{slice_get, filter}
 use Rattle.std.specs.List.{AllByRecursion as Each}
 use Rattle.std.proofs.lemmas.Option.{same_Some}
 use Rattle.p2p_base.specs.declared.key.Key.{Key}
@@ -11,16 +11,11 @@ use Rattle.p2p_log.specs.declared.config.Config.{Config}
 use Rattle.p2p_log.specs.declared.queue.Queue.{Queue}
 use Rattle.p2p_log.specs.declared.queue.Queue.TheVariants as queue
 use Rattle.p2p_log.specs.declared.queue.Side.{Side}
-use Rattle.p2p_log.specs.declared.queue.Side.TheVariants as side
 use Rattle.p2p_log.specs.declared.item.Item.{Item}
 use Rattle.p2p_log.specs.declared.item.Item.TheVariants as item
 use Rattle.p2p_log.specs.declared.item.Envelope.{Envelope}
 use Rattle.p2p_log.specs.declared.entry.Entry.{Entry}
-use Rattle.p2p_log.specs.declared.entry.Reply.{Reply}
-use Rattle.p2p_log.specs.declared.entry.Reply.TheVariants as reply
 use Rattle.p2p_log.specs.declared.event.Event.{Event}
-use Rattle.p2p_log.specs.declared.event.Act.{Act}
-use Rattle.p2p_log.specs.declared.event.Act.TheVariants as act
 use Rattle.p2p_log_rules.specs.declared.row.Half.{Half}
 use Rattle.p2p_log_rules.specs.declared.row.Row.{Row}
 use Rattle.p2p_log.specs.Lines.{goes, stays, placed, live}
@@ -33,6 +28,7 @@ use Rattle.p2p_log_laws.specs.Delivered.{IsCopyOf, HasKey}
 use Rattle.p2p_log_laws.specs.Order.{WentOver, Writes}
 use Rattle.p2p_log.proofs.Each.{Each-has, Each-append, Each-filter, Each-weaker}
 use Rattle.p2p_log_laws.proofs.Fitting.{Each-placed, is_idle}
+use Rattle.p2p_log_laws.proofs.Halves.{other_side-twice, same_end, opposite}
 use Rattle.p2p_log_laws.proofs.Puts.{IsPut, each_put}
 use Rattle.p2p_log_laws.proofs.Routing.{RoutesHold, route_peer}
 use Rattle.p2p_log_rules.specs.Moves.{Moves}
@@ -46,84 +42,6 @@ abbrev pub FramesGive : Type 0
 FramesGive = (channel : ℕ) (bytes : List ℕ) (limit : ℕ) (message : ℕ × List ℕ) → message_in (frame_of channel bytes) limit ≡ Some message
     → (message.0 ≡ channel) × (message.1 ≡ bytes)
 
--- ---- the two halves of a connection
-
--- a half of the connection of this join is the dialing node's, which writes out, or the other's
-pub record IsOut (configs : List Config) (a b n : ℕ) (half : Half) : Type 0 where
-  pub node : n ≡ a
-  pub peer : half.peer ≡ key_at configs b
-  pub writes : half.writes ≡ side.Out
-
-pub record IsIn (configs : List Config) (a b n : ℕ) (half : Half) : Type 0 where
-  pub node : n ≡ b
-  pub peer : half.peer ≡ key_at configs a
-  pub writes : half.writes ≡ side.In
-
-pub half_is : (configs : List Config) (a b n : ℕ) (half : Half) → half_of configs n (act.Join a b) reply.Ok ≡ Some half → IsOut configs a b n half ⊎ IsIn configs a b n half
-half_is configs a b n half h = go (n == a) refl (n == b) refl h
-  where
-    go : (t : Bool) → (n == a) ≡ t → (s : Bool) → (n == b) ≡ s
-        → cond t (Some (record { peer = key_at configs b; writes = side.Out })) (cond s (Some (record { peer = key_at configs a; writes = side.In })) None) ≡ Some half
-        → IsOut configs a b n half ⊎ IsIn configs a b n half
-    go true e s f k =
-        let same : half ≡ record { peer = key_at configs b; writes = side.Out } = sym (same_Some _ _ k) in
-        inl (record { node = eqb-true n a e; peer = ap (λ (h : Half). h.peer) same; writes = ap (λ (h : Half). h.writes) same })
-    go false e true f k =
-        let same : half ≡ record { peer = key_at configs a; writes = side.In } = sym (same_Some _ _ k) in
-        inr (record { node = eqb-true n b f; peer = ap (λ (h : Half). h.peer) same; writes = ap (λ (h : Half). h.writes) same })
-    go false e false f k = absurd (cc)
-
--- two halves that write in opposite directions are each other's peers
-abbrev AreOpposite : List Config → ℕ → ℕ → Half → Half → Type 0
-AreOpposite configs n m near far = (near.peer ≡ key_at configs m) × (far.peer ≡ key_at configs n)
-
-opposite_of : (configs : List Config) (n m : ℕ) (near far : Half) (a : Act) (r : Reply) → half_of configs n a r ≡ Some near → half_of configs m a r ≡ Some far
-    → near.writes ≡ other_side far.writes → AreOpposite configs n m near far
-opposite_of configs n m near far (act.Join a b) reply.Ok h k w = elim (half_is configs a b n near h) [
-  | inl near_out ↦ elim (half_is configs a b m far k) [
-    | inl far_out ↦ let e : side.Out ≡ side.In = sym near_out.writes ∙ (w ∙ ap other_side far_out.writes) in absurd (cc)
-    | inr far_in ↦ (near_out.peer ∙ ap (key_at configs) (sym far_in.node), far_in.peer ∙ ap (key_at configs) (sym near_out.node))
-  ]
-  | inr near_in ↦ elim (half_is configs a b m far k) [
-    | inl far_out ↦ (near_in.peer ∙ ap (key_at configs) (sym far_out.node), far_out.peer ∙ ap (key_at configs) (sym near_in.node))
-    | inr far_in ↦ let e : side.In ≡ side.Out = sym near_in.writes ∙ (w ∙ ap other_side far_in.writes) in absurd (cc)
-  ]
-]
-opposite_of configs n m near far _ r h k w = absurd (cc)
-
-opposite : (configs : List Config) (log : List Entry) (conn n m : ℕ) (near far : Half) → half_at configs log n conn ≡ Some near → half_at configs log m conn ≡ Some far
-    → near.writes ≡ other_side far.writes → AreOpposite configs n m near far
-unfolding half_at
-opposite configs log conn n m near far h k w = go (slice_get log conn) h k
-  where
-    go : (o : Option Entry) → half_in configs n o ≡ Some near → half_in configs m o ≡ Some far → AreOpposite configs n m near far
-    go None h k = absurd (cc)
-    go (Some e) h k = opposite_of configs n m near far e.event.act e.reply h k w
-
--- two halves to which the same direction comes are of one node
-same_end_of : (configs : List Config) (n m : ℕ) (near far : Half) (a : Act) (r : Reply) → half_of configs n a r ≡ Some near → half_of configs m a r ≡ Some far
-    → other_side near.writes ≡ other_side far.writes → n ≡ m
-same_end_of configs n m near far (act.Join a b) reply.Ok h k w = elim (half_is configs a b n near h) [
-  | inl near_out ↦ elim (half_is configs a b m far k) [
-    | inl far_out ↦ near_out.node ∙ sym far_out.node
-    | inr far_in ↦ let e : side.In ≡ side.Out = ap other_side (sym near_out.writes) ∙ (w ∙ ap other_side far_in.writes) in absurd (cc)
-  ]
-  | inr near_in ↦ elim (half_is configs a b m far k) [
-    | inl far_out ↦ let e : side.Out ≡ side.In = ap other_side (sym near_in.writes) ∙ (w ∙ ap other_side far_out.writes) in absurd (cc)
-    | inr far_in ↦ near_in.node ∙ sym far_in.node
-  ]
-]
-same_end_of configs n m near far _ r h k w = absurd (cc)
-
-same_end : (configs : List Config) (log : List Entry) (conn n m : ℕ) (near far : Half) → half_at configs log n conn ≡ Some near → half_at configs log m conn ≡ Some far
-    → other_side near.writes ≡ other_side far.writes → n ≡ m
-unfolding half_at
-same_end configs log conn n m near far h k w = go (slice_get log conn) h k
-  where
-    go : (o : Option Entry) → half_in configs n o ≡ Some near → half_in configs m o ≡ Some far → n ≡ m
-    go None h k = absurd (cc)
-    go (Some e) h k = same_end_of configs n m near far e.event.act e.reply h k w
-
 -- ---- what is put
 
 idle_tells : (configs : List Config) (log : List Entry) (i : Item) (q : Queue) → is_idle i ≡ true → Tells configs log i q
@@ -134,10 +52,10 @@ idle_tells configs log (item.Message bytes copy from) q h = absurd (cc)
 idle_tells configs log (item.Connect conn key) q h = absurd (cc)
 idle_tells configs log _ q h = tt
 
-half_at-new : (configs : List Config) (log : List Entry) (e : Entry) (n : ℕ) (half : Half) → half_of configs n e.event.act e.reply ≡ Some half
+half_at-new : (configs : List Config) (log : List Entry) (e : Entry) (n : ℕ) (half : Half) → half_of configs n (length log) e.event.act e.reply ≡ Some half
     → half_at configs (log ++ e ∷ []) n (length log) ≡ Some half
 unfolding half_at
-half_at-new configs log e n half h = ap (half_in configs n) (slice_get-seam log e []) ∙ h
+half_at-new configs log e n half h = ap (half_in configs n (length log)) (slice_get-seam log e []) ∙ h
 
 relay_tells : (configs : List Config) (log : List Entry) (priority : Bool) (n conn : ℕ) (half : Half) (copy : ℕ × ℕ) (frame : List ℕ)
     → IsAddressed configs log n conn half copy frame → Tells configs log (item.Frame (Some copy) frame) (relay_queue priority n conn)
@@ -150,11 +68,11 @@ relayed_is configs log true n conn copy frame h = h
 relayed_is configs log false n conn copy frame h = h
 
 link_tells : (configs : List Config) (log : List Entry) (priority : Bool) (n conn : ℕ) (half : Half) (i : Item) → half_at configs log n conn ≡ Some half
-    → Tells configs log i (relay_queue priority n conn) → Tells configs log i (queue.Link conn half.writes)
+    → Tells configs log i (relay_queue priority n conn) → Tells configs log i (queue.Link half.link half.writes)
 link_tells configs log priority n conn half (item.Frame (Some copy) frame) at h =
     let told = relayed_is configs log priority n conn copy frame h in
     let same : told.0 ≡ half = same_Some told.0 half (sym told.1.at ∙ at) in
-    inl (n, told.0, ap (λ (k : Half). k.writes) same, told.1)
+    inl (n, conn, told.0, ap (λ (k : Half). k.link) same, ap (λ (k : Half). k.writes) same, told.1)
 link_tells configs log priority n conn half (item.Frame None frame) at h = tt
 link_tells configs log true n conn half _ at h = h
 link_tells configs log false n conn half _ at h = h
@@ -162,34 +80,35 @@ link_tells configs log false n conn half _ at h = h
 -- ---- what a half takes from its link
 
 -- the frame is of what the node at the other end sent to this one
-pub record Arrives (configs : List Config) (log : List Entry) (n conn : ℕ) (half : Half) (copy : ℕ × ℕ) (message : ℕ × List ℕ) : Type 0 where
+pub record Arrives (configs : List Config) (log : List Entry) (n : ℕ) (half : Half) (copy : ℕ × ℕ) (message : ℕ × List ℕ) : Type 0 where
   pub sender : Sender
-  pub begins : Writes configs log sender conn (other_side half.writes)
+  pub begins : Writes configs log sender half.link (other_side half.writes)
   pub key : HasKey configs log sender half.peer
   pub sent : IsCopyOf log copy sender message.0 message.1 (key_at configs n)
 
 pub arrives : (configs : List Config) → FramesGive → (log : List Entry) (n conn : ℕ) (half : Half) (copy : ℕ × ℕ) (frame : List ℕ) (limit : ℕ) (message : ℕ × List ℕ)
-    → half_at configs log n conn ≡ Some half → Tells configs log (item.Frame (Some copy) frame) (queue.Link conn (other_side half.writes))
-    → message_in frame limit ≡ Some message → Arrives configs log n conn half copy message
+    → half_at configs log n conn ≡ Some half → Tells configs log (item.Frame (Some copy) frame) (queue.Link half.link (other_side half.writes))
+    → message_in frame limit ≡ Some message → Arrives configs log n half copy message
 arrives configs frames log n conn half copy frame limit message at told read = elim told [
   | inl of ↦
       let m : ℕ = of.0 in
-      let far : Half = of.1 in
-      let addressed : IsAddressed configs log m conn far copy frame = of.3 in
-      let halves : AreOpposite configs m n far half = opposite configs log conn m n far half addressed.at at of.2 in
+      let far : Half = of.2 in
+      let addressed : IsAddressed configs log m of.1 far copy frame = of.5 in
+      let peers = opposite configs log m n of.1 conn far half addressed.at at of.3 of.4 in
       record {
         sender = Node m;
-        begins = (far, addressed.at, of.2);
-        key = halves.1;
-        sent = as_read (Node m) addressed.channel addressed.bytes addressed.is far.peer halves.0 addressed.sent;
+        begins = (of.1, far, addressed.at, of.3, of.4);
+        key = peers.1;
+        sent = as_read (Node m) addressed.channel addressed.bytes addressed.is far.peer peers.0 addressed.sent;
       }
   | inr raw ↦
-      let same : raw.node ≡ n = same_end configs log conn raw.node n raw.far half raw.at at (sym raw.ends) in
+      let writes : raw.far.writes ≡ half.writes = sym (other_side-twice raw.far.writes) ∙ (ap other_side (sym raw.ends) ∙ other_side-twice half.writes) in
+      let same = same_end configs log raw.node n raw.conn conn raw.far half raw.at at raw.over writes in
       record {
-        sender = Raw conn;
+        sender = Raw half.link;
         begins = refl;
-        key = (n, half, at, refl);
-        sent = as_read (Raw conn) raw.channel raw.bytes raw.is (key_at configs raw.node) (ap (key_at configs) same) raw.sent;
+        key = (n, conn, half, at, refl, refl);
+        sent = as_read (Raw half.link) raw.channel raw.bytes raw.is (key_at configs raw.node) (ap (key_at configs) same.0) raw.sent;
       }
 ]
   where
@@ -224,8 +143,10 @@ module _ (configs : List Config) (frames : FramesGive) (log : List Entry) (ev : 
       subst (λ j. Tells configs longer j (queue.Link link side)) (sym h.put)
       (inr (record {
         node = h.node;
+        conn = h.conn;
         far = h.far;
-        at = half_at-longer configs log (entry_of ev r ∷ []) h.node link h.far h.at;
+        at = half_at-longer configs log (entry_of ev r ∷ []) h.node h.conn h.far h.at;
+        over = h.over;
         ends = h.ends;
         channel = s.channel;
         bytes = s.bytes;
@@ -260,35 +181,50 @@ module _ (configs : List Config) (frames : FramesGive) (log : List Entry) (ev : 
         }))
 
     -- what y put in its link went over it
-    went_over : (conn : ℕ) (side : Side) (copy : ℕ × ℕ) (frame : List ℕ) → y.queue ≡ queue.Link conn side → y.item ≡ item.Frame (Some copy) frame → WentOver log copy conn side
-    went_over conn side copy frame stood is = record {
+    went_over : (link : ℕ) (side : Side) (copy : ℕ × ℕ) (frame : List ℕ) → y.queue ≡ queue.Link link side → y.item ≡ item.Frame (Some copy) frame → WentOver log copy link side
+    went_over link side copy frame stood is = record {
       n = y.entry;
       entry = was_put.entry;
       at = was_put.at;
       place = y.place;
       frame = frame;
-      put = was_put.put ∙ (ap (λ (q : Queue). Some (q, y.item)) stood ∙ ap (λ (i : Item). Some (queue.Link conn side, i)) is);
+      put = was_put.put ∙ (ap (λ (q : Queue). Some (q, y.item)) stood ∙ ap (λ (i : Item). Some (queue.Link link side, i)) is);
     }
 
     message_tells : (n c conn : ℕ) (half : Half) (copy : ℕ × ℕ) (frame : List ℕ) (limit : ℕ) (bytes : List ℕ) → half_at configs log n conn ≡ Some half
-        → message_in frame limit ≡ Some (c, bytes) → WentOver log copy conn (other_side half.writes) → IsOnLink configs log conn (other_side half.writes) copy frame
+        → message_in frame limit ≡ Some (c, bytes) → WentOver log copy half.link (other_side half.writes) → IsOnLink configs log half.link (other_side half.writes) copy frame
         → IsArrived configs log bytes copy half.peer n c
     message_tells n c conn half copy frame limit bytes at read over told_there =
-        let a : Arrives configs log n conn half copy (c, bytes) = arrives configs frames log n conn half copy frame limit (c, bytes) at told_there read in
-        record { sender = a.sender; key = a.key; sent = a.sent; link = conn; side = other_side half.writes; over = over; begins = a.begins; far = half; far_at = at; ends = refl }
+        let a : Arrives configs log n half copy (c, bytes) = arrives configs frames log n conn half copy frame limit (c, bytes) at told_there read in
+        record {
+          sender = a.sender;
+          key = a.key;
+          sent = a.sent;
+          link = half.link;
+          side = other_side half.writes;
+          over = over;
+          begins = a.begins;
+          conn = conn;
+          far = half;
+          far_at = at;
+          far_over = refl;
+          ends = refl;
+        }
 
     received_tells : (n c : ℕ) (i : Item) → IsReceived configs log y n c i → Tells configs log i (queue.Channel n c)
     received_tells n c i h =
         subst (λ j. Tells configs log j (queue.Channel n c)) (sym h.put)
-        (message_tells n c h.conn h.half h.copy h.frame h.limit h.bytes h.at h.read (went_over h.conn (other_side h.half.writes) h.copy h.frame h.stood h.is)
-        (told_as (item.Frame (Some h.copy) h.frame) (queue.Link h.conn (other_side h.half.writes)) h.is h.stood))
+        (message_tells n c h.conn h.half h.copy h.frame h.limit h.bytes h.at h.read (went_over h.half.link (other_side h.half.writes) h.copy h.frame h.stood h.is)
+        (told_as (item.Frame (Some h.copy) h.frame) (queue.Link h.half.link (other_side h.half.writes)) h.is h.stood))
 
     item_tells : (q : Queue) (i : Item) → OfItem configs log y q i → Tells configs log i q
     item_tells (queue.High n conn) i h = spread_tells n true conn i h
     item_tells (queue.Low n conn) i h = spread_tells n false conn i h
-    item_tells (queue.Link conn s) i h =
-        subst (λ w. Tells configs log i (queue.Link conn w)) h.writes
-        (subst (λ j. Tells configs log j (queue.Link conn h.half.writes)) (sym h.put) (link_tells configs log h.priority h.node conn h.half y.item h.at (told_as y.item (relay_queue h.priority h.node conn) refl h.stood)))
+    item_tells (queue.Link link s) i h =
+        subst (λ e. Tells configs log i (queue.Link e s)) h.over
+        (subst (λ w. Tells configs log i (queue.Link h.half.link w)) h.writes
+        (subst (λ j. Tells configs log j (queue.Link h.half.link h.half.writes)) (sym h.put)
+        (link_tells configs log h.priority h.node h.conn h.half y.item h.at (told_as y.item (relay_queue h.priority h.node h.conn) refl h.stood))))
     item_tells (queue.Channel n c) i h = received_tells n c i h
     item_tells _ i h = absurd h
 

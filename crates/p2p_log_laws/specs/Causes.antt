@@ -96,7 +96,7 @@ pub record MailboxIsFull (configs : List Config) (before : List Entry) (e : Entr
   pub at : half_at configs before node conn ≡ Some half
   pub oldest : Envelope
   pub later : List Envelope
-  pub stood : line before (queue.Link conn (other_side half.writes)) ≡ oldest ∷ later
+  pub stood : line before (queue.Link half.link (other_side half.writes)) ≡ oldest ∷ later
   pub takes : e.takes ≡ name_of oldest ∷ []
   pub frame : List ℕ
   pub is : oldest.item ≡ item.Frame (Some copy) frame

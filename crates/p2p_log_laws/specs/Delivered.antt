@@ -26,10 +26,11 @@ pub record IsCopyOf (log : List Entry) (copy : ℕ × ℕ) (sender : Sender) (ch
   pub sends : sending_at log copy.0 ≡ Some (record { by = sender; channel = channel; priority = priority; bytes = bytes; keys = keys })
   pub for_key : slice_get keys copy.1 ≡ Some key
 
--- the key is the node's, or that of the peer of a half of the link
+-- the key is the node's, or that of the peer of a half over the link
 abbrev pub HasKey : List Config → List Entry → Sender → Key → Type 0
 HasKey configs log (Node n) key = key ≡ key_at configs n
-HasKey configs log (Raw link) key = (n : ℕ) × (half : Half) × (half_at configs log n link ≡ Some half) × (half.peer ≡ key)
+HasKey configs log (Raw link) key =
+    (n : ℕ) × (conn : ℕ) × (half : Half) × (half_at configs log n conn ≡ Some half) × (half.link ≡ link) × (half.peer ≡ key)
 
 -- the queue is of messages on this channel; no other is read
 abbrev pub IsOn : Queue → ℕ → Type 0

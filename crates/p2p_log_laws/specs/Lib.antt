@@ -4,6 +4,7 @@ pub mod Delivered
 pub mod Fates
 pub mod Flow
 pub mod Grants
+pub mod Leading
 pub mod Leaving
 pub mod NodeGrants
 pub mod OneAnswer

@@ -13,6 +13,7 @@ use Rattle.p2p_log.specs.QueueCode.{same_queue}
 use Rattle.p2p_log.specs.Lines.{live}
 use Rattle.p2p_log_rules.specs.Facts.{taken}
 use Rattle.p2p_log_rules.specs.Attempting.{Attempt, attempts_of}
+use Rattle.p2p_log_rules.specs.Spawning.{Spawned, connections_of}
 use Rattle.p2p_log_rules.specs.Tracking.{steps_tracker}
 use Rattle.p2p_log_laws.specs.Grants.{one, Granting}
 
@@ -39,6 +40,11 @@ module _ (key : Key) where
   is_attempt_of None = false
   is_attempt_of (Some a) = a.key.0 == key.0
 
+  -- whether a connection is
+  abbrev pub is_connection_of : Option Spawned → Bool
+  is_connection_of None = false
+  is_connection_of (Some c) = c.key.0 == key.0
+
 -- what an envelope puts in its queue
 abbrev pub put_of : Envelope → Queue × Item
 put_of x = (x.queue, x.item)
@@ -57,11 +63,15 @@ module _ (n : ℕ) (key : Key) where
   abbrev pub puts_release : Queue × Item → Bool
   puts_release x = same_queue (queue.Tracker n) x.0 && releases_key key x.1
 
+  -- the attempts by a grant, and the connections
+  abbrev pub beginners_of : List Config → List Entry → ℕ
+  beginners_of configs log =
+      count_below (length log) (λ e. is_attempt_of key (attempts_of configs log n e)) + count_below (length log) (λ e. is_connection_of key (connections_of log n e))
+
   -- a grant is held by the answer that waits for the dialer, and then by the attempt that it begins, or by the answer that waits for a
-  -- handshake; and then by the message that waits for the spawner
+  -- handshake; then by the message that waits for the spawner, and then by the connection that this makes
   abbrev pub holders_of : List Config → List Entry → ℕ
-  holders_of configs log =
-      count_by (λ x. puts_grant (put_of x)) (live log) + count_below (length log) (λ e. is_attempt_of key (attempts_of configs log n e))
+  holders_of configs log = count_by (λ x. puts_grant (put_of x)) (live log) + beginners_of configs log
 
   abbrev pub waiting_of : List Entry → ℕ
   waiting_of log = count_by (λ x. puts_release (put_of x)) (live log)

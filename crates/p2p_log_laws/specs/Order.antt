@@ -41,15 +41,25 @@ pub record WentOver (log : List Entry) (copy : ℕ × ℕ) (link : ℕ) (side : 
   pub frame : List ℕ
   pub put : slice_get entry.puts place ≡ Some (queue.Link link side, item.Frame (Some copy) frame)
 
--- the sender writes in this direction of the link
+-- the sender writes in this direction of the link: a node by a connection that it has over the link
 abbrev pub Writes : List Config → List Entry → Sender → ℕ → Side → Type 0
-Writes configs log (Node n) link side = (near : Half) × (half_at configs log n link ≡ Some near) × (near.writes ≡ side)
+Writes configs log (Node n) link side =
+    (conn : ℕ) × (near : Half) × (half_at configs log n conn ≡ Some near) × (near.link ≡ link) × (near.writes ≡ side)
 Writes configs log (Raw e) link side = e ≡ link
 
--- what comes in this direction of the link comes to the node that has this queue, or this is the queue of the link
+-- what comes in this direction of the link comes to the node that has this queue, by a connection that it has over the link;
+-- or this is the queue of the link
 abbrev pub ComesTo : List Config → List Entry → Queue → ℕ → Side → Type 0
 ComesTo configs log (queue.Link e s) link side = (e ≡ link) × (s ≡ side)
-ComesTo configs log q link side = (far : Half) × (half_at configs log (owner_of q) link ≡ Some far) × (side ≡ other_side far.writes)
+ComesTo configs log q link side =
+    (conn : ℕ) × (far : Half) × (half_at configs log (owner_of q) conn ≡ Some far) × (far.link ≡ link) × (side ≡ other_side far.writes)
+
+-- the copy came by this connection of the node that has the queue: it went over the link of the connection, in the direction
+-- from which that node reads
+pub record CameBy (configs : List Config) (log : List Entry) (copy : ℕ × ℕ) (q : Queue) (conn : ℕ) : Type 0 where
+  pub half : Half
+  pub at : half_at configs log (owner_of q) conn ≡ Some half
+  pub over : WentOver log copy half.link (other_side half.writes)
 
 -- of two copies of one sender, on one channel with one priority, that were read from one queue, the one accepted first is
 -- delivered first
@@ -67,13 +77,13 @@ AreDeliveredInOrderOverOne configs log =
     → is_before first second ≡ true
     → WentOver log first link side → WentOver log second link side → m < n
 
--- of two copies of one sender that were read from one queue, and that went over two links, the one that went over the older
--- link is delivered first, whatever their priorities are
-abbrev pub AreDeliveredInOrderOfLinks : List Config → List Entry → Type 0
-AreDeliveredInOrderOfLinks configs log =
-    (sender : Sender) (channel : ℕ) (p r : Bool) (q : Queue) (first second : ℕ × ℕ) (older newer : ℕ) (s t : Side) (m n : ℕ)
+-- of two copies of one sender that were read from one queue, and that came by two connections, the one that came by the older
+-- connection is delivered first, whatever their priorities are; connections are named by the events that made them
+abbrev pub AreDeliveredInOrderOfConnections : List Config → List Entry → Type 0
+AreDeliveredInOrderOfConnections configs log =
+    (sender : Sender) (channel : ℕ) (p r : Bool) (q : Queue) (first second : ℕ × ℕ) (older newer : ℕ) (m n : ℕ)
     → IsDelivered configs log first sender channel p q m → IsDelivered configs log second sender channel r q n
-    → WentOver log first older s → WentOver log second newer t
+    → CameBy configs log first q older → CameBy configs log second q newer
     → older < newer → m < n
 
 -- what is delivered went over a link from its sender to the node that has the queue

@@ -21,10 +21,10 @@ pub fn grants_take_turns()
     ensures newest { (g : Granting) (log : List Entry) → EachIsTurn g log → NewestLives g log }
 {}
 
-/// States of the grants of a key at a node of the network, where the node's tracker grants it to the node's dialer: they and the
-/// releases that the tracker takes go by turns; a key that is held is held by the one answer that waits for the dialer, or by
-/// the one attempt that it began, or one release of it waits for the tracker, and nothing holds another; and each grant is
-/// held or was released. It does nothing.
+/// States of the grants of a key at a node of the network, where the node's tracker grants it to the node's dialer or to a
+/// handshake: they and the releases that the tracker takes go by turns; a key that is held is held by one thing, an answer that
+/// waits for the dialer or for a handshake, an attempt, a message that waits for the spawner or a connection that this made, or
+/// one release of it waits for the tracker, and nothing holds another; and each grant is held or was released. It does nothing.
 pub fn node_grants()
     ensures alternate { (configs : List Config) (script : List Event) (log : List Entry) (n : ℕ) (key : Key) → IsLawful configs script log → GrantsAlternate (granting configs n key) log }
     ensures holder { (configs : List Config) (script : List Event) (log : List Entry) (n : ℕ) (key : Key) → IsLawful configs script log → HasOneHolder (granting configs n key) log }

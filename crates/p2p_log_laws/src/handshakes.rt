@@ -7,7 +7,7 @@ ghost use Rattle.p2p_log_rules.specs.Lawful.{IsLawful};
 ghost use Rattle.p2p_log_laws.specs.OneAnswer.{HasOneAnswer};
 
 /// States of a handshake of a node, that no two of these are so at a time: a question about it waits for the node's tracker; an
-/// answer, or word that keys were exchanged, waits for it; it was told that its peer may connect, and the exchange over its link
+/// answer, or word that keys were exchanged, waits for it; it took that its peer may connect, and the exchange over its link
 /// goes on. Nor are two of these: word of the end of that exchange waits for it, or what is asked and told then; the exchange goes
 /// on. And its peer is asked for once, while it runs, after it was told that keys were exchanged. It does nothing.
 pub fn handshakes_have_one_answer()

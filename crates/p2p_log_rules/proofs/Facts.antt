@@ -75,20 +75,20 @@ routes-append log e n =
     ap (routes_after []) (routed-append log e n) ∙ routes_after-append [] (routed log n) (routed_by n log e)
 
 half_in-cond :
-    (configs : List Config) (n : ℕ) (b c : Bool) (o : Option Entry) (e : Entry)
-    → half_in configs n (cond b o (cond c (Some e) None)) ≡ cond b (half_in configs n o) (cond c (half_of configs n e.event.act e.reply) None)
-half_in-cond configs n true c o e = refl
-half_in-cond configs n false true o e = refl
-half_in-cond configs n false false o e = refl
+    (configs : List Config) (n conn : ℕ) (b c : Bool) (o : Option Entry) (e : Entry)
+    → half_in configs n conn (cond b o (cond c (Some e) None)) ≡ cond b (half_in configs n conn o) (cond c (half_of configs n conn e.event.act e.reply) None)
+half_in-cond configs n conn true c o e = refl
+half_in-cond configs n conn false true o e = refl
+half_in-cond configs n conn false false o e = refl
 
 pub half_at-append :
     (configs : List Config) (log : List Entry) (e : Entry) (n conn : ℕ)
     → half_at configs (log ++ e ∷ []) n conn
-    ≡ cond (nat_lt conn (length log)) (half_at configs log n conn) (cond (conn == length log) (half_of configs n e.event.act e.reply) None)
+    ≡ cond (nat_lt conn (length log)) (half_at configs log n conn) (cond (conn == length log) (half_of configs n conn e.event.act e.reply) None)
 unfolding half_at
 half_at-append configs log e n conn =
-    ap (half_in configs n) (slice_get-append log e conn)
-    ∙ half_in-cond configs n (nat_lt conn (length log)) (conn == length log) (slice_get log conn) e
+    ap (half_in configs n conn) (slice_get-append log e conn)
+    ∙ half_in-cond configs n conn (nat_lt conn (length log)) (conn == length log) (slice_get log conn) e
 
 pub is_running-append :
     (log : List Entry) (e : Entry) (n conn : ℕ)

@@ -5,6 +5,8 @@ pub mod Handshakes
 pub mod Lawful
 pub mod Links
 pub mod Moves
+pub mod Named
 pub mod Recorded
+pub mod Spawning
 pub mod TakenAt
 pub mod Touches

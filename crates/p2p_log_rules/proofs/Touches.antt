@@ -15,7 +15,9 @@ use Rattle.p2p_log.specs.declared.event.Act.TheVariants as act
 use Rattle.p2p_log_rules.specs.declared.row.Row.{Row}
 use Rattle.p2p_log.specs.QueueCode.{same_queue}
 use Rattle.p2p_log.specs.Lines.{stands_in, line}
+use Rattle.p2p_log_rules.specs.declared.row.Half.{Half}
 use Rattle.p2p_log_rules.specs.declared.row.Opening.{Opening}
+use Rattle.p2p_log_rules.specs.Facts.{half_at}
 use Rattle.p2p_log_rules.specs.Links.{openings_of}
 use Rattle.p2p_log_rules.specs.Reading.{reading_of}
 use Rattle.p2p_log_rules.specs.Tracking.{asked_by}
@@ -34,17 +36,17 @@ in_router n (queue.High m e) = m == n
 in_router n (queue.Low m e) = m == n
 in_router n _ = false
 
--- what a half of a connection has: what it is to write, its router's answer, and its link
-abbrev pub in_half : ℕ → ℕ → Queue → Bool
-in_half n conn (queue.Ready m e) = (m == n) && (e == conn)
-in_half n conn (queue.High m e) = (m == n) && (e == conn)
-in_half n conn (queue.Low m e) = (m == n) && (e == conn)
-in_half n conn (queue.Link e s) = e == conn
-in_half n conn _ = false
+-- the link of a half of a connection, where there is one
+abbrev pub in_link : Option Half → Queue → Bool
+in_link o (queue.Link e s) = elim o [ None ↦ false | Some half ↦ e == half.link ]
+in_link o _ = false
 
-abbrev pub in_link : ℕ → Queue → Bool
-in_link conn (queue.Link e s) = e == conn
-in_link conn _ = false
+-- what a half of a connection has: what it is to write, its router's answer, and its link
+abbrev pub in_half : Option Half → ℕ → ℕ → Queue → Bool
+in_half o n conn (queue.Ready m e) = (m == n) && (e == conn)
+in_half o n conn (queue.High m e) = (m == n) && (e == conn)
+in_half o n conn (queue.Low m e) = (m == n) && (e == conn)
+in_half o n conn q = in_link o q
 
 abbrev pub in_channels : ℕ → Queue → Bool
 in_channels n (queue.Channel m c) = m == n
@@ -85,14 +87,15 @@ is_among qs q = list_any (λ p. same_queue p q) qs
 -- the queues from which an act takes, after these entries
 abbrev pub reads : List Config → List Entry → Act → Queue → Bool
 reads configs log (act.Router n) q = same_queue (queue.Router n) q
-reads configs log (act.SendStep conn n) q = in_half n conn q
-reads configs log (act.RecvStep conn n) q = in_link conn q
+reads configs log (act.SendStep conn n) q = in_half (half_at configs log n conn) n conn q
+reads configs log (act.RecvStep conn n) q = in_link (half_at configs log n conn) q
 reads configs log (act.Answer e) q = is_told_to (asked_by log e) e q
 reads configs log (act.Next e) q = is_told_to (asked_by log e) e q
 reads configs log (act.Tracker n) q = same_queue (queue.Tracker n) q
 reads configs log (act.Dialer n) q = same_queue (queue.Dialer n) q
 reads configs log (act.Listener n) q = same_queue (queue.Update n) q || same_queue (queue.Arrivals n) q
 reads configs log (act.Handshake e n) q = same_queue (queue.Handshake n e) q
+reads configs log (act.Spawner n) q = same_queue (queue.Spawner n) q
 reads configs log (act.Attempt e n) q = same_queue (queue.Attempt n e) q
 reads configs log a q = elim (reading_of configs log a) [ None ↦ false | Some p ↦ same_queue p q ]
 
@@ -102,7 +105,7 @@ writes configs log (act.Start n) q = same_queue (queue.Router n) q
 writes configs log (act.Join a b) q = same_queue (queue.Router a) q || same_queue (queue.Router b) q
 writes configs log (act.Send bytes c n priority to) q = same_queue (queue.Router n) q
 writes configs log (act.Router n) q = in_router n q
-writes configs log (act.SendStep conn n) q = in_half n conn q
+writes configs log (act.SendStep conn n) q = in_half (half_at configs log n conn) n conn q
 writes configs log (act.RecvStep conn n) q = in_channels n q
 writes configs log (act.Ask what n) q = same_queue (queue.Tracker n) q
 writes configs log (act.Tracker n) q = in_tracker n q

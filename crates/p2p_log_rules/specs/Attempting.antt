@@ -21,7 +21,7 @@ use Rattle.p2p_log.specs.declared.event.Act.{Act}
 use Rattle.p2p_log.specs.declared.event.Act.TheVariants as act
 use Rattle.p2p_log.specs.Lines.{name_of, line}
 use Rattle.p2p_log_rules.specs.declared.row.Row.{Row}
-use Rattle.p2p_log_rules.specs.Facts.{is_up, key_at, taken, state_from}
+use Rattle.p2p_log_rules.specs.Facts.{is_up, key_at, taken, state_from, with_named, with_begun}
 use Rattle.p2p_log_rules.specs.Rows.{only, is_spawner_full}
 
 -- how long a dial may take, and how long the keys of a link may be exchanged; and whether a dial may reach addresses that aren't
@@ -102,15 +102,6 @@ abbrev pub told_answer : ℕ → Reply → Attempt → Attempt
 told_answer name reply.Ok a = record a { answer = Some name }
 told_answer name _ a = a
 
--- the attempts with this one of this name in place of another, or without any
-abbrev pub with_attempt : ℕ → Option Attempt → (ℕ → Option Attempt) → ℕ → Option Attempt
-with_attempt name o attempts k = cond (k == name) o (attempts k)
-
--- once the entry of this name may have begun one
-abbrev pub with_begun : Option Attempt → ℕ → (ℕ → Option Attempt) → ℕ → Option Attempt
-with_begun None name attempts k = attempts k
-with_begun (Some a) name attempts k = with_attempt name (Some a) attempts k
-
 -- what comes of an attempt, if there is one
 abbrev pub and_then : (Attempt → Option Attempt) → Option Attempt → Option Attempt
 and_then f None = None
@@ -121,10 +112,10 @@ module _ (rules : DialRules) (n name : ℕ) (at seed : ℕ) (r : Reply) (items :
   abbrev pub acted_attempts : Act → (ℕ → Option Attempt) → ℕ → Option Attempt
   acted_attempts (act.Dialer m) attempts k = cond (m == n) (with_begun (begun_of rules.timeout at items) name attempts k) (attempts k)
   acted_attempts (act.Attempt e m) attempts k =
-      cond (m == n) (with_attempt e (and_then (stepped_attempt rules at seed r items) (attempts e)) attempts k) (attempts k)
-  acted_attempts (act.Resolve addresses e m) attempts k = cond (m == n) (with_attempt e (option_map (told_addresses r) (attempts e)) attempts k) (attempts k)
-  acted_attempts (act.Connect e from m to) attempts k = cond (m == n) (with_attempt e (option_map (told_answer name r) (attempts e)) attempts k) (attempts k)
-  acted_attempts (act.Refuse e m) attempts k = cond (m == n) (with_attempt e (option_map (told_answer name r) (attempts e)) attempts k) (attempts k)
+      cond (m == n) (with_named e (and_then (stepped_attempt rules at seed r items) (attempts e)) attempts k) (attempts k)
+  acted_attempts (act.Resolve addresses e m) attempts k = cond (m == n) (with_named e (option_map (told_addresses r) (attempts e)) attempts k) (attempts k)
+  acted_attempts (act.Connect e from m to) attempts k = cond (m == n) (with_named e (option_map (told_answer name r) (attempts e)) attempts k) (attempts k)
+  acted_attempts (act.Refuse e m) attempts k = cond (m == n) (with_named e (option_map (told_answer name r) (attempts e)) attempts k) (attempts k)
   acted_attempts _ attempts k = attempts k
 
 -- after an entry, given those before it

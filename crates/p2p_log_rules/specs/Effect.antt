@@ -1,5 +1,5 @@
 -- The effect of an event: the one entry that it makes, given the configurations and the entries before it.
-use Rattle.std.specs.Prelude.{ℕ, ◌+◌, Bool, true, false, ◌==◌, ◌&&◌, not, cond, nat_le, List, [], ◌∷◌, ◌++◌, map, filter, length, take, count_by, Option, Some, None, slice_get}
+use Rattle.std.specs.Prelude.{ℕ, ◌+◌, Bool, true, false, ◌==◌, ◌&&◌, not, cond, nat_le, nat_lt, List, [], ◌∷◌, ◌++◌, map, filter, length, take, count_by, Option, Some, None, slice_get}
 use Rattle.p2p_base.specs.declared.key.Key.{Key}
 use Rattle.p2p_log.specs.declared.config.Config.{Config}
 use Rattle.p2p_log.specs.declared.queue.Queue.{Queue}
@@ -27,12 +27,13 @@ use Rattle.p2p_log.specs.Lines.{line, live, name_of, stands_in, stays}
 use Rattle.p2p_log.specs.Copies.{keys_of_recipients}
 use Rattle.p2p_log_rules.specs.Facts.{is_up, channels, capacity_in, capacity_for, sum_capacities, subscribers, routes, with_route, keys_in, route_to, key_at, half_at, is_running, is_joined}
 use Rattle.p2p_log_rules.specs.Frames.{frame_of, message_in}
-pub use Rattle.p2p_log_rules.specs.Rows.{only, mailbox_size_at, overwritten, ring_ends}
+pub use Rattle.p2p_log_rules.specs.Rows.{only, takes_oldest, mailbox_size_at, overwritten, ring_ends}
 use Rattle.p2p_log_rules.specs.Attempting.{attempt_row, resolve_row, refuse_row, connect_row}
 use Rattle.p2p_log_rules.specs.Dialing.{dialer_row}
 use Rattle.p2p_log_rules.specs.Handshaking.{handshake_row}
 use Rattle.p2p_log_rules.specs.Links.{finish_row}
 use Rattle.p2p_log_rules.specs.Listening.{listener_row}
+use Rattle.p2p_log_rules.specs.Spawning.{spawner_row}
 use Rattle.p2p_log_rules.specs.TrackerRows.{ask_row, answer_row, next_row, tracker_row}
 
 -- ---- calls
@@ -78,13 +79,22 @@ sent_row true true n send c priority frame to = only (reply.Sent [])
 sent_row true false n send c priority frame to =
     record { reply = reply.Sent to; takes = []; puts = (queue.Router n, item.Content c frame priority send to) ∷ []; ends = [] }
 
+abbrev pub limit_at : List Config → ℕ → ℕ
+limit_at configs n = elim (slice_get configs n) [ None ↦ 0 | Some c ↦ c.max_message_size ]
+
+-- and by whether the message is longer than the node lets it be
+abbrev pub fitting_row : Bool → ℕ → ℕ → Row → Row
+fitting_row true size limit sent = only (reply.MessageTooLarge size limit)
+fitting_row false size limit sent = sent
+
 abbrev pub send_row : List Config → List Entry → List ℕ → ℕ → ℕ → Bool → Recipients → Row
 send_row configs log bytes c n priority to =
     elim (capacity_in (channels configs log n) c) [
       | None ↦ only reply.Gone
       | Some _ ↦
-          sent_row (is_up log n) (nat_le (router_capacity configs log n) (length (line log (queue.Router n))))
-          n (length log) c priority (frame_of c bytes) (keys_of_recipients to)
+          fitting_row (nat_lt (limit_at configs n) (length bytes)) (length bytes) (limit_at configs n)
+          (sent_row (is_up log n) (nat_le (router_capacity configs log n) (length (line log (queue.Router n))))
+          n (length log) c priority (frame_of c bytes) (keys_of_recipients to))
     ]
 
 -- recv: the oldest message of the channel
@@ -180,11 +190,6 @@ router_row configs log n =
 
 -- ---- the steps of a connection
 
--- the router's answer: the connection runs
-abbrev pub begin_row : List Envelope → Row
-begin_row [] = only reply.Idle
-begin_row (x ∷ _) = record { reply = reply.Ok; takes = name_of x ∷ []; puts = []; ends = [] }
-
 -- a batch, written to the link in order
 abbrev pub write_row : Queue → List Envelope → Row
 write_row q [] = only reply.Idle
@@ -204,8 +209,9 @@ send_step_row configs log conn n =
       | None ↦ only reply.Gone
       | Some half ↦
           cond (is_running log n conn)
-          (write_row (queue.Link conn half.writes) (batch configs log n conn))
-          (begin_row (line log (queue.Ready n conn)))
+          (write_row (queue.Link half.link half.writes) (batch configs log n conn))
+          -- the router's answer: it runs from then on
+          (takes_oldest (line log (queue.Ready n conn)))
     ]
 
 abbrev pub other_side : Side → Side
@@ -228,9 +234,6 @@ deliver_row log n name from copy message capacity =
       puts = (queue.Channel n message.0, item.Message message.1 copy from) ∷ [];
       ends = [];
     })
-
-abbrev pub limit_at : List Config → ℕ → ℕ
-limit_at configs n = elim (slice_get configs n) [ None ↦ 0 | Some c ↦ c.max_message_size ]
 
 abbrev pub message_row : List Config → List Entry → ℕ → ℕ × ℕ → Key → ℕ × ℕ → Option (ℕ × List ℕ) → Row
 message_row configs log n name from copy None = only reply.Idle
@@ -255,7 +258,7 @@ recv_step_row configs log conn n =
       | None ↦ only reply.Gone
       | Some half ↦
           cond (is_running log n conn)
-          (receive_row configs log n half.peer (line log (queue.Link conn (other_side half.writes))))
+          (receive_row configs log n half.peer (line log (queue.Link half.link (other_side half.writes))))
           (only reply.Idle)
     ]
 
@@ -277,6 +280,7 @@ row configs log at seed (act.Next question) = next_row log question
 row configs log at seed (act.Dialer n) = dialer_row configs log n at seed
 row configs log at seed (act.Listener n) = listener_row configs log n at
 row configs log at seed (act.Handshake e n) = handshake_row configs log e n at
+row configs log at seed (act.Spawner n) = spawner_row log n
 row configs log at seed (act.Attempt e n) = attempt_row configs log e n at seed
 row configs log at seed (act.Resolve addresses e n) = resolve_row configs log addresses e n
 row configs log at seed (act.Connect e from n to) = connect_row configs log e from n to

@@ -107,6 +107,15 @@ unfoldable pub state_from : {X : Type 0} → (List Entry → Entry → X → X) 
 state_from by before [] x = x
 state_from by before (e ∷ es) x = state_from by (before ++ e ∷ []) es (by before e x)
 
+-- what has a name, with this in its place
+abbrev pub with_named : {X : Type 0} → ℕ → Option X → (ℕ → Option X) → ℕ → Option X
+with_named name o xs k = cond (k == name) o (xs k)
+
+-- once the entry of this name may have begun something
+abbrev pub with_begun : {X : Type 0} → Option X → ℕ → (ℕ → Option X) → ℕ → Option X
+with_begun None name xs k = xs k
+with_begun (Some x) name xs k = with_named name (Some x) xs k
+
 abbrev pub history : {X : Type 0} → (List Entry → Entry → List X) → List Entry → List X
 history adds log = history_from adds [] log
 
@@ -156,19 +165,20 @@ route_to routes key = lookup (λ k. key.0 == k) routes
 abbrev pub key_at : List Config → ℕ → Key
 key_at configs n = elim (slice_get configs n) [ None ↦ record { 0 = 0 } | Some c ↦ c.public_key ]
 
-abbrev pub half_of : List Config → ℕ → Act → Reply → Option Half
-half_of configs n (act.Join a b) reply.Ok =
-    cond (n == a) (Some (record { peer = key_at configs b; writes = side.Out }))
-    (cond (n == b) (Some (record { peer = key_at configs a; writes = side.In })) None)
-half_of configs n _ _ = None
+-- the node's half of the connection of this name, which is its link's too
+abbrev pub half_of : List Config → ℕ → ℕ → Act → Reply → Option Half
+half_of configs n conn (act.Join a b) reply.Ok =
+    cond (n == a) (Some (record { peer = key_at configs b; link = conn; writes = side.Out }))
+    (cond (n == b) (Some (record { peer = key_at configs a; link = conn; writes = side.In })) None)
+half_of configs n conn _ _ = None
 
-abbrev pub half_in : List Config → ℕ → Option Entry → Option Half
-half_in configs n None = None
-half_in configs n (Some e) = half_of configs n e.event.act e.reply
+abbrev pub half_in : List Config → ℕ → ℕ → Option Entry → Option Half
+half_in configs n conn None = None
+half_in configs n conn (Some e) = half_of configs n conn e.event.act e.reply
 
 -- the node's half of the connection that an event made
 unfoldable pub half_at : List Config → List Entry → ℕ → ℕ → Option Half
-half_at configs log n conn = half_in configs n (slice_get log conn)
+half_at configs log n conn = half_in configs n conn (slice_get log conn)
 
 abbrev pub steps_sender : ℕ → ℕ → Act → Bool
 steps_sender n conn (act.SendStep e m) = (m == n) && (e == conn)

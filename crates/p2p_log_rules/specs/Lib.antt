@@ -11,6 +11,7 @@ pub mod Listening
 pub mod Moves
 pub mod Reading
 pub mod Rows
+pub mod Spawning
 pub mod TrackerPuts
 pub mod TrackerRows
 pub mod Tracking

@@ -1,5 +1,6 @@
 -- The links over which keys are exchanged, by the log: between whom they are, what has their listening ends, and the row of their end.
-use Rattle.std.specs.Prelude.{ℕ, ◌==◌, ◌&&◌, Bool, true, false, cond, List, [], ◌∷◌, ◌++◌, length, Option, Some, None}
+use Rattle.std.specs.Prelude.{ℕ, ◌==◌, ◌&&◌, Bool, true, false, cond, List, [], ◌∷◌, ◌++◌, length, Option, Some, None, is_some}
+use Rattle.std.specs.Option.{option_map}
 use Rattle.p2p_base.specs.declared.key.Key.{Key}
 use Rattle.p2p_gates_rules.specs.declared.reply.Reply.TheVariants as gates
 use Rattle.p2p_log.specs.declared.config.Config.{Config}
@@ -17,13 +18,9 @@ use Rattle.p2p_log_rules.specs.declared.row.Opening.{Opening}
 use Rattle.p2p_log_rules.specs.declared.row.ListeningEnd.{ListeningEnd}
 use Rattle.p2p_log_rules.specs.declared.row.ListeningEnd.TheVariants as listening
 use Rattle.p2p_log_rules.specs.Attempting.{Attempt, attempts_of}
-use Rattle.p2p_log_rules.specs.Facts.{key_at, taken, state_from}
+use Rattle.p2p_log_rules.specs.Facts.{key_at, taken, state_from, with_named}
 use Rattle.p2p_log_rules.specs.Handshakes.{ends_handshake, is_accepted, peer_at}
 use Rattle.p2p_log_rules.specs.Rows.{only}
-
--- what has a name, with this in its place
-abbrev pub with_named : {X : Type 0} → ℕ → Option X → (ℕ → Option X) → ℕ → Option X
-with_named name o xs k = cond (k == name) o (xs k)
 
 -- ---- between whom they are
 
@@ -88,14 +85,10 @@ listening_ends_of log n = state_from (ends_by n) [] log (λ k. None)
 
 -- ---- the end of an exchange
 
--- whether the attempt at the dialing end stands, and whether it dialed this key
-abbrev pub dials_key : Key → Option Attempt → Bool
-dials_key key None = false
-dials_key key (Some a) = a.key.0 == key.0
-
-abbrev pub stands : {X : Type 0} → Option X → Bool
-stands None = false
-stands (Some x) = true
+-- whether this key is the one that was dialed
+abbrev pub is_dialed : Key → Option Key → Bool
+is_dialed key None = false
+is_dialed key (Some dialed) = dialed.0 == key.0
 
 -- whether the handshake at the listening end took that its peer may connect
 abbrev pub accepts : List Entry → ℕ → Option ListeningEnd → Bool
@@ -124,13 +117,14 @@ finished_row o dialing listening None = only reply.Pending
 finished_row o dialing listening (Some ok) =
     record { reply = reply.Ok; takes = []; puts = dialing_puts o.node o.attempt ok dialing ++ listening_puts o.to ok listening; ends = [] }
 
--- whether both ends stand, and what is said of the keys agrees with them
-abbrev pub verdict : List Config → List Entry → Bool → ℕ → Option Attempt → Option ListeningEnd → Option Bool
-verdict configs log ok to dialing listening =
-    exchanged (stands dialing && stands listening) (ok && dials_key (key_at configs to) dialing) (accepts log to listening)
+-- whether both ends stand, and what is said of the keys agrees with them, by the key that was dialed
+abbrev pub verdict : List Config → List Entry → Bool → ℕ → Option Key → Option ListeningEnd → Option Bool
+verdict configs log ok to dialed listening =
+    exchanged (is_some dialed && is_some listening) (ok && is_dialed (key_at configs to) dialed) (accepts log to listening)
 
 abbrev pub finish_by : List Config → List Entry → Bool → Opening → Option Attempt → Option ListeningEnd → Row
-finish_by configs log ok o dialing listening = finished_row o dialing listening (verdict configs log ok o.to dialing listening)
+finish_by configs log ok o dialing listening =
+    finished_row o dialing listening (verdict configs log ok o.to (option_map (λ (a : Attempt). a.key) dialing) listening)
 
 -- the exchange over a link ends, once
 abbrev pub finish_row : List Config → List Entry → ℕ → Bool → Row

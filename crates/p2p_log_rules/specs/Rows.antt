@@ -8,12 +8,18 @@ use Rattle.p2p_log.specs.declared.end.End.{End}
 use Rattle.p2p_log.specs.declared.end.End.TheVariants as end
 use Rattle.p2p_log.specs.declared.entry.Entry.{Entry}
 use Rattle.p2p_log.specs.declared.entry.Reply.{Reply}
+use Rattle.p2p_log.specs.declared.entry.Reply.TheVariants as reply
 use Rattle.p2p_log_rules.specs.declared.row.Row.{Row}
-use Rattle.p2p_log.specs.Lines.{stands_in, stays, ended_item, line}
+use Rattle.p2p_log.specs.Lines.{name_of, stands_in, stays, ended_item, line}
 
 -- a reply that moves nothing
 abbrev pub only : Reply → Row
 only r = record { reply = r; takes = []; puts = []; ends = [] }
+
+-- the oldest of these is taken, where there is one
+abbrev pub takes_oldest : List Envelope → Row
+takes_oldest [] = only reply.Idle
+takes_oldest (x ∷ _) = record { reply = reply.Ok; takes = name_of x ∷ []; puts = []; ends = [] }
 
 abbrev pub mailbox_size_at : List Config → ℕ → ℕ
 mailbox_size_at configs n = elim (slice_get configs n) [ None ↦ 0 | Some c ↦ c.mailbox_size ]

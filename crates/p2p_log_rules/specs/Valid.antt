@@ -9,7 +9,7 @@ use Rattle.p2p_log.specs.declared.asked.Asked.TheVariants as ask
 use Rattle.p2p_log.specs.declared.event.Act.{Act}
 use Rattle.p2p_log.specs.declared.event.Act.TheVariants as act
 use Rattle.p2p_log_rules.specs.Facts.{has_started, registered, capacity_for, capacity_in, sum_capacities}
-use Rattle.p2p_log_rules.specs.Effect.{mailbox_size_at, limit_at}
+use Rattle.p2p_log_rules.specs.Effect.{mailbox_size_at}
 
 -- ---- configurations
 
@@ -128,12 +128,12 @@ abbrev pub is_node : List Config → Option ℕ → Bool
 is_node configs None = false
 is_node configs (Some n) = nat_lt n (length configs)
 
--- an event names a node in range, and earlier events of the kind that it needs; a message is as long as the node lets it be
+-- an event names a node in range, and earlier events of the kind that it needs
 abbrev pub may_act : List Config → List Event → Act → Bool
 may_act configs events (act.Register c n rate) = nat_lt n (length configs) && may_register configs events c n rate
 may_act configs events (act.Start n) = nat_lt n (length configs) && not (has_started events n)
 may_act configs events (act.Join a b) = nat_lt a (length configs) && nat_lt b (length configs)
-may_act configs events (act.Send bytes c n priority to) = nat_lt n (length configs) && nat_le (length bytes) (limit_at configs n)
+may_act configs events (act.Send bytes c n priority to) = nat_lt n (length configs)
 may_act configs events (act.Router n) = nat_lt n (length configs)
 may_act configs events (act.SendStep conn n) = nat_lt n (length configs) && names_join events n conn
 may_act configs events (act.RecvStep conn n) = nat_lt n (length configs) && names_join events n conn
@@ -145,6 +145,7 @@ may_act configs events (act.Tracker n) = nat_lt n (length configs)
 may_act configs events (act.Dialer n) = nat_lt n (length configs)
 may_act configs events (act.Listener n) = nat_lt n (length configs)
 may_act configs events (act.Handshake e n) = nat_lt n (length configs) && names_listener events e
+may_act configs events (act.Spawner n) = nat_lt n (length configs)
 may_act configs events (act.Attempt e n) = nat_lt n (length configs) && names_dialer events n e
 may_act configs events (act.Resolve addresses e n) = nat_lt n (length configs) && names_dialer events n e
 may_act configs events (act.Connect e from n to) = nat_lt n (length configs) && (nat_lt to (length configs) && names_dialer events n e)

@@ -11,10 +11,11 @@ pub struct Row {
     pub ends: List<End>,
 }
 
-/// A node's half of a connection: the key of its peer, and the direction of the link in which it writes.
+/// A node's half of a connection: the key of its peer, the link that it goes over, and the direction in which it writes there.
 #[derive(Clone, Copy, Debug, PartialEq, Eq)]
 pub struct Half {
     pub peer: Key,
+    pub link: u64,
     pub writes: Side,
 }
 

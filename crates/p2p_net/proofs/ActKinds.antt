@@ -11,7 +11,7 @@ use Rattle.p2p_log_rules.specs.Facts.{registers_at, starts, half_of, joins, step
 pub record IsPlain (a : Act) : Type 0 where
   pub registers : (configs : List Config) (n : ℕ) → registers_at configs n a ≡ []
   pub starts : (n : ℕ) → starts n a ≡ false
-  pub half : (configs : List Config) (n : ℕ) (r : Reply) → half_of configs n a r ≡ None
+  pub half : (configs : List Config) (n conn : ℕ) (r : Reply) → half_of configs n conn a r ≡ None
   pub joins : (n m : ℕ) (r : Reply) → joins n m a r ≡ false
   pub routes : (n : ℕ) → steps_router n a ≡ false
   pub sends : (n conn : ℕ) → steps_sender n conn a ≡ false
@@ -31,7 +31,7 @@ kind_of (act.Join m n) = joining m n refl
 kind_of (act.Router n) = routing n refl
 kind_of (act.SendStep conn n) = sending conn n refl
 kind_of _ =
-    plain (record { registers = λ _ _. refl; starts = λ _. refl; half = λ _ _ _. refl; joins = λ _ _ _. refl; routes = λ _. refl; sends = λ _ _. refl })
+    plain (record { registers = λ _ _. refl; starts = λ _. refl; half = λ _ _ _ _. refl; joins = λ _ _ _. refl; routes = λ _. refl; sends = λ _ _. refl })
 
 -- what an act is not, by what it would be
 
@@ -57,16 +57,16 @@ starts_unless n a h = by (kind_of a)
     by (sending conn m is) = ap (starts n) is
     by (plain p) = p.starts n
 
-pub half_unless : (configs : List Config) (n : ℕ) (a : Act) (r : Reply) → ((l m : ℕ) → a ≡ act.Join l m → half_of configs n (act.Join l m) r ≡ None) → half_of configs n a r ≡ None
-half_unless configs n a r h = by (kind_of a)
+pub half_unless : (configs : List Config) (n conn : ℕ) (a : Act) (r : Reply) → ((l m : ℕ) → a ≡ act.Join l m → half_of configs n conn (act.Join l m) r ≡ None) → half_of configs n conn a r ≡ None
+half_unless configs n conn a r h = by (kind_of a)
   where
-    by : Kind a → half_of configs n a r ≡ None
-    by (registering c m rate is) = ap (λ x. half_of configs n x r) is
-    by (starting m is) = ap (λ x. half_of configs n x r) is
-    by (joining l m is) = ap (λ x. half_of configs n x r) is ∙ h l m is
-    by (routing m is) = ap (λ x. half_of configs n x r) is
-    by (sending conn m is) = ap (λ x. half_of configs n x r) is
-    by (plain p) = p.half configs n r
+    by : Kind a → half_of configs n conn a r ≡ None
+    by (registering c m rate is) = ap (λ x. half_of configs n conn x r) is
+    by (starting m is) = ap (λ x. half_of configs n conn x r) is
+    by (joining l m is) = ap (λ x. half_of configs n conn x r) is ∙ h l m is
+    by (routing m is) = ap (λ x. half_of configs n conn x r) is
+    by (sending d m is) = ap (λ x. half_of configs n conn x r) is
+    by (plain p) = p.half configs n conn r
 
 pub joins_unless : (n k : ℕ) (a : Act) (r : Reply) → ((l m : ℕ) → a ≡ act.Join l m → joins n k (act.Join l m) r ≡ false) → joins n k a r ≡ false
 joins_unless n k a r h = by (kind_of a)

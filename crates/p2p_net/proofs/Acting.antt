@@ -43,6 +43,7 @@ use Rattle.p2p_net.proofs.Calling.{register_performs, start_performs, send_perfo
 use Rattle.p2p_net.proofs.Dialing.{dialer_performs}
 use Rattle.p2p_net.proofs.Handshaking.{handshake_performs}
 use Rattle.p2p_net.proofs.Listening.{listener_performs}
+use Rattle.p2p_net.proofs.SpawnerStep.{spawner_performs}
 use Rattle.p2p_net.proofs.Stepping.{route_performs}
 use Rattle.p2p_net.proofs.Trying.{attempt_performs}
 use Rattle.p2p_net.proofs.Tracking.{ask_performs, answer_performs, next_performs, tracker_performs}
@@ -71,6 +72,7 @@ node_performs configs log moment seed (act.Ask what n) x y l links r s t lawful 
 node_performs configs log moment seed (act.Answer e) x y l links r s t lawful valid one d = answer_performs configs log moment seed e x y l links r s t valid d.0.0 d.0.1 d.1
 node_performs configs log moment seed (act.Next e) x y l links r s t lawful valid one d = next_performs configs log moment seed e x y l links r s t valid d.0.0 d.0.1 d.1
 node_performs configs log moment seed (act.Tracker n) x y l links r s t lawful valid one d = tracker_performs configs log moment seed n x y l links r s t (asks_run configs log n lawful) d.0 d.1
+node_performs configs log moment seed (act.Spawner n) x y l links r s t lawful valid one d = spawner_performs configs log moment seed n x y l links r s t d.0 d.1
 node_performs configs log moment seed (act.Dialer n) x y l links r s t lawful valid one d = dialer_performs configs log moment seed n x y l links r s t d.0 d.1
 node_performs configs log moment seed (act.Listener n) x y l links r s t lawful valid one d = listener_performs configs log moment seed n x y l links r s t d.0 d.1
 node_performs configs log moment seed (act.Handshake e n) x y l links r s t lawful valid one d = handshake_performs configs log moment seed e n x y l links r s t d.0 d.1
@@ -209,22 +211,22 @@ join_by configs log moment seed a b true x y nodes new l links r s first second 
     let w : Node = c.1.1.1.0 in
     let at_first : slice_get nodes a ≡ Some u = c.1.1.1.1.0 in
     let at_second : slice_get nodes b ≡ Some z = c.1.1.1.1.1.0 in
-    let dials : Welcomes (length log) 0 (record { peer = y.config.public_key; writes = side.Out }) b u v = c.1.1.1.1.1.1.0 in
-    let listens : Welcomes (length log) 1 (record { peer = x.config.public_key; writes = side.In }) a z w = c.1.1.1.1.1.1.1.0 in
+    let dials : Welcomes (length log) 0 (record { peer = y.config.public_key; link = length log; writes = side.Out }) b u v = c.1.1.1.1.1.1.0 in
+    let listens : Welcomes (length log) 1 (record { peer = x.config.public_key; link = length log; writes = side.In }) a z w = c.1.1.1.1.1.1.1.0 in
     let set : new ≡ slice_set (slice_set nodes a v) b w = c.1.1.1.1.1.1.1.1 in
     let la : a < length nodes = below nodes a u at_first in
     let lb : b < length nodes = below nodes b z at_second in
     let made = made_is configs log moment seed a b may in
     let long = s.long in
-    let told_a = subst (λ (k : Entry). Told configs log k a 0 (record { peer = key_at configs b; writes = side.Out }) b a b) made (told_first configs log moment seed a b (omega (arith, long, lb)) both) in
-    let told_b = subst (λ (k : Entry). Told configs log k b 1 (record { peer = key_at configs a; writes = side.In }) a a b) made (told_second configs log moment seed a b (omega (arith, long, la)) both) in
+    let told_a = subst (λ (k : Entry). Told configs log k a 0 (record { peer = key_at configs b; link = length log; writes = side.Out }) b a b) made (told_first configs log moment seed a b (omega (arith, long, lb)) both) in
+    let told_b = subst (λ (k : Entry). Told configs log k b 1 (record { peer = key_at configs a; link = length log; writes = side.In }) a a b) made (told_second configs log moment seed a b (omega (arith, long, la)) both) in
     let hv : NodeStands configs (log ++ e ∷ []) a v =
-    welcome_stands configs log ev a a b 0 b (record { peer = key_at configs b; writes = side.Out }) u v s.valid (s.each a u at_first) told_a refl
-    (subst (λ (k : Key). Welcomes (length log) 0 (record { peer = k; writes = side.Out }) b u v) second_key dials)
+    welcome_stands configs log ev a a b 0 b (record { peer = key_at configs b; link = length log; writes = side.Out }) u v s.valid (s.each a u at_first) told_a refl
+    (subst (λ (k : Key). Welcomes (length log) 0 (record { peer = k; link = length log; writes = side.Out }) b u v) second_key dials)
     in
     let hw : NodeStands configs (log ++ e ∷ []) b w =
-    welcome_stands configs log ev b a b 1 a (record { peer = key_at configs a; writes = side.In }) z w s.valid (s.each b z at_second) told_b refl
-    (subst (λ (k : Key). Welcomes (length log) 1 (record { peer = k; writes = side.In }) a z w) first_key listens)
+    welcome_stands configs log ev b a b 1 a (record { peer = key_at configs a; link = length log; writes = side.In }) z w s.valid (s.each b z at_second) told_b refl
+    (subst (λ (k : Key). Welcomes (length log) 1 (record { peer = k; link = length log; writes = side.In }) a z w) first_key listens)
     in
     let mid : length (slice_set nodes a v) ≡ length nodes = length-set nodes a v in
     record {

@@ -19,7 +19,7 @@ use Rattle.p2p_log.specs.Lines.{line, name_of, placed, stands_in, ended_item}
 use Rattle.p2p_log_rules.specs.declared.row.Row.{Row}
 use Rattle.p2p_log_rules.specs.Frames.{frame_of}
 use Rattle.p2p_log_rules.specs.Facts.{events_of, has_started, registered, registers_at, capacity_for, channels, capacity_in, sum_capacities, is_up}
-use Rattle.p2p_log_rules.specs.Effect.{only, row, effect, entry_of, start_row, sent_row, send_row, read_row, oldest_read, recv_row, mailbox_size_at, router_capacity}
+use Rattle.p2p_log_rules.specs.Effect.{only, row, effect, entry_of, start_row, sent_row, send_row, read_row, oldest_read, recv_row, mailbox_size_at, router_capacity, limit_at, fitting_row}
 use Rattle.p2p_log_rules.specs.Valid.{fits_usize, may_register, may_act}
 use Rattle.p2p_log_laws.proofs.Untouched.{line-untouched}
 use Rattle.p2p_net_queues.specs.Tables.{waiting, popped_at}
@@ -38,7 +38,7 @@ use Rattle.p2p_net_dialer.specs.Stands.{DialerStands}
 use Rattle.p2p_net_dialer.proofs.Changes.{dialer_starts}
 use Rattle.p2p_net.specs.Places as place
 use Rattle.p2p_net.specs.Ready.{capacity_by}
-use Rattle.p2p_net.specs.Acts.{Registers, Starts, SendsOn, Sends, ReadsOn, Reads}
+use Rattle.p2p_net.specs.Acts.{Registers, Starts, SendsBy, SendsOn, Sends, ReadsOn, Reads}
 use Rattle.p2p_net.specs.Stands.{RouterStands, NodeStands}
 use Rattle.p2p_net.specs.declared.node.Node.{Node}
 use Rattle.p2p_net.proofs.EachPart.{with_parts, each_part, not_among}
@@ -140,17 +140,25 @@ start_performs configs log at seed n x y l links r s t d kept =
 
 -- ---- send
 
-send_on : (configs : List Config) (log : List Entry) (at seed n c : ℕ) (bytes : List ℕ) (priority : Bool) (to : Recipients) (o : Option ℕ) (x y : Node) (l links : Links) (r : Row) → NodeStands configs log n x → LinksStand log l
-    → capacity_at x.channels c ≡ o → SendsOn o (length log) c priority bytes to x y r → links ≡ l → Performs configs log (asked at seed (act.Send bytes c n priority to)) n y links r
+limit_of : (configs : List Config) (log : List Entry) (n : ℕ) (x : Node) → NodeStands configs log n x → x.config.max_message_size ≡ limit_at configs n
+limit_of configs log n x s = sym (ap (λ (o : Option Config). elim o [ None ↦ 0 | Some c ↦ c.max_message_size ]) s.own.config)
+
+-- on a registered channel, by whether the message is longer than the node lets it be
+send_by : (configs : List Config) (log : List Entry) (at seed n c k : ℕ) (bytes : List ℕ) (priority : Bool) (to : Recipients) (b : Bool) (x y : Node) (l links : Links) (r : Row) → NodeStands configs log n x → LinksStand log l
+    → capacity_at x.channels c ≡ Some k → nat_lt x.config.max_message_size (length bytes) ≡ b → SendsBy b (length log) c priority bytes to x y r → links ≡ l → Performs configs log (asked at seed (act.Send bytes c n priority to)) n y links r
 unfolding effect row
-send_on configs log at seed n c bytes priority to None x y l links r s t has d kept =
+send_by configs log at seed n c k bytes priority to true x y l links r s t has long d kept =
     let chan : ChannelsStand configs log n x.channels = s.each place.channels in
+    let limit : x.config.max_message_size ≡ limit_at configs n = limit_of configs log n x s in
     let full = nat_le (router_capacity configs log n) (length (line log (queue.Router n))) in
-    let is : send_row configs log bytes c n priority to ≡ only reply.Gone =
-    ap (λ (o : Option ℕ). elim o [ None ↦ only reply.Gone | Some _ ↦ sent_row (is_up log n) full n (length log) c priority (frame_of c bytes) (keys_of_recipients to) ]) (sym (chan.capacities c) ∙ has)
+    let sent : Row = sent_row (is_up log n) full n (length log) c priority (frame_of c bytes) (keys_of_recipients to) in
+    let is : send_row configs log bytes c n priority to ≡ only (reply.MessageTooLarge (length bytes) (limit_at configs n)) =
+    ap (λ (o : Option ℕ). elim o [ None ↦ only reply.Gone | Some _ ↦ fitting_row (nat_lt (limit_at configs n) (length bytes)) (length bytes) (limit_at configs n) sent ]) (sym (chan.capacities c) ∙ has)
+    ∙ ap (λ b. fitting_row b (length bytes) (limit_at configs n) sent) (ap (λ m. nat_lt m (length bytes)) (sym limit) ∙ long)
     in
-    stays_performs configs log (asked at seed (act.Send bytes c n priority to)) n x y l links r reply.Gone s t is refl d.0 d.1 kept
-send_on configs log at seed n c bytes priority to (Some k) x y l links r s t has d kept =
+    stays_performs configs log (asked at seed (act.Send bytes c n priority to)) n x y l links r (reply.MessageTooLarge (length bytes) (limit_at configs n)) s t is refl
+    (d.0 ∙ ap (λ m. only (reply.MessageTooLarge (length bytes) m)) limit) d.1 kept
+send_by configs log at seed n c k bytes priority to false x y l links r s t has short d kept =
     let ev = asked at seed (act.Send bytes c n priority to) in
     let e = effect configs log ev in
     let chan : ChannelsStand configs log n x.channels = s.each place.channels in
@@ -160,7 +168,12 @@ send_on configs log at seed n c bytes priority to (Some k) x y l links r s t has
     let at_number : x.router.number ≡ n = rout.number in
     let keys = keys_of_recipients to in
     let sent = λ (m : ℕ). sent_row (is_up log m) (nat_le (router_capacity configs log m) (length (line log (queue.Router m)))) m (length log) c priority (frame_of c bytes) keys in
-    let is : sent n ≡ send_row configs log bytes c n priority to = sym (ap (λ (o : Option ℕ). elim o [ None ↦ only reply.Gone | Some _ ↦ sent n ]) (sym (chan.capacities c) ∙ has)) in
+    let limit : x.config.max_message_size ≡ limit_at configs n = limit_of configs log n x s in
+    let is : sent n ≡ send_row configs log bytes c n priority to =
+    sym
+    (ap (λ (o : Option ℕ). elim o [ None ↦ only reply.Gone | Some _ ↦ fitting_row (nat_lt (limit_at configs n) (length bytes)) (length bytes) (limit_at configs n) (sent n) ]) (sym (chan.capacities c) ∙ has)
+    ∙ ap (λ b. fitting_row b (length bytes) (limit_at configs n) (sent n)) (ap (λ m. nat_lt m (length bytes)) (sym limit) ∙ short))
+    in
     let row_is : r ≡ send_row configs log bytes c n priority to = calls.row configs log rout.stands ∙ (ap sent at_number ∙ is) in
     record {
       row_is = row_is;
@@ -174,6 +187,19 @@ send_on configs log at seed n c bytes priority to (Some k) x y l links r s t has
           );
       linked = subst (LinksStand (log ++ e ∷ [])) (sym kept) (links_kept configs log ev l t refl);
     }
+
+send_on : (configs : List Config) (log : List Entry) (at seed n c : ℕ) (bytes : List ℕ) (priority : Bool) (to : Recipients) (o : Option ℕ) (x y : Node) (l links : Links) (r : Row) → NodeStands configs log n x → LinksStand log l
+    → capacity_at x.channels c ≡ o → SendsOn o (length log) c priority bytes to x y r → links ≡ l → Performs configs log (asked at seed (act.Send bytes c n priority to)) n y links r
+unfolding effect row
+send_on configs log at seed n c bytes priority to None x y l links r s t has d kept =
+    let chan : ChannelsStand configs log n x.channels = s.each place.channels in
+    let full = nat_le (router_capacity configs log n) (length (line log (queue.Router n))) in
+    let is : send_row configs log bytes c n priority to ≡ only reply.Gone =
+    ap (λ (o : Option ℕ). elim o [ None ↦ only reply.Gone | Some _ ↦ fitting_row (nat_lt (limit_at configs n) (length bytes)) (length bytes) (limit_at configs n) (sent_row (is_up log n) full n (length log) c priority (frame_of c bytes) (keys_of_recipients to)) ]) (sym (chan.capacities c) ∙ has)
+    in
+    stays_performs configs log (asked at seed (act.Send bytes c n priority to)) n x y l links r reply.Gone s t is refl d.0 d.1 kept
+send_on configs log at seed n c bytes priority to (Some k) x y l links r s t has d kept =
+    send_by configs log at seed n c k bytes priority to (nat_lt x.config.max_message_size (length bytes)) x y l links r s t has refl d kept
 
 pub send_performs : (configs : List Config) (log : List Entry) (at seed n c : ℕ) (bytes : List ℕ) (priority : Bool) (to : Recipients) (x y : Node) (l links : Links) (r : Row) → NodeStands configs log n x → LinksStand log l
     → Sends (length log) c priority bytes to x y r → links ≡ l → Performs configs log (asked at seed (act.Send bytes c n priority to)) n y links r

@@ -17,10 +17,10 @@ use Rattle.p2p_log.specs.declared.event.Act.{Act}
 use Rattle.p2p_log.specs.declared.event.Act.TheVariants as act
 use Rattle.p2p_log.specs.Lines.{line}
 use Rattle.p2p_log_rules.specs.declared.row.Row.{Row}
-use Rattle.p2p_log_rules.specs.Attempting.{Attempt, dial_rules_at, told_answer, with_attempt, acted_attempts, attempts_of, link_item, answered_row}
+use Rattle.p2p_log_rules.specs.Attempting.{Attempt, dial_rules_at, told_answer, acted_attempts, attempts_of, link_item, answered_row}
 use Rattle.p2p_log_rules.specs.Dialing.{Pace, Dials, acted_dials}
 use Rattle.p2p_log_rules.specs.Effect.{only, row, effect}
-use Rattle.p2p_log_rules.specs.Facts.{starts}
+use Rattle.p2p_log_rules.specs.Facts.{starts, with_named}
 use Rattle.p2p_log_rules.proofs.Touches.{reads, writes}
 use Rattle.p2p_net_queues.specs.Tables as table
 use Rattle.p2p_net_queues.specs.Tables.{AreBut}
@@ -121,9 +121,9 @@ module _ (configs : List Config) (log : List Entry) (moment seed name n : ℕ) (
 
 -- an act that answers the dial of an attempt of the node changes the attempt alone
 pub acted_answer : (configs : List Config) (log : List Entry) (n name : ℕ) (rep : Reply) (j : ℕ)
-    → cond (n == n) (with_attempt name (option_map (told_answer (length log) rep) (attempts_of configs log n name)) (attempts_of configs log n) j) (attempts_of configs log n j)
+    → cond (n == n) (with_named name (option_map (told_answer (length log) rep) (attempts_of configs log n name)) (attempts_of configs log n) j) (attempts_of configs log n j)
     ≡ cond (j == name) (option_map (told_answer (length log) rep) (attempts_of configs log n name)) (attempts_of configs log n j)
-acted_answer configs log n name rep j = ap (λ b. cond b (with_attempt name (option_map (told_answer (length log) rep) (attempts_of configs log n name)) (attempts_of configs log n) j) (attempts_of configs log n j)) (eq-eqb n n refl)
+acted_answer configs log n name rep j = ap (λ b. cond b (with_named name (option_map (told_answer (length log) rep) (attempts_of configs log n name)) (attempts_of configs log n) j) (attempts_of configs log n j)) (eq-eqb n n refl)
 
 refuse_row_is : (configs : List Config) (log : List Entry) (moment seed name n : ℕ) → row configs log moment seed (act.Refuse name n) ≡ answer_row (attempts_of configs log n name) false name n
 unfolding row

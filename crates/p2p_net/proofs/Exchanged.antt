@@ -1,6 +1,6 @@
 -- The exchange of keys over a link ends: the attempt is told, and the handshake at the other end.
 use Rattle.std.proofs.Common.{◌≡◌, ℕ, Bool, true, false, cond, List, [], ◌∷◌, ◌++◌, length, refl, ap, sym, subst, ◌∙◌, append-nil, eqb-true, Option, Some, None}
-use Rattle.std.specs.Prelude.{filter, slice_get, slice_set, ◌==◌, ◌&&◌, ◌||◌}
+use Rattle.std.specs.Prelude.{filter, is_some, slice_get, slice_set, ◌==◌, ◌&&◌, ◌||◌}
 use Rattle.std.specs.List.{list_any}
 use Rattle.std.specs.Option.{option_map}
 use Rattle.std.proofs.lemmas.Option.{same_Some}
@@ -31,7 +31,7 @@ use Rattle.p2p_log_rules.specs.declared.row.Row.{Row}
 use Rattle.p2p_log_rules.specs.Attempting.{Attempt, attempts_of}
 use Rattle.p2p_log_rules.specs.Effect.{only, row, effect, entry_of}
 use Rattle.p2p_log_rules.specs.Facts.{key_at}
-use Rattle.p2p_log_rules.specs.Links.{openings_of, listening_ends_of, dials_key, stands, accepts, exchanged, dialing_puts, listening_puts, finished_row, verdict, finish_by}
+use Rattle.p2p_log_rules.specs.Links.{openings_of, listening_ends_of, is_dialed, accepts, exchanged, dialing_puts, listening_puts, finished_row, verdict, finish_by}
 use Rattle.p2p_log_rules.proofs.Touches.{in_ends}
 use Rattle.p2p_log_laws.proofs.Untouched.{line-untouched}
 use Rattle.p2p_net_queues.specs.Tables as table
@@ -53,7 +53,7 @@ use Rattle.p2p_net_tracker.proofs.FinishSteps.{tracker_after_finish}
 use Rattle.p2p_net_links.specs.declared.links.Links.{Links}
 use Rattle.p2p_net_links.specs.Stands.{LinksStand}
 use Rattle.p2p_net_links.proofs.Changes.{links_finished, openings_finished}
-use Rattle.p2p_net.specs.Finishing.{is_dialed, accepts_end, said, TellsHandshake, TellsEnd, TellsBoth, FinishesBy, IsFinishedOver, IsFinished}
+use Rattle.p2p_net.specs.Finishing.{accepts_end, said, TellsHandshake, TellsEnd, TellsBoth, FinishesBy, IsFinishedOver, IsFinished}
 use Rattle.p2p_net.specs.Places.{Part, dialer, listener, tracker, same_part, at, same_place, ends_named, names}
 use Rattle.p2p_net.specs.Stands.{NodeStands, WorldStands}
 use Rattle.p2p_net.specs.declared.node.Node.{Node}
@@ -68,31 +68,25 @@ use Rattle.p2p_net.proofs.Touching.{first_false, second_false}
 
 -- ---- what is said of the keys is what the log says
 
-stands_mapped : {A B : Type 0} (f : A → B) (o : Option A) → stands (option_map f o) ≡ stands o
-stands_mapped f None = refl
-stands_mapped f (Some a) = refl
-
-dialed_mapped : (key : Key) (o : Option Attempt) → is_dialed key (option_map (λ (a : Attempt). a.key) o) ≡ dials_key key o
-dialed_mapped key None = refl
-dialed_mapped key (Some a) = refl
-
 end_accepted : (configs : List Config) (log : List Entry) (m link : ℕ) (y : Node) → NodeStands configs log m y → (end : Option ListeningEnd) → listening_ends_of log m link ≡ end → accepts_end end y ≡ accepts log m end
 end_accepted configs log m link y s None is = refl
 end_accepted configs log m link y s (Some listening.Arriving) is = refl
 end_accepted configs log m link y s (Some (listening.Handshake h)) is = end_accepts configs log m link h y.listening (s.each listener) is
 
+-- the key that the attempt of an opening dialed, by the log
+abbrev dialed_by : List Config → List Entry → Opening → Option Key
+dialed_by configs log o = option_map (λ (a : Attempt). a.key) (attempts_of configs log o.node o.attempt)
+
 said_is : (configs : List Config) (log : List Entry) (ok : Bool) (o : Opening) (link : ℕ) (x y : Node) → NodeStands configs log o.node x → NodeStands configs log o.to y
-    → said ok (dialed_key (table.at x.dialing.attempts o.attempt)) (table.at y.listening.ends link) y ≡ verdict configs log ok o.to (attempts_of configs log o.node o.attempt) (listening_ends_of log o.to link)
+    → said ok (dialed_key (table.at x.dialing.attempts o.attempt)) (table.at y.listening.ends link) y ≡ verdict configs log ok o.to (dialed_by configs log o) (listening_ends_of log o.to link)
 said_is configs log ok o link x y s t =
-    let b : Option Attempt = attempts_of configs log o.node o.attempt in
+    let dialed : Option Key = dialed_by configs log o in
     let end : Option ListeningEnd = listening_ends_of log o.to link in
     let heard : ListenerStands configs log o.to y.listening = t.each listener in
     ap (λ e. said ok (dialed_key (table.at x.dialing.attempts o.attempt)) e y) (heard.ends link)
-    ∙ (ap (λ k. said ok k end y) (dialed_key_is configs log o.node o.attempt x.dialing (s.each dialer))
-    ∙ (ap (λ k. exchanged (stands (option_map (λ (a : Attempt). a.key) b) && stands end) (ok && is_dialed k (option_map (λ (a : Attempt). a.key) b)) (accepts_end end y)) (key_is configs o.to y t.own)
-    ∙ (ap (λ d. exchanged (d && stands end) (ok && is_dialed (key_at configs o.to) (option_map (λ (a : Attempt). a.key) b)) (accepts_end end y)) (stands_mapped (λ (a : Attempt). a.key) b)
-    ∙ (ap (λ d. exchanged (stands b && stands end) (ok && d) (accepts_end end y)) (dialed_mapped (key_at configs o.to) b)
-    ∙ ap (exchanged (stands b && stands end) (ok && dials_key (key_at configs o.to) b)) (end_accepted configs log o.to link y t end refl)))))
+    ∙ (ap (λ d. said ok d end y) (dialed_key_is configs log o.node o.attempt x.dialing (s.each dialer))
+    ∙ (ap (λ k. exchanged (is_some dialed && is_some end) (ok && is_dialed k dialed) (accepts_end end y)) (key_is configs o.to y t.own)
+    ∙ ap (exchanged (is_some dialed && is_some end) (ok && is_dialed (key_at configs o.to) dialed)) (end_accepted configs log o.to link y t end refl)))
 
 finish_row_is : (configs : List Config) (log : List Entry) (moment seed link : ℕ) (ok : Bool) (p : Option Opening) → openings_of log link ≡ p
     → row configs log moment seed (act.Finish link ok) ≡ elim p [
@@ -378,7 +372,7 @@ module _ (configs : List Config) (log : List Entry) (moment seed link : ℕ) (ok
 
 -- the exchange over a link that is open, by what is said of its keys
 by_verdict : (configs : List Config) (log : List Entry) (moment seed link : ℕ) (ok : Bool) (o : Opening) (nodes new : List Node) (l links : Links) (r : Row) → WorldStands configs log nodes l → openings_of log link ≡ Some o
-    → (v : Option Bool) → verdict configs log ok o.to (attempts_of configs log o.node o.attempt) (listening_ends_of log o.to link) ≡ v
+    → (v : Option Bool) → verdict configs log ok o.to (dialed_by configs log o) (listening_ends_of log o.to link) ≡ v
     → FinishesBy v (length log) link o (listening_ends_of log o.to link) nodes new l links r → Simulates configs log (asked moment seed (act.Finish link ok)) new links r
 by_verdict configs log moment seed link ok o nodes new l links r s is None none d =
     still_simulates configs log moment seed link ok nodes new l links r s reply.Pending
@@ -396,7 +390,7 @@ by_opening configs log moment seed link ok nodes new l links r s (Some o) is d =
     let second : NodeStands configs log o.to d.second = s.each o.to d.second d.at_second in
     let end : Option ListeningEnd = listening_ends_of log o.to link in
     let ends : table.at d.second.listening.ends link ≡ end = (second.each listener).ends link in
-    let v : Option Bool = verdict configs log ok o.to (attempts_of configs log o.node o.attempt) end in
+    let v : Option Bool = verdict configs log ok o.to (dialed_by configs log o) end in
     by_verdict configs log moment seed link ok o nodes new l links r s is v refl
     (subst (λ x. FinishesBy v (length log) link o x nodes new l links r) ends
     (subst (λ w. FinishesBy w (length log) link o (table.at d.second.listening.ends link) nodes new l links r) (said_is configs log ok o link d.first d.second first second) d.finishes))

@@ -18,6 +18,8 @@ use Rattle.p2p_log.specs.declared.event.Act.TheVariants as act
 use Rattle.p2p_log.specs.Lines.{live, line, stands_in}
 use Rattle.p2p_log_rules.specs.declared.row.Half.{Half}
 use Rattle.p2p_log_rules.specs.Facts.{starts, registers_at, capacity_for, taken, steps_router, steps_sender, is_answer, half_of, key_at, answers_by, joins}
+use Rattle.p2p_log_rules.specs.Spawning.{steps_spawner}
+use Rattle.p2p_log_rules.proofs.Spawning.{connections_of-unmade}
 use Rattle.p2p_log_rules.specs.Effect.{row, effect}
 use Rattle.p2p_log_rules.specs.Tracking.{asked_by, steps_tracker}
 use Rattle.p2p_log_rules.specs.TrackerRows.{answers, is_answer as gives_answer, answer_by}
@@ -35,7 +37,7 @@ use Rattle.p2p_net_router.specs.Stands.{IsBeside}
 use Rattle.p2p_net_router.specs.declared.router.Router.{Router}
 use Rattle.p2p_net_router.proofs.Beside.{stands_beside}
 use Rattle.p2p_net_channels.proofs.Changes.{channels_frame}
-use Rattle.p2p_net_connections.specs.Stands.{MakesNone}
+use Rattle.p2p_net_connections.specs.Stands.{JoinsNone}
 use Rattle.p2p_net_connections.proofs.Changes.{connections_frame}
 use Rattle.p2p_net_links.specs.Stands.{LinksStand}
 use Rattle.p2p_net_links.specs.declared.links.Links.{Links}
@@ -67,14 +69,14 @@ registers_none configs log n p a apart h =
 -- ---- connections
 
 -- a join of two other nodes
-half_other : (configs : List Config) (n a b : ℕ) (r : Reply) → (a == n) ≡ false → (b == n) ≡ false → half_of configs n (act.Join a b) r ≡ None
-half_other configs n a b reply.Ok p q =
+half_other : (configs : List Config) (n conn a b : ℕ) (r : Reply) → (a == n) ≡ false → (b == n) ≡ false → half_of configs n conn (act.Join a b) r ≡ None
+half_other configs n conn a b reply.Ok p q =
     let p' : (n == a) ≡ false = grind (arith, nat_tests) in
     let q' : (n == b) ≡ false = grind (arith, nat_tests) in
-    let first : Option Half = Some (record { peer = key_at configs b; writes = side.Out }) in
-    let second : Option Half = Some (record { peer = key_at configs a; writes = side.In }) in
+    let first : Option Half = Some (record { peer = key_at configs b; link = conn; writes = side.Out }) in
+    let second : Option Half = Some (record { peer = key_at configs a; link = conn; writes = side.In }) in
     ap (λ t. cond t first (cond (n == b) second None)) p' ∙ ap (λ t. cond t second None) q'
-half_other configs n a b _ p q = refl
+half_other configs n conn a b _ p q = refl
 
 joins_other : (n m a b : ℕ) (r : Reply) → (a == n) ≡ false → (b == n) ≡ false → joins n m (act.Join a b) r ≡ false
 joins_other n m a b reply.Ok p q = grind (arith, nat_tests)
@@ -86,25 +88,30 @@ is_join (act.Join a b) = true
 is_join _ = false
 
 -- the entry of an act that joins no nodes
-pub makes_none : (configs : List Config) (log : List Entry) (e : Entry) (n : ℕ) (a : Act) → e.event.act ≡ a → is_join a ≡ false → MakesNone configs log e n
-makes_none configs log e n a is h = record {
-  no_half = ap (λ x. half_of configs n x e.reply) is ∙ half_unless configs n a e.reply (λ l m j. let t : true ≡ false = sym (ap is_join j) ∙ h in cc);
+pub joins_none : (configs : List Config) (log : List Entry) (e : Entry) (n : ℕ) (a : Act) → e.event.act ≡ a → is_join a ≡ false → JoinsNone configs log e n
+joins_none configs log e n a is h = record {
+  no_half = λ conn. ap (λ x. half_of configs n conn x e.reply) is ∙ half_unless configs n conn a e.reply (λ l m j. let t : true ≡ false = sym (ap is_join j) ∙ h in cc);
   no_partner = λ k. ap (λ x. joins n k x e.reply) is ∙ joins_unless n k a e.reply (λ l m j. let t : true ≡ false = sym (ap is_join j) ∙ h in cc);
 }
 
 join_ends : (log : List Entry) (n a b : ℕ) → names log (act.Join a b) (at connections n) ≡ false → ((a == n) ≡ false) × ((b == n) ≡ false)
 join_ends log n a b h = (grind (arith, nat_tests), grind (arith, nat_tests))
 
-makes_unnamed : (configs : List Config) (log : List Entry) (e : Entry) (n : ℕ) (a : Act) → e.event.act ≡ a → names log a (at connections n) ≡ false → MakesNone configs log e n
-makes_unnamed configs log e n a is h = record {
-  no_half = ap (λ x. half_of configs n x e.reply) is
-      ∙ half_unless configs n a e.reply (λ l m j. let ends = away l m j in half_other configs n l m e.reply ends.0 ends.1);
+joins_unnamed : (configs : List Config) (log : List Entry) (e : Entry) (n : ℕ) (a : Act) → e.event.act ≡ a → names log a (at connections n) ≡ false → JoinsNone configs log e n
+joins_unnamed configs log e n a is h = record {
+  no_half = λ conn. ap (λ x. half_of configs n conn x e.reply) is
+      ∙ half_unless configs n conn a e.reply (λ l m j. let ends = away l m j in half_other configs n conn l m e.reply ends.0 ends.1);
   no_partner = λ k. ap (λ x. joins n k x e.reply) is
       ∙ joins_unless n k a e.reply (λ l m j. let ends = away l m j in joins_other n k l m e.reply ends.0 ends.1);
 }
   where
     away : (l m : ℕ) → a ≡ act.Join l m → ((l == n) ≡ false) × ((m == n) ≡ false)
     away l m j = join_ends log n l m (sym (ap (λ x. names log x (at connections n)) j) ∙ h)
+
+-- a spawner's step of another node
+spawns_none : (log : List Entry) (n : ℕ) (a : Act) → names log a (at connections n) ≡ false → steps_spawner n a ≡ false
+spawns_none log n (act.Spawner m) h = grind (arith, nat_tests)
+spawns_none log n _ h = refl
 
 steps_other : (log : List Entry) (n conn d m : ℕ) → names log (act.SendStep d m) (at connections n) ≡ false → ((m == n) && (d == conn)) ≡ false
 steps_other log n conn d m h = grind (arith, nat_tests)
@@ -274,7 +281,8 @@ part_frame connections configs log ev n x s h =
     let e = effect configs log ev in
     connections_frame configs log e n x.connections s
     (record {
-      makes = makes_unnamed configs log e n ev.act (effect-act configs log ev) h;
+      joins = joins_unnamed configs log e n ev.act (effect-act configs log ev) h;
+      spawns = λ conn. connections_of-unmade log e n (ap (steps_spawner n) (effect-act configs log ev) ∙ spawns_none log n ev.act h) conn;
       begins = λ conn. begins_by log e n conn ev.act (effect-act configs log ev) h;
       lines = λ conn. line-unnamed configs log ev (queue.Ready n conn) h;
     })

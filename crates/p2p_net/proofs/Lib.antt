@@ -26,6 +26,7 @@ pub mod Records
 pub mod Resolving
 pub mod Routers
 pub mod Running
+pub mod SpawnerStep
 pub mod Starts
 pub mod Stepping
 pub mod Touching

@@ -13,20 +13,23 @@ use Rattle.p2p_log_rules.specs.declared.row.Opening.{Opening}
 use Rattle.p2p_log_rules.specs.Facts.{state_from}
 use Rattle.p2p_log_rules.specs.Links.{with_opened, without_finished, acted_openings, openings_by, openings_of}
 use Rattle.p2p_net_queues.proofs.Matching.{slice_get-longer}
-use Rattle.p2p_net.specs.Places.{node_linked, linked_to}
+use Rattle.p2p_net.specs.Places.{linked_by, nodes_linked}
+use Rattle.p2p_net.specs.declared.meeting.Ends.{Ends}
+
+abbrev pub ends_of : Opening → Ends
+ends_of o = record { dials = o.node; listens = o.to }
 
 -- an entry that made this link
 pub record Made (o : Opening) (at : Option Entry) : Type 0 where
   pub entry : Entry
   pub is : at ≡ Some entry
-  pub node : node_linked (Some entry) ≡ o.node
-  pub to : linked_to (Some entry) ≡ o.to
+  pub ends : nodes_linked (Some entry) ≡ ends_of o
 
 abbrev AreMade : List Entry → (ℕ → Option Opening) → Type 0
 AreMade before openings = (k : ℕ) (o : Opening) → openings k ≡ Some o → Made o (slice_get before k)
 
 kept : (before : List Entry) (e : Entry) (o : Opening) (k : ℕ) → Made o (slice_get before k) → Made o (slice_get (before ++ e ∷ []) k)
-kept before e o k h = record { entry = h.entry; is = slice_get-longer before (e ∷ []) k h.entry h.is; node = h.node; to = h.to }
+kept before e o k h = record { entry = h.entry; is = slice_get-longer before (e ∷ []) k h.entry h.is; ends = h.ends }
 
 module _ (before : List Entry) (e : Entry) (openings : ℕ → Option Opening) (made : AreMade before openings) where
   abbrev Is : ℕ → Opening → Type 0
@@ -47,8 +50,7 @@ module _ (before : List Entry) (e : Entry) (openings : ℕ → Option Opening) (
           record {
             entry = e;
             is = ap (slice_get (before ++ e ∷ [])) (eqb-true k (length before) here) ∙ slice_get-seam before e [];
-            node = ap (λ a. elim a [ act.Connect x y m t ↦ m | _ ↦ 0 ]) acts ∙ ap (λ (p : Opening). p.node) same;
-            to = ap (λ a. elim a [ act.Connect x y m t ↦ t | _ ↦ 0 ]) acts ∙ ap (λ (p : Opening). p.to) same;
+            ends = ap linked_by acts ∙ ap ends_of same;
           }
       at false other is = old k o is
 
@@ -78,9 +80,11 @@ made_from before (e ∷ es) openings made =
     subst (λ l. AreMade l (state_from openings_by (before ++ e ∷ []) es (openings_by before e openings))) (append_assoc before (e ∷ []) es)
     (made_from (before ++ e ∷ []) es (openings_by before e openings) (next_made before e openings made))
 
+ends_made : (o : Opening) (at : Option Entry) → Made o at → nodes_linked at ≡ ends_of o
+ends_made o at made = ap nodes_linked made.is ∙ made.ends
+
 -- the nodes of a link that is open
-pub opening_made : (log : List Entry) (k : ℕ) (o : Opening) → openings_of log k ≡ Some o → (node_linked (slice_get log k) ≡ o.node) × (linked_to (slice_get log k) ≡ o.to)
+pub opening_made : (log : List Entry) (k : ℕ) (o : Opening) → openings_of log k ≡ Some o → nodes_linked (slice_get log k) ≡ ends_of o
 unfolding openings_of
 opening_made log k o is =
-    let made : Made o (slice_get log k) = made_from [] log (λ j. None) (λ j p none. cc) k o is in
-    (ap node_linked made.is ∙ made.node, ap linked_to made.is ∙ made.to)
+    ends_made o (slice_get log k) (made_from [] log (λ j. None) (λ j p none. cc) k o is)

@@ -18,6 +18,7 @@ use Rattle.p2p_log_rules.specs.Dialing.{Pace, pace_at, Dials, acted_dials, dials
 use Rattle.p2p_net_dialer.proofs.Changes.{dialer_frame}
 use Rattle.p2p_net_listener.proofs.Changes.{listener_frame}
 use Rattle.p2p_log_rules.specs.Facts.{starts, registers_at, taken, item_named, steps_router, steps_sender, is_answer, half_of, joins}
+use Rattle.p2p_log_rules.proofs.Spawning.{connections_of-untaken}
 use Rattle.p2p_log_rules.specs.Effect.{only, row, effect}
 use Rattle.p2p_log_rules.specs.Links.{openings_by, openings_of}
 use Rattle.p2p_log_rules.specs.Handshakes.{ends_handshake, steps_listener, acted_handshakes, handshakes_by, handshakes_of}
@@ -91,18 +92,18 @@ quiet_starts : (n : ℕ) (a : Act) (r : Reply) → is_quiet a r ≡ true → sta
 quiet_starts n a r h = starts_unless n a (λ m is. let t : false ≡ true = sym (ap (λ x. is_quiet x r) is) ∙ h in cc)
 
 -- a join that is refused
-half_refused : (configs : List Config) (n l m : ℕ) (r : Reply) → is_quiet (act.Join l m) r ≡ true → half_of configs n (act.Join l m) r ≡ None
-half_refused configs n l m reply.Gone h = refl
-half_refused configs n l m reply.Ok h = cc
-half_refused configs n l m _ h = refl
+half_refused : (configs : List Config) (n conn l m : ℕ) (r : Reply) → is_quiet (act.Join l m) r ≡ true → half_of configs n conn (act.Join l m) r ≡ None
+half_refused configs n conn l m reply.Gone h = refl
+half_refused configs n conn l m reply.Ok h = cc
+half_refused configs n conn l m _ h = refl
 
 joins_refused : (n k l m : ℕ) (r : Reply) → is_quiet (act.Join l m) r ≡ true → joins n k (act.Join l m) r ≡ false
 joins_refused n k l m reply.Gone h = refl
 joins_refused n k l m reply.Ok h = cc
 joins_refused n k l m _ h = refl
 
-quiet_half : (configs : List Config) (n : ℕ) (a : Act) (r : Reply) → is_quiet a r ≡ true → half_of configs n a r ≡ None
-quiet_half configs n a r h = half_unless configs n a r (λ l m is. half_refused configs n l m r (sym (ap (λ x. is_quiet x r) is) ∙ h))
+quiet_half : (configs : List Config) (n conn : ℕ) (a : Act) (r : Reply) → is_quiet a r ≡ true → half_of configs n conn a r ≡ None
+quiet_half configs n conn a r h = half_unless configs n conn a r (λ l m is. half_refused configs n conn l m r (sym (ap (λ x. is_quiet x r) is) ∙ h))
 
 quiet_joins : (n k : ℕ) (a : Act) (r : Reply) → is_quiet a r ≡ true → joins n k a r ≡ false
 quiet_joins n k a r h = joins_unless n k a r (λ l m is. joins_refused n k l m r (sym (ap (λ x. is_quiet x r) is) ∙ h))
@@ -203,10 +204,11 @@ part_still channels configs log e n x a rep s is q h =
 part_still connections configs log e n x a rep s is q h =
     connections_frame configs log e n x.connections s
     (record {
-      makes = record {
-        no_half = ap (λ b. half_of configs n b e.reply) is ∙ (ap (half_of configs n a) h.reply ∙ quiet_half configs n a rep q);
+      joins = record {
+        no_half = λ conn. ap (λ b. half_of configs n conn b e.reply) is ∙ (ap (half_of configs n conn a) h.reply ∙ quiet_half configs n conn a rep q);
         no_partner = λ m. ap (λ b. joins n m b e.reply) is ∙ (ap (joins n m a) h.reply ∙ quiet_joins n m a rep q);
       };
+      spawns = connections_of-untaken log e n (taken-none log e h.takes);
       begins = λ conn. ap (λ b. cond (steps_sender n conn b) (map is_answer (taken log e)) []) is ∙ either_nothing (steps_sender n conn a) (map is_answer (taken log e)) (ap (map is_answer) (taken-none log e h.takes));
       lines = λ conn. line-still log e rep (queue.Ready n conn) h;
     })

@@ -27,11 +27,12 @@ use Rattle.p2p_net_listener.proofs.Changes.{place_held}
 use Rattle.p2p_log_rules.specs.declared.row.Opening.{Opening}
 use Rattle.p2p_net_queues.specs.Tables as table
 use Rattle.p2p_net_links.specs.Stands.{LinksStand}
-use Rattle.p2p_net.specs.Places.{asked_node, or_first, node_asked, node_linked, linked_to, node_of, other_of}
+use Rattle.p2p_net.specs.Places.{asked_node, or_first, node_asked, linked_by, nodes_linked, node_of, other_of}
 use Rattle.p2p_net.proofs.LinkedNodes.{opening_made}
 use Rattle.p2p_net.specs.Ready.{is_started, capacity_by, may_register, names_node, asks_set, subscribes, may_ask, may_at, may_act, IsReady, MayPerform, names_dialer, names_listener, is_link, links_attempt}
 use Rattle.p2p_net.specs.Meetings.{meeting_of, MeetsThere}
 use Rattle.p2p_net.specs.Stands.{RouterStands, OwnStands, NodeStands, WorldStands}
+use Rattle.p2p_net.specs.declared.meeting.Ends.{Ends}
 use Rattle.p2p_net.specs.declared.meeting.Meeting.{Meeting}
 use Rattle.p2p_net.specs.declared.meeting.Meeting.TheVariants as meeting
 use Rattle.p2p_net.specs.declared.node.Node.{Node}
@@ -116,7 +117,7 @@ listened_is (d ∷ ds) (suc i) = listened_is ds i
 
 -- an event that links an attempt of a node to another
 linked_is : (configs : List Config) (log : List Entry) (link : ℕ)
-    → (nat_lt (node_linked (slice_get log link)) (length configs) && (nat_lt (linked_to (slice_get log link)) (length configs) && links_attempt (slice_get log link)))
+    → (nat_lt (nodes_linked (slice_get log link)).dials (length configs) && (nat_lt (nodes_linked (slice_get log link)).listens (length configs) && links_attempt (slice_get log link)))
     ≡ valid.names_link configs (events_of log) link
 linked_is configs [] link = nowhere (nat_lt 0 (length configs))
   where
@@ -129,7 +130,7 @@ linked_is configs (d ∷ ds) zero = by d.event.act
     nowhere true = refl
     nowhere false = refl
 
-    by : (a : Act) → (nat_lt (elim a [ act.Connect e from n to ↦ n | _ ↦ 0 ]) (length configs) && (nat_lt (elim a [ act.Connect e from n to ↦ to | _ ↦ 0 ]) (length configs) && is_link a)) ≡ valid.links_nodes configs a
+    by : (a : Act) → (nat_lt (linked_by a).dials (length configs) && (nat_lt (linked_by a).listens (length configs) && is_link a)) ≡ valid.links_nodes configs a
     by (act.Connect e from n to) = ap (λ b. nat_lt n (length configs) && b) (and-true (nat_lt to (length configs)))
     by _ = nowhere (nat_lt 0 (length configs))
 linked_is configs (d ∷ ds) (suc i) = linked_is configs ds i
@@ -193,10 +194,6 @@ module _ (configs : List Config) (log : List Entry) (nodes : List Node) (links :
   may_by (act.Join a b) =
       pair_there (nat_lt a (length nodes)) (nat_lt b (length nodes)) (may_at (slice_get nodes a) log (act.Join a b)) (λ lt. asks (act.Join a b) true lt (λ x t. refl))
       ∙ (ap (λ c. c && nat_lt b (length nodes)) (counted a) ∙ ap (λ c. nat_lt a (length configs) && c) (counted b))
-  may_by (act.Send bytes c n priority to) =
-      there (nat_lt n (length nodes)) (may_at (slice_get nodes n) log (act.Send bytes c n priority to)) (nat_le (length bytes) (limit_at configs n))
-      (λ lt. asks (act.Send bytes c n priority to) (nat_le (length bytes) (limit_at configs n)) lt (λ x t. ap (nat_le (length bytes)) (limit_is configs n x t.own)))
-      ∙ ap (λ b. b && nat_le (length bytes) (limit_at configs n)) (counted n)
   may_by (act.SendStep conn n) =
       there (nat_lt n (length nodes)) (may_at (slice_get nodes n) log (act.SendStep conn n)) (names_join (events_of log) n conn)
       (λ lt. asks (act.SendStep conn n) (names_join (events_of log) n conn) lt (λ x t. named_is log n conn))
@@ -226,8 +223,8 @@ module _ (configs : List Config) (log : List Entry) (nodes : List Node) (links :
       ∙ ap (λ b. nat_lt n (length configs) && (b && valid.names_dialer (events_of log) n e)) (counted to))
   may_by (act.Refuse e n) = of_dialer n e (act.Refuse e n) (λ x. refl)
   may_by (act.Finish link ok) =
-      let n = node_linked (slice_get log link) in
-      let to = linked_to (slice_get log link) in
+      let n = (nodes_linked (slice_get log link)).dials in
+      let to = (nodes_linked (slice_get log link)).listens in
       all_there (nat_lt n (length nodes)) (nat_lt to (length nodes)) (may_at (slice_get nodes n) log (act.Finish link ok)) (links_attempt (slice_get log link))
       (λ lt. asks (act.Finish link ok) (links_attempt (slice_get log link)) lt (λ x t. refl))
       ∙ (ap (λ b. b && (nat_lt to (length nodes) && links_attempt (slice_get log link))) (counted n)
@@ -281,7 +278,6 @@ ready_by configs log n (act.Start m) x s released fit may =
         (subst (λ k. k + x.channels.total < 2 ^ 64) (sym (size_is configs n x s.own)) chan.room, quotas x.config fit),
       ),
     )
-ready_by configs log n (act.Send bytes c m priority to) x s released fit may = short (length bytes) x.config.max_message_size may (short_message x.config fit)
 ready_by configs log n (act.Tracker m) x s released fit may = λ now. may_take configs log n now x.tracker (s.each place.tracker) released
 ready_by configs log n (act.Handshake e m) x s released fit may = λ there. place_held configs log n e x.listening (s.each place.listener) there
 ready_by configs log n _ x s released fit may = tt
@@ -304,7 +300,7 @@ ends_there log nodes l t (act.Finish link ok) first second how is = subst (λ h.
     open_there : (o : Opening) → table.at l.openings link ≡ Some o → (o.node < length nodes) × (o.to < length nodes)
     open_there o at =
         let made = opening_made log link o (sym (t.openings link) ∙ at) in
-        (subst (λ i. i < length nodes) made.0 first, subst (λ i. i < length nodes) made.1 second)
+        (subst (λ i. i < length nodes) (ap (λ (e : Ends). e.dials) made) first, subst (λ i. i < length nodes) (ap (λ (e : Ends). e.listens) made) second)
 ends_there log nodes l t _ first second how is = cc
 
 -- an act that may be asked for finds its nodes there, and ready

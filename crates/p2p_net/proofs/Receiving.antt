@@ -86,7 +86,7 @@ received_is configs log n limit from (x ∷ xs) ch s l =
 abbrev stepped_row : List Config → List Entry → ℕ → ℕ → Option Half → Bool → Row
 stepped_row configs log conn n o runs = elim o [
   | None ↦ only reply.Gone
-  | Some half ↦ cond runs (receive_row configs log n half.peer (line log (queue.Link conn (other_side half.writes)))) (only reply.Idle)
+  | Some half ↦ cond runs (receive_row configs log n half.peer (line log (queue.Link half.link (other_side half.writes)))) (only reply.Idle)
 ]
 
 stepped_as : (configs : List Config) (log : List Entry) (conn n : ℕ) (cs : Connections) (o : Option Connection) → ConnectionsStand configs log n cs → table.at cs.halves conn ≡ o
@@ -98,33 +98,33 @@ stepped_as configs log conn n cs o s has =
 -- ---- a message that is taken off its link
 
 -- the entry takes the first frame of one direction of a link
-record TakesFrame (log : List Entry) (e : Entry) (conn : ℕ) (s : Side) (y : Envelope) (ys : List Envelope) : Type 0 where
-  first : line log (queue.Link conn s) ≡ y ∷ ys
+record TakesFrame (log : List Entry) (e : Entry) (link : ℕ) (s : Side) (y : Envelope) (ys : List Envelope) : Type 0 where
+  first : line log (queue.Link link s) ≡ y ∷ ys
   takes : e.takes ≡ name_of y ∷ []
   ends : flat_map ended_item e.ends ≡ []
 
-line_off : (log : List Entry) (e : Entry) (conn : ℕ) (s : Side) (y : Envelope) (ys : List Envelope) (q : Queue) → TakesFrame log e conn s y ys
-    → line (log ++ e ∷ []) q ≡ cond (same_queue (queue.Link conn s) q) ys (line log q) ++ filter (stands_in q) (placed (length log) 0 e.puts)
-line_off log e conn s y ys q h = line-taken log e (queue.Link conn s) y ys q h.first (ap (λ t. t ++ flat_map ended_item e.ends) h.takes ∙ ap (λ d. name_of y ∷ d) h.ends)
+line_off : (log : List Entry) (e : Entry) (link : ℕ) (s : Side) (y : Envelope) (ys : List Envelope) (q : Queue) → TakesFrame log e link s y ys
+    → line (log ++ e ∷ []) q ≡ cond (same_queue (queue.Link link s) q) ys (line log q) ++ filter (stands_in q) (placed (length log) 0 e.puts)
+line_off log e link s y ys q h = line-taken log e (queue.Link link s) y ys q h.first (ap (λ t. t ++ flat_map ended_item e.ends) h.takes ∙ ap (λ d. name_of y ∷ d) h.ends)
 
-link_channel : (conn n c : ℕ) (s : Side) → same_queue (queue.Link conn s) (queue.Channel n c) ≡ false
-link_channel conn n c side.Out = refl
-link_channel conn n c side.In = refl
+link_channel : (link n c : ℕ) (s : Side) → same_queue (queue.Link link s) (queue.Channel n c) ≡ false
+link_channel link n c side.Out = refl
+link_channel link n c side.In = refl
 
 channel_link : (n c j : ℕ) (t : Side) → same_queue (queue.Link j t) (queue.Channel n c) ≡ false
 channel_link n c j side.Out = refl
 channel_link n c j side.In = refl
 
 -- the links, of which one frame less is in flight
-off_links : (log : List Entry) (e : Entry) (conn n : ℕ) (s : Side) (y : Envelope) (ys : List Envelope) (l : Links) (full : Bool) (from : Key) (m : Arrived) → LinksStand log l → TakesFrame log e conn s y ys
-    → e.puts ≡ (delivered full n from m (taken_row (name_of y))).puts → opens_none e.event.act ≡ true → LinksStand (log ++ e ∷ []) (with_way l s (popped_at (way_of l s) conn))
-off_links log e conn n s y ys l full from m t h puts opens =
-    links_taken log e l s conn y ys t h.first
+off_links : (log : List Entry) (e : Entry) (link n : ℕ) (s : Side) (y : Envelope) (ys : List Envelope) (l : Links) (full : Bool) (from : Key) (m : Arrived) → LinksStand log l → TakesFrame log e link s y ys
+    → e.puts ≡ (delivered full n from m (taken_row (name_of y))).puts → opens_none e.event.act ≡ true → LinksStand (log ++ e ∷ []) (with_way l s (popped_at (way_of l s) link))
+off_links log e link n s y ys l full from m t h puts opens =
+    links_taken log e l s link y ys t h.first
     (λ u j.
-    line_off log e conn s y ys (queue.Link j u) h
-    ∙ (ap (λ p. cond (same_queue (queue.Link conn s) (queue.Link j u)) ys (line log (queue.Link j u)) ++ filter (stands_in (queue.Link j u)) (placed (length log) 0 p)) puts
-    ∙ (ap (λ w. cond (same_queue (queue.Link conn s) (queue.Link j u)) ys (line log (queue.Link j u)) ++ w) (none_put full j u)
-    ∙ append-nil (cond (same_queue (queue.Link conn s) (queue.Link j u)) ys (line log (queue.Link j u))))))
+    line_off log e link s y ys (queue.Link j u) h
+    ∙ (ap (λ p. cond (same_queue (queue.Link link s) (queue.Link j u)) ys (line log (queue.Link j u)) ++ filter (stands_in (queue.Link j u)) (placed (length log) 0 p)) puts
+    ∙ (ap (λ w. cond (same_queue (queue.Link link s) (queue.Link j u)) ys (line log (queue.Link j u)) ++ w) (none_put full j u)
+    ∙ append-nil (cond (same_queue (queue.Link link s) (queue.Link j u)) ys (line log (queue.Link j u))))))
     (openings_unmoved log e opens)
   where
     none_put : (b : Bool) (j : ℕ) (u : Side) → filter (stands_in (queue.Link j u)) (placed (length log) 0 (delivered b n from m (taken_row (name_of y))).puts) ≡ []
@@ -132,20 +132,20 @@ off_links log e conn n s y ys l full from m t h puts opens =
     none_put false j u = ap (λ b. cond b (message_put (length log) 0 n from m ∷ []) []) (channel_link n m.channel j u)
 
 -- the channels, with the message where its channel was not full
-off_channels : (configs : List Config) (log : List Entry) (e : Entry) (conn n : ℕ) (s : Side) (y : Envelope) (ys : List Envelope) (ch : Channels) (full : Bool) (from : Key) (m : Arrived) → ChannelsStand configs log n ch → TakesFrame log e conn s y ys
+off_channels : (configs : List Config) (log : List Entry) (e : Entry) (link n : ℕ) (s : Side) (y : Envelope) (ys : List Envelope) (ch : Channels) (full : Bool) (from : Key) (m : Arrived) → ChannelsStand configs log n ch → TakesFrame log e link s y ys
     → registers_at configs n e.event.act ≡ [] → e.puts ≡ (delivered full n from m (taken_row (name_of y))).puts → ChannelsStand configs (log ++ e ∷ []) n (delivered_to full (length log) 0 n from m ch)
-off_channels configs log e conn n s y ys ch true from m st h none puts =
+off_channels configs log e link n s y ys ch true from m st h none puts =
     channels_moved configs log e n ch ch.waiting st none
     (λ c.
     st.waits c
     ∙ sym
-    (line_off log e conn s y ys (queue.Channel n c) h
-    ∙ (ap (λ b. cond b ys (line log (queue.Channel n c)) ++ filter (stands_in (queue.Channel n c)) (placed (length log) 0 e.puts)) (link_channel conn n c s)
+    (line_off log e link s y ys (queue.Channel n c) h
+    ∙ (ap (λ b. cond b ys (line log (queue.Channel n c)) ++ filter (stands_in (queue.Channel n c)) (placed (length log) 0 e.puts)) (link_channel link n c s)
     ∙ (ap (λ p. line log (queue.Channel n c) ++ filter (stands_in (queue.Channel n c)) (placed (length log) 0 p)) puts ∙ append-nil (line log (queue.Channel n c))))))
-off_channels configs log e conn n s y ys ch false from m st h none puts =
+off_channels configs log e link n s y ys ch false from m st h none puts =
     channels_moved configs log e n ch (pushed_at ch.waiting m.channel (message_put (length log) 0 n from m)) st none
-    (holds_put (queue.Channel n) (same_channel n) log e (queue.Link conn s) y ys m.channel (message_put (length log) 0 n from m) ch.waiting st.waits
-    (record { first = h.first; gone = ap (λ t. t ++ flat_map ended_item e.ends) h.takes ∙ ap (λ d. name_of y ∷ d) h.ends }) (λ c. link_channel conn n c s)
+    (holds_put (queue.Channel n) (same_channel n) log e (queue.Link link s) y ys m.channel (message_put (length log) 0 n from m) ch.waiting st.waits
+    (record { first = h.first; gone = ap (λ t. t ++ flat_map ended_item e.ends) h.takes ∙ ap (λ d. name_of y ∷ d) h.ends }) (λ c. link_channel link n c s)
     (λ c. ap (λ p. filter (stands_in (queue.Channel n c)) (placed (length log) 0 p)) puts))
 
 delivered_takes : (full : Bool) (n : ℕ) (name : ℕ × ℕ) (from : Key) (m : Arrived) → (delivered full n from m (taken_row name)).takes ≡ name ∷ []
@@ -182,48 +182,48 @@ idle_performs : (configs : List Config) (log : List Entry) (at seed conn n : ℕ
 idle_performs configs log at seed conn n x y l links r s t is row_is same kept = stays_performs configs log (asked at seed (act.RecvStep conn n)) n x y l links r reply.Idle s t is refl row_is same kept
 
 -- by the capacity of its channel
-accepted_performs : (configs : List Config) (log : List Entry) (at seed conn n : ℕ) (u : Side) (from : Key) (f : Envelope) (fs : List Envelope) (m : Arrived) (o : Option ℕ) (x y : Node) (l links : Links) (r : Row) → NodeStands configs log n x → LinksStand log l
-    → line log (queue.Link conn u) ≡ f ∷ fs → row configs log at seed (act.RecvStep conn n) ≡ accepted_row o n (name_of f) from m x.channels
-    → r ≡ accepted_row o n (name_of f) from m x.channels → y ≡ record x { channels = accepted_into o (length log) n from m x.channels } → links ≡ accepted_off o conn u l
+accepted_performs : (configs : List Config) (log : List Entry) (at seed conn link n : ℕ) (u : Side) (from : Key) (f : Envelope) (fs : List Envelope) (m : Arrived) (o : Option ℕ) (x y : Node) (l links : Links) (r : Row) → NodeStands configs log n x → LinksStand log l
+    → line log (queue.Link link u) ≡ f ∷ fs → row configs log at seed (act.RecvStep conn n) ≡ accepted_row o n (name_of f) from m x.channels
+    → r ≡ accepted_row o n (name_of f) from m x.channels → y ≡ record x { channels = accepted_into o (length log) n from m x.channels } → links ≡ accepted_off o link u l
     → Performs configs log (asked at seed (act.RecvStep conn n)) n y links r
 unfolding effect
-accepted_performs configs log at seed conn n u from f fs m None x y l links r s t first is row_is parts off = idle_performs configs log at seed conn n x y l links r s t is row_is parts off
-accepted_performs configs log at seed conn n u from f fs m (Some capacity) x y l links r s t first is row_is parts off =
+accepted_performs configs log at seed conn link n u from f fs m None x y l links r s t first is row_is parts off = idle_performs configs log at seed conn n x y l links r s t is row_is parts off
+accepted_performs configs log at seed conn link n u from f fs m (Some capacity) x y l links r s t first is row_is parts off =
     let ev = asked at seed (act.RecvStep conn n) in
     let e = effect configs log ev in
     let full = is_full x.channels capacity m.channel in
-    let took : TakesFrame log e conn u f fs = record {
+    let took : TakesFrame log e link u f fs = record {
       first = first;
       takes = ap (λ (z : Row). z.takes) is ∙ delivered_takes full n (name_of f) from m;
       ends = ap (λ (z : Row). flat_map ended_item z.ends) is ∙ delivered_ends full n (name_of f) from m;
     } in
     let puts : e.puts ≡ (delivered full n from m (taken_row (name_of f))).puts = ap (λ (z : Row). z.puts) is in
     built configs log at seed conn n x y (delivered_to full (length log) 0 n from m x.channels) l links r s (row_is ∙ sym is) parts
-    (off_channels configs log e conn n u f fs x.channels full from m (s.each place.channels) took refl puts)
-    (subst (LinksStand (log ++ e ∷ [])) (sym off) (off_links log e conn n u f fs l full from m t took puts refl))
+    (off_channels configs log e link n u f fs x.channels full from m (s.each place.channels) took refl puts)
+    (subst (LinksStand (log ++ e ∷ [])) (sym off) (off_links log e link n u f fs l full from m t took puts refl))
 
 -- by its message
-arrived_performs : (configs : List Config) (log : List Entry) (at seed conn n : ℕ) (u : Side) (from : Key) (f : Envelope) (fs : List Envelope) (o : Option Arrived) (x y : Node) (l links : Links) (r : Row) → NodeStands configs log n x → LinksStand log l
-    → line log (queue.Link conn u) ≡ f ∷ fs → row configs log at seed (act.RecvStep conn n) ≡ arrived_row o n (name_of f) from x.channels
-    → r ≡ arrived_row o n (name_of f) from x.channels → y ≡ record x { channels = arrived_into o (length log) n from x.channels } → links ≡ arrived_off o conn u x.channels l
+arrived_performs : (configs : List Config) (log : List Entry) (at seed conn link n : ℕ) (u : Side) (from : Key) (f : Envelope) (fs : List Envelope) (o : Option Arrived) (x y : Node) (l links : Links) (r : Row) → NodeStands configs log n x → LinksStand log l
+    → line log (queue.Link link u) ≡ f ∷ fs → row configs log at seed (act.RecvStep conn n) ≡ arrived_row o n (name_of f) from x.channels
+    → r ≡ arrived_row o n (name_of f) from x.channels → y ≡ record x { channels = arrived_into o (length log) n from x.channels } → links ≡ arrived_off o link u x.channels l
     → Performs configs log (asked at seed (act.RecvStep conn n)) n y links r
-arrived_performs configs log at seed conn n u from f fs None x y l links r s t first is row_is parts off = idle_performs configs log at seed conn n x y l links r s t is row_is parts off
-arrived_performs configs log at seed conn n u from f fs (Some m) x y l links r s t first is row_is parts off =
-    accepted_performs configs log at seed conn n u from f fs m (capacity_at x.channels m.channel) x y l links r s t first is row_is parts off
+arrived_performs configs log at seed conn link n u from f fs None x y l links r s t first is row_is parts off = idle_performs configs log at seed conn n x y l links r s t is row_is parts off
+arrived_performs configs log at seed conn link n u from f fs (Some m) x y l links r s t first is row_is parts off =
+    accepted_performs configs log at seed conn link n u from f fs m (capacity_at x.channels m.channel) x y l links r s t first is row_is parts off
 
 -- by what is in flight
-receive_on : (configs : List Config) (log : List Entry) (at seed conn n limit : ℕ) (u : Side) (from : Key) (fs : List Envelope) (x y : Node) (l links : Links) (r : Row) → NodeStands configs log n x → LinksStand log l
-    → line log (queue.Link conn u) ≡ fs → row configs log at seed (act.RecvStep conn n) ≡ received_row limit (slice_get fs 0) n from x.channels
-    → r ≡ received_row limit (slice_get fs 0) n from x.channels → y ≡ record x { channels = received_into limit (slice_get fs 0) (length log) n from x.channels } → links ≡ received_off limit (slice_get fs 0) conn u x.channels l
+receive_on : (configs : List Config) (log : List Entry) (at seed conn link n limit : ℕ) (u : Side) (from : Key) (fs : List Envelope) (x y : Node) (l links : Links) (r : Row) → NodeStands configs log n x → LinksStand log l
+    → line log (queue.Link link u) ≡ fs → row configs log at seed (act.RecvStep conn n) ≡ received_row limit (slice_get fs 0) n from x.channels
+    → r ≡ received_row limit (slice_get fs 0) n from x.channels → y ≡ record x { channels = received_into limit (slice_get fs 0) (length log) n from x.channels } → links ≡ received_off limit (slice_get fs 0) link u x.channels l
     → Performs configs log (asked at seed (act.RecvStep conn n)) n y links r
-receive_on configs log at seed conn n limit u from [] x y l links r s t first is row_is parts off = idle_performs configs log at seed conn n x y l links r s t is row_is parts off
-receive_on configs log at seed conn n limit u from (f ∷ fs) x y l links r s t first is row_is parts off =
-    arrived_performs configs log at seed conn n u from f fs (arrival_in limit f.item) x y l links r s t first is row_is parts off
+receive_on configs log at seed conn link n limit u from [] x y l links r s t first is row_is parts off = idle_performs configs log at seed conn n x y l links r s t is row_is parts off
+receive_on configs log at seed conn link n limit u from (f ∷ fs) x y l links r s t first is row_is parts off =
+    arrived_performs configs log at seed conn link n u from f fs (arrival_in limit f.item) x y l links r s t first is row_is parts off
 
 -- ---- a step
 
 step_by : (configs : List Config) (log : List Entry) (at seed conn n : ℕ) (k : Connection) (b : Bool) (x y : Node) (l links : Links) (r : Row) → NodeStands configs log n x → LinksStand log l
-    → table.at x.connections.halves conn ≡ Some k → k.running ≡ b → ReceivesBy b (length log) n conn (other_side k.half.writes) k.half.peer x y l links r → Performs configs log (asked at seed (act.RecvStep conn n)) n y links r
+    → table.at x.connections.halves conn ≡ Some k → k.running ≡ b → ReceivesBy b (length log) n k.half.link (other_side k.half.writes) k.half.peer x y l links r → Performs configs log (asked at seed (act.RecvStep conn n)) n y links r
 unfolding row
 step_by configs log at seed conn n k false x y l links r s t there runs d =
     let cs : ConnectionsStand configs log n x.connections = s.each place.connections in
@@ -234,16 +234,16 @@ step_by configs log at seed conn n k true x y l links r s t there runs d =
     let from = k.half.peer in
     let limit = x.config.max_message_size in
     let limit_is : limit ≡ limit_at configs n = sym (ap (λ (o : Option Config). elim o [ None ↦ 0 | Some c ↦ c.max_message_size ]) s.own.config) in
-    let fs = line log (queue.Link conn u) in
-    let first : first_in l conn u ≡ slice_get fs 0 = ap (λ (w : List Envelope). slice_get w 0) (t.waits u conn) in
+    let fs = line log (queue.Link k.half.link u) in
+    let first : first_in l k.half.link u ≡ slice_get fs 0 = ap (λ (w : List Envelope). slice_get w 0) (t.waits u k.half.link) in
     let is : recv_step_row configs log conn n ≡ received_row limit (slice_get fs 0) n from x.channels =
     stepped_as configs log conn n x.connections (Some k) cs there
     ∙ (ap (λ b. stepped_row configs log conn n (Some k.half) b) runs ∙ sym (received_is configs log n limit from fs x.channels (s.each place.channels) limit_is))
     in
-    receive_on configs log at seed conn n limit u from fs x y l links r s t refl is
+    receive_on configs log at seed conn k.half.link n limit u from fs x y l links r s t refl is
     (d.0 ∙ ap (λ o. received_row limit o n from x.channels) first)
     (d.1.0 ∙ ap (λ o. record x { channels = received_into limit o (length log) n from x.channels }) first)
-    (d.1.1 ∙ ap (λ o. received_off limit o conn u x.channels l) first)
+    (d.1.1 ∙ ap (λ o. received_off limit o k.half.link u x.channels l) first)
 
 step_on : (configs : List Config) (log : List Entry) (at seed conn n : ℕ) (o : Option Connection) (x y : Node) (l links : Links) (r : Row) → NodeStands configs log n x → LinksStand log l
     → table.at x.connections.halves conn ≡ o → ReceivesOn o (length log) n conn x y l links r → Performs configs log (asked at seed (act.RecvStep conn n)) n y links r

@@ -19,7 +19,7 @@ use Rattle.p2p_log.specs.declared.event.Act.{Act}
 use Rattle.p2p_log.specs.declared.event.Act.TheVariants as act
 use Rattle.p2p_log.specs.Lines.{line}
 use Rattle.p2p_log_rules.specs.declared.row.Row.{Row}
-use Rattle.p2p_log_rules.specs.Attempting.{Attempt, dial_rules_at, told_addresses, with_attempt, acted_attempts, attempts_of, told_row, resolve_by}
+use Rattle.p2p_log_rules.specs.Attempting.{Attempt, dial_rules_at, told_addresses, acted_attempts, attempts_of, told_row, resolve_by}
 use Rattle.p2p_log_rules.specs.Effect.{only, row}
 use Rattle.p2p_net_queues.specs.Tables as table
 use Rattle.p2p_net_queues.specs.Tables.{AreBut}
@@ -35,6 +35,7 @@ use Rattle.p2p_net.specs.Stands.{NodeStands}
 use Rattle.p2p_net.specs.declared.node.Node.{Node}
 use Rattle.p2p_net.proofs.Attempting.{other_attempt, told_is, does_itself, untold_stands, told_stands, unnamed_by, tells_performs}
 use Rattle.p2p_net.proofs.Performing.{asked, Performs}
+use Rattle.p2p_log_rules.specs.Facts.{with_named}
 
 module _ (configs : List Config) (log : List Entry) (moment seed : ℕ) (addresses : List SocketAddr) (name n : ℕ) (x y : Node) (l ls : Links) (r : Row) (s : NodeStands configs log n x) (t : LinksStand log l)
     (tells : TellsAttempt x y) (kept : ls ≡ l) where
@@ -49,7 +50,7 @@ module _ (configs : List Config) (log : List Entry) (moment seed : ℕ) (address
 
   acted : (rep : Reply) (items : List Item) (j : ℕ)
       → acted_attempts (dial_rules_at configs n) n (length log) moment seed rep items a attempts j ≡ cond (j == name) (option_map (told_addresses rep) (attempts name)) (attempts j)
-  acted rep items j = ap (λ b. cond b (with_attempt name (option_map (told_addresses rep) (attempts name)) attempts j) (attempts j)) (eq-eqb n n refl)
+  acted rep items j = ap (λ b. cond b (with_named name (option_map (told_addresses rep) (attempts name)) attempts j) (attempts j)) (eq-eqb n n refl)
 
   row_by : (b : Option Attempt) → attempts name ≡ b → row configs log moment seed a ≡ elim b [ None ↦ only reply.Gone | Some c ↦ resolve_by c.ingress c.is_resolved name n addresses ]
   unfolding row

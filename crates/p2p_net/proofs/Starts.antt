@@ -10,7 +10,8 @@ use Rattle.p2p_log.specs.declared.config.Config.{Config}
 use Rattle.p2p_log.specs.declared.queue.Queue.TheVariants as queue
 use Rattle.p2p_log.specs.declared.queue.Side.TheVariants as side
 use Rattle.p2p_log_rules.specs.Attempting.{dial_rules_in}
-use Rattle.p2p_log_rules.specs.Facts.{registered, history_from, half_at, is_running, is_joined}
+use Rattle.p2p_log_rules.specs.Facts.{registered, history_from, state_from, half_at, is_running, is_joined}
+use Rattle.p2p_log_rules.specs.Spawning.{connections_of}
 use Rattle.p2p_log_rules.specs.Effect.{mailbox_size_at}
 use Rattle.p2p_log_rules.specs.Listening.{no_gates, gate_rules_of}
 use Rattle.p2p_log_rules.specs.Valid.{fits, has_key, is_valid_config, config_fault_from, config_fault}
@@ -81,8 +82,8 @@ unfolding registered
 channels_new configs n h = record { capacities = λ c. refl; total = refl; room = omega (arith, h); waits = holds_none (queue.Channel n) }
 
 connections_new : (configs : List Config) (n : ℕ) → ConnectionsStand configs [] n no_connections
-unfolding half_at is_running is_joined history_from
-connections_new configs n = record { halves = λ c. refl; running = λ c. refl; partners = λ m. refl; waits = holds_none (queue.Ready n) }
+unfolding half_at is_running is_joined history_from state_from connections_of
+connections_new configs n = record { halves = λ c. refl; running = λ c. refl; partners = λ m. refl; spawned = λ c. refl; waits = holds_none (queue.Ready n) }
 
 pub links_new : LinksStand [] no_links
 links_new = record {

@@ -11,6 +11,7 @@ use Rattle.p2p_log.specs.Lines.{line, live, placed, stands_in}
 use Rattle.p2p_log.proofs.Lines.{live-append}
 use Rattle.p2p_log_rules.specs.declared.row.Row.{Row}
 use Rattle.p2p_log_rules.specs.Facts.{is_up}
+use Rattle.p2p_log_rules.proofs.Spawning.{connections_of-unmade}
 use Rattle.p2p_log_rules.specs.Effect.{only, row, effect, entry_of, route_oldest, router_row}
 use Rattle.p2p_net_queues.specs.Tables.{at}
 use Rattle.p2p_net_router.specs.Holds.{Adds}
@@ -27,7 +28,7 @@ use Rattle.p2p_net.specs.Acts.{RoutesBy, Routes}
 use Rattle.p2p_net.specs.Stands.{RouterStands, NodeStands}
 use Rattle.p2p_net.specs.declared.node.Node.{Node}
 use Rattle.p2p_net.proofs.EachPart.{with_parts, each_part, not_among}
-use Rattle.p2p_net.proofs.Frames.{links_kept, makes_none}
+use Rattle.p2p_net.proofs.Frames.{links_kept, joins_none}
 use Rattle.p2p_net.proofs.Routers.{RouterStands-moved}
 use Rattle.p2p_net.proofs.Performing.{asked, Performs, stays_performs}
 
@@ -76,7 +77,7 @@ route_on configs log at seed n true x y l links r s t started d kept =
                 (ap (λ (z : Router). z.number) calls.rest) (ap (λ (z : Router). z.peers) calls.rest),
             (
               subst (ConnectionsStand configs (log ++ e ∷ []) n) (sym (ap (λ (z : Node). z.connections) parts))
-                  (connections_moved configs log e n x.connections x.connections.halves (answered (length log) n 0 r.puts x.connections.answers) conn (makes_none configs log e n (act.Router n) refl refl)
+                  (connections_moved configs log e n x.connections x.connections.halves (answered (length log) n 0 r.puts x.connections.answers) conn (joins_none configs log e n (act.Router n) refl refl) (connections_of-unmade log e n refl)
                   (λ c. refl) (λ c. conn.running c ∙ sym (running-kept log e n c refl))
                   (λ c. waiting-answered (length log) n 0 c r.puts x.connections.answers ∙ (ap (λ w. w ++ filter (stands_in (queue.Ready n c)) (placed (length log) 0 r.puts)) (conn.waits c) ∙ sym (adds c)))),
               tt,

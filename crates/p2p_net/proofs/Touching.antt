@@ -17,6 +17,8 @@ use Rattle.p2p_log.proofs.Queues.{same_queue-sym}
 use Rattle.p2p_log_rules.specs.declared.row.Opening.{Opening}
 use Rattle.p2p_log_rules.specs.Effect.{effect}
 use Rattle.p2p_log_rules.specs.Links.{openings_of}
+use Rattle.p2p_log_rules.specs.declared.row.Half.{Half}
+use Rattle.p2p_log_rules.specs.Facts.{half_at}
 use Rattle.p2p_log_rules.proofs.Touches.{in_router, in_half, in_link, in_channels, in_tracker, in_handshakes, in_ends, is_told_to, reads, writes, away}
 use Rattle.p2p_log_rules.specs.Tracking.{asked_by}
 use Rattle.p2p_log_laws.proofs.Untouched.{line-untouched}
@@ -38,16 +40,16 @@ router_kinds n (queue.High m c) h k = grind (arith, nat_tests)
 router_kinds n (queue.Low m c) h k = grind (arith, nat_tests)
 router_kinds n _ h k = refl
 
-half_kinds : (n conn : ℕ) (q : Queue) → same_place (at router n) (home q) ≡ false → same_place (at connections n) (home q) ≡ false → same_place links (home q) ≡ false → in_half n conn q ≡ false
-half_kinds n conn (queue.Ready m c) h k l = grind (arith, nat_tests)
-half_kinds n conn (queue.High m c) h k l = grind (arith, nat_tests)
-half_kinds n conn (queue.Low m c) h k l = grind (arith, nat_tests)
-half_kinds n conn (queue.Link e s) h k l = cc
-half_kinds n conn _ h k l = refl
+link_kinds : (o : Option Half) (q : Queue) → same_place links (home q) ≡ false → in_link o q ≡ false
+link_kinds o (queue.Link e s) h = cc
+link_kinds o _ h = refl
 
-link_kinds : (conn : ℕ) (q : Queue) → same_place links (home q) ≡ false → in_link conn q ≡ false
-link_kinds conn (queue.Link e s) h = cc
-link_kinds conn _ h = refl
+half_kinds : (o : Option Half) (n conn : ℕ) (q : Queue) → same_place (at router n) (home q) ≡ false → same_place (at connections n) (home q) ≡ false → same_place links (home q) ≡ false → in_half o n conn q ≡ false
+half_kinds o n conn (queue.Ready m c) h k l = grind (arith, nat_tests)
+half_kinds o n conn (queue.High m c) h k l = grind (arith, nat_tests)
+half_kinds o n conn (queue.Low m c) h k l = grind (arith, nat_tests)
+half_kinds o n conn (queue.Link e s) h k l = cc
+half_kinds o n conn q h k l = link_kinds o q l
 
 channel_kinds : (n : ℕ) (q : Queue) → same_place (at channels n) (home q) ≡ false → in_channels n q ≡ false
 channel_kinds n (queue.Channel m c) h = grind (arith, nat_tests)
@@ -145,12 +147,12 @@ reads-named : (configs : List Config) (log : List Entry) (a : Act) (q : Queue) �
 reads-named configs log (act.Router n) q h = router_queue n q (first_false (same_place (at router n) (home q)) (same_place (at connections n) (home q) || false) h)
 reads-named configs log (act.SendStep conn n) q h =
     let rest = second_false (same_place links (home q)) (same_place (at connections n) (home q) || (same_place (at router n) (home q) || false)) h in
-    half_kinds n conn q
+    half_kinds (half_at configs log n conn) n conn q
     (first_false (same_place (at router n) (home q)) false (second_false (same_place (at connections n) (home q)) (same_place (at router n) (home q) || false) rest))
     (first_false (same_place (at connections n) (home q)) (same_place (at router n) (home q) || false) rest)
     (first_false (same_place links (home q)) (same_place (at connections n) (home q) || (same_place (at router n) (home q) || false)) h)
 reads-named configs log (act.RecvStep conn n) q h =
-    link_kinds conn q (first_false (same_place links (home q)) (same_place (at channels n) (home q) || false) h)
+    link_kinds (half_at configs log n conn) q (first_false (same_place links (home q)) (same_place (at channels n) (home q) || false) h)
 reads-named configs log (act.Recv c n) q h = channel_queue n c q (first_false (same_place (at channels n) (home q)) false h)
 reads-named configs log (act.Answer e) q h = told_queue log e q (first_false (same_place (at tracker (node_asked (slice_get log e))) (home q)) false h)
 reads-named configs log (act.Next e) q h = told_queue log e q (first_false (same_place (at tracker (node_asked (slice_get log e))) (home q)) false h)
@@ -162,6 +164,7 @@ reads-named configs log (act.Listener n) q h =
     (arrivals_queue n q (second_of_two (same_place (at tracker n) (home q)) (same_place (at listener n) (home q)) h))
 reads-named configs log (act.Handshake e n) q h =
     handshake_queue n e q (first_false (same_place (at tracker n) (home q)) (same_place (at listener n) (home q) || (same_place (at spawner n) (home q) || false)) h)
+reads-named configs log (act.Spawner n) q h = spawner_queue n q (first_false (same_place (at spawner n) (home q)) (same_place (at connections n) (home q) || false) h)
 reads-named configs log (act.Attempt e n) q h = attempt_queue n e q (second_of_three (same_place (at tracker n) (home q)) (same_place (at dialer n) (home q)) (same_place (at spawner n) (home q)) h)
 reads-named configs log _ q h = refl
 

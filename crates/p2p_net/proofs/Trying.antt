@@ -30,9 +30,9 @@ use Rattle.p2p_log.specs.QueueCode.{same_queue}
 use Rattle.p2p_log.specs.Lines.{name_of, goes, stays, stands_in, live, line}
 use Rattle.p2p_log.proofs.Queues.{same_queue-refl}
 use Rattle.p2p_log_rules.specs.declared.row.Row.{Row}
-use Rattle.p2p_log_rules.specs.Attempting.{Attempt, DialRules, dial_rules_at, linked, stepped_attempt, drawn_address, dialing, resolved, with_attempt, and_then, attempts_of, left_ends, given_up_row, gone_on_row, resolved_row, ready_row, link_of, took_row, attempt_turn, attempt_by}
+use Rattle.p2p_log_rules.specs.Attempting.{Attempt, DialRules, dial_rules_at, linked, stepped_attempt, drawn_address, dialing, resolved, and_then, attempts_of, left_ends, given_up_row, gone_on_row, resolved_row, ready_row, link_of, took_row, attempt_turn, attempt_by}
 use Rattle.p2p_log_rules.specs.Effect.{only, row, effect, entry_of}
-use Rattle.p2p_log_rules.specs.Facts.{taken}
+use Rattle.p2p_log_rules.specs.Facts.{taken, with_named}
 use Rattle.p2p_log_rules.specs.Rows.{is_spawner_full}
 use Rattle.p2p_net_queues.specs.Board.{held}
 use Rattle.p2p_net_queues.specs.Rows.{item_ends}
@@ -198,8 +198,8 @@ module _ (configs : List Config) (log : List Entry) (moment seed name n : ℕ) (
           actor = steps.actor;
           others = but;
           tried = λ j.
-              ap (λ b. cond b (with_attempt name (and_then (stepped_attempt rules moment seed due.reply (taken log (e due))) (attempts name)) attempts j) (attempts j)) (eq-eqb n n refl)
-              ∙ ap (λ w. with_attempt name w attempts j) becomes;
+              ap (λ b. cond b (with_named name (and_then (stepped_attempt rules moment seed due.reply (taken log (e due))) (attempts name)) attempts j) (attempts j)) (eq-eqb n n refl)
+              ∙ ap (λ w. with_named name w attempts j) becomes;
           lines = λ j other.
               line_elsewhere log (e due) n o refl (queue.Attempt n j) (line log (queue.Attempt n j)) refl refl
               (stay (queue.Attempt n j) ∙ ap (λ c. cond c left (line log (queue.Attempt n j))) (other_attempt n name j other));

@@ -20,6 +20,8 @@ use Rattle.p2p_log.proofs.Queues.{same_queue-sym}
 use Rattle.p2p_log_rules.specs.declared.row.Half.{Half}
 use Rattle.p2p_log_rules.specs.declared.row.Row.{Row}
 use Rattle.p2p_log_rules.specs.Facts.{half_of, key_at, joins, is_joined, is_up, starts, registers_at, steps_router, steps_sender, taken, is_answer}
+use Rattle.p2p_log_rules.specs.Spawning.{steps_spawner}
+use Rattle.p2p_log_rules.proofs.Spawning.{connections_of-unmade}
 use Rattle.p2p_log_rules.specs.Effect.{effect, may_join, mailbox_size_at, entry_of}
 use Rattle.p2p_log_rules.specs.Valid.{config_fault}
 use Rattle.p2p_log_rules.proofs.Touches.{reads, writes}
@@ -118,7 +120,7 @@ pub record Told (configs : List Config) (log : List Entry) (e : Entry) (n place 
   pub in_range : partner < length configs
   pub key : half.peer ≡ key_at configs partner
   pub apart : is_joined log n partner ≡ false
-  pub half_is : half_of configs n e.event.act e.reply ≡ Some half
+  pub half_is : half_of configs n (length log) e.event.act e.reply ≡ Some half
   pub partner_is : (m : ℕ) → joins n m e.event.act e.reply ≡ (partner == m)
   pub readied : IsReadied e n place (length log) half.peer
 
@@ -139,13 +141,13 @@ abbrev pub ready_row : List Config → List Entry → ℕ → ℕ → Row
 ready_row configs log a b = joined_row (length log) a b (key_at configs a) (key_at configs b)
 
 pub told_first : (configs : List Config) (log : List Entry) (at seed a b : ℕ) → b < length configs → MayJoin log a b
-    → Told configs log (entry_of (asked at seed (act.Join a b)) (ready_row configs log a b)) a 0 (record { peer = key_at configs b; writes = side.Out }) b a b
+    → Told configs log (entry_of (asked at seed (act.Join a b)) (ready_row configs log a b)) a 0 (record { peer = key_at configs b; link = length log; writes = side.Out }) b a b
 told_first configs log at seed a b lt may = record {
   is = refl;
   in_range = lt;
   key = refl;
   apart = may.apart;
-  half_is = ap (λ t. cond t (Some (record { peer = key_at configs b; writes = side.Out })) (cond (a == b) (Some (record { peer = key_at configs a; writes = side.In })) None)) (same_number a);
+  half_is = ap (λ t. cond t (Some (record { peer = key_at configs b; link = length log; writes = side.Out })) (cond (a == b) (Some (record { peer = key_at configs a; link = length log; writes = side.In })) None)) (same_number a);
   partner_is = λ m. first_joins a b m may.two;
   readied = record {
     takes = refl;
@@ -159,7 +161,7 @@ told_first configs log at seed a b lt may = record {
 }
 
 pub told_second : (configs : List Config) (log : List Entry) (at seed a b : ℕ) → a < length configs → MayJoin log a b
-    → Told configs log (entry_of (asked at seed (act.Join a b)) (ready_row configs log a b)) b 1 (record { peer = key_at configs a; writes = side.In }) a a b
+    → Told configs log (entry_of (asked at seed (act.Join a b)) (ready_row configs log a b)) b 1 (record { peer = key_at configs a; link = length log; writes = side.In }) a a b
 told_second configs log at seed a b lt may =
     let turned : (b == a) ≡ false = let two = may.two in grind (arith, nat_tests) in
     record {
@@ -168,8 +170,8 @@ told_second configs log at seed a b lt may =
       key = refl;
       apart = may.apart_too;
       half_is =
-          ap (λ t. cond t (Some (record { peer = key_at configs b; writes = side.Out })) (cond (b == b) (Some (record { peer = key_at configs a; writes = side.In })) None)) turned
-          ∙ ap (λ t. cond t (Some (record { peer = key_at configs a; writes = side.In })) None) (same_number b);
+          ap (λ t. cond t (Some (record { peer = key_at configs b; link = length log; writes = side.Out })) (cond (b == b) (Some (record { peer = key_at configs a; link = length log; writes = side.In })) None)) turned
+          ∙ ap (λ t. cond t (Some (record { peer = key_at configs a; link = length log; writes = side.In })) None) (same_number b);
       partner_is = λ m. second_joins a b m may.two;
       readied = record {
         takes = refl;
@@ -213,7 +215,7 @@ welcome_stands configs log ev n a b place_at partner half x y valid s t acts d =
       }),
       (
         subst (ConnectionsStand configs (log ++ e ∷ []) n) (sym (ap (λ (z : Node). z.connections) parts))
-            (connections_joined configs log e n partner half x.connections (s.each place.connections) t.half_is t.partner_is (λ conn. ap (λ c. cond (steps_sender n conn c) (map is_answer (taken log e)) []) t.is)
+            (connections_joined configs log e n partner half x.connections (s.each place.connections) t.half_is t.partner_is (connections_of-unmade log e n (ap (steps_spawner n) t.is)) (λ conn. ap (λ c. cond (steps_sender n conn c) (map is_answer (taken log e)) []) t.is)
             (λ conn. line-untouched configs log ev (queue.Ready n conn) (ap (λ c. reads configs log c (queue.Ready n conn)) acts) (ap (λ c. writes configs log c (queue.Ready n conn)) acts))),
         tt,
       ),

@@ -22,7 +22,9 @@ use Rattle.p2p_log.proofs.Queues.{same_queue-sym}
 use Rattle.p2p_log_rules.specs.declared.row.Half.{Half}
 use Rattle.p2p_log_rules.specs.declared.row.Row.{Row}
 use Rattle.p2p_log_rules.specs.Facts.{starts, registers_at, steps_router, is_running, is_answer, taken, item_named, steps_sender, answers_by}
-use Rattle.p2p_log_rules.specs.Effect.{only, row, effect, begin_row, write_row, batch_size_at, batch, send_step_row, mailbox_size_at}
+use Rattle.p2p_log_rules.specs.Spawning.{steps_spawner}
+use Rattle.p2p_log_rules.proofs.Spawning.{connections_of-unmade}
+use Rattle.p2p_log_rules.specs.Effect.{only, row, effect, takes_oldest, write_row, batch_size_at, batch, send_step_row, mailbox_size_at}
 use Rattle.p2p_log_rules.proofs.Facts.{is_running-append}
 use Rattle.p2p_log_rules.proofs.Recorded.{item_named-first}
 use Rattle.p2p_net_queues.specs.Tables as table
@@ -47,7 +49,7 @@ use Rattle.p2p_net.specs.Acts.{Writes, Begins, WritesBy, WritesOn, SendSteps}
 use Rattle.p2p_net.specs.Stands.{RouterStands, NodeStands}
 use Rattle.p2p_net.specs.declared.node.Node.{Node}
 use Rattle.p2p_net.proofs.EachPart.{with_parts, each_part, not_among-links}
-use Rattle.p2p_net.proofs.Frames.{makes_none}
+use Rattle.p2p_net.proofs.Frames.{joins_none}
 use Rattle.p2p_net.proofs.Routers.{RouterStands-moved}
 use Rattle.p2p_net.proofs.Performing.{asked, Performs, part_still, links_still, stays_performs, IsStill}
 
@@ -55,7 +57,7 @@ use Rattle.p2p_net.proofs.Performing.{asked, Performs, part_still, links_still, 
 abbrev stepped_row : List Config → List Entry → ℕ → ℕ → Option Half → Bool → Row
 stepped_row configs log conn n o runs = elim o [
   | None ↦ only reply.Gone
-  | Some half ↦ cond runs (write_row (queue.Link conn half.writes) (batch configs log n conn)) (begin_row (line log (queue.Ready n conn)))
+  | Some half ↦ cond runs (write_row (queue.Link half.link half.writes) (batch configs log n conn)) (takes_oldest (line log (queue.Ready n conn)))
 ]
 
 stepped_as : (configs : List Config) (log : List Entry) (conn n : ℕ) (cs : Connections) (o : Option Connection) → ConnectionsStand configs log n cs → table.at cs.halves conn ≡ o
@@ -131,7 +133,7 @@ begun_stands configs log e n conn cs k x rest s there acts h =
     ap (λ b. cond (steps_sender n c b) (map is_answer (taken log e)) []) acts
     ∙ (ap (λ b. cond b (map is_answer (taken log e)) []) (same_conn n conn c) ∙ ap (λ t. cond (is_at (nat_cmp c) conn) (map is_answer t) []) took)
     in
-    connections_moved configs log e n cs (cond answer (ran conn cs.halves) cs.halves) (popped_at cs.answers conn) s (makes_none configs log e n (act.SendStep conn n) acts refl)
+    connections_moved configs log e n cs (cond answer (ran conn cs.halves) cs.halves) (popped_at cs.answers conn) s (joins_none configs log e n (act.SendStep conn n) acts refl) (connections_of-unmade log e n (ap (steps_spawner n) acts))
     (λ c. half_where answer conn c cs.halves)
     (λ c.
     ran_where answer conn c cs.halves k there
@@ -149,7 +151,7 @@ begin_on configs log at seed conn n k [] x y l links r s t there idle is d =
     let cs : ConnectionsStand configs log n x.connections = s.each place.connections in
     let row_is : send_step_row configs log conn n ≡ only reply.Idle =
     stepped_as configs log conn n x.connections (Some k) cs there
-    ∙ (ap (λ b. stepped_row configs log conn n (Some k.half) b) idle ∙ ap begin_row (sym (cs.waits conn) ∙ is))
+    ∙ (ap (λ b. stepped_row configs log conn n (Some k.half) b) idle ∙ ap takes_oldest (sym (cs.waits conn) ∙ is))
     in
     let still : IsStill e reply.Idle = record {
       reply = ap (λ (z : Row). z.reply) row_is;
@@ -159,13 +161,13 @@ begin_on configs log at seed conn n k [] x y l links r s t there idle is d =
     } in
     let parts : y ≡ record x { connections = record x.connections { answers = popped_at x.connections.answers conn } } = d.1.0 ∙ ap (λ ws. record x { connections = begun_on (slice_get ws 0) conn x.connections }) is in
     record {
-      row_is = d.0 ∙ (ap begin_row is ∙ sym row_is);
+      row_is = d.0 ∙ (ap takes_oldest is ∙ sym row_is);
       node =
           each_part configs log ev n x y (place.connections ∷ place.router ∷ []) s (subst (λ z. z ≡ with_parts (place.connections ∷ place.router ∷ []) x z) (sym parts) refl)
           (λ p out. not_among-links (place.connections ∷ place.router ∷ []) p n out) (
             let kept : ConnectionsStand configs (log ++ e ∷ []) n x.connections = part_still place.connections configs log e n x (act.SendStep conn n) reply.Idle cs refl refl still in
                 subst (ConnectionsStand configs (log ++ e ∷ []) n) (sym (ap (λ (z : Node). z.connections) parts))
-                (record { halves = kept.halves; running = kept.running; partners = kept.partners; waits = λ c. waits_none (queue.Ready n) (same_ready n) log conn x.connections.answers cs.waits (sym (cs.waits conn) ∙ is) c ∙ (sym (cs.waits c) ∙ kept.waits c) }),
+                (record { halves = kept.halves; running = kept.running; partners = kept.partners; spawned = kept.spawned; waits = λ c. waits_none (queue.Ready n) (same_ready n) log conn x.connections.answers cs.waits (sym (cs.waits conn) ∙ is) c ∙ (sym (cs.waits c) ∙ kept.waits c) }),
             (
               subst (RouterStands configs (log ++ e ∷ []) n) (sym (ap (λ (z : Node). z.router) parts)) (part_still place.router configs log e n x (act.SendStep conn n) reply.Idle (s.each place.router) refl refl still),
               tt,
@@ -179,14 +181,14 @@ begin_on configs log at seed conn n k (w ∷ ws) x y l links r s t there idle is
     let cs : ConnectionsStand configs log n x.connections = s.each place.connections in
     let rout : RouterStands configs log n x.router = s.each place.router in
     let first : line log (queue.Ready n conn) ≡ w ∷ ws = sym (cs.waits conn) ∙ is in
-    let row_is : send_step_row configs log conn n ≡ begin_row (w ∷ ws) =
+    let row_is : send_step_row configs log conn n ≡ takes_oldest (w ∷ ws) =
     stepped_as configs log conn n x.connections (Some k) cs there
-    ∙ (ap (λ b. stepped_row configs log conn n (Some k.half) b) idle ∙ ap begin_row first)
+    ∙ (ap (λ b. stepped_row configs log conn n (Some k.half) b) idle ∙ ap takes_oldest first)
     in
     let takes : Takes log e n conn w ws = record { first = first; takes = ap (λ (z : Row). z.takes) row_is; puts = ap (λ (z : Row). z.puts) row_is; ends = ap (λ (z : Row). z.ends) row_is } in
     let parts : y ≡ record x { connections = begun_on (Some w) conn x.connections } = d.1.0 ∙ ap (λ vs. record x { connections = begun_on (slice_get vs 0) conn x.connections }) is in
     record {
-      row_is = d.0 ∙ (ap begin_row is ∙ sym row_is);
+      row_is = d.0 ∙ (ap takes_oldest is ∙ sym row_is);
       node =
           each_part configs log ev n x y (place.connections ∷ place.router ∷ []) s (subst (λ z. z ≡ with_parts (place.connections ∷ place.router ∷ []) x z) (sym parts) refl)
           (λ p out. not_among-links (place.connections ∷ place.router ∷ []) p n out) (
@@ -194,7 +196,7 @@ begin_on configs log at seed conn n k (w ∷ ws) x y l links r s t there idle is
             (
               subst (RouterStands configs (log ++ e ∷ []) n) (sym (ap (λ (z : Node). z.router) parts))
                   (RouterStands-moved configs log e n x.router x.router rout
-                  (stands_begun configs log e x.router conn n rout.stands (step_beside configs log e x.router.number conn n refl) (takes.takes ∙ sym (ap (λ vs. (begin_row vs).takes) first)) takes.puts takes.ends) refl refl),
+                  (stands_begun configs log e x.router conn n rout.stands (step_beside configs log e x.router.number conn n refl) (takes.takes ∙ sym (ap (λ vs. (takes_oldest vs).takes) first)) takes.puts takes.ends) refl refl),
               tt,
             ),
           );
@@ -249,11 +251,11 @@ filter-away q k p [] h = refl
 filter-away q k p (x ∷ xs) h = ap (λ b. cond b (record { entry = k; place = p; queue = x.0; item = x.1 } ∷ filter (stands_in q) (placed k (p + 1) xs)) (filter (stands_in q) (placed k (p + 1) xs))) h.0 ∙ filter-away q k (p + 1) xs h.1
 
 -- a line of neither lane, after a batch of a connection
-line_written : (log : List Entry) (e : Entry) (n conn size : ℕ) (s : Side) (fs : List ((ℕ × ℕ) × Item)) (q : Queue) → same_queue (queue.High n conn) q ≡ false → same_queue (queue.Low n conn) q ≡ false
-    → fs ≡ map named (batch_of n conn size (live log)) → e.takes ≡ map (λ (f : (ℕ × ℕ) × Item). f.0) fs → e.ends ≡ [] → e.puts ≡ frames_put conn s fs
-    → line (log ++ e ∷ []) q ≡ line log q ++ filter (stands_in q) (placed (length log) 0 (frames_put conn s fs))
+line_written : (log : List Entry) (e : Entry) (n conn link size : ℕ) (s : Side) (fs : List ((ℕ × ℕ) × Item)) (q : Queue) → same_queue (queue.High n conn) q ≡ false → same_queue (queue.Low n conn) q ≡ false
+    → fs ≡ map named (batch_of n conn size (live log)) → e.takes ≡ map (λ (f : (ℕ × ℕ) × Item). f.0) fs → e.ends ≡ [] → e.puts ≡ frames_put link s fs
+    → line (log ++ e ∷ []) q ≡ line log q ++ filter (stands_in q) (placed (length log) 0 (frames_put link s fs))
 unfolding line
-line_written log e n conn size s fs q high low is takes ends puts =
+line_written log e n conn link size s fs q high low is takes ends puts =
     let gone : goes e ≡ map name_of (batch_of n conn size (live log)) =
     ap (λ d. e.takes ++ flat_map ended_item d) ends ∙ (append-nil e.takes ∙ (takes ∙ (ap (map (λ (f : (ℕ × ℕ) × Item). f.0)) is ∙ names_named (batch_of n conn size (live log)))))
     in
@@ -298,7 +300,7 @@ still_runs log e n conn c acts runs =
     by_conn false h = or_nothing (is_running log n c)
 
 write_on : (configs : List Config) (log : List Entry) (at seed conn n : ℕ) (k : Connection) (x y : Node) (l links : Links) (r : Row) → NodeStands configs log n x → LinksStand log l
-    → table.at x.connections.halves conn ≡ Some k → k.running ≡ true → Writes (length log) conn k.half.writes x y l links r → Performs configs log (asked at seed (act.SendStep conn n)) n y links r
+    → table.at x.connections.halves conn ≡ Some k → k.running ≡ true → Writes (length log) conn k.half x y l links r → Performs configs log (asked at seed (act.SendStep conn n)) n y links r
 unfolding effect row
 write_on configs log at seed conn n k x y l links r s t there runs d =
     let ev = asked at seed (act.SendStep conn n) in
@@ -306,6 +308,7 @@ write_on configs log at seed conn n k x y l links r s t there runs d =
     let cs : ConnectionsStand configs log n x.connections = s.each place.connections in
     let rout : RouterStands configs log n x.router = s.each place.router in
     let side_of = k.half.writes in
+    let link = k.half.link in
     let frames : List ((ℕ × ℕ) × Item) = d.0 in
     let calls = d.1.0 in
     let parts : y ≡ record x { router = y.router } = d.1.1.0 in
@@ -315,17 +318,17 @@ write_on configs log at seed conn n k x y l links r s t there runs d =
     calls.taken (mailbox_size_at configs x.router.number) (live log) rout.stands.holds (AreApart-live_from 0 log)
     ∙ ap (λ m. map named (batch_of m conn size (live log))) rout.number
     in
-    let stepped : send_step_row configs log conn n ≡ write_row (queue.Link conn side_of) (batch configs log n conn) =
+    let stepped : send_step_row configs log conn n ≡ write_row (queue.Link link side_of) (batch configs log n conn) =
     stepped_as configs log conn n x.connections (Some k) cs there ∙ ap (λ b. stepped_row configs log conn n (Some k.half) b) runs
     in
-    let framed : write_frames_row conn side_of frames ≡ send_step_row configs log conn n =
-    ap (write_frames_row conn side_of) took
-    ∙ (frames_row conn side_of (batch_of n conn size (live log))
-    ∙ (ap (write_row (queue.Link conn side_of)) (batch_is configs log n conn size size_is) ∙ sym stepped))
+    let framed : write_frames_row link side_of frames ≡ send_step_row configs log conn n =
+    ap (write_frames_row link side_of) took
+    ∙ (frames_row link side_of (batch_of n conn size (live log))
+    ∙ (ap (write_row (queue.Link link side_of)) (batch_is configs log n conn size size_is) ∙ sym stepped))
     in
-    let takes : e.takes ≡ map (λ (f : (ℕ × ℕ) × Item). f.0) frames = ap (λ (z : Row). z.takes) (sym framed) ∙ write_takes conn side_of frames in
-    let puts : e.puts ≡ frames_put conn side_of frames = ap (λ (z : Row). z.puts) (sym framed) ∙ write_puts conn side_of frames in
-    let ends : e.ends ≡ [] = ap (λ (z : Row). z.ends) (sym framed) ∙ write_ends conn side_of frames in
+    let takes : e.takes ≡ map (λ (f : (ℕ × ℕ) × Item). f.0) frames = ap (λ (z : Row). z.takes) (sym framed) ∙ write_takes link side_of frames in
+    let puts : e.puts ≡ frames_put link side_of frames = ap (λ (z : Row). z.puts) (sym framed) ∙ write_puts link side_of frames in
+    let ends : e.ends ≡ [] = ap (λ (z : Row). z.ends) (sym framed) ∙ write_ends link side_of frames in
     let running : is_running log n conn ≡ true = sym (cs.running conn) ∙ (ap runs_on there ∙ runs) in
     record {
       row_is = d.1.1.1.0 ∙ framed;
@@ -333,29 +336,29 @@ write_on configs log at seed conn n k x y l links r s t there runs d =
           each_part configs log ev n x y (place.connections ∷ place.router ∷ []) s (subst (λ z. z ≡ with_parts (place.connections ∷ place.router ∷ []) x z) (sym parts) refl)
           (λ p out. not_among-links (place.connections ∷ place.router ∷ []) p n out) (
             subst (ConnectionsStand configs (log ++ e ∷ []) n) (sym (ap (λ (z : Node). z.connections) parts))
-                (connections_moved configs log e n x.connections x.connections.halves x.connections.answers cs (makes_none configs log e n (act.SendStep conn n) refl refl) (λ c. refl)
+                (connections_moved configs log e n x.connections x.connections.halves x.connections.answers cs (joins_none configs log e n (act.SendStep conn n) refl refl) (connections_of-unmade log e n refl) (λ c. refl)
                 (λ c. cs.running c ∙ sym (still_runs log e n conn c refl running))
                 (λ c.
                 cs.waits c
                 ∙ sym
-                (line_written log e n conn size side_of frames (queue.Ready n c) refl refl took takes ends puts
-                ∙ (ap (λ w. line log (queue.Ready n c) ++ w) (filter-away (queue.Ready n c) (length log) 0 (frames_put conn side_of frames) (frames_away conn side_of (queue.Ready n c) frames (ready_apart n conn c side_of))) ∙ append-nil (line log (queue.Ready n c)))))),
+                (line_written log e n conn link size side_of frames (queue.Ready n c) refl refl took takes ends puts
+                ∙ (ap (λ w. line log (queue.Ready n c) ++ w) (filter-away (queue.Ready n c) (length log) 0 (frames_put link side_of frames) (frames_away link side_of (queue.Ready n c) frames (ready_apart n link c side_of))) ∙ append-nil (line log (queue.Ready n c)))))),
             (
               RouterStands-moved configs log e n x.router y.router rout
                   (calls.stands configs log e rout.stands (step_beside configs log e x.router.number conn n refl) takes ends
-                  (λ q own. subst (AreAway q) (sym puts) (frames_away conn side_of q frames (same_queue-sym q (queue.Link conn side_of) ∙ same_queue-other x.router.number (queue.Link conn side_of) q refl own))))
+                  (λ q own. subst (AreAway q) (sym puts) (frames_away link side_of q frames (same_queue-sym q (queue.Link link side_of) ∙ same_queue-other x.router.number (queue.Link link side_of) q refl own))))
                   calls.kept.number calls.kept.peers,
               tt,
             ),
           );
       linked = subst (LinksStand (log ++ e ∷ [])) (sym d.1.1.1.1)
-          (links_written log e l side_of conn (length log) frames t (λ u j. line_written log e n conn size side_of frames (queue.Link j u) (high_link n conn j u) (low_link n conn j u) took takes ends puts) (openings_unmoved log e refl));
+          (links_written log e l side_of link (length log) frames t (λ u j. line_written log e n conn link size side_of frames (queue.Link j u) (high_link n conn j u) (low_link n conn j u) took takes ends puts) (openings_unmoved log e refl));
     }
 
 -- ---- a step
 
 step_by : (configs : List Config) (log : List Entry) (at seed conn n : ℕ) (k : Connection) (b : Bool) (x y : Node) (l links : Links) (r : Row) → NodeStands configs log n x → LinksStand log l
-    → table.at x.connections.halves conn ≡ Some k → k.running ≡ b → WritesBy b (length log) conn k.half.writes x y l links r → Performs configs log (asked at seed (act.SendStep conn n)) n y links r
+    → table.at x.connections.halves conn ≡ Some k → k.running ≡ b → WritesBy b (length log) conn k.half x y l links r → Performs configs log (asked at seed (act.SendStep conn n)) n y links r
 step_by configs log at seed conn n k true x y l links r s t there runs d = write_on configs log at seed conn n k x y l links r s t there runs d
 step_by configs log at seed conn n k false x y l links r s t there runs d = begin_on configs log at seed conn n k (waiting x.connections.answers conn) x y l links r s t there runs refl d
 

@@ -1,5 +1,5 @@
 -- What each act comes to, and what it makes of a node and of the links. No log: of the router's calls the log is a matter of its own.
-use Rattle.std.specs.Prelude.{◌≡◌, ℕ, ◌+◌, Bool, true, false, ◌&&◌, List, [], ◌∷◌, ◌++◌, drop, Option, Some, None, slice_get, if◌then◌else◌}
+use Rattle.std.specs.Prelude.{◌≡◌, ℕ, ◌+◌, Bool, true, false, ◌&&◌, List, [], ◌∷◌, ◌++◌, drop, length, nat_lt, Option, Some, None, slice_get, if◌then◌else◌}
 use Rattle.p2p_base.specs.declared.key.Key.{Key}
 use Rattle.p2p_log.specs.declared.queue.Queue.{Queue}
 use Rattle.p2p_log.specs.declared.queue.Queue.TheVariants as queue
@@ -14,8 +14,9 @@ use Rattle.p2p_log.specs.declared.event.Act.TheVariants as act
 use Rattle.p2p_log.specs.Copies.{keys_of_recipients}
 use Rattle.p2p_log.specs.QueueCode.{same_queue}
 use Rattle.p2p_log.specs.Lines.{name_of}
+use Rattle.p2p_log_rules.specs.declared.row.Half.{Half}
 use Rattle.p2p_log_rules.specs.declared.row.Row.{Row}
-use Rattle.p2p_log_rules.specs.Effect.{only, oldest_read, begin_row, other_side}
+use Rattle.p2p_log_rules.specs.Effect.{only, oldest_read, takes_oldest, other_side}
 use Rattle.p2p_net_queues.specs.Board.{held}
 use Rattle.p2p_net_queues.specs.Rows.{taken_row}
 use Rattle.p2p_net_queues.specs.Tables as table
@@ -25,7 +26,7 @@ use Rattle.p2p_net_channels.specs.declared.channels.Channels.{Channels}
 use Rattle.p2p_net_channels.specs.Arrivals.{arrival_in, delivered}
 use Rattle.p2p_net_channels.specs.Channels.{capacity_at, registered_with, is_full, delivered_to, read_from}
 use Rattle.p2p_net_connections.specs.declared.connections.Connection.{Connection}
-use Rattle.p2p_net_connections.specs.Connections.{answered, begun}
+use Rattle.p2p_net_connections.specs.Connections.{answered, begun, spawned_with}
 use Rattle.p2p_net_links.specs.declared.links.Links.{Links}
 use Rattle.p2p_net_links.specs.Links.{way_of, with_way, written_way, write_frames_row}
 use Rattle.p2p_net_dialer.specs.Attempts.{Tries, Resolves, AnswersDial}
@@ -45,6 +46,9 @@ use Rattle.p2p_net_tracker.specs.Reading.{Answers, Continues}
 use Rattle.p2p_net_tracker.specs.Handshaking.{left_of, handshake_step_row}
 use Rattle.p2p_net_tracker.specs.Stepping as tracking
 use Rattle.p2p_net_tracker.specs.declared.tracker.Tracker.{Tracker}
+use Rattle.p2p_base.specs.Queue.{oldest}
+use Rattle.p2p_net_spawner.specs.Spawning.{taken_by, without_first}
+use Rattle.p2p_net_spawner.specs.declared.spawning.Taken.{Taken}
 use Rattle.p2p_net.specs.Ready.{is_started, capacity_by}
 use Rattle.p2p_tracker_directory.specs.declared.metadata.Metadata.{Metadata}
 use Rattle.p2p_net.specs.Routing as routing
@@ -67,10 +71,15 @@ abbrev pub Starts : ℕ → ℕ → Node → Node → Row → Type 0
 Starts k at old new r =
     (new ≡ record old { router = new.router; dialing = started old.config at old.dialing }) × routing.Starts k (old.config.mailbox_size + old.channels.total) old.router new.router r
 
+-- by whether the message is longer than the node lets it be
+abbrev pub SendsBy : Bool → ℕ → ℕ → Bool → List ℕ → Recipients → Node → Node → Row → Type 0
+SendsBy true k c priority bytes to old new r = Stays old new r (only (reply.MessageTooLarge (length bytes) old.config.max_message_size))
+SendsBy false k c priority bytes to old new r =
+    (new ≡ record old { router = new.router }) × routing.Sends k c priority bytes (keys_of_recipients to) old.router new.router r
+
 abbrev pub SendsOn : Option ℕ → ℕ → ℕ → Bool → List ℕ → Recipients → Node → Node → Row → Type 0
 SendsOn None k c priority bytes to old new r = Stays old new r (only reply.Gone)
-SendsOn (Some capacity) k c priority bytes to old new r =
-    (new ≡ record old { router = new.router }) × routing.Sends k c priority bytes (keys_of_recipients to) old.router new.router r
+SendsOn (Some capacity) k c priority bytes to old new r = SendsBy (nat_lt old.config.max_message_size (length bytes)) k c priority bytes to old new r
 
 abbrev pub Sends : ℕ → ℕ → Bool → List ℕ → Recipients → Node → Node → Row → Type 0
 Sends k c priority bytes to old new r = SendsOn (capacity_at old.channels c) k c priority bytes to old new r
@@ -96,24 +105,25 @@ Routes k n old new r = RoutesBy (is_started old) k n old new r
 -- ---- a connection's sending half
 
 -- a batch is written to the link
-abbrev pub Writes : ℕ → ℕ → Side → Node → Node → Links → Links → Row → Type 0
-Writes k conn s old new l links r =
+abbrev pub Writes : ℕ → ℕ → Half → Node → Node → Links → Links → Row → Type 0
+Writes k conn half old new l links r =
     (frames : List ((ℕ × ℕ) × Item))
     × (routing.Batches conn old.config.send_batch_size old.router new.router frames
     × ((new ≡ record old { router = new.router })
-    × ((r ≡ write_frames_row conn s frames) × (links ≡ with_way l s (written_way k conn s 0 frames (way_of l s))))))
+    × ((r ≡ write_frames_row half.link half.writes frames)
+    × (links ≡ with_way l half.writes (written_way k half.link half.writes 0 frames (way_of l half.writes))))))
 
 abbrev pub Begins : ℕ → Node → Node → Links → Links → Row → Type 0
 Begins conn old new l links r =
-    (r ≡ begin_row (waiting old.connections.answers conn)) × ((new ≡ record old { connections = begun conn old.connections }) × (links ≡ l))
+    (r ≡ takes_oldest (waiting old.connections.answers conn)) × ((new ≡ record old { connections = begun conn old.connections }) × (links ≡ l))
 
-abbrev pub WritesBy : Bool → ℕ → ℕ → Side → Node → Node → Links → Links → Row → Type 0
-WritesBy true k conn s old new l links r = Writes k conn s old new l links r
-WritesBy false k conn s old new l links r = Begins conn old new l links r
+abbrev pub WritesBy : Bool → ℕ → ℕ → Half → Node → Node → Links → Links → Row → Type 0
+WritesBy true k conn half old new l links r = Writes k conn half old new l links r
+WritesBy false k conn half old new l links r = Begins conn old new l links r
 
 abbrev pub WritesOn : Option Connection → ℕ → ℕ → Node → Node → Links → Links → Row → Type 0
 WritesOn None k conn old new l links r = Stays old new r (only reply.Gone) × (links ≡ l)
-WritesOn (Some c) k conn old new l links r = WritesBy c.running k conn c.half.writes old new l links r
+WritesOn (Some c) k conn old new l links r = WritesBy c.running k conn c.half old new l links r
 
 abbrev pub SendSteps : ℕ → ℕ → Node → Node → Links → Links → Row → Type 0
 SendSteps k conn old new l links r = WritesOn (table.at old.connections.halves conn) k conn old new l links r
@@ -130,8 +140,8 @@ accepted_into None k n from m ch = ch
 accepted_into (Some capacity) k n from m ch = delivered_to (is_full ch capacity m.channel) k 0 n from m ch
 
 abbrev pub accepted_off : Option ℕ → ℕ → Side → Links → Links
-accepted_off None conn s l = l
-accepted_off (Some capacity) conn s l = with_way l s (popped_at (way_of l s) conn)
+accepted_off None link s l = l
+accepted_off (Some capacity) link s l = with_way l s (popped_at (way_of l s) link)
 
 -- by the message in the first frame
 abbrev pub arrived_row : Option Arrived → ℕ → ℕ × ℕ → Key → Channels → Row
@@ -143,8 +153,8 @@ arrived_into None k n from ch = ch
 arrived_into (Some m) k n from ch = accepted_into (capacity_at ch m.channel) k n from m ch
 
 abbrev pub arrived_off : Option Arrived → ℕ → Side → Channels → Links → Links
-arrived_off None conn s ch l = l
-arrived_off (Some m) conn s ch l = accepted_off (capacity_at ch m.channel) conn s l
+arrived_off None link s ch l = l
+arrived_off (Some m) link s ch l = accepted_off (capacity_at ch m.channel) link s l
 
 -- by the first frame
 abbrev pub received_row : ℕ → Option Envelope → ℕ → Key → Channels → Row
@@ -156,8 +166,8 @@ received_into limit None k n from ch = ch
 received_into limit (Some x) k n from ch = arrived_into (arrival_in limit x.item) k n from ch
 
 abbrev pub received_off : ℕ → Option Envelope → ℕ → Side → Channels → Links → Links
-received_off limit None conn s ch l = l
-received_off limit (Some x) conn s ch l = arrived_off (arrival_in limit x.item) conn s ch l
+received_off limit None link s ch l = l
+received_off limit (Some x) link s ch l = arrived_off (arrival_in limit x.item) link s ch l
 
 -- the first frame, by its name and the message in it
 abbrev pub frame_in : ℕ → Option Envelope → Option Arrival
@@ -166,21 +176,21 @@ frame_in limit (Some x) = Some (record { name = name_of x; message = arrival_in 
 
 -- the first frame in one direction of a link
 abbrev pub first_in : Links → ℕ → Side → Option Envelope
-first_in l conn s = slice_get (waiting (way_of l s) conn) 0
+first_in l link s = slice_get (waiting (way_of l s) link) 0
 
 abbrev pub Receives : ℕ → ℕ → ℕ → Side → Key → Node → Node → Links → Links → Row → Type 0
-Receives k n conn s from old new l links r =
-    (r ≡ received_row old.config.max_message_size (first_in l conn s) n from old.channels)
-    × ((new ≡ record old { channels = received_into old.config.max_message_size (first_in l conn s) k n from old.channels })
-    × (links ≡ received_off old.config.max_message_size (first_in l conn s) conn s old.channels l))
+Receives k n link s from old new l links r =
+    (r ≡ received_row old.config.max_message_size (first_in l link s) n from old.channels)
+    × ((new ≡ record old { channels = received_into old.config.max_message_size (first_in l link s) k n from old.channels })
+    × (links ≡ received_off old.config.max_message_size (first_in l link s) link s old.channels l))
 
 abbrev pub ReceivesBy : Bool → ℕ → ℕ → ℕ → Side → Key → Node → Node → Links → Links → Row → Type 0
-ReceivesBy true k n conn s from old new l links r = Receives k n conn s from old new l links r
-ReceivesBy false k n conn s from old new l links r = Stays old new r (only reply.Idle) × (links ≡ l)
+ReceivesBy true k n link s from old new l links r = Receives k n link s from old new l links r
+ReceivesBy false k n link s from old new l links r = Stays old new r (only reply.Idle) × (links ≡ l)
 
 abbrev pub ReceivesOn : Option Connection → ℕ → ℕ → ℕ → Node → Node → Links → Links → Row → Type 0
 ReceivesOn None k n conn old new l links r = Stays old new r (only reply.Gone) × (links ≡ l)
-ReceivesOn (Some c) k n conn old new l links r = ReceivesBy c.running k n conn (other_side c.half.writes) c.half.peer old new l links r
+ReceivesOn (Some c) k n conn old new l links r = ReceivesBy c.running k n c.half.link (other_side c.half.writes) c.half.peer old new l links r
 
 abbrev pub RecvSteps : ℕ → ℕ → ℕ → Node → Node → Links → Links → Row → Type 0
 RecvSteps k n conn old new l links r = ReceivesOn (table.at old.connections.halves conn) k n conn old new l links r
@@ -292,6 +302,19 @@ pub record AttemptSteps (k n name at seed : ℕ) (old new : Node) (r : Row) : Ty
   pub rest : mid ≡ record old { tracker = mid.tracker; dialing = mid.dialing }
   pub hands : HandsOn tried.ready k n (release_item tried.released) mid new tried.row r
 
+-- ---- the spawner
+
+-- by the message that it takes
+abbrev pub SpawnsBy : Option Taken → ℕ → Node → Node → Row → Type 0
+SpawnsBy None k old new r = (r ≡ only reply.Idle) × (new ≡ record old { spawning = without_first old.spawning })
+SpawnsBy (Some t) k old new r =
+    (r ≡ taken_row t.name)
+    × (new ≡ record old { spawning = without_first old.spawning; connections = spawned_with k t.link t.reservation old.connections })
+
+abbrev pub SpawnerStepsBy : Bool → ℕ → Node → Node → Row → Type 0
+SpawnerStepsBy false k old new r = Stays old new r (only reply.Gone)
+SpawnerStepsBy true k old new r = SpawnsBy (taken_by (slice_get old.spawning.names 0) (oldest old.spawning.mailbox)) k old new r
+
 -- what an attempt is told changes the attempts alone
 abbrev pub TellsAttempt : Node → Node → Type 0
 TellsAttempt old new = (new.dialing.actor ≡ old.dialing.actor) × (new ≡ record old { dialing = new.dialing })
@@ -317,6 +340,7 @@ NodeDoes k n at seed (act.Tracker m) old new l links r = TrackerStepsBy (is_star
 NodeDoes k n at seed (act.Dialer m) old new l links r = DialerStepsBy (is_started old) k n at seed old new r × (links ≡ l)
 NodeDoes k n at seed (act.Listener m) old new l links r = ListenerStepsBy (is_started old) k n at old new r × (links ≡ l)
 NodeDoes k n at seed (act.Handshake e m) old new l links r = HandshakeSteps k n e at old new r × (links ≡ l)
+NodeDoes k n at seed (act.Spawner m) old new l links r = SpawnerStepsBy (is_started old) k old new r × (links ≡ l)
 NodeDoes k n at seed (act.Attempt e m) old new l links r = AttemptSteps k n e at seed old new r × (links ≡ l)
 NodeDoes k n at seed (act.Resolve addresses e m) old new l links r =
     (Resolves (table.at old.dialing.attempts e) k n e addresses old.dialing.attempts new.dialing.attempts r × TellsAttempt old new) × (links ≡ l)

@@ -1,5 +1,5 @@
 -- What the end of an exchange of keys over a link comes to.
-use Rattle.std.specs.Prelude.{◌≡◌, ℕ, Bool, false, ◌==◌, ◌&&◌, List, [], ◌∷◌, ◌++◌, length, Option, Some, None, slice_get, slice_set, if◌then◌else◌}
+use Rattle.std.specs.Prelude.{◌≡◌, ℕ, Bool, false, ◌&&◌, List, [], ◌∷◌, ◌++◌, length, Option, Some, None, is_some, slice_get, slice_set, if◌then◌else◌}
 use Rattle.p2p_base.specs.declared.key.Key.{Key}
 use Rattle.p2p_log.specs.declared.queue.Queue.{Queue}
 use Rattle.p2p_log.specs.declared.queue.Queue.TheVariants as queue
@@ -10,7 +10,7 @@ use Rattle.p2p_log_rules.specs.declared.row.Opening.{Opening}
 use Rattle.p2p_log_rules.specs.declared.row.ListeningEnd.{ListeningEnd}
 use Rattle.p2p_log_rules.specs.declared.row.ListeningEnd.TheVariants as listening
 use Rattle.p2p_log_rules.specs.Effect.{only}
-use Rattle.p2p_log_rules.specs.Links.{stands, exchanged}
+use Rattle.p2p_log_rules.specs.Links.{is_dialed, exchanged}
 use Rattle.p2p_net_queues.specs.Board.{held}
 use Rattle.p2p_net_queues.specs.Tables as table
 use Rattle.p2p_net_queues.specs.Tables.{AreBut}
@@ -23,18 +23,14 @@ use Rattle.p2p_net.specs.declared.node.Node.{Node}
 
 -- ---- what is said of the keys
 
-abbrev pub is_dialed : Key → Option Key → Bool
-is_dialed key None = false
-is_dialed key (Some dialed) = dialed.0 == key.0
-
--- whether the handshake at the listening end was told that its peer may connect
+-- whether the handshake at the listening end took that its peer may connect
 abbrev pub accepts_end : Option ListeningEnd → Node → Bool
 accepts_end (Some (listening.Handshake h)) x = is_accepting (table.at x.listening.handshakes h)
 accepts_end _ x = false
 
 -- what the attempt of the first node and the listening end at the second come to
 abbrev pub said : Bool → Option Key → Option ListeningEnd → Node → Option Bool
-said ok dialed end y = exchanged (stands dialed && stands end) (ok && is_dialed y.config.public_key dialed) (accepts_end end y)
+said ok dialed end y = exchanged (is_some dialed && is_some end) (ok && is_dialed y.config.public_key dialed) (accepts_end end y)
 
 -- ---- what both ends are told
 

@@ -46,8 +46,8 @@ joined_row k a b first second = record {
 abbrev pub Connects : ℕ → ℕ → ℕ → Key → Key → List Node → List Node → Type 0
 Connects k a b first second old new =
     (x : Node) × ((y : Node) × ((v : Node) × ((w : Node) × ((slice_get old a ≡ Some x) × ((slice_get old b ≡ Some y)
-    × (Welcomes k 0 (record { peer = second; writes = side.Out }) b x v
-    × (Welcomes k 1 (record { peer = first; writes = side.In }) a y w × (new ≡ slice_set (slice_set old a v) b w))))))))
+    × (Welcomes k 0 (record { peer = second; link = k; writes = side.Out }) b x v
+    × (Welcomes k 1 (record { peer = first; link = k; writes = side.In }) a y w × (new ≡ slice_set (slice_set old a v) b w))))))))
 
 abbrev pub JoinsBy : Bool → ℕ → ℕ → ℕ → Node → Node → List Node → List Node → Row → Type 0
 JoinsBy false k a b x y old new r = (r ≡ only reply.Gone) × (new ≡ old)

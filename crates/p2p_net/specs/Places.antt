@@ -9,6 +9,7 @@ use Rattle.p2p_log.specs.declared.event.Act.{Act}
 use Rattle.p2p_log.specs.declared.event.Act.TheVariants as act
 use Rattle.p2p_log_rules.specs.declared.row.Opening.{Opening}
 use Rattle.p2p_log_rules.specs.Links.{openings_of}
+use Rattle.p2p_net.specs.declared.meeting.Ends.{Ends}
 
 pub data Part : Type 0 where
   router : Part
@@ -78,6 +79,7 @@ parts_named (act.Recv c n) = channels ∷ []
 parts_named (act.Dialer n) = tracker ∷ dialer ∷ []
 parts_named (act.Listener n) = tracker ∷ listener ∷ []
 parts_named (act.Handshake e n) = tracker ∷ listener ∷ spawner ∷ []
+parts_named (act.Spawner n) = spawner ∷ connections ∷ []
 parts_named (act.Attempt e n) = tracker ∷ dialer ∷ spawner ∷ []
 parts_named (act.Resolve addresses e n) = dialer ∷ []
 parts_named (act.Connect e from n to) = dialer ∷ listener ∷ []
@@ -115,14 +117,14 @@ abbrev pub node_asked : Option Entry → ℕ
 node_asked None = 0
 node_asked (Some e) = or_first (asked_node e.event.act)
 
--- the nodes between which the event of this number made a link, or the first
-abbrev pub node_linked : Option Entry → ℕ
-node_linked None = 0
-node_linked (Some e) = elim e.event.act [ act.Connect a from n to ↦ n | _ ↦ 0 ]
+-- the nodes between which an act makes a link, or the first at both ends
+abbrev pub linked_by : Act → Ends
+linked_by a = elim a [ act.Connect e from n to ↦ record { dials = n; listens = to } | _ ↦ record { dials = 0; listens = 0 } ]
 
-abbrev pub linked_to : Option Entry → ℕ
-linked_to None = 0
-linked_to (Some e) = elim e.event.act [ act.Connect a from n to ↦ to | _ ↦ 0 ]
+-- and between which the event of this number made one
+abbrev pub nodes_linked : Option Entry → Ends
+nodes_linked None = record { dials = 0; listens = 0 }
+nodes_linked (Some e) = linked_by e.event.act
 
 -- the node that an act names, where it names one, after these entries
 abbrev pub node_of : List Entry → Act → ℕ
@@ -141,17 +143,18 @@ node_of log (act.Tracker n) = n
 node_of log (act.Dialer n) = n
 node_of log (act.Listener n) = n
 node_of log (act.Handshake e n) = n
+node_of log (act.Spawner n) = n
 node_of log (act.Attempt e n) = n
 node_of log (act.Resolve addresses e n) = n
 node_of log (act.Connect e from n to) = n
 node_of log (act.Refuse e n) = n
-node_of log (act.Finish link ok) = node_linked (slice_get log link)
+node_of log (act.Finish link ok) = (nodes_linked (slice_get log link)).dials
 
 -- and the other one that it names
 abbrev pub other_of : List Entry → ℕ → Act → ℕ
 other_of log n (act.Join a b) = b
 other_of log n (act.Connect e from m to) = to
-other_of log n (act.Finish link ok) = linked_to (slice_get log link)
+other_of log n (act.Finish link ok) = (nodes_linked (slice_get log link)).listens
 other_of log n a = n
 
 -- the parts at both ends of a link

@@ -77,7 +77,6 @@ subscribes (Some e) = is_some (subscribed_by e.event.act)
 abbrev pub may_ask : List Entry → Node → Act → Bool
 may_ask log x (act.Register c n rate) = may_register x c rate
 may_ask log x (act.Start n) = not (is_started x)
-may_ask log x (act.Send bytes c n priority to) = nat_le (length bytes) x.config.max_message_size
 may_ask log x (act.SendStep conn n) = names_node n (slice_get log conn)
 may_ask log x (act.RecvStep conn n) = names_node n (slice_get log conn)
 may_ask log x (act.Answer e) = asks_set (slice_get log e)
@@ -98,7 +97,6 @@ IsReady (act.Start n) x =
     × ((1 ≤ x.config.mailbox_size)
     × ((x.config.mailbox_size + x.channels.total < 2 ^ 64)
     × ((is_quota x.config.allowed_handshake_rate_per_ip ≡ true) × (is_quota x.config.allowed_handshake_rate_per_subnet ≡ true))))
-IsReady (act.Send bytes c n priority to) x = length bytes < 2 ^ 32
 IsReady (act.Tracker n) x = (now : ℕ) → IfSome (next_message x.tracker.mailbox.desk) (λ m. MayTake key_cmp x.tracker.actor.directory m now)
 IsReady (act.Handshake e n) x = is_some (table.at x.listening.handshakes e) ≡ true → 0 < x.listening.actor.places.held
 IsReady _ x = Unit {0}

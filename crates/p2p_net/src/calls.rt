@@ -49,7 +49,7 @@ impl Node {
         Ok(row)
     }
 
-    /// Sends a message on a channel.
+    /// Sends a message on a channel, where it is no longer than the node lets it be.
     pub(crate) fn send(
         &mut self,
         turn: Turn,
@@ -58,13 +58,16 @@ impl Node {
         priority: bool,
         to: &Recipients,
     ) -> Result<Row, AllocError>
-        requires { length bytes.now < 2 ^ 32 }
         ensures does { IfOk result (λ r. Sends turn.entry channel priority bytes.now to.now self.old self.new r) }
         ensures failed { OnOk result (self.new.failed ≡ self.old.failed) }
     {
         match self.channels.capacity(channel) {
             None => Ok(only(turn.alloc, Reply::Gone)),
             Some(_capacity) => {
+                let (size, limit) = (bytes.len(), self.config.max_message_size as usize);
+                if size > limit {
+                    return Ok(only(turn.alloc, Reply::MessageTooLarge { size, limit }));
+                }
                 let keys = to.keys(turn.alloc)?;
                 let row = self.router.send(turn, channel, priority, bytes, keys)?;
                 Ok(row)

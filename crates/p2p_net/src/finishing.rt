@@ -1,9 +1,9 @@
 //! Ending the exchange of keys over a link between two nodes.
 ghost use Rattle.std.specs.Prelude.{◌≡◌, ◌<◌, ◌&&◌, length, Some, IfOk, OnOk};
-ghost use Rattle.p2p_log_rules.specs.Links.{exchanged, stands};
+ghost use Rattle.p2p_log_rules.specs.Links.{exchanged, is_dialed as is_dialed_test};
 ghost use Rattle.p2p_log_rules.specs.declared.row.Opening.{Opening as Opened};
 ghost use Rattle.p2p_net_queues.specs.Tables as table;
-ghost use Rattle.p2p_net.specs.Finishing.{is_dialed as is_dialed_test, accepts_end, said, TellsEnd, TellsBoth, FinishesOver, IsFinished};
+ghost use Rattle.p2p_net.specs.Finishing.{accepts_end, said, TellsEnd, TellsBoth, FinishesOver, IsFinished};
 
 use crate::node::Node;
 use p2p_base::Key;

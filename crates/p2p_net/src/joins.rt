@@ -88,10 +88,12 @@ fn connect(
 {
     let dialed = Half {
         peer: second,
+        link: entry,
         writes: Side::Out,
     };
     let listened = Half {
         peer: first,
+        link: entry,
         writes: Side::In,
     };
     let turn = Turn {

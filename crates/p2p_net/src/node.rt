@@ -11,13 +11,15 @@ ghost use Rattle.p2p_net_listener.specs.Listening.{IsNew as IsNewListening};
 ghost use Rattle.p2p_net_router.specs.Stands.{StandsFor};
 ghost use Rattle.p2p_net_spawner.specs.Spawning.{no_spawning};
 ghost use Rattle.p2p_net_tracker.specs.Begins.{IsNew};
-ghost use Rattle.p2p_net.specs.Places.{asked_node as asked_node_of, node_asked as node_asked_by, node_linked as node_linked_by, linked_to as linked_to_by, node_of as node_of_act, other_of as other_of_act};
+ghost use Rattle.p2p_net.specs.Places.{asked_node as asked_node_of, node_asked as node_asked_by, nodes_linked as nodes_linked_by, node_of as node_of_act, other_of as other_of_act};
 ghost use Rattle.p2p_net.specs.Ready.{is_started as started_test, IsReady};
 ghost use Rattle.p2p_net.specs.Acts.{NodeDoes};
 ghost use Rattle.p2p_net.specs.Applying.{NodeRecords, NodeApplies, NodeRefused};
 
 use crate::configs::retained;
 use crate::error::NodeError;
+use crate::meeting::Ends;
+use p2p_base::List;
 use p2p_log::{Act, Config, Entry, Event, Reply};
 use p2p_log_rules::Row;
 use p2p_net_channels::Channels;
@@ -56,7 +58,16 @@ pub struct Node {
     pub failed: bool,
 }
 
-/// The entry of an event that came to this row.
+/// The list, which takes no more memory than it holds.
+fn fitted<T>(list: List<T>) -> List<T>
+    ensures { result ≡ list }
+{
+    let mut items = list.into_inner();
+    items.shrink_to_fit();
+    List::new(items)
+}
+
+/// The entry of an event that came to this row. It is kept as long as the log, so its lists take no more memory than they hold.
 ///
 /// `Err` only where memory runs out.
 pub fn entry_of(alloc: Global, event: &Event, row: Row) -> Result<Entry, AllocError>
@@ -71,9 +82,9 @@ pub fn entry_of(alloc: Global, event: &Event, row: Row) -> Result<Entry, AllocEr
     Ok(Entry {
         event: event.try_clone(alloc)?,
         reply,
-        takes,
-        puts,
-        ends,
+        takes: fitted(takes),
+        puts: fitted(puts),
+        ends: fitted(ends),
     })
 }
 
@@ -100,29 +111,25 @@ fn node_asked(log: &[Entry], question: u64) -> u64
     }
 }
 
-/// The node whose attempt the event of this number linked, or the first.
-fn node_linked(log: &[Entry], link: u64) -> u64
-    ensures { result ≡ node_linked_by (slice_get log.now link) }
+/// The nodes between which the event of this number made a link, or the first at both ends.
+fn nodes_linked(log: &[Entry], link: u64) -> Ends
+    ensures { result ≡ nodes_linked_by (slice_get log.now link) }
 {
     match log.get(link as usize) {
         Some(entry) => match &entry.event.act {
-            Act::Connect { node, .. } => *node,
-            _ => 0,
+            Act::Connect { node, to, .. } => Ends {
+                dials: *node,
+                listens: *to,
+            },
+            _ => Ends {
+                dials: 0,
+                listens: 0,
+            },
         },
-        None => 0,
-    }
-}
-
-/// The node to which the event of this number linked an attempt, or the first.
-fn linked_to(log: &[Entry], link: u64) -> u64
-    ensures { result ≡ linked_to_by (slice_get log.now link) }
-{
-    match log.get(link as usize) {
-        Some(entry) => match &entry.event.act {
-            Act::Connect { to, .. } => *to,
-            _ => 0,
+        None => Ends {
+            dials: 0,
+            listens: 0,
         },
-        None => 0,
     }
 }
 
@@ -146,11 +153,12 @@ pub fn node_of(log: &[Entry], act: &Act) -> u64
         Act::Dialer { node } => *node,
         Act::Listener { node } => *node,
         Act::Handshake { node, .. } => *node,
+        Act::Spawner { node } => *node,
         Act::Attempt { node, .. } => *node,
         Act::Resolve { node, .. } => *node,
         Act::Connect { node, .. } => *node,
         Act::Refuse { node, .. } => *node,
-        Act::Finish { link, .. } => node_linked(log, *link),
+        Act::Finish { link, .. } => nodes_linked(log, *link).dials,
     }
 }
 
@@ -161,7 +169,7 @@ pub fn other_of(log: &[Entry], first: u64, act: &Act) -> u64
     match act {
         Act::Join { b, .. } => *b,
         Act::Connect { to, .. } => *to,
-        Act::Finish { link, .. } => linked_to(log, *link),
+        Act::Finish { link, .. } => nodes_linked(log, *link).listens,
         _ => first,
     }
 }
@@ -287,6 +295,7 @@ impl Node {
             Act::Handshake { handshake, .. } => {
                 Ok(self.handshake_step(turn, *handshake, event.at)?)
             }
+            Act::Spawner { .. } => Ok(self.spawn_step(turn)?),
             Act::Attempt { attempt, .. } => {
                 Ok(self.attempt_step(turn, *attempt, event.at, event.seed)?)
             }

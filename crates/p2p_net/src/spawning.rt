@@ -1,12 +1,15 @@
-//! What becomes of a reservation by which a connection is to be made.
+//! What becomes of a reservation by which a connection is to be made, and the spawner, which makes it.
 ghost use Rattle.std.specs.Prelude.{◌≡◌, IfOk, OnOk};
+ghost use Rattle.p2p_net.specs.Ready.{is_started as is_started_test};
+ghost use Rattle.p2p_net.specs.Acts.{SpawnerStepsBy};
 ghost use Rattle.p2p_net.specs.Spawning.{Spawns, release_item};
 
 use crate::node::Node;
 use p2p_base::Key;
-use p2p_log::Item;
+use p2p_log::{Item, Reply};
 use p2p_log_rules::Row;
-use p2p_net_queues::Turn;
+use p2p_net_queues::{Turn, only, taking};
+use p2p_net_spawner::Taken;
 use p2p_tracker_directory::Reservation;
 use std::alloc::AllocError;
 
@@ -37,5 +40,28 @@ impl Node {
         let released = self.spawning.spawn(turn, link, reservation, way, row)?;
         self.tracker.put_message(turn, release_of(released), row)?;
         Ok(())
+    }
+
+    /// One step of the spawner: the oldest message of its mailbox makes a connection.
+    pub(crate) fn spawn_step(&mut self, turn: Turn) -> Result<Row, AllocError>
+        ensures does { IfOk result (λ r. SpawnerStepsBy (is_started_test self.old) turn.entry self.old self.new r) }
+        ensures failed { OnOk result (self.new.failed ≡ self.old.failed) }
+    {
+        if !self.is_started() {
+            return Ok(only(turn.alloc, Reply::Gone));
+        }
+        let Some(
+            Taken {
+                name,
+                link,
+                reservation,
+            },
+        ) = self.spawning.take()
+        else {
+            return Ok(only(turn.alloc, Reply::Idle));
+        };
+        self.connections.spawn(turn, link, reservation)?;
+        let row = taking(turn.alloc, name)?;
+        Ok(row)
     }
 }

@@ -15,7 +15,7 @@ use crate::node::Node;
 use crate::spawning::release_of;
 use p2p_base::Key;
 use p2p_log::{Item, Reply, Side};
-use p2p_log_rules::Row;
+use p2p_log_rules::{Half, Row};
 use p2p_net_channels::{Arrived, open};
 use p2p_net_dialer::{Dialed, Tried};
 use p2p_net_links::Links;
@@ -42,10 +42,10 @@ pub struct Arrival {
 }
 
 /// The first frame in one direction of a link.
-fn look(links: &Links, conn: u64, side: Side, limit: u32) -> Result<Option<Arrival>, AllocError>
-    ensures { IfOk result (λ found. found ≡ frame_in limit (first_in links.now conn side)) }
+fn look(links: &Links, link: u64, side: Side, limit: u32) -> Result<Option<Arrival>, AllocError>
+    ensures { IfOk result (λ found. found ≡ frame_in limit (first_in links.now link side)) }
 {
-    match links.front(conn, side) {
+    match links.front(link, side) {
         None => Ok(None),
         Some(first) => {
             let name = (first.entry, first.place);
@@ -192,14 +192,14 @@ impl Node {
         turn: Turn,
         links: &mut Links,
         conn: u64,
-        side: Side,
+        half: Half,
     ) -> Result<Row, AllocError>
-        ensures does { IfOk result (λ r. Writes turn.entry conn side self.old self.new links.old links.new r) }
+        ensures does { IfOk result (λ r. Writes turn.entry conn half self.old self.new links.old links.new r) }
         ensures failed { OnOk result (self.new.failed ≡ self.old.failed) }
     {
         let size = self.config.send_batch_size;
         let frames = self.router.batch(turn.alloc, conn, size)?;
-        let row = links.write(turn, conn, side, frames)?;
+        let row = links.write(turn, half.link, half.writes, frames)?;
         Ok(row)
     }
 
@@ -217,7 +217,7 @@ impl Node {
             return Ok(only(turn.alloc, Reply::Gone));
         };
         if connection.running {
-            let row = self.write(turn, links, conn, connection.half.writes)?;
+            let row = self.write(turn, links, conn, connection.half)?;
             return Ok(row);
         }
         let row = self.connections.begin(turn.alloc, conn)?;
@@ -229,7 +229,7 @@ impl Node {
         &mut self,
         turn: Turn,
         links: &mut Links,
-        conn: u64,
+        link: u64,
         side: Side,
         from: Key,
         name: (u64, u64),
@@ -237,12 +237,12 @@ impl Node {
     ) -> Result<Row, AllocError>
         ensures row { IfOk result (λ r. r ≡ arrived_row (Some arrived) turn.node name from self.old.channels) }
         ensures node { OnOk result (self.new ≡ record self.old { channels = arrived_into (Some arrived) turn.entry turn.node from self.old.channels }) }
-        ensures links { OnOk result (links.new ≡ arrived_off (Some arrived) conn side self.old.channels links.old) }
+        ensures links { OnOk result (links.new ≡ arrived_off (Some arrived) link side self.old.channels links.old) }
     {
         let Some(capacity) = self.channels.capacity(arrived.channel) else {
             return Ok(only(turn.alloc, Reply::Idle));
         };
-        let _ = links.take(conn, side);
+        let _ = links.take(link, side);
         let mut row = taking(turn.alloc, name)?;
         self.channels
             .deliver(turn, &mut row, capacity, from, arrived)?;
@@ -254,14 +254,14 @@ impl Node {
         &mut self,
         turn: Turn,
         links: &mut Links,
-        conn: u64,
+        link: u64,
         side: Side,
         from: Key,
     ) -> Result<Row, AllocError>
-        ensures does { IfOk result (λ r. Receives turn.entry turn.node conn side from self.old self.new links.old links.new r) }
+        ensures does { IfOk result (λ r. Receives turn.entry turn.node link side from self.old self.new links.old links.new r) }
         ensures failed { OnOk result (self.new.failed ≡ self.old.failed) }
     {
-        match look(links, conn, side, self.config.max_message_size)? {
+        match look(links, link, side, self.config.max_message_size)? {
             None => Ok(only(turn.alloc, Reply::Idle)),
             Some(
                 Arrival {
@@ -274,7 +274,7 @@ impl Node {
                     name,
                     message: Some(arrived),
                 },
-            ) => Ok(self.accept(turn, links, conn, side, from, name, arrived)?),
+            ) => Ok(self.accept(turn, links, link, side, from, name, arrived)?),
         }
     }
 
@@ -295,7 +295,13 @@ impl Node {
             return Ok(only(turn.alloc, Reply::Idle));
         }
         let side = other_side(connection.half.writes);
-        let row = self.receive(turn, links, conn, side, connection.half.peer)?;
+        let row = self.receive(
+            turn,
+            links,
+            connection.half.link,
+            side,
+            connection.half.peer,
+        )?;
         Ok(row)
     }
 }

@@ -103,7 +103,6 @@ fn may_ask(log: &[Entry], node: &Node, act: &Act) -> bool
     match act {
         Act::Register { channel, quota, .. } => may_register(node, *channel, *quota),
         Act::Start { .. } => !node.is_started(),
-        Act::Send { bytes, .. } => bytes.len() <= node.config.max_message_size as usize,
         Act::SendStep { conn, node } => is_named(log, *conn, *node),
         Act::RecvStep { conn, node } => is_named(log, *conn, *node),
         Act::Answer { question } => asks_set(log, *question),

@@ -21,7 +21,7 @@ use Rattle.p2p_net_queues.specs.Lines.{HoldsLines}
 use Rattle.p2p_net_queues.proofs.Holding.{holds_frame, longer}
 use Rattle.p2p_net_queues.proofs.Tables.{waiting-pushed_at, lookup-insert_entry}
 use Rattle.p2p_net_connections.specs.Connections.{half_on, runs_on, is_answer_to, answered_in, answered_by, answered, ran_by, ran}
-use Rattle.p2p_net_connections.specs.Stands.{ConnectionsStand, MakesNone, LeavesConnections}
+use Rattle.p2p_net_connections.specs.Stands.{ConnectionsStand, JoinsNone, SpawnsNone, LeavesConnections}
 use Rattle.p2p_net_connections.specs.declared.connections.Connection.{Connection}
 use Rattle.p2p_net_connections.specs.declared.connections.Connections.{Connections}
 
@@ -32,7 +32,7 @@ or-false false c h = h
 -- past the end of the log no connection was made
 pub half-past : (configs : List Config) (log : List Entry) (n conn : ℕ) → length log ≤ conn → half_at configs log n conn ≡ None
 unfolding half_at
-half-past configs log n conn h = ap (half_in configs n) (slice_get_past log conn h)
+half-past configs log n conn h = ap (half_in configs n conn) (slice_get_past log conn h)
 
 -- a choice between a list's place and what its end adds, where it adds nothing
 settled : {X : Type 0} (x none : X) (i k : ℕ) → (k ≤ i → x ≡ none) → cond (nat_lt i k) x (cond (i == k) none none) ≡ x
@@ -44,7 +44,7 @@ settled x none i k past =
           (elim (i == k) as (λ b. cond b none none ≡ none) [ true ↦ refl | false ↦ refl ]) ∙ sym (past le)
     ]) refl
 
-pub half-kept : (configs : List Config) (log : List Entry) (e : Entry) (n conn : ℕ) → half_of configs n e.event.act e.reply ≡ None → half_at configs (log ++ e ∷ []) n conn ≡ half_at configs log n conn
+pub half-kept : (configs : List Config) (log : List Entry) (e : Entry) (n conn : ℕ) → half_of configs n conn e.event.act e.reply ≡ None → half_at configs (log ++ e ∷ []) n conn ≡ half_at configs log n conn
 half-kept configs log e n conn h =
     half_at-append configs log e n conn
     ∙ (ap (λ o. cond (nat_lt conn (length log)) (half_at configs log n conn) (cond (conn == length log) o None)) h
@@ -58,20 +58,21 @@ running-kept log e n conn h = is_running-append log e n conn ∙ or-false (is_ru
 
 -- no connection more, and these run, and these answers wait
 pub connections_moved :
-    (configs : List Config) (log : List Entry) (e : Entry) (n : ℕ) (cs : Connections) (halves : List (ℕ × Connection)) (answers : List (ℕ × List Envelope)) → ConnectionsStand configs log n cs → MakesNone configs log e n
+    (configs : List Config) (log : List Entry) (e : Entry) (n : ℕ) (cs : Connections) (halves : List (ℕ × Connection)) (answers : List (ℕ × List Envelope)) → ConnectionsStand configs log n cs → JoinsNone configs log e n → SpawnsNone log e n
     → ((conn : ℕ) → half_on (at halves conn) ≡ half_on (at cs.halves conn)) → ((conn : ℕ) → runs_on (at halves conn) ≡ is_running (log ++ e ∷ []) n conn)
-    → HoldsLines (queue.Ready n) (log ++ e ∷ []) answers → ConnectionsStand configs (log ++ e ∷ []) n (record { halves = halves; partners = cs.partners; answers = answers })
-connections_moved configs log e n cs halves answers s none same runs waits = record {
-  halves = λ conn. same conn ∙ (s.halves conn ∙ sym (half-kept configs log e n conn none.no_half));
+    → HoldsLines (queue.Ready n) (log ++ e ∷ []) answers → ConnectionsStand configs (log ++ e ∷ []) n (record cs { halves = halves; answers = answers })
+connections_moved configs log e n cs halves answers s none spawns same runs waits = record {
+  halves = λ conn. same conn ∙ (s.halves conn ∙ sym (half-kept configs log e n conn (none.no_half conn)));
   running = runs;
   partners = λ m. s.partners m ∙ sym (joined-kept log e n m (none.no_partner m));
+  spawned = λ conn. s.spawned conn ∙ sym (spawns conn);
   waits = waits;
 }
 
 -- an entry that leaves them alone
 pub connections_frame : (configs : List Config) (log : List Entry) (e : Entry) (n : ℕ) (cs : Connections) → ConnectionsStand configs log n cs → LeavesConnections configs log e n → ConnectionsStand configs (log ++ e ∷ []) n cs
 connections_frame configs log e n cs s q =
-    connections_moved configs log e n cs cs.halves cs.answers s q.makes (λ conn. refl)
+    connections_moved configs log e n cs cs.halves cs.answers s q.joins q.spawns (λ conn. refl)
     (λ conn. s.running conn ∙ sym (running-kept log e n conn (ap (list_any (λ (b : Bool). b)) (q.begins conn)))) (holds_frame (queue.Ready n) log e cs.answers s.waits q.lines)
 
 -- ---- answers that the node's router puts

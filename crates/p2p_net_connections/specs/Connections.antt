@@ -2,6 +2,9 @@
 use Rattle.std.specs.Prelude.{ℕ, ◌+◌, Bool, true, false, cond, List, [], ◌∷◌, Option, Some, None, slice_get}
 use Rattle.std.specs.BTreeMap.{insert_entry}
 use Rattle.std.specs.Ordering.{nat_cmp}
+use Rattle.p2p_base.specs.declared.key.Key.{Key}
+use Rattle.p2p_tracker_directory.specs.Reserved.{peer_of}
+use Rattle.p2p_tracker_directory.specs.declared.metadata.Metadata.{Metadata}
 use Rattle.p2p_log.specs.declared.queue.Queue.{Queue}
 use Rattle.p2p_log.specs.declared.queue.Queue.TheVariants as queue
 use Rattle.p2p_log.specs.QueueCode.{detail_of, same_queue}
@@ -9,12 +12,14 @@ use Rattle.p2p_log.specs.declared.item.Item.{Item}
 use Rattle.p2p_log.specs.declared.item.Envelope.{Envelope}
 use Rattle.p2p_log_rules.specs.declared.row.Half.{Half}
 use Rattle.p2p_log_rules.specs.Facts.{is_answer}
+use Rattle.p2p_log_rules.specs.Spawning.{Spawned}
 use Rattle.p2p_net_queues.specs.Tables.{at, waiting, pushed_at, popped_at}
 use Rattle.p2p_net_connections.specs.declared.connections.Connection.{Connection}
+use Rattle.p2p_net_connections.specs.declared.connections.NewConnection.{NewConnection}
 use Rattle.p2p_net_connections.specs.declared.connections.Connections.{Connections}
 
 abbrev pub no_connections : Connections
-no_connections = record { halves = []; partners = []; answers = [] }
+no_connections = record { halves = []; partners = []; answers = []; spawned = [] }
 
 abbrev pub half_on : Option Connection → Option Half
 half_on None = None
@@ -29,7 +34,16 @@ joined_with conn half partner cs = record {
   halves = insert_entry nat_cmp cs.halves conn (record { half = half; running = false });
   partners = insert_entry nat_cmp cs.partners partner conn;
   answers = cs.answers;
+  spawned = cs.spawned;
 }
+
+-- a connection that the spawner made, as the log has it
+abbrev pub spawned_on : Option NewConnection → Option Spawned
+spawned_on None = None
+spawned_on (Some c) = Some (record { key = peer_of c.reservation; link = c.link })
+
+abbrev pub spawned_with : ℕ → ℕ → Metadata Key → Connections → Connections
+spawned_with conn link reservation cs = record cs { spawned = insert_entry nat_cmp cs.spawned conn (record { link = link; reservation = reservation }) }
 
 -- whether a queue is of the answers to a connection of the node
 abbrev pub is_answer_to : ℕ → Queue → Bool
@@ -63,7 +77,7 @@ named_answer (Some x) = Some ((x.entry, x.place), is_answer x.item)
 
 abbrev pub begun_on : Option Envelope → ℕ → Connections → Connections
 begun_on None conn cs = record cs { answers = popped_at cs.answers conn }
-begun_on (Some x) conn cs = record { halves = cond (is_answer x.item) (ran conn cs.halves) cs.halves; partners = cs.partners; answers = popped_at cs.answers conn }
+begun_on (Some x) conn cs = record cs { halves = cond (is_answer x.item) (ran conn cs.halves) cs.halves; answers = popped_at cs.answers conn }
 
 -- the first answer of a connection was taken
 abbrev pub begun : ℕ → Connections → Connections

@@ -1,14 +1,16 @@
 //! `Connections`, the connections of a node.
 ghost use Rattle.std.specs.Prelude.{◌≡◌, ◌++◌, [], is_some, slice_get, IfOk, OnOk};
 ghost use Rattle.p2p_log_rules.specs.Facts.{is_answer as answer_test};
-ghost use Rattle.p2p_log_rules.specs.Effect.{begin_row};
+ghost use Rattle.p2p_log_rules.specs.Effect.{takes_oldest};
 ghost use Rattle.p2p_log.specs.Lines.{name_of};
 ghost use Rattle.p2p_net_queues.specs.Tables.{at, waiting, popped_at};
-ghost use Rattle.p2p_net_connections.specs.Connections.{no_connections, joined_with, answered_by, answered, ran_by, ran, begun, named_answer};
+ghost use Rattle.p2p_net_connections.specs.Connections.{no_connections, spawned_with, joined_with, answered_by, answered, ran_by, ran, begun, named_answer};
 
+use p2p_base::Key;
 use p2p_log::{Envelope, Item, Queue, Reply};
 use p2p_log_rules::{Half, Row};
 use p2p_net_queues::{Deque, Table, Turn, only, taking};
+use p2p_tracker_directory::Reservation;
 use std::alloc::{AllocError, Global};
 
 /// A connection of a node: its half, and whether it took its router's answer.
@@ -16,6 +18,13 @@ use std::alloc::{AllocError, Global};
 pub struct Connection {
     pub half: Half,
     pub running: bool,
+}
+
+/// A connection that the node's spawner made: the link that it goes over, by its name, and the right to connect with its peer.
+#[derive(Drop)]
+pub struct NewConnection {
+    pub link: u64,
+    pub reservation: Reservation<Key>,
 }
 
 /// The connections of a node, by the events that made them, and the router's answers that wait for them.
@@ -27,6 +36,8 @@ pub struct Connections {
     pub partners: Table<u64>,
     /// The answers that wait for each connection, the oldest first.
     pub answers: Table<Deque<Envelope>>,
+    /// The connections that its spawner made. None of them has begun.
+    pub spawned: Table<NewConnection>,
 }
 
 /// Whether an item is the router's answer.
@@ -48,6 +59,7 @@ impl Connections {
             halves: Table::new(alloc),
             partners: Table::new(alloc),
             answers: Table::new(alloc),
+            spawned: Table::new(alloc),
         }
     }
 
@@ -63,6 +75,22 @@ impl Connections {
         ensures { result ≡ is_some (at self.now.partners partner) }
     {
         self.partners.has(partner)
+    }
+
+    /// The node's spawner made a connection over this link, with the peer of this reservation.
+    ///
+    /// `Err` only where there is no memory. The connection is then not kept, and its node goes no further.
+    pub fn spawn(
+        &mut self,
+        turn: Turn,
+        link: u64,
+        reservation: Reservation<Key>,
+    ) -> Result<(), AllocError>
+        ensures { OnOk result (self.new ≡ spawned_with turn.entry link reservation self.old) }
+    {
+        let connection = NewConnection { link, reservation };
+        self.spawned.insert(turn.entry, connection)?;
+        Ok(())
     }
 
     /// An event made a connection with a partner, of which this is the node's half.
@@ -149,7 +177,7 @@ impl Connections {
     /// `Err` only where there is no memory. The answer may then be taken and the connection not run, and its node goes no
     /// further.
     pub fn begin(&mut self, alloc: Global, conn: u64) -> Result<Row, AllocError>
-        ensures row { IfOk result (λ r. r ≡ begin_row (waiting self.old.answers conn)) }
+        ensures row { IfOk result (λ r. r ≡ takes_oldest (waiting self.old.answers conn)) }
         ensures after { OnOk result (self.new ≡ begun conn self.old) }
     {
         match self.pop(conn) {

@@ -22,8 +22,8 @@ use Rattle.p2p_log.specs.declared.entry.Reply.{Reply}
 use Rattle.p2p_log.specs.declared.event.Act.{Act}
 use Rattle.p2p_log.specs.declared.event.Act.TheVariants as act
 use Rattle.p2p_log.specs.Lines.{live_from, line}
-use Rattle.p2p_log_rules.specs.Attempting.{Attempt, DialRules, dial_rules_in, dial_rules_at, socket_of, begun_of, stepped_attempt, told_addresses, told_answer, with_attempt, with_begun, and_then, acted_attempts, attempts_by, attempts_of}
-use Rattle.p2p_log_rules.specs.Facts.{events_of, starts, has_started, is_up, taken, state_from}
+use Rattle.p2p_log_rules.specs.Attempting.{Attempt, DialRules, dial_rules_in, dial_rules_at, socket_of, begun_of, stepped_attempt, told_addresses, told_answer, and_then, acted_attempts, attempts_by, attempts_of}
+use Rattle.p2p_log_rules.specs.Facts.{events_of, starts, has_started, is_up, taken, state_from, with_named, with_begun}
 use Rattle.p2p_log_rules.specs.Dialing.{Pace, pace_at, Dials, new_dials, steps_dialer, stepped_dials, acted_dials, dials_by, dials_of}
 use Rattle.p2p_log_rules.proofs.Attempts.{attempts_of-append, attempts_of-late}
 use Rattle.p2p_log_rules.proofs.Facts.{events_of-append, has_started-append, state_from-append}
@@ -55,10 +55,10 @@ none_steps n _ h = refl
 
 none_tried : (rules : DialRules) (n name at seed : ℕ) (r : Reply) (items : List Item) (a : Act) (attempts : ℕ → Option Attempt) (k : ℕ) → is_of_dialer n a ≡ false → acted_attempts rules n name at seed r items a attempts k ≡ attempts k
 none_tried rules n name at seed r items (act.Dialer m) attempts k h = ap (λ b. cond b (with_begun (begun_of rules.timeout at items) name attempts k) (attempts k)) h
-none_tried rules n name at seed r items (act.Attempt e m) attempts k h = ap (λ b. cond b (with_attempt e (and_then (stepped_attempt rules at seed r items) (attempts e)) attempts k) (attempts k)) h
-none_tried rules n name at seed r items (act.Resolve addresses e m) attempts k h = ap (λ b. cond b (with_attempt e (option_map (told_addresses r) (attempts e)) attempts k) (attempts k)) h
-none_tried rules n name at seed r items (act.Connect e from m to) attempts k h = ap (λ b. cond b (with_attempt e (option_map (told_answer name r) (attempts e)) attempts k) (attempts k)) h
-none_tried rules n name at seed r items (act.Refuse e m) attempts k h = ap (λ b. cond b (with_attempt e (option_map (told_answer name r) (attempts e)) attempts k) (attempts k)) h
+none_tried rules n name at seed r items (act.Attempt e m) attempts k h = ap (λ b. cond b (with_named e (and_then (stepped_attempt rules at seed r items) (attempts e)) attempts k) (attempts k)) h
+none_tried rules n name at seed r items (act.Resolve addresses e m) attempts k h = ap (λ b. cond b (with_named e (option_map (told_addresses r) (attempts e)) attempts k) (attempts k)) h
+none_tried rules n name at seed r items (act.Connect e from m to) attempts k h = ap (λ b. cond b (with_named e (option_map (told_answer name r) (attempts e)) attempts k) (attempts k)) h
+none_tried rules n name at seed r items (act.Refuse e m) attempts k h = ap (λ b. cond b (with_named e (option_map (told_answer name r) (attempts e)) attempts k) (attempts k)) h
 none_tried rules n name at seed r items _ attempts k h = refl
 
 or_false : (b c : Bool) → c ≡ false → (b || c) ≡ b

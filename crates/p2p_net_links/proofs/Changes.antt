@@ -19,8 +19,8 @@ use Rattle.p2p_log.specs.QueueCode.{same_queue}
 use Rattle.p2p_log.specs.Lines.{line, stands_in, placed}
 use Rattle.p2p_log.proofs.Queues.{same_queue-sym}
 use Rattle.p2p_log_rules.specs.declared.row.Opening.{Opening}
-use Rattle.p2p_log_rules.specs.Facts.{state_from}
-use Rattle.p2p_log_rules.specs.Links.{with_named, with_opened, without_finished, acted_openings, openings_by, openings_of}
+use Rattle.p2p_log_rules.specs.Facts.{state_from, with_named}
+use Rattle.p2p_log_rules.specs.Links.{with_opened, without_finished, acted_openings, openings_by, openings_of}
 use Rattle.p2p_log_rules.proofs.Links.{openings_of-append}
 use Rattle.p2p_net_queues.specs.Tables.{at, waiting, pushed_at, popped_at}
 use Rattle.p2p_net_queues.proofs.Holding.{longer}

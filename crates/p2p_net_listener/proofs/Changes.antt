@@ -25,9 +25,9 @@ use Rattle.p2p_log.specs.declared.event.Act.{Act}
 use Rattle.p2p_log.specs.declared.event.Act.TheVariants as act
 use Rattle.p2p_log.specs.Lines.{name_of, live_from, line}
 use Rattle.p2p_log_rules.specs.Attempting.{dial_rules_at}
-use Rattle.p2p_log_rules.specs.Facts.{state_from, taken}
+use Rattle.p2p_log_rules.specs.Facts.{state_from, taken, with_named}
 use Rattle.p2p_log_rules.specs.Handshakes.{steps_listener, steps_handshake, with_admitted, without_name, ends_handshake, unless_ended, acted_handshakes, handshakes_by, handshakes_of, is_handshaking, has_taken, peer_at}
-use Rattle.p2p_log_rules.specs.Links.{with_named, unless_dropped, listened, ends_by, listening_ends_of}
+use Rattle.p2p_log_rules.specs.Links.{unless_dropped, listened, ends_by, listening_ends_of}
 use Rattle.p2p_log_rules.specs.Listening.{gate_rules_at, most_handshakes_at, took_known, known_by, known_of}
 use Rattle.p2p_log_rules.specs.declared.row.ListeningEnd.{ListeningEnd}
 use Rattle.p2p_log_rules.specs.declared.row.ListeningEnd.TheVariants as listening

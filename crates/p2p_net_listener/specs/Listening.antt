@@ -23,11 +23,11 @@ use Rattle.p2p_log.specs.declared.item.Item.{Item}
 use Rattle.p2p_log.specs.declared.item.Item.TheVariants as item
 use Rattle.p2p_log_rules.specs.declared.row.ListeningEnd.{ListeningEnd}
 use Rattle.p2p_log_rules.specs.declared.row.ListeningEnd.TheVariants as listening
-use Rattle.p2p_log_rules.specs.Links.{with_named}
 use Rattle.p2p_net_queues.specs.Tables as table
 use Rattle.p2p_net_listener.specs.declared.listening.Listening.{Listening}
 use Rattle.p2p_net_listener.specs.declared.listening.Took.{Took}
 use Rattle.p2p_net_listener.specs.declared.listening.Took.TheVariants as took
+use Rattle.p2p_log_rules.specs.Facts.{with_named}
 
 -- a listener that was made with this, at which nobody has arrived
 pub record IsNew (cfg : Gates) (l : Listening) : Type 0 where

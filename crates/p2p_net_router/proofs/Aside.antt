@@ -10,7 +10,7 @@ use Rattle.p2p_log.specs.declared.item.Item.{Item}
 use Rattle.p2p_log.specs.declared.item.Envelope.{Envelope}
 use Rattle.p2p_log.specs.QueueCode.{same_queue}
 use Rattle.p2p_log.specs.Lines.{name_of, ended_item, goes, stays, live, stands_in, line}
-use Rattle.p2p_log_rules.specs.Effect.{begin_row}
+use Rattle.p2p_log_rules.specs.Effect.{takes_oldest}
 use Rattle.p2p_log_rules.proofs.Touches.{away}
 use Rattle.p2p_log.specs.Apart.{AreApart}
 use Rattle.p2p_log.proofs.Lines.{live-append, filter_stays-nil}
@@ -51,7 +51,7 @@ pub go_first :
 go_first n p items x rest other apart first = λ q own. filter-first_away q p items x rest apart first (same_queue-other n p q other own)
 
 pub go_begun :
-    (n : ℕ) (p : Queue) (items l : List Envelope) → is_routers n p ≡ false → AreApart items → filter (stands_in p) items ≡ l → GoBeside n items (begin_row l).takes
+    (n : ℕ) (p : Queue) (items l : List Envelope) → is_routers n p ≡ false → AreApart items → filter (stands_in p) items ≡ l → GoBeside n items (takes_oldest l).takes
 go_begun n p items [] other apart first = go_none n items
 go_begun n p items (x ∷ rest) other apart first = go_first n p items x rest other apart first
 
@@ -101,11 +101,11 @@ line_is log q = refl
 pub stands_begun :
     (configs : List Config) (log : List Entry) (e : Entry) (r : Router) (conn m : ℕ)
     → StandsFor configs log r → IsBeside configs log e r.number
-    → e.takes ≡ (begin_row (line log (queue.Ready m conn))).takes → e.puts ≡ [] → e.ends ≡ []
+    → e.takes ≡ (takes_oldest (line log (queue.Ready m conn))).takes → e.puts ≡ [] → e.ends ≡ []
     → StandsFor configs (log ++ e ∷ []) r
 stands_begun configs log e r conn m s b takes puts ends =
     let l = line log (queue.Ready m conn) in
     stands_beside configs log e r s b
-    (lines_stay log e r.number (begin_row l).takes (takes_alone e (begin_row l).takes takes (ap (flat_map ended_item) ends))
+    (lines_stay log e r.number (takes_oldest l).takes (takes_alone e (takes_oldest l).takes takes (ap (flat_map ended_item) ends))
     (go_begun r.number (queue.Ready m conn) (live log) l refl (AreApart-live_from 0 log) (line_is log (queue.Ready m conn)))
     (puts_none r.number e.puts puts))

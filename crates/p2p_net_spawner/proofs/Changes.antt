@@ -1,6 +1,6 @@
 -- The spawner's mailbox of a node after one more entry.
 use Rattle.std.proofs.Common.{◌≡◌, ℕ, Bool, false, List, [], ◌∷◌, ◌++◌, map, length, refl, ap, sym, subst, ◌∙◌, arith, Option, Some, None}
-use Rattle.std.specs.Prelude.{slice_get, nat_le, nat_lt, not, ◌||◌}
+use Rattle.std.specs.Prelude.{slice_get, drop, nat_le, nat_lt, not, ◌||◌}
 use Rattle.std.proofs.lemmas.Bool.Decides.{nat_tests}
 use Rattle.std.proofs.lemmas.List.{map-append}
 use Rattle.p2p_base.specs.declared.key.Key.{Key}
@@ -11,16 +11,19 @@ use Rattle.p2p_peer.specs.declared.spawner.message.Message.{Message}
 use Rattle.p2p_log.specs.declared.config.Config.{Config}
 use Rattle.p2p_log.specs.declared.queue.Queue.{Queue}
 use Rattle.p2p_log.specs.declared.queue.Queue.TheVariants as queue
+use Rattle.p2p_log.specs.declared.item.Item.{Item}
 use Rattle.p2p_log.specs.declared.item.Item.TheVariants as item
 use Rattle.p2p_log.specs.declared.item.Envelope.{Envelope}
 use Rattle.p2p_log.specs.declared.entry.Entry.{Entry}
 use Rattle.p2p_log.specs.Lines.{name_of, live_from, line}
 use Rattle.p2p_log_rules.specs.Rows.{mailbox_size_at, is_spawner_full}
-use Rattle.p2p_net_queues.proofs.Matching.{Match-last, Match-long}
-use Rattle.p2p_net_spawner.specs.Spawning.{no_spawning, refuses, spawned}
+use Rattle.p2p_net_queues.proofs.Matching.{Match-last, Match-long, Match-drop}
+use Rattle.p2p_net_spawner.specs.Spawning.{no_spawning, refuses, spawned, taken_by, without_first}
 use Rattle.p2p_net_queues.specs.Matching.{Match}
 use Rattle.p2p_net_spawner.specs.Stands.{IsSpawn, SpawnerStands}
 use Rattle.p2p_net_spawner.specs.declared.spawning.Spawning.{Spawning}
+use Rattle.p2p_net_spawner.specs.declared.spawning.Taken.{Taken}
+use Rattle.p2p_base.specs.Queue.{oldest}
 
 -- ---- a node that is new
 
@@ -72,3 +75,50 @@ spawner_more configs log e n link key m s h peer more =
       is_open = h.is_open;
       size = h.size;
     }
+
+-- ---- one that takes a message
+
+-- the others wait on
+pub spawner_less : (configs : List Config) (log : List Entry) (e : Entry) (n : ℕ) (s : Spawning) → SpawnerStands configs log n s
+    → line (log ++ e ∷ []) (queue.Spawner n) ≡ drop 1 (line log (queue.Spawner n)) → SpawnerStands configs (log ++ e ∷ []) n (without_first s)
+spawner_less configs log e n s h less = record {
+  names = ap (drop 1) h.names ∙ (sym (map-drop name_of (line log (queue.Spawner n))) ∙ ap (map name_of) (sym less));
+  messages = subst (λ (l : List Envelope). Match (λ x m. IsSpawn x.item m) l (drop 1 s.mailbox.items)) (sym less)
+      (Match-drop (λ (x : Envelope) (m : Message Key). IsSpawn x.item m) (line log (queue.Spawner n)) s.mailbox.items h.messages);
+  is_open = h.is_open;
+  size = h.size;
+}
+  where
+    map-drop : (f : Envelope → ℕ × ℕ) (xs : List Envelope) → map f (drop 1 xs) ≡ drop 1 (map f xs)
+    map-drop f [] = refl
+    map-drop f (x ∷ xs) = refl
+
+-- what is taken: the oldest message, by the name of its item
+pub record TakesFirst (log : List Entry) (n : ℕ) (x : Envelope) (t : Taken) : Type 0 where
+  pub name : t.name ≡ name_of x
+  pub item : x.item ≡ item.Spawn (peer_of t.reservation) t.link
+
+pub spawner_takes : (configs : List Config) (log : List Entry) (n : ℕ) (s : Spawning) (x : Envelope) (rest : List Envelope) → SpawnerStands configs log n s → line log (queue.Spawner n) ≡ x ∷ rest
+    → (t : Taken) × ((taken_by (slice_get s.names 0) (oldest s.mailbox) ≡ Some t) × TakesFirst log n x t)
+spawner_takes configs log n s x rest h first = by x.item refl s.mailbox.items refl (subst (λ (l : List Envelope). Match (λ y m. IsSpawn y.item m) l s.mailbox.items) first h.messages)
+  where
+    named : slice_get s.names 0 ≡ Some (name_of x)
+    named = ap (λ l. slice_get l 0) (h.names ∙ ap (map name_of) first)
+
+    by : (i : Item) → x.item ≡ i → (ms : List (Message Key)) → s.mailbox.items ≡ ms → Match (λ y m. IsSpawn y.item m) (x ∷ rest) ms
+        → (t : Taken) × ((taken_by (slice_get s.names 0) (oldest s.mailbox) ≡ Some t) × TakesFirst log n x t)
+    by i is [] are match = absurd match
+    by (item.Spawn key link) is (m ∷ ms) are match =
+        let spawn : IsSpawn (item.Spawn key link) m = subst (λ j. IsSpawn j m) is match.0 in
+        let t : Taken = record { name = name_of x; link = link; reservation = spawn.0 } in (
+          t,
+          (
+            ap (λ o. taken_by o (oldest s.mailbox)) named ∙ (ap (λ l. taken_by (Some (name_of x)) (slice_get l 0)) are ∙ ap (λ w. taken_by (Some (name_of x)) (Some w)) spawn.2),
+            record { name = refl; item = is ∙ ap (λ k. item.Spawn k link) (sym spawn.1) },
+          ),
+        )
+    by i is (m ∷ ms) are match = absurd (subst (λ j. IsSpawn j m) is match.0)
+
+pub spawner_empty : (configs : List Config) (log : List Entry) (n : ℕ) (s : Spawning) → SpawnerStands configs log n s → line log (queue.Spawner n) ≡ []
+    → taken_by (slice_get s.names 0) (oldest s.mailbox) ≡ None
+spawner_empty configs log n s h none = ap (λ o. taken_by o (oldest s.mailbox)) (ap (λ l. slice_get l 0) (h.names ∙ ap (map name_of) none))

@@ -1,6 +1,6 @@
 -- The spawner's mailbox of a node as values: what it is at first, and what asking for a connection comes to.
-use Rattle.std.specs.Prelude.{ℕ, Bool, true, false, not, ◌||◌, [], ◌∷◌, ◌++◌, Option, Some, None}
-use Rattle.p2p_base.specs.Queue.{empty_queue, has_room, with_items}
+use Rattle.std.specs.Prelude.{ℕ, Bool, true, false, not, ◌||◌, [], ◌∷◌, ◌++◌, drop, Option, Some, None}
+use Rattle.p2p_base.specs.Queue.{empty_queue, has_room, with_items, without_oldest}
 use Rattle.p2p_base.specs.declared.key.Key.{Key}
 use Rattle.p2p_tracker_directory.specs.Reserved.{peer_of}
 use Rattle.p2p_tracker_directory.specs.declared.metadata.Metadata.{Metadata}
@@ -11,7 +11,10 @@ use Rattle.p2p_peer.specs.Spawning.{spawn_of}
 use Rattle.p2p_log.specs.declared.queue.Queue.TheVariants as queue
 use Rattle.p2p_log.specs.declared.item.Item.TheVariants as item
 use Rattle.p2p_log_rules.specs.declared.row.Row.{Row}
+use Rattle.p2p_peer.specs.declared.spawner.message.Message.{Message}
+use Rattle.p2p_peer.specs.declared.spawner.message.Message.TheVariants as asked
 use Rattle.p2p_net_spawner.specs.declared.spawning.Spawning.{Spawning}
+use Rattle.p2p_net_spawner.specs.declared.spawning.Taken.{Taken}
 
 abbrev pub no_spawning : ℕ → Spawning
 no_spawning size = record { mailbox = empty_queue size; names = [] }
@@ -44,3 +47,13 @@ given_back false m way = way
 abbrev pub released : Bool → Metadata Key → Option Key
 released true m = Some (peer_of m)
 released false m = None
+
+-- ---- what is taken
+
+-- the message of this name
+abbrev pub taken_by : Option (ℕ × ℕ) → Option (Message Key) → Option Taken
+taken_by (Some name) (Some (asked.Spawn peer link m)) = Some (record { name = name; link = link; reservation = m })
+taken_by _ _ = None
+
+abbrev pub without_first : Spawning → Spawning
+without_first s = record { mailbox = without_oldest s.mailbox; names = drop 1 s.names }

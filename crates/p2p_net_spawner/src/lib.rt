@@ -3,4 +3,4 @@
 
 mod spawning;
 
-pub use spawning::Spawning;
+pub use spawning::{Spawning, Taken};

@@ -1,17 +1,18 @@
 //! `Spawning`, the spawner's mailbox of a node.
-ghost use Rattle.std.specs.Prelude.{◌≡◌, ◌≤◌, [], ◌∷◌, ◌++◌, IfOk, OnOk};
+ghost use Rattle.std.specs.Prelude.{◌≡◌, ◌≤◌, [], ◌∷◌, ◌++◌, slice_get, IfOk, OnOk};
+ghost use Rattle.p2p_base.specs.Queue.{oldest};
 ghost use Rattle.p2p_log.specs.declared.queue.Queue.TheVariants as queue;
 ghost use Rattle.p2p_log.specs.declared.item.Item.TheVariants as item;
 ghost use Rattle.p2p_tracker_directory.specs.Reserved.{peer_of};
 ghost use Rattle.p2p_tracker_mailbox.specs.Mailboxes.{with_message_in};
 ghost use Rattle.p2p_tracker_mailbox.specs.declared.message.Message.TheVariants as message;
-ghost use Rattle.p2p_net_spawner.specs.Spawning.{no_spawning, refuses, told_row, spawned, given_back, released};
+ghost use Rattle.p2p_net_spawner.specs.Spawning.{no_spawning, refuses, told_row, spawned, given_back, released, taken_by, without_first};
 
 use p2p_base::{Key, NoRoom, Sent};
 use p2p_log::{Item, Queue};
 use p2p_log_rules::Row;
 use p2p_net_queues::{Deque, Turn};
-use p2p_peer::spawner::Mailbox;
+use p2p_peer::spawner::{Mailbox, Message};
 use p2p_tracker_directory::Reservation;
 use p2p_tracker_mailbox::Mailbox as Tracker;
 use std::alloc::{AllocError, Global};
@@ -23,6 +24,14 @@ pub struct Spawning {
     pub mailbox: Mailbox<Key>,
     /// The names of what waits there, the oldest first.
     pub names: Deque<(u64, u64)>,
+}
+
+/// A message that the spawner took: its name, the link of the connection that it asks for, and the right to connect with the peer.
+#[derive(Drop)]
+pub struct Taken {
+    pub name: (u64, u64),
+    pub link: u64,
+    pub reservation: Reservation<Key>,
 }
 
 /// Gives a reservation back to the tracker. Its key is the answer.
@@ -91,6 +100,30 @@ impl Spawning {
                 Ok(None)
             }
             Err(_) => Err(AllocError),
+        }
+    }
+
+    /// Takes the oldest message. `None` where none waits.
+    pub fn take(&mut self) -> Option<Taken>
+        ensures value { result ≡ taken_by (slice_get self.old.names 0) (oldest self.old.mailbox) }
+        ensures after { self.new ≡ without_first self.old }
+    {
+        match (self.names.pop(), self.mailbox.take()) {
+            (
+                Some(name),
+                Some(
+                    Message::Spawn {
+                        connection,
+                        reservation,
+                        ..
+                    },
+                ),
+            ) => Some(Taken {
+                name,
+                link: connection,
+                reservation,
+            }),
+            _ => None,
         }
     }
 }

@@ -1,5 +1,5 @@
 -- The network as the program that is run: which trees it runs, and what a world that ran one is.
-use Rattle.std.specs.Prelude.{◌≡◌, ℕ, Bool, ◌&&◌, not, cond, List, Option, Some, None, is_some}
+use Rattle.std.specs.Prelude.{◌≡◌, ℕ, cond, List, Option, Some, None}
 use Rattle.serde_json.specs.Data.{Data}
 use Rattle.p2p_log.specs.declared.config.Config.{Config}
 use Rattle.p2p_log.specs.declared.event.Event.{Event}
@@ -10,9 +10,10 @@ use Rattle.p2p_base.specs.declared.key.Key.{Key}
 use Rattle.p2p_log_laws.specs.Grants.{GrantsAlternate, HasOneHolder, EachIsReleased}
 use Rattle.p2p_log_laws.specs.NodeGrants.{granting}
 use Rattle.p2p_log_laws.specs.OneAnswer.{HasOneAnswer}
+use Rattle.p2p_log_laws.specs.Leading.{ConnectionsAreOne, ConnectionsLead, EndsMeet}
 use Rattle.p2p_log_laws.specs.OneEnd.{EachHasOneEnd, NothingElseEnds}
 use Rattle.p2p_log_laws.specs.Delivered.{EachIsDelivery, EachDeliveredIsRead}
-use Rattle.p2p_log_laws.specs.Order.{AreDeliveredInOrder, AreDeliveredInOrderOverOne, AreDeliveredInOrderOfLinks, EachWentOver}
+use Rattle.p2p_log_laws.specs.Order.{AreDeliveredInOrder, AreDeliveredInOrderOverOne, AreDeliveredInOrderOfConnections, EachWentOver}
 use Rattle.p2p_log_laws.specs.Causes.{EachDropShowsItsCause}
 use Rattle.p2p_log_laws.specs.Fates.{EachHasFate, WaitingIsTrue, DroppedIsTrue, DeliveredIsTrue}
 use Rattle.p2p_sim_script.specs.Form.{script_of}
@@ -23,13 +24,18 @@ use Rattle.p2p_net.specs.World.{WorldView}
 use Rattle.p2p_sim_command.specs.declared.program.Refusal.{Refusal}
 use Rattle.p2p_sim_command.specs.declared.program.Refusal.TheVariants as refusal
 
--- all configurations are valid, and all events
-abbrev pub is_valid : List Config → List Event → Bool
-is_valid configs script = not (is_some (config_fault configs)) && not (is_some (event_fault configs script))
+-- the first configuration that isn't valid, or else the first event
+abbrev pub first_fault : Option ℕ → Option ℕ → Option Refusal
+first_fault (Some i) event = Some (refusal.Config i)
+first_fault None (Some i) = Some (refusal.Event i)
+first_fault None None = None
+
+abbrev pub fault_of : List Config → List Event → Option Refusal
+fault_of configs script = first_fault (config_fault configs) (event_fault configs script)
 
 -- a script is run that is of the form that is built so far, and valid
 abbrev pub script_refusal : List Config × List Event → Option Refusal
-script_refusal s = cond (is_first_form s.0 s.1 && is_valid s.0 s.1) None (Some refusal.NotScript)
+script_refusal s = cond (is_first_form s.0 s.1) (fault_of s.0 s.1) (Some refusal.NotScript)
 
 -- a tree is run that says such a script
 abbrev pub tree_refusal : Option (List Config × List Event) → Option Refusal
@@ -49,8 +55,9 @@ pub record HasRunScript (configs : List Config) (script : List Event) (world : W
 
 -- in the log, each copy of each accepted send has exactly one end: delivered once, or waiting in a queue, or dropped;
 -- what is delivered was sent, is read, and in order; each drop shows its cause; the fate of each copy, which the report
--- tells, is true; each key that is reserved at a node is held by one thing there, or its one release waits; and each handshake
--- waits for one answer at a time, is told once how the exchange over its link ended, and asks for its peer once after that
+-- tells, is true; each key that is reserved at a node is held by one thing there, or its one release waits; each handshake waits
+-- for one answer at a time, is told once how the exchange over its link ended, and asks for its peer once after that; and each
+-- connection that a spawner made leads to the peer that is reserved for it, is the only one of its node that does, and meets the one of its peer
 pub record IsAccounted (configs : List Config) (log : List Entry) : Type 0 where
   pub one_end : EachHasOneEnd log
   pub nothing_else : NothingElseEnds log
@@ -58,7 +65,7 @@ pub record IsAccounted (configs : List Config) (log : List Entry) : Type 0 where
   pub read : EachDeliveredIsRead configs log
   pub order : AreDeliveredInOrder configs log
   pub link : AreDeliveredInOrderOverOne configs log
-  pub links : AreDeliveredInOrderOfLinks configs log
+  pub connections : AreDeliveredInOrderOfConnections configs log
   pub connection : EachWentOver configs log
   pub causes : EachDropShowsItsCause configs log
   pub fates : EachHasFate log
@@ -69,6 +76,9 @@ pub record IsAccounted (configs : List Config) (log : List Entry) : Type 0 where
   pub holder : (n : ℕ) (key : Key) → HasOneHolder (granting configs n key) log
   pub released : (n : ℕ) (key : Key) → EachIsReleased (granting configs n key) log
   pub answered : (n name : ℕ) → HasOneAnswer n name log
+  pub leads : ConnectionsLead configs log
+  pub once : ConnectionsAreOne log
+  pub ends : EndsMeet configs log
 
 -- the tree says a script, the world ran it, and the text is the report of the world's log, in which each copy has its end
 pub record RunsTree (tree : Data) (world : WorldView) (text : List ℕ) : Type 0 where

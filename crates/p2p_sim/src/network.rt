@@ -8,14 +8,14 @@ ghost use Rattle.p2p_log.specs.declared.entry.Entry.{Entry};
 ghost use Rattle.p2p_log_rules.specs.Lawful.{IsLawful};
 ghost use Rattle.p2p_sim_script.specs.Form.{script_of};
 ghost use Rattle.p2p_sim_script.specs.FirstForm.{is_first_form as is_form};
-ghost use Rattle.p2p_sim.specs.Network.{is_valid, refusal_of as refusal_of_tree, HasRunScript, IsAccounted};
+ghost use Rattle.p2p_sim.specs.Network.{fault_of, refusal_of as refusal_of_tree, HasRunScript, IsAccounted};
 ghost use Rattle.p2p_sim_command.specs.declared.program.RunError.TheVariants as run_error;
 
 use p2p_base::List;
 use p2p_log::{Config, Event};
 use p2p_log_laws::{
-    delivered_in_order, each_drop_shows_its_cause, fates_are_true, handshakes_have_one_answer,
-    node_grants, one_end, only_sent_is_delivered,
+    connections_lead_to_their_peers, delivered_in_order, each_drop_shows_its_cause, fates_are_true,
+    handshakes_have_one_answer, node_grants, one_end, only_sent_is_delivered,
 };
 use p2p_net::{RunError as WorldError, World};
 use p2p_sim_command::{Program, Refusal, RunError};
@@ -36,7 +36,7 @@ impl Program for Network {
 
     ghost Runs = { RunsTree };
 
-    fn run(alloc: Global, tree: &Value) -> Result<(World, String), RunError> {
+    fn run(alloc: Global, tree: Value) -> Result<(World, String), RunError> {
         let (configs, script) = read_form(alloc, tree)?;
         let world = run_script(alloc, configs.as_slice(), script.as_slice())?;
         account();
@@ -47,7 +47,8 @@ impl Program for Network {
     }
 }
 
-// Each copy has its end, each grant its holder or its release, and each handshake one answer, in each lawful log.
+// Each copy has its end, each grant its holder or its release, each handshake one answer, and each connection its peer, in each
+// lawful log.
 fn account()
     ensures { (configs : List OneConfig) (script : List OneEvent) (log : List Entry) → IsLawful configs script log → IsAccounted configs log }
 {
@@ -58,15 +59,16 @@ fn account()
     fates_are_true();
     node_grants();
     handshakes_have_one_answer();
+    connections_lead_to_their_peers();
 }
 
-// Reads a script of the form that is run.
-fn read_form(alloc: Global, tree: &Value) -> Result<(List<Config>, List<Event>), RunError>
-    ensures says { IfOk result (λ s. script_of (view tree.now) ≡ Some s) }
+// Reads a script of the form that is run, and gives the memory of its tree back.
+fn read_form(alloc: Global, tree: Value) -> Result<(List<Config>, List<Event>), RunError>
+    ensures says { IfOk result (λ s. script_of (view tree) ≡ Some s) }
     ensures form { IfOk result (λ s. is_form s.0 s.1 ≡ true) }
-    ensures refused { (r : Refusal) → result ≡ Err (run_error.Refused r) → refusal_of_tree (view tree.now) ≡ Some r }
+    ensures refused { (r : Refusal) → result ≡ Err (run_error.Refused r) → refusal_of_tree (view tree) ≡ Some r }
 {
-    match read_script(alloc, tree) {
+    match read_script(alloc, &tree) {
         Ok((configs, script)) => {
             test_form(alloc, configs.as_slice(), script.as_slice())?;
             Ok((configs, script))
@@ -91,12 +93,13 @@ fn test_form(alloc: Global, configs: &[Config], script: &[Event]) -> Result<(), 
 // Runs a script that was read.
 fn run_script(alloc: Global, configs: &[Config], script: &[Event]) -> Result<World, RunError>
     ensures ran { IfOk result (λ w. HasRunScript configs.now script.now w) }
-    ensures valid { OnOk result (is_valid configs.now script.now ≡ true) }
-    ensures refused { (r : Refusal) → result ≡ Err (run_error.Refused r) → (r ≡ Refusal.NotScript) × (is_valid configs.now script.now ≡ false) }
+    ensures valid { OnOk result (fault_of configs.now script.now ≡ None) }
+    ensures refused { (r : Refusal) → result ≡ Err (run_error.Refused r) → fault_of configs.now script.now ≡ Some r }
 {
     match World::run(alloc, configs, script) {
         Ok(world) => Ok(world),
+        Err(WorldError::Config(place)) => Err(RunError::Refused(Refusal::Config(place))),
+        Err(WorldError::Event(place)) => Err(RunError::Refused(Refusal::Event(place))),
         Err(WorldError::Memory) => Err(RunError::Memory),
-        Err(_) => Err(RunError::Refused(Refusal::NotScript)),
     }
 }

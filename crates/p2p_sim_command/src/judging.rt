@@ -36,7 +36,7 @@ pub fn judge<P: Program>(alloc: Global, input: &[u8]) -> Result<(P::World, Strin
     let Some(tree) = tree else {
         return Err(Stop::Fault(Fault::NotJson));
     };
-    match P::run(alloc, &tree) {
+    match P::run(alloc, tree) {
         Ok(ran) => Ok(ran),
         Err(RunError::Refused(refusal)) => Err(Stop::Fault(Fault::Refused(refusal))),
         Err(RunError::Memory) => Err(Stop::Memory),

@@ -44,9 +44,10 @@ pub trait Program {
 
     /// Runs a tree, and gives the world and the text of its report.
     ///
-    /// `Refused` comes of the tree alone, and `Memory` of want of memory.
-    fn run(alloc: Global, tree: &Value) -> Result<(Self::World, String), RunError>
-        ensures ok { IfOk result (λ ran. Runs (view tree.now) ran.0 (string_bytes ran.1)) }
-        ensures run { OnOk result (refusal_of (view tree.now) ≡ None) }
-        ensures refused { (r : Refusal) → result ≡ Err (run_error.Refused r) → refusal_of (view tree.now) ≡ Some r };
+    /// `Refused` comes of the tree alone, and `Memory` of want of memory. The tree is given whole, so that its memory can be given
+    /// back before the world is there.
+    fn run(alloc: Global, tree: Value) -> Result<(Self::World, String), RunError>
+        ensures ok { IfOk result (λ ran. Runs (view tree) ran.0 (string_bytes ran.1)) }
+        ensures run { OnOk result (refusal_of (view tree) ≡ None) }
+        ensures refused { (r : Refusal) → result ≡ Err (run_error.Refused r) → refusal_of (view tree) ≡ Some r };
 }

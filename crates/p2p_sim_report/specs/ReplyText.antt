@@ -27,9 +27,9 @@ feedback_onto out feedback.Ok = out ++ codes "{\"feedback\":\"ok\"}"
 feedback_onto out feedback.Backoff = out ++ codes "{\"feedback\":\"backoff\"}"
 feedback_onto out feedback.Closed = out ++ codes "{\"feedback\":\"closed\"}"
 
-abbrev pub too_large_onto : List ℕ → ℕ → ℕ → List ℕ
-too_large_onto out count limit =
-    number_onto (number_onto (out ++ codes "{\"peer_set_too_large\":[") count ++ codes ",") limit ++ codes "]}"
+-- how much there is, and how much there may be, after the words
+abbrev pub too_large_onto : List ℕ → List ℕ → ℕ → ℕ → List ℕ
+too_large_onto out words count limit = number_onto (number_onto (out ++ words) count ++ codes ",") limit ++ codes "]}"
 
 abbrev pub answered_onto : List ℕ → Option (TrackedPeers Key) → List ℕ
 answered_onto out peers = peer_set_onto (out ++ codes "{\"peer_set\":") peers ++ codes "}"
@@ -59,8 +59,9 @@ reply_onto out reply.Gone = out ++ codes "\"gone\""
 reply_onto out (reply.Capacity n) = capacity_onto out n
 reply_onto out (reply.Sent keys) = sent_onto out keys
 reply_onto out (reply.Message bytes from) = received_onto out bytes from
+reply_onto out (reply.MessageTooLarge size limit) = too_large_onto out (codes "{\"message_too_large\":[") size limit
 reply_onto out (reply.Feedback told) = feedback_onto out told
-reply_onto out (reply.PeerSetTooLarge count limit) = too_large_onto out count limit
+reply_onto out (reply.PeerSetTooLarge count limit) = too_large_onto out (codes "{\"peer_set_too_large\":[") count limit
 reply_onto out (reply.PeerSet peers) = answered_onto out peers
 reply_onto out (reply.Update update) = updated_onto out update
 reply_onto out (reply.Blocked keys) = blocked_onto out keys

@@ -47,10 +47,11 @@ fn put_feedback(out: &mut String, feedback: Feedback) -> Result<(), AllocError>
     }
 }
 
-fn put_too_large(out: &mut String, count: u64, limit: u64) -> Result<(), AllocError>
-    ensures { OnOk result (string_bytes out.new ≡ too_large_onto (string_bytes out.old) count limit) }
+// How much there is, and how much there may be, after the words.
+fn put_too_large(out: &mut String, words: &str, count: u64, limit: u64) -> Result<(), AllocError>
+    ensures { OnOk result (string_bytes out.new ≡ too_large_onto (string_bytes out.old) words.now count limit) }
 {
-    put(out, "{\"peer_set_too_large\":[")?;
+    put(out, words)?;
     put_number(out, count)?;
     put(out, ",")?;
     put_number(out, limit)?;
@@ -117,9 +118,17 @@ impl ToText for Reply {
             Reply::Capacity(capacity) => put_capacity(out, *capacity as u64),
             Reply::Sent(keys) => put_sent(out, keys.as_slice()),
             Reply::Message { bytes, from } => put_received(out, bytes.as_slice(), *from),
+            Reply::MessageTooLarge { size, limit } => {
+                put_too_large(out, "{\"message_too_large\":[", *size as u64, *limit as u64)
+            }
             Reply::Feedback(feedback) => put_feedback(out, *feedback),
             Reply::PeerSetTooLarge { count, limit } => {
-                put_too_large(out, *count as u64, *limit as u64)
+                put_too_large(
+                    out,
+                    "{\"peer_set_too_large\":[",
+                    *count as u64,
+                    *limit as u64,
+                )
             }
             Reply::PeerSet(peers) => put_answered(out, peers),
             Reply::Update(update) => put_updated(out, update),

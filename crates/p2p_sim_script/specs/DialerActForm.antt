@@ -1,4 +1,4 @@
--- The form of each act of a node's dialer, of its attempts, of its listener, of its handshakes and of links.
+-- The form of each act of a node's dialer, of its attempts, of its listener, of its handshakes, of its spawner and of links.
 use Rattle.std.specs.Prelude.{ℕ, List, [], ◌∷◌, codes, bytes_eq, Option, Some, None, if◌then◌else◌}
 use Rattle.serde_json.specs.Data.{Data}
 use Rattle.serde_json.specs.Find.{as_bool}
@@ -25,6 +25,11 @@ handshake_of d = do
   handshake ← field "handshake" whole d
   node ← field "node" whole d
   Some (act.Handshake handshake node)
+
+abbrev pub spawner_of : Data → Option Act
+spawner_of d = do
+  node ← node_of d
+  Some (act.Spawner node)
 
 -- the attempt, and the node
 abbrev pub attempt_named_of : Data → Option (ℕ × ℕ)
@@ -70,7 +75,7 @@ finish_of d = do
   ok ← field "ok" as_bool d
   Some (act.Finish link ok)
 
--- the act of a dialer, an attempt, a listener, a handshake or a link that this word asks for
+-- the act of a dialer, an attempt, a listener, a handshake, a spawner or a link that this word asks for
 abbrev pub dialer_act_named : List ℕ → Data → Option Act
 dialer_act_named word d =
     if bytes_eq word (codes "dialer") then dialer_of d
@@ -81,4 +86,5 @@ dialer_act_named word d =
     else if bytes_eq word (codes "finish") then finish_of d
     else if bytes_eq word (codes "listener") then listener_of d
     else if bytes_eq word (codes "handshake") then handshake_of d
+    else if bytes_eq word (codes "spawner") then spawner_of d
     else None

@@ -1,8 +1,8 @@
-//! The acts of a node's dialer, of its attempts, of its listener, of its handshakes and of links, each by its own
-//! names.
+//! The acts of a node's dialer, of its attempts, of its listener, of its handshakes, of its spawner and of links, each by its
+//! own names.
 ghost use Rattle.std.specs.Prelude.{◌≡◌};
 ghost use Rattle.serde_json.specs.View.{view};
-ghost use Rattle.p2p_sim_script.specs.DialerActForm.{attempt_named_of, attempt_of, connect_of, dialer_act_named, dialer_of, finish_of, handshake_of, listener_of, refuse_of, resolve_of};
+ghost use Rattle.p2p_sim_script.specs.DialerActForm.{attempt_named_of, attempt_of, connect_of, dialer_act_named, dialer_of, finish_of, handshake_of, listener_of, refuse_of, resolve_of, spawner_of};
 ghost use Rattle.p2p_sim_script.specs.Gives.{Gives};
 
 use crate::error::ScriptError;
@@ -35,6 +35,13 @@ fn read_handshake(tree: &Value) -> Option<Act>
     let handshake = whole(tree, "handshake")?;
     let node = whole(tree, "node")?;
     Some(Act::Handshake { handshake, node })
+}
+
+fn read_spawner(tree: &Value) -> Option<Act>
+    ensures { result ≡ spawner_of (view tree.now) }
+{
+    let node = read_node(tree)?;
+    Some(Act::Spawner { node })
 }
 
 // The attempt, and the node, of an act that names nothing else.
@@ -108,7 +115,7 @@ fn read_finish(alloc: Global, tree: &Value) -> Result<Act, ScriptError>
     Ok(Act::Finish { link, ok })
 }
 
-/// The act of a dialer, an attempt, a listener, a handshake or a link that `word` asks for.
+/// The act of a dialer, an attempt, a listener, a handshake, a spawner or a link that `word` asks for.
 pub(crate) fn read_dialer_named(alloc: Global, word: &str, tree: &Value) -> Result<Act, ScriptError>
     ensures { Gives result (dialer_act_named word.now (view tree.now)) }
 {
@@ -121,6 +128,7 @@ pub(crate) fn read_dialer_named(alloc: Global, word: &str, tree: &Value) -> Resu
         "finish" => return read_finish(alloc, tree),
         "listener" => read_listener(tree),
         "handshake" => read_handshake(tree),
+        "spawner" => read_spawner(tree),
         _ => None,
     };
     act.ok_or(ScriptError::NotScript)

@@ -11,8 +11,9 @@ use std::alloc::{AllocError, Global};
 use std::collections::BTreeSet;
 
 /// Whether the script is one of the first form: it sends no more messages than the least burst that it registers, each
-/// to one key, without priority, no longer than any node takes and on a channel that each node registers, before or
-/// after; and where it joins nodes, every event is earlier than five seconds, so that no connection sends a ping.
+/// to one key, without priority, on a channel that each node registers, before or after, and no longer than any node takes,
+/// unless it is too long for its own; no connection that a spawner made takes a step; and where it joins nodes, every event
+/// is earlier than five seconds, so that no connection sends a ping.
 ///
 /// Takes time in proportion to the length of the script, and for each message to the count of nodes, but for the
 /// logarithm of the count of registered channels. `AllocError` comes where there was no memory for those.
@@ -80,9 +81,19 @@ fn all_fit(
     registered: &BTreeSet<(u64, u64)>,
     script: &[Event],
 ) -> bool
-    ensures { result ≡ list_all (form.event_fits configs.now joined count (has registered.now)) script.now }
+    ensures { result ≡ list_all (form.event_fits configs.now joined count (has registered.now) (form.is_spawned script.now)) script.now }
 {
-    script.iter().all(|event| event_fits(configs, joined, count, registered, event))
+    script.iter().all(|event| event_fits(configs, joined, count, registered, script, event))
+}
+
+// Whether the event of this number is a step of a spawner.
+fn is_spawned(script: &[Event], conn: u64) -> bool
+    ensures { result ≡ form.is_spawned script.now conn }
+{
+    match script.get(conn as usize) {
+        Some(event) => matches!(event.act, Act::Spawner { .. }),
+        None => false,
+    }
 }
 
 fn is_early(joined: bool, at: u64) -> bool
@@ -96,30 +107,39 @@ fn event_fits(
     joined: bool,
     count: usize,
     registered: &BTreeSet<(u64, u64)>,
+    script: &[Event],
     event: &Event,
 ) -> bool
-    ensures { result ≡ form.event_fits configs.now joined count (has registered.now) event.now }
+    ensures { result ≡ form.event_fits configs.now joined count (has registered.now) (form.is_spawned script.now) event.now }
 {
-    is_early(joined, event.at) && act_fits(configs, count, registered, &event.act)
+    is_early(joined, event.at) && act_fits(configs, count, registered, script, &event.act)
 }
 
-fn act_fits(configs: &[Config], count: usize, registered: &BTreeSet<(u64, u64)>, act: &Act) -> bool
-    ensures { result ≡ form.act_fits configs.now count (has registered.now) act.now }
+fn act_fits(
+    configs: &[Config],
+    count: usize,
+    registered: &BTreeSet<(u64, u64)>,
+    script: &[Event],
+    act: &Act,
+) -> bool
+    ensures { result ≡ form.act_fits configs.now count (has registered.now) (form.is_spawned script.now) act.now }
 {
     match act {
         Act::Register { quota, .. } => count <= quota.burst as usize,
         Act::Send {
             bytes,
             channel,
+            node,
             priority,
             to,
-            ..
         } => {
             is_one(to)
                 && !*priority
-                && is_short(configs, bytes)
+                && (is_too_long(configs, *node, bytes) || is_short(configs, bytes))
                 && is_on_each(registered, configs.len() as u64, *channel)
         }
+        Act::SendStep { conn, .. } => !is_spawned(script, *conn),
+        Act::RecvStep { conn, .. } => !is_spawned(script, *conn),
         _ => true,
     }
 }
@@ -128,6 +148,15 @@ fn is_one(to: &Recipients) -> bool
     ensures { result ≡ form.is_one to.now }
 {
     matches!(to, Recipients::One(_))
+}
+
+fn is_too_long(configs: &[Config], node: u64, bytes: &Bytes) -> bool
+    ensures { result ≡ form.is_too_long configs.now node bytes.now }
+{
+    match configs.get(node as usize) {
+        Some(config) => bytes.len() > config.max_message_size as usize,
+        None => false,
+    }
 }
 
 fn is_short(configs: &[Config], bytes: &Bytes) -> bool

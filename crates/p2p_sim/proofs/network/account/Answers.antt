@@ -9,7 +9,7 @@ returns c = λ configs script log lawful.
       read = c.only_sent_is_delivered.ensures.read configs script log lawful;
       order = c.delivered_in_order.ensures.order configs script log lawful;
       link = c.delivered_in_order.ensures.link configs script log lawful;
-      links = c.delivered_in_order.ensures.links configs script log lawful;
+      connections = c.delivered_in_order.ensures.connections configs script log lawful;
       connection = c.delivered_in_order.ensures.connection configs script log lawful;
       fates = c.fates_are_true.ensures.known configs script log lawful;
       waiting = c.fates_are_true.ensures.waiting configs script log lawful;
@@ -19,5 +19,8 @@ returns c = λ configs script log lawful.
       alternate = λ n key. c.node_grants.ensures.alternate configs script log n key lawful;
       holder = λ n key. c.node_grants.ensures.holder configs script log n key lawful;
       released = λ n key. c.node_grants.ensures.released configs script log n key lawful;
+      leads = c.connections_lead_to_their_peers.ensures.leads configs script log lawful;
+      ends = c.connections_lead_to_their_peers.ensures.ends configs script log lawful;
+      once = c.connections_lead_to_their_peers.ensures.once configs script log lawful;
       answered = λ n name. c.handshakes_have_one_answer.ensures configs script log n name lawful;
     }

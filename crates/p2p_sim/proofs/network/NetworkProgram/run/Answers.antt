@@ -1,4 +1,4 @@
-use Rattle.std.proofs.Common.{◌≡◌, ◌∙◌, ap, subst}
+use Rattle.std.proofs.Common.{◌∙◌, ap, subst}
 use Rattle.p2p_sim_report.specs.ReportText.{report_text}
 use Rattle.p2p_sim.specs.Network.{HasRunScript}
 use Rattle.p2p_sim.proofs.network.NetworkProgram.run.Goals as goal

@@ -1,0 +1,142 @@
+-- The peer of each handshake that runs dialed its node: it is that of the arrival that the listener took.
+use Rattle.std.proofs.Common.{◌≡◌, ℕ, Bool, true, false, cond, List, [], ◌∷◌, ◌++◌, length, ◌⊎◌, inl, inr, refl, ap, sym, subst, ◌∙◌, eqb-true}
+use Rattle.std.specs.Prelude.{◌==◌, ◌||◌, not, flat_map}
+use Rattle.std.specs.List.{AllByRecursion as Each, list_any}
+use Rattle.std.proofs.lemmas.Bool.{and_parts}
+use Rattle.std.proofs.lemmas.List.Folds.{list_any-append}
+use Rattle.p2p_base.specs.declared.key.Key.{Key}
+use Rattle.p2p_address.specs.declared.ip.SocketAddr.{SocketAddr}
+use Rattle.p2p_gates_rules.specs.Gates.{Known}
+use Rattle.p2p_gates_rules.specs.declared.reply.Reply.TheVariants as gates
+use Rattle.p2p_log.specs.declared.config.Config.{Config}
+use Rattle.p2p_log.specs.declared.queue.Queue.TheVariants as queue
+use Rattle.p2p_log.specs.declared.item.Item.{Item}
+use Rattle.p2p_log.specs.declared.item.Item.TheVariants as item
+use Rattle.p2p_log.specs.declared.item.Envelope.{Envelope}
+use Rattle.p2p_log.specs.declared.entry.Entry.{Entry}
+use Rattle.p2p_log.specs.declared.entry.Reply.{Reply}
+use Rattle.p2p_log.specs.declared.entry.Reply.TheVariants as reply
+use Rattle.p2p_log.specs.declared.event.Act.{Act}
+use Rattle.p2p_log.specs.declared.event.Act.TheVariants as act
+use Rattle.p2p_log.specs.declared.event.Event.{Event}
+use Rattle.p2p_log.specs.Lines.{name_of, ended_item, live, line}
+use Rattle.p2p_log_rules.specs.declared.row.Row.{Row}
+use Rattle.p2p_log_rules.specs.Effect.{effect, row}
+use Rattle.p2p_log_rules.specs.Facts.{is_up, taken}
+use Rattle.p2p_log_rules.specs.Handshakes.{with_admitted, ends_handshake, unless_ended, acted_handshakes, handshakes_of, is_handshaking, Peer, peer_of, peer_at}
+use Rattle.p2p_log_rules.specs.Listening.{known_of, gate_rules_at, arrived_row, arrival_turn, listener_turn, has_place, listener_row}
+use Rattle.p2p_log_rules.specs.Rows.{only}
+use Rattle.p2p_log_rules.proofs.Handshakes.{is_among, among-without, handshakes_of-append, handshaking_early}
+use Rattle.p2p_log_rules.proofs.TakenAt.{taken_at-longer, taken_at-last}
+use Rattle.p2p_log_laws.proofs.Saying.{ComesFrom, Says, StandSays, first_says, PeersCome, comes_still}
+use Rattle.p2p_log_laws.proofs.Shape.{one_move}
+use Rattle.p2p_log_laws.proofs.Weighing.{taken_items}
+
+-- ---- a step of a listener that admits takes an arrival
+
+module _ (configs : List Config) (log : List Entry) (n : ℕ) where
+  record IsAdmitted (r : Row) : Type 0 where
+    pub x : Envelope
+    pub rest : List Envelope
+    pub first : line log (queue.Arrivals n) ≡ x ∷ rest
+    pub from : SocketAddr
+    pub key : Key
+    pub link : ℕ
+    pub is : x.item ≡ item.Arrival from key link
+    pub takes : r.takes ≡ name_of x ∷ []
+    pub ends : flat_map ended_item r.ends ≡ []
+
+  abbrev Admits : Row → Type 0
+  Admits r = r.reply ≡ reply.Gates gates.Admitted → IsAdmitted r
+
+  module _ (at : ℕ) (known : Known) (place : Bool) where
+    arrived : (x : Envelope) (rest : List Envelope) → line log (queue.Arrivals n) ≡ x ∷ rest → (i : Item) → x.item ≡ i
+        → Admits (arrived_row (gate_rules_at configs n) known place n (length log) at (name_of x) i)
+    arrived x rest first (item.Arrival from key link) is so =
+        record { x = x; rest = rest; first = first; from = from; key = key; link = link; is = is; takes = refl; ends = refl }
+    arrived x rest first _ is so = absurd (cc)
+
+    arrives : (xs : List Envelope) → line log (queue.Arrivals n) ≡ xs → Admits (arrival_turn (gate_rules_at configs n) known place n (length log) at xs)
+    arrives [] first so = absurd (cc)
+    arrives (x ∷ rest) first so = arrived x rest first x.item refl so
+
+    turn_admits : (updates : List Envelope) → Admits (listener_turn (gate_rules_at configs n) known place n (length log) at updates (line log (queue.Arrivals n)))
+    turn_admits [] so = arrives (line log (queue.Arrivals n)) refl so
+    turn_admits (x ∷ rest) so = absurd (cc)
+
+  listener_admits : (at : ℕ) → Admits (listener_row configs log n at)
+  listener_admits at = by (is_up log n)
+    where
+      by : (b : Bool) → Admits
+          (cond b (listener_turn (gate_rules_at configs n) (known_of configs log n) (has_place configs log n) n (length log) at (line log (queue.Update n)) (line log (queue.Arrivals n))) (only reply.Gone))
+      by true so = turn_admits at (known_of configs log n) (has_place configs log n) (line log (queue.Update n)) so
+      by false so = absurd (cc)
+
+-- ---- a handshake that runs ran before, or begins so
+
+module _ (n m h : ℕ) (names : List ℕ) where
+  abbrev IsBegun : Act → Reply → Type 0
+  IsBegun a r = (h ≡ m) × (a ≡ act.Listener n) × (r ≡ reply.Gates gates.Admitted)
+
+  admitted : (j : ℕ) → j ≡ n → (r : Reply) → is_among h (with_admitted m r names) ≡ true → (is_among h names ≡ true) ⊎ IsBegun (act.Listener j) r
+  admitted j here (reply.Gates gates.Admitted) runs = by (is_among h names) refl (sym (list_any-append (λ k. h == k) names (m ∷ [])) ∙ runs)
+    where
+      last : (b : Bool) → (b || false) ≡ true → b ≡ true
+      last true is = refl
+      last false is = is
+
+      by : (b : Bool) → is_among h names ≡ b → (b || list_any (λ k. h == k) (m ∷ [])) ≡ true → (is_among h names ≡ true) ⊎ IsBegun (act.Listener j) (reply.Gates gates.Admitted)
+      by true is so = inl is
+      by false is so = inr (eqb-true h m (last (h == m) so), ap act.Listener here, refl)
+  admitted j here (reply.Gates _) runs = inl runs
+  admitted j here _ runs = inl runs
+
+  acted : (r : Reply) (items : List Item) (a : Act) → is_among h (acted_handshakes n m r items a names) ≡ true → (is_among h names ≡ true) ⊎ IsBegun a r
+  acted r items (act.Listener j) runs = by (j == n) refl runs
+    where
+      by : (b : Bool) → (j == n) ≡ b → is_among h (cond b (with_admitted m r names) names) ≡ true → (is_among h names ≡ true) ⊎ IsBegun (act.Listener j) r
+      by true at so = admitted j (eqb-true j n at) r so
+      by false at so = inl so
+  acted r items (act.Handshake k j) runs = by (j == n) (ends_handshake r items) runs
+    where
+      by : (b ended : Bool) → is_among h (cond b (unless_ended ended k names) names) ≡ true → (is_among h names ≡ true) ⊎ IsBegun (act.Handshake k j) r
+      by true true so = inl (and_parts (not (h == k)) (is_among h names) (sym (among-without k h names) ∙ so)).1
+      by true false so = inl so
+      by false ended so = inl so
+  acted r items _ runs = inl runs
+
+-- ---- one more entry
+
+module _ (configs : List Config) (log : List Entry) (ev : Event) (say : Each (StandSays configs log) (live log)) (come : PeersCome configs log) where
+  abbrev e : Entry
+  e = effect configs log ev
+
+  abbrev longer : List Entry
+  longer = log ++ e ∷ []
+
+  abbrev Comes : ℕ → Peer → Type 0
+  Comes n p = ComesFrom configs longer n p.key p.link
+
+  admits : (n : ℕ) → ev.act ≡ act.Listener n → Admits configs log n (row configs log ev.at ev.seed ev.act)
+  unfolding row
+  admits n acts = subst (λ a. Admits configs log n (row configs log ev.at ev.seed a)) (sym acts) (listener_admits configs log n ev.at)
+
+  begun : (n : ℕ) → IsAdmitted configs log n (row configs log ev.at ev.seed ev.act) → Comes n (peer_at longer (length log))
+  unfolding effect
+  begun n a =
+      let r : Row = row configs log ev.at ev.seed ev.act in
+      let items : taken log e ≡ item.Arrival a.from a.key a.link ∷ [] =
+      taken_items log ev r (one_move log (queue.Arrivals n) a.x a.rest a.first r a.takes a.ends) ∙ ap (λ i. i ∷ []) a.is
+      in
+      let says : Says configs log (queue.Arrivals n) (item.Arrival a.from a.key a.link) = subst (Says configs log (queue.Arrivals n)) a.is (first_says configs log (queue.Arrivals n) a.x a.rest say a.first) in
+      subst (Comes n) (sym (ap peer_of (taken_at-last log e ∙ items))) (comes_still configs log ev n a.key a.link says)
+
+  pub peers_come : PeersCome configs longer
+  unfolding effect
+  peers_come n h runs = by (acted n (length log) h (handshakes_of log n) e.reply (taken log e) ev.act (ap (is_among h) (sym (handshakes_of-append log e n)) ∙ runs))
+    where
+      by : (is_handshaking log n h ≡ true) ⊎ ((h ≡ length log) × (ev.act ≡ act.Listener n) × (e.reply ≡ reply.Gates gates.Admitted)) → Comes n (peer_at longer h)
+      by (inl before) =
+          let from = come n h before in
+          subst (Comes n) (sym (ap peer_of (taken_at-longer log (e ∷ []) h (handshaking_early log n h before)))) (comes_still configs log ev n (peer_at log h).key (peer_at log h).link from)
+      by (inr new) = subst (λ k. Comes n (peer_at longer k)) (sym new.0) (begun n (admits n new.1 new.2))

@@ -1,0 +1,46 @@
+-- The connections that a node's spawner made, by the log, and the row of its step.
+use Rattle.std.specs.Prelude.{ℕ, Bool, false, ◌==◌, cond, List, [], ◌∷◌, length, Option, Some, None}
+use Rattle.p2p_base.specs.declared.key.Key.{Key}
+use Rattle.p2p_log.specs.declared.queue.Queue.TheVariants as queue
+use Rattle.p2p_log.specs.declared.item.Item.{Item}
+use Rattle.p2p_log.specs.declared.item.Item.TheVariants as item
+use Rattle.p2p_log.specs.declared.entry.Entry.{Entry}
+use Rattle.p2p_log.specs.declared.entry.Reply.TheVariants as reply
+use Rattle.p2p_log.specs.declared.event.Act.{Act}
+use Rattle.p2p_log.specs.declared.event.Act.TheVariants as act
+use Rattle.p2p_log.specs.Lines.{line}
+use Rattle.p2p_log_rules.specs.declared.row.Row.{Row}
+use Rattle.p2p_log_rules.specs.Facts.{is_up, taken, state_from, with_begun}
+use Rattle.p2p_log_rules.specs.Rows.{only, takes_oldest}
+
+-- a connection that a spawner made: with whom, who is reserved for it, and over which link
+pub record Spawned : Type 0 where
+  pub key : Key
+  pub link : ℕ
+
+abbrev pub steps_spawner : ℕ → Act → Bool
+steps_spawner n (act.Spawner m) = m == n
+steps_spawner n _ = false
+
+-- the connection that is made once these were taken
+abbrev pub spawned_of : List Item → Option Spawned
+spawned_of (item.Spawn key link ∷ items) = Some (record { key = key; link = link })
+spawned_of _ = None
+
+module _ (n name : ℕ) (items : List Item) where
+  -- after an act of this name, which took these
+  abbrev pub acted_connections : Act → (ℕ → Option Spawned) → ℕ → Option Spawned
+  acted_connections (act.Spawner m) connections k = cond (m == n) (with_begun (spawned_of items) name connections k) (connections k)
+  acted_connections _ connections k = connections k
+
+-- after an entry, given those before it
+abbrev pub connections_by : ℕ → List Entry → Entry → (ℕ → Option Spawned) → ℕ → Option Spawned
+connections_by n before e connections = acted_connections n (length before) (taken before e) e.event.act connections
+
+-- the connections that a node's spawner made, by the events that made them: none of them ends yet
+unfoldable pub connections_of : List Entry → ℕ → ℕ → Option Spawned
+connections_of log n = state_from (connections_by n) [] log (λ k. None)
+
+-- the spawner's step: the oldest message of its mailbox makes a connection of this event's name
+abbrev pub spawner_row : List Entry → ℕ → Row
+spawner_row log n = cond (is_up log n) (takes_oldest (line log (queue.Spawner n))) (only reply.Gone)
