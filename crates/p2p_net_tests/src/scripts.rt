@@ -1,6 +1,6 @@
 //! Scripts of a world of one node, of one and another that dials it, or of three: what is asked of it, event by event, and what
 //! each event shows.
-use crate::seen::{Seen, newest};
+use crate::seen::{Seen, newest, newest_take};
 use p2p_address::{Address, IpAddr, SocketAddr};
 use p2p_base::{Key, Map};
 use p2p_flow::AddressableTrackedPeers;
@@ -55,10 +55,12 @@ pub enum Do {
     Answer(u64),
     // or what comes next for the subscription that it made.
     Next(u64),
-    // A step of its tracker, of its dialer, of its listener, or of the attempt or the handshake that this event began.
+    // A step of its tracker, of its dialer, of its listener, of its spawner, or of the attempt or the handshake that this event
+    // began.
     Tracker,
     Dialer,
     Listener,
+    Spawner,
     Attempt(u64),
     Handshake(u64),
     // The attempt is told that there is no link,
@@ -138,6 +140,7 @@ fn act(alloc: Global, node: u64, what: Do) -> Result<Act, AllocError> {
         Do::Tracker => Ok(Act::Tracker { node }),
         Do::Dialer => Ok(Act::Dialer { node }),
         Do::Listener => Ok(Act::Listener { node }),
+        Do::Spawner => Ok(Act::Spawner { node }),
         Do::Attempt(attempt) => Ok(Act::Attempt { attempt, node }),
         Do::Handshake(handshake) => Ok(Act::Handshake { handshake, node }),
         Do::Refuse(attempt) => Ok(Act::Refuse { attempt, node }),
@@ -239,4 +242,30 @@ pub fn first_other_of_three(
     let mut world = World::new(alloc, &[dialing(1), dialing(2), dialing(3)])?;
     ask_each(alloc, &mut world, before)?;
     first_other_of(alloc, &mut world, script)
+}
+
+// The same node, whose mailboxes hold two messages.
+fn dialing_with_room(key: u64) -> Config {
+    Config {
+        mailbox_size: 2,
+        ..dialing(key)
+    }
+}
+
+// The one item that the last of these events took, each of the first node, in a new world of three such nodes, where this was
+// asked of them before. `None` where it took none.
+pub fn last_take_of_three(
+    alloc: Global,
+    before: &[(u64, Do)],
+    events: &[Do],
+) -> Result<Option<(u64, u64)>, RunError> {
+    let configs = [
+        dialing_with_room(1),
+        dialing_with_room(2),
+        dialing_with_room(3),
+    ];
+    let mut world = World::new(alloc, &configs)?;
+    ask_each(alloc, &mut world, before)?;
+    ask_all(alloc, &mut world, 0, events)?;
+    Ok(newest_take(world.report().log.as_slice()))
 }

@@ -136,3 +136,15 @@ pub fn newest(log: &[Entry]) -> Seen {
         None => Seen(Said::Other, 0, Puts::Nothing),
     }
 }
+
+// The one item that the newest of these entries took, by the entry that put it and its place there. `None` where it took none, or
+// more.
+pub fn newest_take(log: &[Entry]) -> Option<(u64, u64)> {
+    match log.last() {
+        Some(entry) => match entry.takes.as_slice() {
+            [only] => Some(*only),
+            _ => None,
+        },
+        None => None,
+    }
+}

@@ -115,6 +115,13 @@ const ROWS: &[Row] = &[
         puts: &[],
         ends: &[],
     },
+    Row {
+        asked: Do::Send,
+        said: Said::MessageTooLarge,
+        takes: &[],
+        puts: &[],
+        ends: &[],
+    },
 ];
 
 const LINES: &[&str] = &[
@@ -128,6 +135,7 @@ const LINES: &[&str] = &[
     r#"{"end":[],"n":7,"put":[["router:0",{"content":{"channel":7,"frame":"0007026a4d","priority":true,"send":7,"to":[1]}}]],"reply":{"sent":[1]},"take":[]}"#,
     r#"{"end":[["copy",8,0,"unbound"]],"n":8,"put":[],"reply":{"sent":[1,9]},"take":[]}"#,
     r#"{"end":[],"n":9,"put":[],"reply":"gone","take":[]}"#,
+    r#"{"end":[],"n":10,"put":[],"reply":{"message_too_large":[6,5]},"take":[]}"#,
     r#"{"copy":[2,0],"fate":["delivered","channel:1:7",6]}"#,
     r#"{"copy":[2,1],"fate":["dropped","no_connection",3]}"#,
     r#"{"copy":[2,2],"fate":["dropped","relay_full",3]}"#,
@@ -135,7 +143,7 @@ const LINES: &[&str] = &[
     r#"{"copy":[7,0],"fate":["waiting","router:0"]}"#,
     r#"{"copy":[8,0],"fate":["dropped","unbound",8]}"#,
     r#"{"copy":[8,1],"fate":null}"#,
-    r#"{"copies":7,"entries":10}"#,
+    r#"{"copies":7,"entries":11}"#,
 ];
 
 #[test]

@@ -53,12 +53,15 @@ const NO_WHOLE_MOMENT: &str = r#"{"configs":[
     {"key":1,"preset":"local","max_peers_per_set":2,"max_message_size":1024,"mailbox_size":4}],
     "script":[{"node":0,"at":1.5,"do":"start"}]}"#;
 
-#[test]
-fn a_moment_that_is_no_whole_number_is_no_script(rt: HostRuntime) {
-    let line = [r#"{"error":"script"}"#];
-    let found = has_outcome(rt.alloc(), NO_WHOLE_MOMENT, Status::NotScript, &line);
-    assert_eq!(rt; found, Ok(true));
-}
+// Two configurations have one key, and the moments go back.
+const EQUAL_KEYS: &str = r#"{"configs":[
+    {"key":1,"preset":"local","max_peers_per_set":2,"max_message_size":1024,"mailbox_size":4},
+    {"key":1,"preset":"local","max_peers_per_set":2,"max_message_size":1024,"mailbox_size":4}],
+    "script":[{"node":0,"at":5,"do":"start"},{"node":0,"at":4,"do":"router"}]}"#;
+
+const MOMENTS: &str = r#"{"configs":[
+    {"key":1,"preset":"local","max_peers_per_set":2,"max_message_size":1024,"mailbox_size":4}],
+    "script":[{"node":0,"at":5,"do":"start"},{"node":0,"at":4,"do":"router"}]}"#;
 
 // The event that is to have made the link is a step of a dialer.
 const LINK_OF_A_DIALER: &str = r#"{"configs":[
@@ -68,9 +71,73 @@ const LINK_OF_A_DIALER: &str = r#"{"configs":[
     {"node":0,"at":0,"do":"dialer"},
     {"link":1,"ok":true,"at":0,"do":"finish"}]}"#;
 
+// A connection that a spawner may make takes a step, which isn't built; and one that a start is to have made.
+const STEP_OF_A_SPAWNED_CONNECTION: &str = r#"{"configs":[
+    {"key":1,"preset":"local","max_peers_per_set":2,"max_message_size":1024,"mailbox_size":4}],
+    "script":[
+    {"node":0,"at":0,"do":"start"},
+    {"node":0,"at":0,"do":"spawner"},
+    {"conn":1,"node":0,"at":0,"do":"send_step"}]}"#;
+
+const STEP_OF_A_START: &str = r#"{"configs":[
+    {"key":1,"preset":"local","max_peers_per_set":2,"max_message_size":1024,"mailbox_size":4}],
+    "script":[
+    {"node":0,"at":0,"do":"start"},
+    {"node":0,"at":0,"do":"spawner"},
+    {"conn":0,"node":0,"at":0,"do":"send_step"}]}"#;
+
+const REFUSED: &[(&str, Status, &[&str])] = &[
+    (
+        NO_WHOLE_MOMENT,
+        Status::NotScript,
+        &[r#"{"error":"script"}"#],
+    ),
+    (
+        EQUAL_KEYS,
+        Status::Config,
+        &[r#"{"config":1,"error":"config"}"#],
+    ),
+    (MOMENTS, Status::Event, &[r#"{"error":"event","event":1}"#]),
+    (
+        LINK_OF_A_DIALER,
+        Status::Event,
+        &[r#"{"error":"event","event":2}"#],
+    ),
+    (
+        STEP_OF_A_SPAWNED_CONNECTION,
+        Status::NotScript,
+        &[r#"{"error":"script"}"#],
+    ),
+    (
+        STEP_OF_A_START,
+        Status::Event,
+        &[r#"{"error":"event","event":2}"#],
+    ),
+];
+
 #[test]
-fn only_what_a_connect_links_is_finished(rt: HostRuntime) {
-    let line = [r#"{"error":"script"}"#];
-    let found = has_outcome(rt.alloc(), LINK_OF_A_DIALER, Status::NotScript, &line);
+fn what_is_not_run_is_refused_with_its_place(rt: HostRuntime) {
+    assert_eq!(rt; first_other(rt.alloc(), REFUSED), Ok(None));
+}
+
+// A message of six bytes is too long for its node, and one of five is not.
+const TOO_LONG: &str = r#"{"configs":[
+    {"key":1,"preset":"local","max_peers_per_set":2,"max_message_size":5,"mailbox_size":4}],
+    "script":[
+    {"node":0,"at":0,"do":"register","channel":7,"quota":{"burst":2,"period":1}},
+    {"node":0,"at":0,"do":"send","channel":7,"bytes":"68656c6c6f00","priority":false,"to":{"one":2}},
+    {"node":0,"at":0,"do":"send","channel":7,"bytes":"68656c6c6f","priority":false,"to":{"one":2}}]}"#;
+
+const TOO_LONG_REPORT: &[&str] = &[
+    r#"{"end":[],"n":0,"put":[],"reply":{"capacity":16},"take":[]}"#,
+    r#"{"end":[],"n":1,"put":[],"reply":{"message_too_large":[6,5]},"take":[]}"#,
+    r#"{"end":[["copy",2,0,"unbound"]],"n":2,"put":[],"reply":{"sent":[2]},"take":[]}"#,
+    r#"{"copy":[2,0],"fate":["dropped","unbound",2]}"#,
+    r#"{"copies":1,"entries":3}"#,
+];
+
+#[test]
+fn a_message_that_is_too_long_is_told_so(rt: HostRuntime) {
+    let found = has_outcome(rt.alloc(), TOO_LONG, Status::Ok, TOO_LONG_REPORT);
     assert_eq!(rt; found, Ok(true));
 }

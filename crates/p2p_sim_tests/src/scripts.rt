@@ -152,9 +152,25 @@ const CHANGES_OF_FORM: &[(&str, &str, &str, &str, Form)] = &[
         "",
         Form::Another,
     ),
+    // The message is too long for its own node, and then for the other alone.
     (
         r#""max_message_size":1024"#,
         r#""max_message_size":4"#,
+        "",
+        "",
+        Form::First,
+    ),
+    (
+        r#""max_message_size":5"#,
+        r#""max_message_size":4"#,
+        "",
+        "",
+        Form::Another,
+    ),
+    // The connection that takes steps is one that a spawner made.
+    (
+        r#"{"a":0,"at":0,"b":1,"do":"join"},"#,
+        r#"{"at":0,"do":"spawner","node":0},"#,
         "",
         "",
         Form::Another,

@@ -1,4 +1,4 @@
-//! What a script says of a node's tracker, its dialer, its attempts, its listener and its handshakes, and of links.
+//! What a script says of a node's tracker, its dialer, its attempts, its listener, its handshakes and its spawner, and of links.
 use crate::texts::read;
 use crate::tracker_scripts::TRACKING;
 use p2p_address::{Address, Ingress, IpAddr, SocketAddr};
@@ -7,8 +7,8 @@ use p2p_flow::AddressableTrackedPeers;
 use p2p_log::{Act, Asked, Config, Event};
 use std::alloc::{AllocError, Global};
 
-// The word of an act about a tracker, a dialer, an attempt, a listener, a handshake or a link, and its numbers: its node, and its
-// index, its key, its question, its attempt, its handshake or its link.
+// The word of an act about a tracker, a dialer, an attempt, a listener, a handshake, a spawner or a link, and its numbers: its node,
+// and its index, its key, its question, its attempt, its handshake or its link.
 fn numbers_of(act: &Act) -> (&'static str, u64, u64) {
     match act {
         Act::Ask { asked, node } => match asked {
@@ -25,6 +25,7 @@ fn numbers_of(act: &Act) -> (&'static str, u64, u64) {
         Act::Dialer { node } => ("dialer", *node, 0),
         Act::Listener { node } => ("listener", *node, 0),
         Act::Handshake { handshake, node } => ("handshake", *node, *handshake),
+        Act::Spawner { node } => ("spawner", *node, 0),
         Act::Attempt { attempt, node } => ("attempt", *node, *attempt),
         Act::Refuse { attempt, node } => ("refuse", *node, *attempt),
         Act::Finish { link, ok: true } => ("finish", 0, *link),
@@ -63,6 +64,7 @@ const NUMBERS: &[(&str, u64, u64)] = &[
     ("connect", 8, 13),
     ("listener", 10, 0),
     ("handshake", 11, 14),
+    ("spawner", 12, 0),
     ("finish", 0, 15),
 ];
 

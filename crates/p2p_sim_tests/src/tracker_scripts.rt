@@ -1,7 +1,8 @@
-//! Which texts about a node's tracker, its dialer, its attempts, its listener and its handshakes, and about links, are scripts.
+//! Which texts about a node's tracker, its dialer, its attempts, its listener, its handshakes and its spawner, and about links, are
+//! scripts.
 use crate::texts::first_other;
 
-// Each act about a tracker, a dialer, an attempt, a listener, a handshake or a link, and each form of an address.
+// Each act about a tracker, a dialer, an attempt, a listener, a handshake, a spawner or a link, and each form of an address.
 pub const TRACKING: &str = r#"{"configs":[
     {"key":1,"preset":"local","max_peers_per_set":2,"max_message_size":9,"mailbox_size":4},
     {"key":2,"preset":"recommended","max_peers_per_set":2,"max_message_size":9,"mailbox_size":4},
@@ -33,6 +34,7 @@ pub const TRACKING: &str = r#"{"configs":[
     {"at":0,"do":"connect","attempt":13,"from":{"ip":[10,0,0,6],"port":3002},"node":8,"to":9},
     {"at":0,"do":"listener","node":10},
     {"at":0,"do":"handshake","handshake":14,"node":11},
+    {"at":0,"do":"spawner","node":12},
     {"at":0,"do":"finish","link":15,"ok":true}]}"#;
 
 // ---- what is a script
@@ -111,6 +113,9 @@ const CHANGES_OF_NAMES: &[(&str, &str, bool)] = &[
     (r#""handshake":14"#, r#""listener":14"#, false),
     (r#""node":11"#, r#""node":11,"link":0"#, false),
     (r#""do":"handshake""#, r#""do":"handshakes""#, false),
+    (r#""node":12"#, r#""node":12,"link":0"#, false),
+    (r#""node":12"#, r#""key":12"#, false),
+    (r#""do":"spawner""#, r#""do":"spawn""#, false),
     (r#""link":15,"#, "", false),
     (r#""link":15"#, r#""link":"15""#, false),
     (r#""link":15"#, r#""link":15,"node":0"#, false),
