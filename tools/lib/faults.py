@@ -13,7 +13,7 @@ class Fault(Exception):
 
 
 class Verdict:
-    """What is wrong with a script, in order, and the status by the full rules. None: nothing is, but it is not built."""
+    """What is wrong with a script, in order, and the status. None: nothing is, but it is not built."""
 
     def __init__(self, faults, status):
         self.faults = faults

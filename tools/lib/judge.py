@@ -12,27 +12,27 @@ CONCLUSIONS = {
     4: 'status 4: the input is too long',
     5: 'status 5: the input is not JSON',
     6: 'status 6: this is not a script',
-    7: 'status 6; by the full rules 7, a configuration that is not valid, which the program does not tell apart yet',
-    8: 'status 6; by the full rules 8, an event that is not valid, which the program does not tell apart yet',
+    7: 'status 7: a configuration is not valid',
+    8: 'status 8: an event is not valid',
     None: 'status 6: this is not built yet',
 }
 
 
 def judge_tree(tree):
-    """The verdict on a tree: its form first, then what is not built, then valid input, then the form that is built."""
+    """The verdict on a tree: its form first, then what is not built, then valid input."""
     script = read_script(tree)
     if script.faults:
         return Verdict(script.faults, 6)
     if script.not_built:
         return Verdict(script.not_built, None)
+    faults = built_faults(script)
+    if faults:
+        return Verdict(faults, None)
     fault = configuration_fault(script.configurations)
     if fault:
         return Verdict([fault], 7)
     fault = event_fault(script)
-    if fault:
-        return Verdict([fault], 8)
-    faults = built_faults(script)
-    return Verdict(faults, None) if faults else Verdict([], 0)
+    return Verdict([fault], 8) if fault else Verdict([], 0)
 
 
 def judge(data):
@@ -61,4 +61,4 @@ def lines_of(path, text, verdict):
 
 def status_now(verdict):
     """The status that the program ends with today, where it has memory and its streams do not fail."""
-    return verdict.status if verdict.status in (0, 4, 5) else 6
+    return 6 if verdict.status is None else verdict.status

@@ -85,6 +85,7 @@ ACT_FORMS = {
     'finish': {'link': whole, 'ok': a_flag},
     'listener': {'node': whole},
     'handshake': {'handshake': whole, 'node': whole},
+    'spawner': {'node': whole},
 }
 
 # The names of an act that may be left out.

@@ -77,14 +77,16 @@ FINISH = r'''{"end":[],"n":0,"put":[["attempt:0:5",{"finished":true}],["handshak
 {"end":[],"n":2,"put":[["tracker:1",{"listen":{"handshake":6,"key":1}}]],"reply":"ok","take":[[0,1]]}
 {"end":[],"n":3,"put":[["handshake:1:6",{"listen":false}]],"reply":"ok","take":[[2,0]]}
 {"end":[],"n":4,"put":[["attempt:0:7",{"finished":false}],["handshake:1:8",{"finished":false}]],"reply":"ok","take":[]}
-{"copies":0,"entries":5}
+{"end":[],"n":5,"put":[],"reply":"ok","take":[[1,0]]}
+{"copies":0,"entries":6}
 '''
 FINISH_SCRIPT = r'''{"configs":[],"script":[
 {"at":0,"do":"finish","link":3,"ok":true},
 {"at":0,"do":"attempt","attempt":5,"node":0},
 {"at":0,"do":"handshake","handshake":6,"node":1},
 {"at":0,"do":"tracker","node":1},
-{"at":0,"do":"finish","link":4,"ok":false}]}
+{"at":0,"do":"finish","link":4,"ok":false},
+{"at":0,"do":"spawner","node":0}]}
 '''
 BAD = {
     '': 'the last line, with the counts, is missing',
@@ -170,7 +172,7 @@ class Show(unittest.TestCase):
     def test_a_report_of_links_is_drawn_with_what_was_not_finished_and_who_was_not_reserved(self):
         drawn = self.assert_drawn(FINISH, FINISH_SCRIPT, (
             '0  finish of event 3: ok', 'not reserved: handshake:1:6', '4  finish of event 4: ok',
-            'not finished: attempt:0:7', 'not finished: handshake:1:8'))
+            'not finished: attempt:0:7', 'not finished: handshake:1:8', '5  node 0 spawner: ok'))
         for queue in ('attempt:0:5', 'handshake:1:6', 'tracker:1', 'spawner:0'):
             self.assertNotIn('not finished: %s' % queue, drawn)
         self.assertNotIn('not reserved: tracker:1', drawn)

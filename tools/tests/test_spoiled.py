@@ -36,7 +36,7 @@ class Spoiled(unittest.TestCase):
                     text, verdict = judge(data)
                     self.assertTrue(lines_of(os.path.basename(path), text, verdict))
                     statuses.add(status_now(verdict))
-        self.assertEqual(statuses, {0, 5, 6})
+        self.assertEqual(statuses, {0, 5, 6, 8})
 
     def test_a_spoiled_report_is_told_or_shown(self):
         told = shown = 0
