@@ -36,11 +36,6 @@ pub enum Act {
     Start {
         node: u64,
     },
-    /// Joins two started nodes by an open link, which the first of them dialed.
-    Join {
-        a: u64,
-        b: u64,
-    },
     /// Sends bytes on a channel.
     Send {
         bytes: Bytes,
@@ -53,7 +48,7 @@ pub enum Act {
     Router {
         node: u64,
     },
-    /// One step of the sending half of a connection.
+    /// One step of the sending half of a connection: it begins, takes its router's answer, and then writes batches.
     SendStep {
         conn: u64,
         node: u64,
@@ -181,7 +176,6 @@ impl Act {
                 quota: *quota,
             }),
             Act::Start { node } => Ok(Act::Start { node: *node }),
-            Act::Join { a, b } => Ok(Act::Join { a: *a, b: *b }),
             Act::Send {
                 bytes,
                 channel,

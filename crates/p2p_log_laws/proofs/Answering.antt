@@ -16,6 +16,8 @@ use Rattle.p2p_gates_rules.specs.declared.reply.Reply.TheVariants as gates
 use Rattle.p2p_log.specs.declared.config.Config.{Config}
 use Rattle.p2p_log.specs.declared.queue.Queue.{Queue}
 use Rattle.p2p_log.specs.declared.queue.Queue.TheVariants as queue
+use Rattle.p2p_log.specs.declared.queue.Side.{Side}
+use Rattle.p2p_log.specs.declared.queue.Side.TheVariants as side
 use Rattle.p2p_log.specs.declared.item.Item.{Item}
 use Rattle.p2p_log.specs.declared.item.Item.TheVariants as item
 use Rattle.p2p_log.specs.declared.item.Envelope.{Envelope}
@@ -33,7 +35,7 @@ use Rattle.p2p_log.proofs.Queues.{same_queue-refl}
 use Rattle.p2p_log_rules.specs.declared.row.Row.{Row}
 use Rattle.p2p_log_rules.specs.Attempting.{Attempt, dial_rules_at, attempts_of, resolved, given_up_row, resolved_row, ready_row, link_of, took_row as attempt_took_row, attempt_turn, attempt_by, attempt_row}
 use Rattle.p2p_log_rules.specs.Dialing.{Dials, dials_of, in_drawn_order, last_key, dial_puts, answered_row, due_row, dialer_turn, dialer_row}
-use Rattle.p2p_log_rules.specs.Effect.{entry_of, row}
+use Rattle.p2p_log_rules.specs.Effect.{entry_of, row, send_step_row}
 use Rattle.p2p_log_rules.specs.Facts.{is_up, taken}
 use Rattle.p2p_log_rules.specs.Handshakes.{is_handshaking, is_accepted, source_at, steps_handshake, takes_acceptance}
 use Rattle.p2p_log_rules.specs.Listening.{known_of, gate_rules_at, gates_puts, arrived_row, arrival_turn, listener_turn, has_place, listener_row}
@@ -52,6 +54,7 @@ use Rattle.p2p_log_laws.proofs.ListenerShape.{listener_shape}
 use Rattle.p2p_log_laws.proofs.Plain.{and_false}
 use Rattle.p2p_log_laws.proofs.Shape.{Shape, no_moves}
 use Rattle.p2p_log_laws.proofs.Shapes.{row_shape}
+use Rattle.p2p_log_laws.proofs.Starting.{each_sent}
 use Rattle.p2p_log_laws.proofs.TrackerMoves.{served_moves, unblocked_moves}
 use Rattle.p2p_log_laws.proofs.TrackerPuts.{EachKind, each_unblocked, each_asked, each_connected}
 use Rattle.p2p_log_laws.proofs.Weighing.{weight, count_by-one}
@@ -146,6 +149,16 @@ module _ (w : Words) (n name : ℕ) where
     pub other : (a : Act) (r : Row) → Shape configs log a r → writes configs log a (queue.Tracker n) ≡ false → writes configs log a (queue.Handshake n name) ≡ false
         → steps_handshake n name a ≡ false → Answers log (event a) r
     other a r shape t s still = puts_none a r shape (silent_out_of_reach configs a log r shape.moves shape.reach t s) still
+
+    -- ---- what a sending half tells
+
+    pub link_silent : (e : ℕ) (s : Side) (i : Item) → Silent (queue.Link e s, i)
+    link_silent e side.Out i = silent_away (queue.Link e side.Out) i refl refl
+    link_silent e side.In i = silent_away (queue.Link e side.In) i refl refl
+
+    pub sender_silent : (conn m : ℕ) → Each Silent (send_step_row configs log conn m).puts
+    sender_silent conn m =
+        each_sent configs log conn m Silent (λ key. silent_item (queue.Tracker m) (item.Connect conn key) refl refl) (λ key. silent_away (queue.Router m) (item.Ready conn key) refl refl) link_silent
 
     -- ---- questions of an oracle, of a dialer and of an attempt
 

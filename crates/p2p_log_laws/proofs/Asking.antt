@@ -12,6 +12,8 @@ use Rattle.p2p_base.specs.declared.key.Key.{Key}
 use Rattle.p2p_log.specs.declared.config.Config.{Config}
 use Rattle.p2p_log.specs.declared.queue.Queue.{Queue}
 use Rattle.p2p_log.specs.declared.queue.Queue.TheVariants as queue
+use Rattle.p2p_log.specs.declared.queue.Side.{Side}
+use Rattle.p2p_log.specs.declared.queue.Side.TheVariants as side
 use Rattle.p2p_log.specs.declared.item.Item.{Item}
 use Rattle.p2p_log.specs.declared.item.Item.TheVariants as item
 use Rattle.p2p_log.specs.declared.item.Envelope.{Envelope}
@@ -44,6 +46,7 @@ use Rattle.p2p_log_laws.proofs.HandshakeAnswers.{row_silent}
 use Rattle.p2p_log_laws.proofs.Plain.{and_false}
 use Rattle.p2p_log_laws.proofs.Shape.{Shape}
 use Rattle.p2p_log_laws.proofs.Shapes.{row_shape}
+use Rattle.p2p_log_laws.proofs.Starting.{each_sent}
 use Rattle.p2p_log_laws.proofs.TrackerPuts.{EachKind, each_unblocked, each_asked, each_connected}
 
 module _ (n name : ℕ) where
@@ -131,6 +134,10 @@ module _ (n name : ℕ) where
     listens_unasked m xs (inl none) = subst (Each Unasked) (sym none) tt
     listens_unasked m xs (inr asked) = subst (Each Unasked) (sym asked.1) (unasked_item (queue.Tracker m) (item.AskAcceptable (length log) asked.0) refl, tt)
 
+    link_unasked : (e : ℕ) (s : Side) (i : Item) → Unasked (queue.Link e s, i)
+    link_unasked e side.Out i = refl
+    link_unasked e side.In i = refl
+
     ends_aside : (o : Option Opening) → in_ends o (queue.Tracker n) ≡ false
     ends_aside None = refl
     ends_aside (Some o) = refl
@@ -144,4 +151,6 @@ module _ (n name : ℕ) where
     each_unasked (act.Listener m) other = listens_unasked m (listener_row configs log m at).puts (listener_asks exchanges n name configs log at seed m)
     each_unasked (act.Handshake k m) other = all_unasked (handshake_row configs log k m at).puts (row_silent exchanges n name configs log at seed k m other)
     each_unasked (act.Finish link ok) other = out_of_reach (act.Finish link ok) (row configs log at seed (act.Finish link ok)) (row_shape configs log at seed (act.Finish link ok)) (ends_aside (openings_of log link))
+    each_unasked (act.SendStep conn m) other =
+        each_sent configs log conn m Unasked (λ key. unasked_item (queue.Tracker m) (item.Connect conn key) refl) (λ key. refl) link_unasked
     each_unasked a other = out_of_reach a (row configs log at seed a) (row_shape configs log at seed a) refl

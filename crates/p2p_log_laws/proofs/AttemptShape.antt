@@ -102,7 +102,7 @@ module _ (configs : List Config) (log : List Entry) (a : Act) (e n : ℕ) (none 
       record {
         moves = no_moves log r refl refl;
         reach = record { taken = tt; ended = tt; puts = (near, tt) };
-        laws = λ stand. quiet_laws configs log a r (no_moves log r refl refl) (none reply.Ok) refl tt tt tt (quiet, tt);
+        laws = λ fitting. quiet_laws configs log a r (no_moves log r refl refl) (none reply.Ok) refl tt tt tt (quiet, tt);
       }
 
   resolve_told : (at : Ingress) (b : Bool) (addresses : List SocketAddr) → Shape configs log a (resolve_by at b e n addresses)
@@ -154,7 +154,7 @@ module _ (configs : List Config) (log : List Entry) (e : ℕ) (from : SocketAddr
       record {
         moves = no_moves log r refl refl;
         reach = record { taken = tt; ended = tt; puts = (near, (far, tt)) };
-        laws = λ stand. quiet_laws configs log connects r (no_moves log r refl refl) refl refl tt tt tt ((refl, refl), ((refl, refl), tt));
+        laws = λ fitting. quiet_laws configs log connects r (no_moves log r refl refl) refl refl tt tt tt ((refl, refl), ((refl, refl), tt));
       }
 
   connected_shape : (o : Option SocketAddr) (answered runs : Bool) → Shape configs log connects (connected_row o answered runs e n to arrival)

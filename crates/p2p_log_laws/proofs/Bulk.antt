@@ -112,7 +112,7 @@ module _ (configs : List Config) (log : List Entry) (a : Act) (r : Row) (m : Mov
   -- the laws follow from those of what comes before, and from the cause
   pub ended_laws : Each Fits r.puts → Moved configs log a r.reply m.taken r.puts
       → ((copy : ℕ × ℕ) → accepts log a r.reply copy + count_by (carries copy) m.taken ≡ borne_by copy r.puts front)
-      → ((ev : Event) → ev.act ≡ a → Each (EndShows configs log (entry_of ev r)) front)
+      → (Standing configs log → (ev : Event) → ev.act ≡ a → Each (EndShows configs log (entry_of ev r)) front)
       → ((ev : Event) → ev.act ≡ a → (x : Envelope) (copy : ℕ × ℕ) → Has m.ended x → carries copy x ≡ true → Shows configs log (entry_of ev r) copy c)
       → (is_read r.reply ≡ true → Delivery configs log a r.reply m.taken r.ends)
       → Laws configs log a r m
@@ -126,9 +126,9 @@ module _ (configs : List Config) (log : List Entry) (a : Act) (r : Row) (m : Mov
         ∙ (sum_by-append (λ d. one (ends_copy copy d)) front (all_end c m.ended) ∙ ap (λ n. count_by (ends_copy copy) front + n) (all_end-counted copy c m.ended))
         in
         omega (arith, before, all);
-    causes = λ ev acts.
+    causes = λ stand ev acts.
         subst (Each (EndShows configs log (entry_of ev r))) (sym parts)
-        (Each-append (EndShows configs log (entry_of ev r)) front (all_end c m.ended) (front_causes ev acts)
+        (Each-append (EndShows configs log (entry_of ev r)) front (all_end c m.ended) (front_causes stand ev acts)
         (all_end-each (EndShows configs log (entry_of ev r)) c m.ended (λ n p. tt) (λ x copy has bears. causes ev acts x copy has bears)));
     delivers = delivers;
   }
@@ -166,7 +166,7 @@ module _ (configs : List Config) (log : List Entry) (a : Act) (said : Reply) (no
       ended = Each-weaker (λ x. Has qs x.queue) (λ x. writes configs log a x.queue ≡ true) (λ x has. near x.queue has) rest within;
       puts = put;
     };
-    laws = λ stand.
+    laws = λ fitting.
         ended_laws configs log a emptied m first c refl (Each-weaker IsQuiet Fits (λ x q. q.0) puts quiet)
         (Moved-beside configs log a said taken puts
         (Each-weaker IsQuiet (IsOwn configs log a said) (λ x q. inl q.1) puts quiet) (Each-weaker IsQuiet (λ x. is_bare x.1 ≡ true) (λ x q. idle_bare x.1 q.1) puts quiet))
@@ -177,7 +177,7 @@ module _ (configs : List Config) (log : List Entry) (a : Act) (said : Reply) (no
         (Each-weaker IsQuiet (λ x. carries_copy copy x.1 ≡ false) (λ x q. bare_carries_none copy x.1 (idle_bare x.1 q.1)) puts quiet)
         in
         omega (arith, no_more, same, light))
-        (first_causes stand)
+        first_causes
         (λ ev acts x copy has bears.
         let here : Has (live log) x = Has-taken (live log) (taken ++ rest) x stood (Has-after taken rest x has) in
         let place = place_of (filter (stands_in x.queue) (live log)) x (Has-kept (stands_in x.queue) (live log) x (same_queue-refl x.queue) here) in

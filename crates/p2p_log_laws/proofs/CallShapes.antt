@@ -1,15 +1,13 @@
--- The shapes of calls: register, start, join, send and receive.
+-- The shapes of calls: register, start, send and receive.
 use Rattle.p2p_log_laws.proofs.OneShape.{spent_shape}
 use Rattle.p2p_log.specs.declared.event.Act.{Act}
 use Rattle.p2p_log_rules.specs.Reading.{reading_of, told, is_read}
 use Rattle.p2p_log.specs.Sending.Sender.{Node}
 use Rattle.p2p_log.specs.declared.entry.Reply.{Reply}
 use Rattle.p2p_log.specs.Sending.{Sending, sending_of, keys_sent}
-use Rattle.std.proofs.Common.{◌≡◌, ℕ, suc, ◌+◌, ◌<◌, Bool, true, false, cond, List, [], ◌∷◌, map, length, Some, None, inl, inr, refl, ap, sym, ◌∙◌, arith, subst}
-use Rattle.std.specs.Prelude.{◌==◌, ◌&&◌, ◌||◌, not, nat_le, nat_lt, count_by, flat_map, slice_get, filter}
+use Rattle.std.proofs.Common.{◌≡◌, ℕ, suc, ◌+◌, ◌<◌, Bool, true, false, List, [], ◌∷◌, map, length, Some, None, inl, inr, refl, ap, sym, ◌∙◌, arith, subst}
+use Rattle.std.specs.Prelude.{◌==◌, ◌&&◌, nat_le, nat_lt, count_by, flat_map, slice_get, filter}
 use Rattle.std.specs.List.{AllByRecursion as Each}
-use Rattle.std.proofs.lemmas.Bool.{and_parts}
-use Rattle.std.proofs.lemmas.Bool.Decides.{nat_tests}
 use Rattle.p2p_base.specs.declared.key.Key.{Key}
 use Rattle.p2p_log.specs.declared.config.Config.{Config}
 use Rattle.p2p_log.specs.declared.queue.Queue.{Queue}
@@ -27,9 +25,8 @@ use Rattle.p2p_log.specs.declared.event.Act.TheVariants as act
 use Rattle.p2p_log.specs.declared.event.Rate.{Rate}
 use Rattle.p2p_log.specs.declared.event.Recipients.{Recipients}
 use Rattle.p2p_log_rules.specs.declared.row.Row.{Row}
-use Rattle.p2p_log.specs.QueueCode.{same_queue}
 use Rattle.p2p_log.specs.Lines.{name_of, same_name, ended_item, line}
-use Rattle.p2p_log_rules.specs.Facts.{is_up, channels, capacity_in, capacity_for, key_at, is_joined}
+use Rattle.p2p_log_rules.specs.Facts.{is_up, channels, capacity_in, capacity_for}
 use Rattle.p2p_log_rules.specs.Frames.{frame_of}
 use Rattle.p2p_log.specs.Copies.{keys_of_recipients, carries_copy, ends_copy, copies_from, copies_of}
 use Rattle.p2p_log_rules.specs.Effect
@@ -40,8 +37,7 @@ use Rattle.p2p_log_rules.proofs.Moves.{one_taken}
 use Rattle.p2p_log.proofs.Queues.{same_queue-refl}
 use Rattle.p2p_log_rules.proofs.Touches.{reads, writes}
 use Rattle.p2p_log_laws.proofs.Carried.{IsSublist-put}
-use Rattle.p2p_log_laws.proofs.Halves.{dialing_half, dialed_half, half_of-dialing, half_of-dialed}
-use Rattle.p2p_log_laws.proofs.Shape.{Shape, IsQuiet, Moved-nothing, accepts, still, no_moves, bare_laws, quiet_laws, no_delivery, accepts-sent}
+use Rattle.p2p_log_laws.proofs.Shape.{Shape, IsQuiet, Moved-nothing, accepts, still, no_moves, quiet_laws, no_delivery, accepts-sent}
 use Rattle.p2p_log_laws.proofs.Showing.{EndShows}
 use Rattle.p2p_log_laws.proofs.Spreading.{from_place, from_first, one, count_by-copies_end}
 use Rattle.p2p_log_laws.specs.Flow.{IsSublist, put_copies}
@@ -59,57 +55,9 @@ start_shape configs log n =
     record {
       moves = no_moves log (Effect.start_row configs log n) refl refl;
       reach = record { taken = tt; ended = tt; puts = Each-map (λ x. writes configs log (act.Start n) x.0 ≡ true) put cs (Each-always (λ c. writes configs log (act.Start n) (put c).0 ≡ true) (λ c. same_queue-refl (queue.Router n)) cs) };
-      laws = λ stand. quiet_laws configs log (act.Start n) (Effect.start_row configs log n) (no_moves log (Effect.start_row configs log n) refl refl) refl refl tt tt tt
+      laws = λ fitting. quiet_laws configs log (act.Start n) (Effect.start_row configs log n) (no_moves log (Effect.start_row configs log n) refl refl) refl refl tt tt tt
           (Each-map IsQuiet put cs (Each-always (λ c. IsQuiet (put c)) (λ c. (refl, refl)) cs));
     }
-
--- ---- join
-
-joined_row : List Config → List Entry → ℕ → ℕ → Row
-joined_row configs log a b = record {
-  reply = reply.Ok;
-  takes = [];
-  puts = (queue.Router a, item.Ready (length log) (key_at configs b)) ∷ (queue.Router b, item.Ready (length log) (key_at configs a)) ∷ [];
-  ends = [];
-}
-
-or_true : (b : Bool) → (b || true) ≡ true
-or_true true = refl
-or_true false = refl
-
-joined_shape : (configs : List Config) (log : List Entry) (a b : ℕ) → Effect.may_join log a b ≡ true → Shape configs log (act.Join a b) (joined_row configs log a b)
-unfolding joined_row
-joined_shape configs log a b h =
-    let parts = and_parts (is_up log a && is_up log b) (not (a == b) && not (is_joined log a b)) h in
-    let two = and_parts (not (a == b)) (not (is_joined log a b)) parts.1 in
-    record {
-      moves = no_moves log (joined_row configs log a b) refl refl;
-      reach = record { taken = tt; ended = tt; puts = (first a b, (second a b, tt)) };
-      laws = λ stand. bare_laws configs log (act.Join a b) (joined_row configs log a b) (no_moves log (joined_row configs log a b) refl refl) refl refl tt tt tt
-          (refl, (refl, tt)) (
-            inr (inl (dialing_half configs b (length log), half_of-dialing configs a b (length log), refl)),
-            (inr (inl (dialed_half configs a (length log), half_of-dialed configs a b (length log) (other a b two.0), refl)), tt),
-          )
-          (refl, (refl, tt));
-    }
-  where
-    other : (a b : ℕ) → not (a == b) ≡ true → (b == a) ≡ false
-    other a b h = grind (arith, nat_tests)
-
-    first : (a b : ℕ) → (same_queue (queue.Router a) (queue.Router a) || same_queue (queue.Router b) (queue.Router a)) ≡ true
-    first a b = ap (λ t. t || same_queue (queue.Router b) (queue.Router a)) (same_queue-refl (queue.Router a))
-
-    second : (a b : ℕ) → (same_queue (queue.Router a) (queue.Router b) || same_queue (queue.Router b) (queue.Router b)) ≡ true
-    second a b = ap (λ t. same_queue (queue.Router a) (queue.Router b) || t) (same_queue-refl (queue.Router b)) ∙ or_true (same_queue (queue.Router a) (queue.Router b))
-
-join_cases : (configs : List Config) (log : List Entry) (a b : ℕ) (t : Bool) → Effect.may_join log a b ≡ t
-    → Shape configs log (act.Join a b) (cond t (joined_row configs log a b) (Effect.only reply.Gone))
-join_cases configs log a b true h = joined_shape configs log a b h
-join_cases configs log a b false h = still configs log (act.Join a b) reply.Gone refl refl
-
-pub join_shape : (configs : List Config) (log : List Entry) (a b : ℕ) → Shape configs log (act.Join a b) (Effect.join_row configs log a b)
-unfolding joined_row
-join_shape configs log a b = join_cases configs log a b (Effect.may_join log a b) refl
 
 -- ---- send
 
@@ -141,7 +89,7 @@ sent_shape configs log a s n false full by up sends refuses near =
     record {
       moves = no_moves log r refl (copies_end_no_item (length log) 0 s.keys (outcome.Dropped cause.Unbound));
       reach = record { taken = tt; ended = tt; puts = tt };
-      laws = λ stand. record {
+      laws = λ fitting. record {
         fitting = tt;
         moved = Moved-nothing configs log a (reply.Sent s.keys);
         balanced = λ copy.
@@ -151,7 +99,7 @@ sent_shape configs log a s n false full by up sends refuses near =
             let first = from_first copy.0 copy.1 (length log) (length s.keys) in
             let keys : accepts log a (reply.Sent s.keys) copy ≡ one ((length log == copy.0) && nat_lt copy.1 (length s.keys)) = accepts-sent log a (reply.Sent s.keys) copy s sends in
             omega (arith, all, first, keys);
-        causes = λ ev acts.
+        causes = λ stand ev acts.
             unbound_each configs log (entry_of ev r) s n (ap (λ b. sending_of b (reply.Sent s.keys)) acts ∙ sends) by up 0 s.keys (none (length s.keys));
         delivers = no_delivery configs log a (reply.Sent s.keys) [] r.ends refl;
       };
@@ -165,11 +113,11 @@ sent_shape configs log a s n true false by up sends refuses near =
     record {
       moves = no_moves log (Effect.sent_row true false n (length log) s.channel s.priority (frame_of s.channel s.bytes) s.keys) refl refl;
       reach = record { taken = tt; ended = tt; puts = (near, tt) };
-      laws = λ stand. record {
+      laws = λ fitting. record {
         fitting = (refl, tt);
         moved = ((inr (inr (s, sends, by, refl)), tt), λ p. subst (λ o. IsSublist (put_copies (filter p (put ∷ []))) (copies_from (length log) 0 (keys_sent o))) (sym sends) (IsSublist-put p put));
         balanced = λ copy. ap (λ n. n + (0 + 0)) (accepts-sent log a (reply.Sent s.keys) copy s sends) ∙ single ((length log == copy.0) && nat_lt copy.1 (length s.keys));
-        causes = λ ev acts. tt;
+        causes = λ stand ev acts. tt;
         delivers = no_delivery configs log a (reply.Sent s.keys) [] [] refl;
       };
     }

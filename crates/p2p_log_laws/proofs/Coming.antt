@@ -15,7 +15,8 @@ use Rattle.p2p_log.specs.declared.event.Act.TheVariants as act
 use Rattle.p2p_log_rules.specs.declared.row.Half.{Half}
 use Rattle.p2p_log.specs.Copies.{copies_of}
 use Rattle.p2p_log_rules.specs.Effect.{other_side}
-use Rattle.p2p_log_rules.specs.Facts.{half_at, key_at}
+use Rattle.p2p_log_rules.specs.Connections.{half_at}
+use Rattle.p2p_log_rules.specs.Facts.{key_at}
 use Rattle.p2p_log_rules.specs.Reading.{reading_of}
 use Rattle.p2p_log.specs.Sending.{Sender}
 use Rattle.p2p_log.specs.Sending.Sender.{Node, Raw}
@@ -51,7 +52,7 @@ pub record HasCome (configs : List Config) (log : List Entry) (copy : ℕ × ℕ
 module _ (configs : List Config) (log : List Entry) (copy : ℕ × ℕ) where
   -- a message that arrived at a node
   message_came : (q : Queue) (bytes : List ℕ) (other : ℕ × ℕ) (from : Key) (n c : ℕ) → other ≡ copy → IsArrived configs log bytes other from n c
-      → ((link : ℕ) (side : Side) (conn : ℕ) (far : Half) → half_at configs log n conn ≡ Some far → far.link ≡ link → side ≡ other_side far.writes → ComesTo configs log q link side)
+      → ((link : ℕ) (side : Side) (conn : ℕ) (far : Half) → half_at log n conn ≡ Some far → far.link ≡ link → side ≡ other_side far.writes → ComesTo configs log q link side)
       → HasCome configs log copy q
   message_came q bytes other from n c same a to =
       let here : IsArrived configs log bytes copy from n c = subst (λ o. IsArrived configs log bytes o from n c) same a in

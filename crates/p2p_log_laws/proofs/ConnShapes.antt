@@ -1,6 +1,6 @@
 -- The shapes of the steps of a connection.
 use Rattle.p2p_log_laws.proofs.OneShape.{handed_shape, spent_shape}
-use Rattle.std.proofs.Common.{◌≡◌, ℕ, ◌+◌, Bool, true, false, cond, List, [], ◌∷◌, ◌++◌, map, take, length, Option, Some, None, refl, ap, sym, subst, ◌∙◌, arith, append-nil, eq-eqb, leb-true}
+use Rattle.std.proofs.Common.{◌≡◌, ℕ, ◌+◌, Bool, true, false, cond, List, [], ◌∷◌, ◌++◌, map, take, length, Option, Some, None, inl, inr, refl, ap, sym, subst, ◌∙◌, arith, append-nil, eq-eqb, leb-true}
 use Rattle.std.specs.Prelude.{◌==◌, ◌&&◌, nat_le, count_by, ◌||◌}
 use Rattle.std.specs.List.{AllByRecursion as Each}
 use Rattle.std.proofs.lemmas.Bool.Decides.{nat_tests}
@@ -17,25 +17,29 @@ use Rattle.p2p_log.specs.declared.end.Outcome.TheVariants as outcome
 use Rattle.p2p_log.specs.declared.end.Cause.TheVariants as cause
 use Rattle.p2p_log.specs.declared.entry.Entry.{Entry}
 use Rattle.p2p_log.specs.declared.entry.Reply.TheVariants as reply
+use Rattle.p2p_log.specs.declared.event.Act.{Act}
 use Rattle.p2p_log.specs.declared.event.Act.TheVariants as act
 use Rattle.p2p_log_rules.specs.declared.row.Half.{Half}
 use Rattle.p2p_log_rules.specs.declared.row.Row.{Row}
 use Rattle.p2p_log.specs.Lines.{name_of, live, line}
-use Rattle.p2p_log_rules.specs.Facts.{channels, capacity_in, half_at, is_running}
+use Rattle.p2p_log_rules.specs.Connections.{half_at, is_begun, is_running}
+use Rattle.p2p_log_rules.specs.Facts.{is_up, channels, capacity_in}
 use Rattle.p2p_log_rules.specs.Frames.{message_in}
 use Rattle.p2p_log.specs.Copies.{carries, carries_copy, copies_of}
 use Rattle.p2p_log_rules.specs.Effect
+use Rattle.p2p_log_rules.specs.Moves.{Moves}
 use Rattle.p2p_log.proofs.Each.{Each-has, Each-from_has, Each-append, Each-map, Each-take, Each-weaker}
 use Rattle.p2p_log_rules.proofs.Moves.{batch_stood, one_taken, first_has}
 use Rattle.p2p_log.proofs.QueueNames.{Each-in_queue}
 use Rattle.p2p_log.proofs.Taken.{Each-taken}
 use Rattle.p2p_log.specs.Taken.{AreTaken}
-use Rattle.p2p_log_rules.proofs.Touches.{reads, in_half}
+use Rattle.p2p_log_rules.proofs.Touches.{reads, writes, in_half}
 use Rattle.p2p_log_laws.proofs.Fitting.{StandsFit, Fits, fits, is_bare}
 use Rattle.p2p_log_laws.proofs.FrameLaw.{frames_give}
-use Rattle.p2p_log_laws.proofs.Shape.{Shape, OfItem, Moved, Moved-nothing, Moved-put, accepts, still, one_move, first_in, quiet_laws, no_delivery, accepts-none}
+use Rattle.p2p_log_laws.proofs.Shape.{Shape, OfItem, Moved, Moved-nothing, Moved-put, accepts, still, no_moves, one_move, first_in, bare_laws, quiet_laws, no_delivery, accepts-none}
 use Rattle.p2p_log_laws.proofs.Showing.{first_tells}
 use Rattle.p2p_log_laws.proofs.Spreading.{one}
+use Rattle.p2p_log_laws.proofs.Telling.{IsConnection}
 use Rattle.p2p_log_laws.proofs.Truth.{Arrives, arrives}
 
 batch_moved : (configs : List Config) (log : List Entry) (n conn : ℕ) → AreTaken (live log) (Effect.batch configs log n conn)
@@ -71,7 +75,7 @@ written_carry copy q (y ∷ ys) =
     ∙ (ap (λ k. one (carries_copy copy y.item) + k) (written_carry copy q ys)
     ∙ sym (sum_by-cons (λ (z : Queue × Item). one (carries_copy copy z.1)) (q, y.item) (map (λ z. (q, z.item)) ys)))
 
-written_moved : (configs : List Config) (log : List Entry) (conn n : ℕ) (half : Half) (ys : List Envelope) → half_at configs log n conn ≡ Some half → Each (IsRelayed n conn) ys
+written_moved : (configs : List Config) (log : List Entry) (conn n : ℕ) (half : Half) (ys : List Envelope) → half_at log n conn ≡ Some half → Each (IsRelayed n conn) ys
     → Moved configs log (act.SendStep conn n) reply.Ok ys (map (λ (z : Envelope). (queue.Link half.link half.writes, z.item)) ys)
 written_moved configs log conn n half [] at relayed = Moved-nothing configs log (act.SendStep conn n) reply.Ok
 written_moved configs log conn n half (y ∷ ys) at relayed =
@@ -94,24 +98,24 @@ relay_in_half o false n conn = both n conn
 link_in_half : (o : Option Half) (half : Half) (n conn : ℕ) (s : Side) → o ≡ Some half → in_half o n conn (queue.Link half.link s) ≡ true
 link_in_half o half n conn s at = ap (λ p. in_half p n conn (queue.Link half.link s)) at ∙ eq-eqb half.link half.link refl
 
-write_shape : (configs : List Config) (log : List Entry) (conn n : ℕ) (half : Half) (ys : List Envelope) → half_at configs log n conn ≡ Some half
+write_shape : (configs : List Config) (log : List Entry) (conn n : ℕ) (half : Half) (ys : List Envelope) → half_at log n conn ≡ Some half
     → AreTaken (live log) ys → Each (IsRelayed n conn) ys → Shape configs log (act.SendStep conn n) (Effect.write_row (queue.Link half.link half.writes) ys)
 write_shape configs log conn n half [] at stood relayed = still configs log (act.SendStep conn n) reply.Idle refl refl
 write_shape configs log conn n half (y ∷ rest) at stood relayed =
     let ys : List Envelope = y ∷ rest in
     let q : Queue = queue.Link half.link half.writes in
     let put : Envelope → Queue × Item = λ z. (q, z.item) in
-    let own : Option Half = half_at configs log n conn in
+    let own : Option Half = half_at log n conn in
     record {
       moves = record { taken = y ∷ rest; ended = []; names = refl; gone = refl; stood = subst (AreTaken (live log)) (sym (append-nil ys)) stood };
       reach = record {
         taken = Each-weaker (IsRelayed n conn) (λ x. reads configs log (act.SendStep conn n) x.queue ≡ true) (λ x r. ap (in_half own n conn) r.1 ∙ relay_in_half own r.0 n conn) ys relayed;
         ended = tt;
-        puts = Each-map (λ (x : Queue × Item). in_half own n conn x.0 ≡ true) put ys
-            (Each-weaker (IsRelayed n conn) (λ z. in_half own n conn (put z).0 ≡ true) (λ z r. link_in_half own half n conn half.writes at) ys relayed);
+        puts = Each-map (λ (x : Queue × Item). writes configs log (act.SendStep conn n) x.0 ≡ true) put ys
+            (Each-weaker (IsRelayed n conn) (λ z. writes configs log (act.SendStep conn n) (put z).0 ≡ true) (λ z r. link_in_half own half n conn half.writes at) ys relayed);
       };
-      laws = λ stand.
-          let stand_fit : Each StandsFit ys = Each-taken StandsFit (live log) ys stand.fitting stood in
+      laws = λ fitting.
+          let stand_fit : Each StandsFit ys = Each-taken StandsFit (live log) ys fitting stood in
           record {
             fitting = Each-map Fits put ys (Each-from_has (λ z. Fits (put z)) ys (λ z has.
                 let r = Each-has (IsRelayed n conn) ys z relayed has in
@@ -121,7 +125,7 @@ write_shape configs log conn n half (y ∷ rest) at stood relayed =
                 let none : accepts log (act.SendStep conn n) reply.Ok copy ≡ 0 = accepts-none log (act.SendStep conn n) reply.Ok copy refl in
                 let all : count_by (carries copy) ys ≡ count_by (λ x. carries_copy copy x.1) (map put ys) = written_carry copy q ys in
                 omega (arith, none, all);
-            causes = λ ev acts. tt;
+            causes = λ stand ev acts. tt;
             delivers = no_delivery configs log (act.SendStep conn n) reply.Ok ys [] refl;
           };
     }
@@ -139,40 +143,55 @@ begin_shape configs log conn n (x ∷ rest) e =
     let r : Row = Effect.takes_oldest (x ∷ rest) in
     record {
       moves = one_move log (queue.Ready n conn) x rest e r refl refl;
-      reach = record { taken = (first_in (in_half (half_at configs log n conn) n conn) log (queue.Ready n conn) x rest e (both n conn), tt); ended = tt; puts = tt };
-      laws = λ stand.
-          let fit : fits x.queue x.item ≡ true = first_has StandsFit log (queue.Ready n conn) x rest stand.fitting e in
+      reach = record { taken = (first_in (in_half (half_at log n conn) n conn) log (queue.Ready n conn) x rest e (both n conn), tt); ended = tt; puts = tt };
+      laws = λ fitting.
+          let fit : fits x.queue x.item ≡ true = first_has StandsFit log (queue.Ready n conn) x rest fitting e in
           let light : is_bare x.item ≡ true = answer_bare n conn x.item (subst (λ q. fits q x.item ≡ true) (one_taken log (queue.Ready n conn) x rest e) fit) in
           quiet_laws configs log (act.SendStep conn n) r (one_move log (queue.Ready n conn) x rest e r refl refl) refl refl (light, tt) tt tt tt;
     }
 
-send_step_cases : (configs : List Config) (log : List Entry) (conn n : ℕ) (o : Option Half) → half_at configs log n conn ≡ o
-    → Shape configs log (act.SendStep conn n) (elim o [
-      | None ↦ Effect.only reply.Gone
-      | Some half ↦
-          cond (is_running log n conn)
-          (Effect.write_row (queue.Link half.link half.writes) (Effect.batch configs log n conn))
-          (Effect.takes_oldest (line log (queue.Ready n conn)))
-    ])
-send_step_cases configs log conn n None at = still configs log (act.SendStep conn n) reply.Gone refl refl
-send_step_cases configs log conn n (Some half) at =
-    elim (is_running log n conn) as (λ b. Shape configs log (act.SendStep conn n)
-    (cond b (Effect.write_row (queue.Link half.link half.writes) (Effect.batch configs log n conn)) (Effect.takes_oldest (line log (queue.Ready n conn))))) [
-      | true ↦ write_shape configs log conn n half (Effect.batch configs log n conn) at (batch_moved configs log n conn) (batch_relayed configs log n conn)
-      | false ↦ begin_shape configs log conn n (line log (queue.Ready n conn)) refl
-    ]
+-- it begins: its tracker and its router are told
+start_shape : (configs : List Config) (log : List Entry) (conn n : ℕ) (half : Half) → half_at log n conn ≡ Some half
+    → Shape configs log (act.SendStep conn n) (Effect.begin_row n conn half.peer)
+start_shape configs log conn n half at =
+    let a : Act = act.SendStep conn n in
+    let r : Row = Effect.begin_row n conn half.peer in
+    let m : Moves log r = no_moves log r refl refl in
+    let told : IsConnection log n conn half.peer = (half, at, refl) in
+    record {
+      moves = m;
+      reach = record { taken = tt; ended = tt; puts = (or_left (n == n) _ (eq-eqb n n refl), (or_left (n == n) _ (eq-eqb n n refl), tt)) };
+      laws = λ fitting.
+          bare_laws configs log a r m refl refl tt tt tt (refl, (refl, tt))
+          (inr (conn, half.peer, told, refl, refl), (inr (inl (conn, half.peer, told, refl)), tt)) (refl, (refl, tt));
+    }
+
+half_shape : (configs : List Config) (log : List Entry) (conn n : ℕ) (half : Half) (begun running : Bool) → half_at log n conn ≡ Some half
+    → Shape configs log (act.SendStep conn n) (Effect.half_row configs log n conn half begun running)
+half_shape configs log conn n half false running at = start_shape configs log conn n half at
+half_shape configs log conn n half true false at = begin_shape configs log conn n (line log (queue.Ready n conn)) refl
+half_shape configs log conn n half true true at = write_shape configs log conn n half (Effect.batch configs log n conn) at (batch_moved configs log n conn) (batch_relayed configs log n conn)
+
+sender_shape : (configs : List Config) (log : List Entry) (conn n : ℕ) (o : Option Half) → half_at log n conn ≡ o
+    → Shape configs log (act.SendStep conn n) (Effect.sender_row configs log n conn o)
+sender_shape configs log conn n None at = still configs log (act.SendStep conn n) reply.Gone refl refl
+sender_shape configs log conn n (Some half) at = half_shape configs log conn n half (is_begun log n conn) (is_running log n conn) at
 
 pub send_step_shape : (configs : List Config) (log : List Entry) (conn n : ℕ)
     → Shape configs log (act.SendStep conn n) (Effect.send_step_row configs log conn n)
-send_step_shape configs log conn n = send_step_cases configs log conn n (half_at configs log n conn) refl
+send_step_shape configs log conn n = by_up (is_up log n)
+  where
+    by_up : (b : Bool) → Shape configs log (act.SendStep conn n) (cond b (Effect.sender_row configs log n conn (half_at log n conn)) (Effect.only reply.Gone))
+    by_up true = sender_shape configs log conn n (half_at log n conn) refl
+    by_up false = still configs log (act.SendStep conn n) reply.Gone refl refl
 
 -- ---- receiving
 
-module _ (configs : List Config) (log : List Entry) (conn n : ℕ) (half : Half) (at : half_at configs log n conn ≡ Some half)
+module _ (configs : List Config) (log : List Entry) (conn n : ℕ) (half : Half) (at : half_at log n conn ≡ Some half)
     (x : Envelope) (rest : List Envelope) (first : line log (queue.Link half.link (Effect.other_side half.writes)) ≡ x ∷ rest) where
   -- what the half reads is in its link
   in_its_link : reads configs log (act.RecvStep conn n) (queue.Link half.link (Effect.other_side half.writes)) ≡ true
-  in_its_link = link_in_half (half_at configs log n conn) half n conn (Effect.other_side half.writes) at
+  in_its_link = link_in_half (half_at log n conn) half n conn (Effect.other_side half.writes) at
 
   idle_shape : Shape configs log (act.RecvStep conn n) (Effect.only reply.Idle)
   idle_shape = still configs log (act.RecvStep conn n) reply.Idle refl refl
@@ -206,7 +225,7 @@ module _ (configs : List Config) (log : List Entry) (conn n : ℕ) (half : Half)
       (λ other. ap (carries_copy other) is)
       (λ stand ev steps.
       let told = first_tells configs log link x rest (item.Frame (Some copy) frame) stand.tells first is in
-      let a : Arrives configs log n half copy message = arrives configs frames_give log n conn half copy frame (Effect.limit_at configs n) message at told read in
+      let a : Arrives configs log n half copy message = arrives configs frames_give log stand.halves n conn half copy frame (Effect.limit_at configs n) message at told read in
       record {
         conn = conn;
         node = n;
@@ -248,12 +267,12 @@ module _ (configs : List Config) (log : List Entry) (conn n : ℕ) (half : Half)
   frame_shape (item.Frame (Some copy) frame) is = message_shape copy frame (message_in frame (Effect.limit_at configs n)) is refl
   frame_shape _ is = idle_shape
 
-receive_shape : (configs : List Config) (log : List Entry) (conn n : ℕ) (half : Half) (xs : List Envelope) → half_at configs log n conn ≡ Some half
+receive_shape : (configs : List Config) (log : List Entry) (conn n : ℕ) (half : Half) (xs : List Envelope) → half_at log n conn ≡ Some half
     → line log (queue.Link half.link (Effect.other_side half.writes)) ≡ xs → Shape configs log (act.RecvStep conn n) (Effect.receive_row configs log n half.peer xs)
 receive_shape configs log conn n half [] at e = still configs log (act.RecvStep conn n) reply.Idle refl refl
 receive_shape configs log conn n half (x ∷ rest) at e = frame_shape configs log conn n half at x rest e x.item refl
 
-recv_step_cases : (configs : List Config) (log : List Entry) (conn n : ℕ) (o : Option Half) → half_at configs log n conn ≡ o
+recv_step_cases : (configs : List Config) (log : List Entry) (conn n : ℕ) (o : Option Half) → half_at log n conn ≡ o
     → Shape configs log (act.RecvStep conn n) (elim o [
       | None ↦ Effect.only reply.Gone
       | Some half ↦
@@ -270,4 +289,4 @@ recv_step_cases configs log conn n (Some half) at =
     ]
 
 pub recv_step_shape : (configs : List Config) (log : List Entry) (conn n : ℕ) → Shape configs log (act.RecvStep conn n) (Effect.recv_step_row configs log conn n)
-recv_step_shape configs log conn n = recv_step_cases configs log conn n (half_at configs log n conn) refl
+recv_step_shape configs log conn n = recv_step_cases configs log conn n (half_at log n conn) refl

@@ -45,7 +45,7 @@ module _ (configs : List Config) (log : List Entry) (n : ℕ) where
       record {
         moves = no_moves log r refl refl;
         reach = record { taken = tt; ended = tt; puts = near };
-        laws = λ stand. quiet_laws configs log (act.Dialer n) r (no_moves log r refl refl) refl refl tt tt tt quiet;
+        laws = λ fitting. quiet_laws configs log (act.Dialer n) r (no_moves log r refl refl) refl refl tt tt tt quiet;
       }
 
   dials_shape : (x : Envelope) (rest : List Envelope) → line log (queue.Dialer n) ≡ x ∷ rest → (peers : List Key) → Shape configs log (act.Dialer n) (dials_row n (name_of x ∷ []) peers)

@@ -24,7 +24,7 @@ use Rattle.p2p_log_laws.proofs.Fitting.{StandsFit}
 effect_shows : (configs : List Config) (log : List Entry) (ev : Event) → Standing configs log
     → Each (EndShows configs log (effect configs log ev)) (effect configs log ev).ends
 unfolding effect
-effect_shows configs log ev stand = (row_laws configs log ev.at ev.seed ev.act stand).causes ev refl
+effect_shows configs log ev stand = (row_laws configs log ev.at ev.seed ev.act stand.fitting).causes stand ev refl
 
 -- what each has, the one at a place has
 pub Each-get : {X : Type 0} (P : X → Type 0) (xs : List X) (i : ℕ) (x : X) → Each P xs → slice_get xs i ≡ Some x → P x

@@ -48,7 +48,7 @@ use Rattle.p2p_log_rules.proofs.Handshakes.{handshaking_early}
 use Rattle.p2p_log_rules.proofs.Touches.{writes}
 use Rattle.p2p_log_laws.specs.Leading.{Links, LeadsTo}
 use Rattle.p2p_log_laws.specs.OneAnswer.{exchanges, is_for}
-use Rattle.p2p_log_laws.proofs.Answering.{Silent, silent_out_of_reach, ask_silent, dialer_silent, Asks, listener_asks}
+use Rattle.p2p_log_laws.proofs.Answering.{Silent, silent_out_of_reach, sender_silent, ask_silent, dialer_silent, Asks, listener_asks}
 use Rattle.p2p_log_laws.proofs.HeldCalls.{key_from}
 use Rattle.p2p_log_laws.proofs.Linking.{IsUnanswered, IsRefused, refuse_is, IsAnswer, connect_is, links_now}
 use Rattle.p2p_log_laws.proofs.Saying.{IsPeer, IsLinkedTo, IsDialed, Says, PutSays, StandSays, first_says, PeersCome, IsOpened, AreOpened, says_still}
@@ -333,6 +333,8 @@ module _ (configs : List Config) (log : List Entry) (at seed : ℕ) (say : Each 
 
   pub each_says : (a : Act) → Now a (row configs log at seed a).puts
   unfolding row
+  each_says (act.SendStep conn n) =
+      silent (act.SendStep conn n) (record { arrivals = λ m. refl; attempts = λ m e. refl; spawners = λ m. refl }) (λ m h. sender_silent exchanges m h configs log at seed conn n)
   each_says (act.Ask what n) =
       silent (act.Ask what n) (record { arrivals = λ m. refl; attempts = λ m e. refl; spawners = λ m. refl }) (λ m h. ask_silent exchanges m h configs log at seed what n)
   each_says (act.Tracker n) = later (act.Tracker n) (tracker_says configs log say at seed n)

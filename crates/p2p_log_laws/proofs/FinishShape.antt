@@ -57,7 +57,7 @@ module _ (configs : List Config) (log : List Entry) (link : ℕ) (ok : Bool) whe
       record {
         moves = no_moves log r refl refl;
         reach = record { taken = tt; ended = tt; puts = near puts told };
-        laws = λ stand. quiet_laws configs log a r (no_moves log r refl refl) refl refl tt tt tt (quiet puts told);
+        laws = λ fitting. quiet_laws configs log a r (no_moves log r refl refl) refl refl tt tt tt (quiet puts told);
       }
     where
       near : (xs : List (Queue × Item)) → Each (IsToEnd o) xs → Each (λ x. writes configs log a x.0 ≡ true) xs

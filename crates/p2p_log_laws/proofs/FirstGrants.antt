@@ -13,20 +13,22 @@ use Rattle.p2p_log.specs.declared.item.Envelope.{Envelope}
 use Rattle.p2p_log.specs.declared.entry.Entry.{Entry}
 use Rattle.p2p_log.specs.declared.event.Event.{Event}
 use Rattle.p2p_log.specs.QueueCode.{same_queue}
-use Rattle.p2p_log.specs.Lines.{line}
+use Rattle.p2p_log.specs.Lines.{live, line}
 use Rattle.p2p_log.proofs.Queues.{same_queue-refl}
-use Rattle.p2p_log_rules.specs.Effect.{effect}
+use Rattle.p2p_log_rules.specs.Effect.{effect, row}
 use Rattle.p2p_log_rules.proofs.Moves.{one_taken, first_has}
 use Rattle.p2p_log_laws.specs.Grants.{one}
 use Rattle.p2p_log_laws.specs.NodeGrants.{put_of, holds_grants, grants_key, releases_key}
 use Rattle.p2p_log_laws.specs.OneAnswer.{Words, answers, exchanges, tells, asks_about, is_for, waiting_for, HasOne, is_open}
+use Rattle.p2p_log_laws.proofs.Balance.{live-none, fitting_kept}
 use Rattle.p2p_log_laws.proofs.Fitting.{StandsFit, fits}
 use Rattle.p2p_log_laws.proofs.HandshakeGrants.{GrantsFirst}
 use Rattle.p2p_log_laws.proofs.HandshakeLaws.{AreHandshakes, handshakes_first, handshakes_more}
-use Rattle.p2p_log_laws.proofs.Ledger.{Told, Told-none, Told-more}
 use Rattle.p2p_log_laws.proofs.LineShape.{in_line}
 use Rattle.p2p_log_laws.proofs.OneAsked.{splits, left}
 use Rattle.p2p_log_laws.proofs.Plain.{StandsPlain}
+use Rattle.p2p_log_laws.proofs.Shape.{Shape}
+use Rattle.p2p_log_laws.proofs.Shapes.{row_shape}
 use Rattle.p2p_log_laws.proofs.Weighing.{weight}
 
 module _ (n : ℕ) (key : Key) (log : List Entry) (h : ℕ) where
@@ -93,19 +95,23 @@ module _ (n : ℕ) (key : Key) (log : List Entry) (h : ℕ) where
 
 -- all that this rests on, which each entry keeps
 pub record Stand (configs : List Config) (n : ℕ) (log : List Entry) : Type 0 where
-  pub told : Told configs log
+  pub fitting : Each StandsFit (live log)
   pub handshakes : AreHandshakes configs n log
 
 module _ (configs : List Config) (n : ℕ) where
   pub stand_first : Stand configs n []
-  stand_first = record { told = Told-none configs; handshakes = handshakes_first configs n }
+  stand_first = record { fitting = subst (Each StandsFit) (sym live-none) tt; handshakes = handshakes_first configs n }
 
   pub stand_more : (log : List Entry) (ev : Event) → Stand configs n log → Stand configs n (log ++ effect configs log ev ∷ [])
-  stand_more log ev stand = record { told = Told-more configs log ev stand.told; handshakes = handshakes_more configs n log ev stand.handshakes }
+  unfolding effect
+  stand_more log ev stand =
+      let r = row configs log ev.at ev.seed ev.act in
+      let shape : Shape configs log ev.act r = row_shape configs log ev.at ev.seed ev.act in
+      record { fitting = fitting_kept log ev r shape.moves (shape.laws stand.fitting).fitting stand.fitting; handshakes = handshakes_more configs n log ev stand.handshakes }
 
   pub first_grants : (key : Key) (log : List Entry) → Stand configs n log → (h : ℕ) → GrantsFirst n key log h
   first_grants key log stand h x rest first =
-      let whole : fits x.queue x.item ≡ true = first_has StandsFit log (queue.Handshake n h) x rest stand.told.standing.fitting first in (
+      let whole : fits x.queue x.item ≡ true = first_has StandsFit log (queue.Handshake n h) x rest stand.fitting first in (
         subst (λ q. fits q x.item ≡ true) (one_taken log (queue.Handshake n h) x rest first) whole,
         rest_plain n key log h x rest first (stand.handshakes.answered h).one_waits (stand.handshakes.exchanged h).one_waits,
       )

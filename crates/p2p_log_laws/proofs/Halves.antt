@@ -1,183 +1,146 @@
--- What two halves of connections have to do with each other. How halves are made is known here alone: so far by joins, each of
--- which makes the two halves of one connection, over the link of the same name.
-use Rattle.std.proofs.Common.{◌≡◌, ℕ, Bool, true, false, cond, List, Option, Some, None, ◌⊎◌, inl, inr, refl, ap, sym, subst, ◌∙◌, arith, eq-eqb, eqb-true}
-use Rattle.std.specs.Prelude.{◌==◌, ◌&&◌, ◌||◌, slice_get}
+-- Two halves of connections over one link meet, as the laws of connections have it.
+use Rattle.std.proofs.Common.{◌≡◌, ℕ, Bool, true, false, cond, List, [], ◌∷◌, Some, inl, inr, refl, ap, sym, subst, ◌∙◌, arith, eqb-true}
+use Rattle.std.specs.Prelude.{◌==◌, slice_get}
 use Rattle.std.proofs.lemmas.Bool.Decides.{nat_tests}
 use Rattle.std.proofs.lemmas.Option.{same_Some}
+use Rattle.p2p_base.specs.declared.key.Key.{Key}
 use Rattle.p2p_log.specs.declared.config.Config.{Config}
+use Rattle.p2p_log.specs.declared.queue.Queue.{Queue}
+use Rattle.p2p_log.specs.declared.queue.Queue.TheVariants as queue
 use Rattle.p2p_log.specs.declared.queue.Side.{Side}
 use Rattle.p2p_log.specs.declared.queue.Side.TheVariants as side
+use Rattle.p2p_log.specs.declared.item.Item.{Item}
+use Rattle.p2p_log.specs.declared.item.Item.TheVariants as item
 use Rattle.p2p_log.specs.declared.entry.Entry.{Entry}
-use Rattle.p2p_log.specs.declared.entry.Reply.{Reply}
 use Rattle.p2p_log.specs.declared.entry.Reply.TheVariants as reply
-use Rattle.p2p_log.specs.declared.event.Event.{Event}
-use Rattle.p2p_log.specs.declared.event.Act.{Act}
 use Rattle.p2p_log.specs.declared.event.Act.TheVariants as act
+use Rattle.p2p_log.specs.declared.event.Event.{Event}
 use Rattle.p2p_log_rules.specs.declared.row.Half.{Half}
-use Rattle.p2p_log_rules.specs.Lawful.{IsLawful}
-use Rattle.p2p_log_rules.specs.Facts.{key_at, half_of, half_in, half_at, joins}
+use Rattle.p2p_log_rules.specs.Connections.{half_at}
 use Rattle.p2p_log_rules.specs.Effect.{other_side}
-use Rattle.p2p_log_laws.proofs.Joins.{IsJoin, one_join}
+use Rattle.p2p_log_rules.specs.Facts.{key_at}
+use Rattle.p2p_log_rules.specs.Lawful.{IsLawful}
+use Rattle.p2p_log_rules.specs.Links.{dialed_by, dialer_in, dialer_of}
+use Rattle.p2p_log_rules.specs.Spawning.{connections_of}
+use Rattle.p2p_log_rules.proofs.Connections.{HalfParts, half_parts}
+use Rattle.p2p_log_laws.specs.Leading.{Links, LeadsTo}
+use Rattle.p2p_log_laws.proofs.ConnectionPeers.{connections_lead}
+use Rattle.p2p_log_laws.proofs.Meeting.{HalvesMeet}
+use Rattle.p2p_log_laws.proofs.OneConnection.{same_ends, connections_are_one, ends_meet}
 
--- ---- directions
+-- ---- who dialed
 
-pub other_side-twice : (s : Side) → other_side (other_side s) ≡ s
-other_side-twice side.Out = refl
-other_side-twice side.In = refl
-
--- ---- the halves that a join makes
-
--- that of the node that dials
-abbrev pub dialing_half : List Config → ℕ → ℕ → Half
-dialing_half configs b conn = record { peer = key_at configs b; link = conn; writes = side.Out }
-
--- and that of the other
-abbrev pub dialed_half : List Config → ℕ → ℕ → Half
-dialed_half configs a conn = record { peer = key_at configs a; link = conn; writes = side.In }
-
-pub half_of-dialing : (configs : List Config) (a b conn : ℕ) → half_of configs a conn (act.Join a b) reply.Ok ≡ Some (dialing_half configs b conn)
-half_of-dialing configs a b conn =
-    ap (λ t. cond t (Some (dialing_half configs b conn)) (cond (a == b) (Some (dialed_half configs a conn)) None)) (eq-eqb a a refl)
-
-pub half_of-dialed : (configs : List Config) (a b conn : ℕ) → (b == a) ≡ false → half_of configs b conn (act.Join a b) reply.Ok ≡ Some (dialed_half configs a conn)
-half_of-dialed configs a b conn h =
-    ap (λ t. cond t (Some (dialing_half configs b conn)) (cond (b == b) (Some (dialed_half configs a conn)) None)) h
-    ∙ ap (λ t. cond t (Some (dialed_half configs a conn)) None) (eq-eqb b b refl)
-
-record IsDialing (configs : List Config) (a b n conn : ℕ) (half : Half) : Type 0 where
-  node : n ≡ a
-  is : half ≡ dialing_half configs b conn
-
-record IsDialed (configs : List Config) (a b n conn : ℕ) (half : Half) : Type 0 where
-  node : n ≡ b
-  is : half ≡ dialed_half configs a conn
-
--- a half of the connection that a join of these two nodes made
-abbrev IsEnd : List Config → ℕ → ℕ → ℕ → ℕ → Half → Type 0
-IsEnd configs a b n conn half = IsDialing configs a b n conn half ⊎ IsDialed configs a b n conn half
-
-half_is : (configs : List Config) (a b n conn : ℕ) (half : Half) → half_of configs n conn (act.Join a b) reply.Ok ≡ Some half → IsEnd configs a b n conn half
-half_is configs a b n conn half h = go (n == a) refl (n == b) refl h
+-- the node from which a link leads dialed it
+links_dialer : (log : List Entry) (link from to : ℕ) → Links log link from to → dialer_of log link ≡ Some from
+unfolding dialer_of
+links_dialer log link from to l = ap dialer_in l.at ∙ (ap (λ a. dialed_by a l.entry.reply l.entry.puts) l.acts ∙ (ap (λ r. dialed_by (act.Connect l.attempt l.address from to) r l.entry.puts) l.done ∙ by_puts l.entry.puts l.arrives))
   where
-    go : (t : Bool) → (n == a) ≡ t → (s : Bool) → (n == b) ≡ s → cond t (Some (dialing_half configs b conn)) (cond s (Some (dialed_half configs a conn)) None) ≡ Some half
-        → IsEnd configs a b n conn half
-    go true e s f k = inl (record { node = eqb-true n a e; is = sym (same_Some _ _ k) })
-    go false e true f k = inr (record { node = eqb-true n b f; is = sym (same_Some _ _ k) })
-    go false e false f k = absurd (cc)
+    by_puts : (puts : List (Queue × Item)) → slice_get puts 1 ≡ Some (queue.Arrivals to, item.Arrival l.address l.key link) → dialed_by (act.Connect l.attempt l.address from to) reply.Ok puts ≡ Some from
+    by_puts [] h = absurd (cc)
+    by_puts (told ∷ []) h = absurd (cc)
+    by_puts (told ∷ arrival ∷ puts) h = refl
 
-link_is : (configs : List Config) (a b n conn : ℕ) (half : Half) → IsEnd configs a b n conn half → half.link ≡ conn
-link_is configs a b n conn half h = elim h [ inl near ↦ ap (λ (k : Half). k.link) near.is | inr far ↦ ap (λ (k : Half). k.link) far.is ]
+abbrev out_by : Bool → Side
+out_by b = cond b side.Out side.In
 
--- ---- two halves of one connection
+same_out : (b c : Bool) → out_by b ≡ out_by c → b ≡ c
+same_out true true h = refl
+same_out true false h = absurd (cc)
+same_out false true h = absurd (cc)
+same_out false false h = refl
 
--- one join made them
-record OfJoin (configs : List Config) (log : List Entry) (conn n m : ℕ) (near far : Half) : Type 0 where
-  a : ℕ
-  b : ℕ
-  entry : Entry
-  at : slice_get log conn ≡ Some entry
-  acts : entry.event.act ≡ act.Join a b
-  replies : entry.reply ≡ reply.Ok
-  here : IsEnd configs a b n conn near
-  there : IsEnd configs a b m conn far
+other_out : (b c : Bool) → out_by b ≡ other_side (out_by c) → (b ≡ c → ⊥)
+other_out true true h = λ e. cc
+other_out true false h = λ e. cc
+other_out false true h = λ e. cc
+other_out false false h = λ e. cc
 
-of_join : (configs : List Config) (log : List Entry) (conn n m : ℕ) (near far : Half) → half_at configs log n conn ≡ Some near → half_at configs log m conn ≡ Some far
-    → OfJoin configs log conn n m near far
-unfolding half_at
-of_join configs log conn n m near far h k = in_entry (slice_get log conn) refl h k
-  where
-    of_act : (e : Entry) → slice_get log conn ≡ Some e → (c : Act) (r : Reply) → e.event.act ≡ c → e.reply ≡ r → half_of configs n conn c r ≡ Some near → half_of configs m conn c r ≡ Some far
-        → OfJoin configs log conn n m near far
-    of_act e at (act.Join a b) reply.Ok acts replies h k =
-        record { a = a; b = b; entry = e; at = at; acts = acts; replies = replies; here = half_is configs a b n conn near h; there = half_is configs a b m conn far k }
-    of_act e at _ r acts replies h k = absurd (cc)
+module _ (configs : List Config) (script : List Event) (log : List Entry) (lawful : IsLawful configs script log) where
+  -- two halves over one link are over a link that one node dialed
+  module _ (n m c d : ℕ) (a b : Half) (near : half_at log n c ≡ Some a) (far : half_at log m d ≡ Some b) (over : a.link ≡ b.link) where
+    abbrev p : HalfParts log n c a
+    p = half_parts log n c a near
 
-    in_entry : (o : Option Entry) → slice_get log conn ≡ o → half_in configs n conn o ≡ Some near → half_in configs m conn o ≡ Some far → OfJoin configs log conn n m near far
-    in_entry None at h k = absurd (cc)
-    in_entry (Some e) at h k = of_act e at e.event.act e.reply refl refl h k
+    abbrev q : HalfParts log m d b
+    q = half_parts log m d b far
 
-module _ (configs : List Config) (log : List Entry) (conn n m : ℕ) (near far : Half) (j : OfJoin configs log conn n m near far) where
-  -- of one direction: they are of one node
-  same_node : near.writes ≡ far.writes → n ≡ m
-  same_node w = elim j.here [
-    | inl here ↦ elim j.there [
-      | inl there ↦ here.node ∙ sym there.node
-      | inr there ↦ let clash : side.Out ≡ side.In = ap (λ (k : Half). k.writes) (sym here.is) ∙ (w ∙ ap (λ (k : Half). k.writes) there.is) in absurd (cc)
-    ]
-    | inr here ↦ elim j.there [
-      | inl there ↦ let clash : side.In ≡ side.Out = ap (λ (k : Half). k.writes) (sym here.is) ∙ (w ∙ ap (λ (k : Half). k.writes) there.is) in absurd (cc)
-      | inr there ↦ here.node ∙ sym there.node
-    ]
-  ]
+    links : p.connection.link ≡ q.connection.link
+    links = sym (ap (λ (k : Half). k.link) p.is) ∙ (over ∙ ap (λ (k : Half). k.link) q.is)
 
-  -- of other directions: one is the dialing node's, and the other that of the node that was dialed
-  apart : near.writes ≡ other_side far.writes
-      → (IsDialing configs j.a j.b n conn near × IsDialed configs j.a j.b m conn far) ⊎ (IsDialed configs j.a j.b n conn near × IsDialing configs j.a j.b m conn far)
-  apart w = elim j.here [
-    | inl here ↦ elim j.there [
-      | inl there ↦ let clash : side.Out ≡ side.In = ap (λ (k : Half). k.writes) (sym here.is) ∙ (w ∙ ap (λ (k : Half). other_side k.writes) there.is) in absurd (cc)
-      | inr there ↦ inl (here, there)
-    ]
-    | inr here ↦ elim j.there [
-      | inl there ↦ inr (here, there)
-      | inr there ↦ let clash : side.In ≡ side.Out = ap (λ (k : Half). k.writes) (sym here.is) ∙ (w ∙ ap (λ (k : Half). other_side k.writes) there.is) in absurd (cc)
-    ]
-  ]
+    one_dialer : p.dialer ≡ q.dialer
+    one_dialer = same_Some p.dialer q.dialer (sym p.dialed ∙ (ap (dialer_of log) links ∙ q.dialed))
 
-  peers : near.writes ≡ other_side far.writes → (near.peer ≡ key_at configs m) × (far.peer ≡ key_at configs n)
-  peers w = elim (apart w) [
-    | inl e ↦ (ap (λ (k : Half). k.peer) e.0.is ∙ ap (key_at configs) (sym e.1.node), ap (λ (k : Half). k.peer) e.1.is ∙ ap (key_at configs) (sym e.0.node))
-    | inr e ↦ (ap (λ (k : Half). k.peer) e.0.is ∙ ap (key_at configs) (sym e.1.node), ap (λ (k : Half). k.peer) e.1.is ∙ ap (key_at configs) (sym e.0.node))
-  ]
+    near_writes : a.writes ≡ out_by (p.dialer == n)
+    near_writes = ap (λ (k : Half). k.writes) p.is
 
-  -- the event of the connection joined their nodes
-  joined : near.writes ≡ other_side far.writes → IsJoin log conn n m
-  joined w = record { entry = j.entry; at = j.at; joined = ap (λ c. joins n m c j.entry.reply) j.acts ∙ (ap (λ r. joins n m (act.Join j.a j.b) r) j.replies ∙ nodes) }
-    where
-      straight : (n m a b : ℕ) → n ≡ a → m ≡ b → (((a == n) && (b == m)) || ((a == m) && (b == n))) ≡ true
-      straight n m a b h k = grind (arith, nat_tests)
+    far_writes : b.writes ≡ out_by (p.dialer == m)
+    far_writes = ap (λ (k : Half). k.writes) q.is ∙ ap (λ e. out_by (e == m)) (sym one_dialer)
 
-      crossed : (n m a b : ℕ) → n ≡ b → m ≡ a → (((a == n) && (b == m)) || ((a == m) && (b == n))) ≡ true
-      crossed n m a b h k = grind (arith, nat_tests)
+    near_leads : LeadsTo configs log n p.connection.key q.connection.link
+    near_leads = subst (LeadsTo configs log n p.connection.key) links (connections_lead configs script log lawful n c p.connection p.made)
 
-      nodes : joins n m (act.Join j.a j.b) reply.Ok ≡ true
-      nodes = elim (apart w) [ inl e ↦ straight n m j.a j.b e.0.node e.1.node | inr e ↦ crossed n m j.a j.b e.0.node e.1.node ]
+    far_leads : LeadsTo configs log m q.connection.key q.connection.link
+    far_leads = connections_lead configs script log lawful m d q.connection q.made
 
--- ---- two halves over one link
+    -- where a node did not dial, it was dialed
+    dialed_to : (k : ℕ) (key : Key) → LeadsTo configs log k key q.connection.link → (p.dialer == k) ≡ false → (i : ℕ) × Links log q.connection.link i k
+    dialed_to k key (i, inl dials, is) other =
+        let dialer : p.dialer ≡ k = one_dialer ∙ same_Some q.dialer k (sym q.dialed ∙ links_dialer log q.connection.link k i dials) in
+        absurd (apart p.dialer k other dialer)
+      where
+        apart : (x y : ℕ) → (x == y) ≡ false → x ≡ y → ⊥
+        apart x y differ same = grind (arith, nat_tests)
+    dialed_to k key (i, inr listens, is) other = (i, listens)
 
-module _ (configs : List Config) (log : List Entry) (n m c d : ℕ) (a b : Half) (near : half_at configs log n c ≡ Some a) (far : half_at configs log m d ≡ Some b) (over : a.link ≡ b.link) where
-  link_at : (n c : ℕ) (a : Half) → half_at configs log n c ≡ Some a → a.link ≡ c
-  link_at n c a h = let j = of_join configs log c n n a a h h in link_is configs j.a j.b n c a j.here
+    same_node : (s : Bool) → (p.dialer == n) ≡ s → (p.dialer == m) ≡ s → n ≡ m
+    same_node true e f = sym (eqb-true p.dialer n e) ∙ eqb-true p.dialer m f
+    same_node false e f =
+        let here = dialed_to n p.connection.key near_leads e in
+        let there = dialed_to m q.connection.key far_leads f in
+        (same_ends log q.connection.link here.0 n there.0 m here.1 there.1).1
 
-  -- they are of one connection, as joins have it
-  one_name : c ≡ d
-  one_name = sym (link_at n c a near) ∙ (over ∙ link_at m d b far)
+    same_end : a.writes ≡ b.writes → (n ≡ m) × (c ≡ d)
+    same_end w =
+        let one = same_out (p.dialer == n) (p.dialer == m) (sym near_writes ∙ (w ∙ far_writes)) in
+        let nodes : n ≡ m = same_node (p.dialer == m) one refl in
+        (nodes, connections_are_one configs script log lawful m c d p.connection q.connection (subst (λ k. connections_of log k c ≡ Some p.connection) nodes p.made) q.made (inr links))
 
-  over_one : OfJoin configs log c n m a b
-  over_one = of_join configs log c n m a b near (subst (λ e. half_at configs log m e ≡ Some b) (sym one_name) far)
+    two_nodes : a.writes ≡ other_side b.writes → (n == m) ≡ false
+    two_nodes w = by (n == m) refl
+      where
+        clash : (p.dialer == n) ≡ (p.dialer == m) → ⊥
+        clash = other_out (p.dialer == n) (p.dialer == m) (sym near_writes ∙ (w ∙ ap other_side far_writes))
 
-  -- of one direction: they are one half
-  pub same_end : a.writes ≡ b.writes → (n ≡ m) × (c ≡ d)
-  same_end w = (same_node configs log c n m a b over_one w, one_name)
+        by : (t : Bool) → (n == m) ≡ t → t ≡ false
+        by true same = absurd (clash (ap (λ k. p.dialer == k) (eqb-true n m same)))
+        by false differ = refl
 
-  -- of other directions: each has the other's node for its peer
-  pub opposite : a.writes ≡ other_side b.writes → (a.peer ≡ key_at configs m) × (b.peer ≡ key_at configs n)
-  opposite w = peers configs log c n m a b over_one w
+    opposite : a.writes ≡ other_side b.writes → (a.peer ≡ key_at configs m) × (b.peer ≡ key_at configs n)
+    opposite w =
+        let keys = ends_meet configs script log lawful n m c d p.connection q.connection (two_nodes w) p.made q.made links in
+        (ap (λ (k : Half). k.peer) p.is ∙ keys.0, ap (λ (k : Half). k.peer) q.is ∙ keys.1)
+
+  pub halves_meet : HalvesMeet configs log
+  halves_meet = record { same_end = same_end; opposite = opposite }
 
 -- ---- two connections of one node
 
 -- the link of the half has its other end at this node
-pub record EndsAt (configs : List Config) (log : List Entry) (half : Half) (node : ℕ) : Type 0 where
+pub record EndsAt (log : List Entry) (half : Half) (node : ℕ) : Type 0 where
   pub conn : ℕ
   pub far : Half
-  pub at : half_at configs log node conn ≡ Some far
+  pub at : half_at log node conn ≡ Some far
   pub link : half.link ≡ far.link
   pub writes : half.writes ≡ other_side far.writes
 
 module _ (configs : List Config) (script : List Event) (log : List Entry) (lawful : IsLawful configs script log) (n m : ℕ) where
-  joined_at : (c : ℕ) (a : Half) → half_at configs log n c ≡ Some a → EndsAt configs log a m → IsJoin log c n m
-  joined_at c a at e = joined configs log c n m a e.far (over_one configs log n m c e.conn a e.far at e.at e.link) e.writes
-
-  -- to one node: they are one, since two nodes are joined once so far
-  pub one_connection : (c d : ℕ) (a b : Half) → half_at configs log n c ≡ Some a → half_at configs log n d ≡ Some b → EndsAt configs log a m → EndsAt configs log b m → c ≡ d
-  one_connection c d a b at_c at_d first second = one_join configs script log lawful n m c d (joined_at c a at_c first) (joined_at d b at_d second)
+  -- to one node: they are one, since a node has one connection with a key
+  pub one_connection : (c d : ℕ) (a b : Half) → half_at log n c ≡ Some a → half_at log n d ≡ Some b → EndsAt log a m → EndsAt log b m → c ≡ d
+  one_connection c d a b at_c at_d first second =
+      let meet = halves_meet configs script log lawful in
+      let p = half_parts log n c a at_c in
+      let q = half_parts log n d b at_d in
+      let one = (meet.opposite n m c first.conn a first.far at_c first.at first.link first.writes).0 in
+      let two = (meet.opposite n m d second.conn b second.far at_d second.at second.link second.writes).0 in
+      let keys : p.connection.key ≡ q.connection.key = sym (ap (λ (k : Half). k.peer) p.is) ∙ (one ∙ (sym two ∙ ap (λ (k : Half). k.peer) q.is)) in
+      connections_are_one configs script log lawful n c d p.connection q.connection p.made q.made (inl keys)

@@ -61,7 +61,7 @@ held_connected k o conn calls key = refl
 pub key_from : (k j : Key) → (k.0 == j.0) ≡ true → k ≡ j
 key_from k j h = let e : k.0 ≡ j.0 = eqb-true k.0 j.0 h in ap (λ n. record { 0 = n }) e
 
-at_key : (k j : Key) → is_at (key_cmp k) j ≡ (k.0 == j.0)
+pub at_key : (k j : Key) → is_at (key_cmp k) j ≡ (k.0 == j.0)
 at_key k j = numbers k.0 j.0
   where
     numbers : (x y : ℕ) → is_eq (nat_cmp x y) ≡ (x == y)

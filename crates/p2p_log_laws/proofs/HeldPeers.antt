@@ -43,7 +43,7 @@ module _ (configs : List Config) (n : ℕ) (key : Key) where
     λ h.
         let r : Row = row configs before ev.at ev.seed ev.act in
         let e : Entry = entry_of ev r in
-        let weighs : Weighs configs n key before ev r = each_weighs configs n key before ev.at ev.seed stand.told.standing.fitting (first_grants configs n key before stand) ev.act in
+        let weighs : Weighs configs n key before ev r = each_weighs configs n key before ev.at ev.seed stand.fitting (first_grants configs n key before stand) ev.act in
         others_next (g.grants before e) (g.frees before e) (calls.is_held key_cmp (calls_of configs before n) key) (is_local key_cmp (rules_at configs n) key) weighs.others others
         (sym weighs.turn ∙ (ap (λ l. calls.is_held key_cmp l key) (sym (calls_of-append configs before e n)) ∙ h)),
   )

@@ -1,7 +1,8 @@
 -- From where the copies of one sender come that enter a stage of their way: from the stage before.
 use Rattle.p2p_log.specs.Sending.{Sender, Sending, sending_at, sending_of}
 use Rattle.p2p_log.specs.Sending.Sender.{Node, Raw}
-use Rattle.p2p_log_laws.proofs.Telling.{StandTells, half_at-longer}
+use Rattle.p2p_log_rules.proofs.Connections.{half_at-longer}
+use Rattle.p2p_log_laws.proofs.Telling.{StandTells}
 use Rattle.p2p_log_laws.proofs.Stages.{Fail, OwnFails, ItemsFail, OthersFail}
 use Rattle.p2p_log.proofs.Sending.{sending_at-longer}
 use Rattle.p2p_log.specs.Copies.{copies_of}
@@ -21,12 +22,12 @@ use Rattle.p2p_log.specs.declared.entry.Reply.{Reply}
 use Rattle.p2p_log.specs.declared.event.Act.{Act}
 use Rattle.p2p_log.specs.Lines.{stands_in}
 use Rattle.p2p_log_rules.specs.Effect.{relay_queue, other_side}
-use Rattle.p2p_log_rules.specs.Facts.{half_at}
+use Rattle.p2p_log_rules.specs.Connections.{half_at}
 use Rattle.p2p_log.proofs.Queues.{same_queue-refl}
 use Rattle.p2p_log_laws.specs.Order.{Writes}
 use Rattle.p2p_log_laws.proofs.ConnShapes.{relayed_fits}
 use Rattle.p2p_log_laws.proofs.Fitting.{StandsFit, fits}
-use Rattle.p2p_log_laws.proofs.Halves.{same_end}
+use Rattle.p2p_log_laws.proofs.Meeting.{HalvesMeet}
 use Rattle.p2p_log_laws.proofs.Marks.{IsSentBy, Marks, StandMarks, relay_marked}
 use Rattle.p2p_log_laws.proofs.Shape.{OfAct, IsWritten, spread_relay}
 use Rattle.p2p_log_laws.proofs.OneLink.{all_puts, WasPut}
@@ -170,12 +171,12 @@ module _ (configs : List Config) (log more all : List Entry) (whole : log ++ mor
       go _ is fit = absurd (cc)
 
   -- into the link, from the relay of the connection by which the node writes there: no other half writes there
-  pub into_link : (n : ℕ) (begins : Writes configs all (Node n) link side) → Others (queue.Link link side) (relay_queue priority n begins.0)
-  into_link n begins y i known is_put h away =
-      let at : half_at configs all h.node h.conn ≡ Some h.half =
-      subst (λ (l : List Entry). half_at configs l h.node h.conn ≡ Some h.half) whole (half_at-longer configs log more h.node h.conn h.half h.at)
+  pub into_link : HalvesMeet configs all → (n : ℕ) (begins : Writes configs all (Node n) link side) → Others (queue.Link link side) (relay_queue priority n begins.0)
+  into_link halves n begins y i known is_put h away =
+      let at : half_at all h.node h.conn ≡ Some h.half =
+      subst (λ (l : List Entry). half_at l h.node h.conn ≡ Some h.half) whole (half_at-longer log more h.node h.conn h.half h.at)
       in
-      let same = same_end configs all h.node n h.conn begins.0 h.half begins.1 at begins.2 (h.over ∙ sym begins.3) (h.writes ∙ sym begins.4) in
+      let same = halves.same_end h.node n h.conn begins.0 h.half begins.1 at begins.2 (h.over ∙ sym begins.3) (h.writes ∙ sym begins.4) in
       let relays : relay_queue h.priority h.node h.conn ≡ relay_queue h.priority n begins.0 =
       ap (λ m. relay_queue h.priority m h.conn) same.0 ∙ ap (λ c. relay_queue h.priority n c) same.1
       in

@@ -10,7 +10,7 @@ use Rattle.p2p_log.specs.declared.entry.Entry.{Entry}
 use Rattle.p2p_log_rules.specs.Lawful.{IsLawful}
 use Rattle.p2p_log.specs.Lines.{live}
 use Rattle.p2p_log.specs.Copies.{copies_of, carries, carriers}
-use Rattle.p2p_log_rules.specs.Effect.{effect, row}
+use Rattle.p2p_log_rules.specs.Effect.{effect, row, entry_of}
 use Rattle.p2p_log.specs.declared.queue.Queue.{Queue}
 use Rattle.p2p_log.specs.declared.item.Item.{Item}
 use Rattle.p2p_log.specs.declared.item.Item.TheVariants as item
@@ -24,6 +24,7 @@ use Rattle.p2p_base.specs.declared.key.Key.{Key}
 use Rattle.p2p_log_rules.specs.Facts.{key_at}
 use Rattle.p2p_log.proofs.Each.{Each-has}
 use Rattle.p2p_log_rules.specs.Moves.{Moves}
+use Rattle.p2p_log_rules.proofs.Lawful.{IsLawful-nil, IsLawful-append}
 use Rattle.p2p_log.proofs.Taken.{AreTaken-first, Each-taken}
 use Rattle.p2p_log.specs.Taken.{AreTaken}
 use Rattle.p2p_log_laws.specs.OneEnd.{EachEndsOnce}
@@ -35,10 +36,11 @@ use Rattle.p2p_log_laws.proofs.Fitting.{fits, StandsFit}
 use Rattle.p2p_log_laws.proofs.Telling.{message_told, HasKey-longer}
 use Rattle.p2p_log_laws.proofs.Telling.{Tells, StandTells, IsCopyOf-longer}
 use Rattle.p2p_log_laws.proofs.FrameLaw.{frames_give}
+use Rattle.p2p_log_laws.proofs.Halves.{halves_meet}
 use Rattle.p2p_log_laws.proofs.Routing.{RoutesHold, routes_none, routes_kept}
 use Rattle.p2p_log_laws.proofs.Truth.{tells_kept}
 use Rattle.p2p_log_laws.proofs.Balance.{live-none, balance_kept, fitting_kept}
-use Rattle.p2p_log_laws.proofs.Prefixes.{at_each, at_end, entry_due}
+use Rattle.p2p_log_laws.proofs.Prefixes.{lawful_at_each, lawful_at_end, entry_due}
 use Rattle.p2p_log_laws.proofs.Shape.{Shape, Laws, Delivery}
 use Rattle.p2p_log_laws.proofs.Shapes.{row_shape}
 use Rattle.p2p_log_laws.proofs.Showing.{Standing}
@@ -62,25 +64,32 @@ pub record Told (configs : List Config) (log : List Entry) : Type 0 where
 
 pub Told-none : (configs : List Config) → Told configs []
 Told-none configs = record {
-  standing = record { fitting = subst (Each StandsFit) (sym live-none) tt; tells = subst (Each (StandTells configs [])) (sym live-none) tt };
+  standing = record {
+    fitting = subst (Each StandsFit) (sym live-none) tt;
+    tells = subst (Each (StandTells configs [])) (sym live-none) tt;
+    halves = halves_meet configs [] [] (IsLawful-nil configs);
+  };
   routes = routes_none configs;
   balance = none_yet configs;
 }
 
 -- the laws of the row of an event
-pub row_laws : (configs : List Config) (log : List Entry) (at seed : ℕ) (a : Act) → Standing configs log → Laws configs log a (row configs log at seed a) (row_shape configs log at seed a).moves
-row_laws configs log at seed a stand = (row_shape configs log at seed a).laws stand
+pub row_laws : (configs : List Config) (log : List Entry) (at seed : ℕ) (a : Act) → Each StandsFit (live log) → Laws configs log a (row configs log at seed a) (row_shape configs log at seed a).moves
+row_laws configs log at seed a fitting = (row_shape configs log at seed a).laws fitting
 
-pub Told-more : (configs : List Config) (before : List Entry) (ev : Event) → Told configs before → Told configs (before ++ effect configs before ev ∷ [])
+-- halves meet in a lawful log, as the log with one entry more is
+pub Told-more : (configs : List Config) (script : List Event) (before : List Entry) (ev : Event) → IsLawful configs script before → Told configs before
+    → Told configs (before ++ effect configs before ev ∷ [])
 unfolding effect
-Told-more configs before ev told =
+Told-more configs script before ev lawful told =
     let r = row configs before ev.at ev.seed ev.act in
     let shape : Shape configs before ev.act r = row_shape configs before ev.at ev.seed ev.act in
-    let laws : Laws configs before ev.act r shape.moves = shape.laws told.standing in
+    let laws : Laws configs before ev.act r shape.moves = shape.laws told.standing.fitting in
     record {
       standing = record {
         fitting = fitting_kept before ev r shape.moves laws.fitting told.standing.fitting;
-        tells = tells_kept configs frames_give before ev r shape.moves laws told.standing.tells told.routes;
+        tells = tells_kept configs frames_give before ev r shape.moves laws told.standing.tells told.standing.halves told.routes;
+        halves = halves_meet configs (script ++ ev ∷ []) (before ++ entry_of ev r ∷ []) (IsLawful-append configs script before ev lawful);
       };
       routes = routes_kept configs before ev r shape.moves shape.reach told.standing.tells told.routes;
       balance = balance_kept before ev r shape.moves laws.balanced told.balance;
@@ -88,10 +97,10 @@ Told-more configs before ev told =
 
 module _ (configs : List Config) (script : List Event) (log : List Entry) (lawful : IsLawful configs script log) where
   pub Told-each : (n : ℕ) → Told configs (take n log)
-  Told-each n = at_each configs (Told configs) (Told-none configs) (Told-more configs) script log lawful n
+  Told-each n = lawful_at_each configs (Told configs) (Told-none configs) (Told-more configs) script log lawful n
 
   pub Told-end : Told configs log
-  Told-end = at_end configs (Told configs) (Told-none configs) (Told-more configs) script log lawful
+  Told-end = lawful_at_end configs (Told configs) (Told-none configs) (Told-more configs) script log lawful
 
 -- ---- a delivery
 
@@ -138,7 +147,7 @@ delivered_at configs before ev q bytes from e told is reads replies =
     let acts : reading_of configs before ev.act ≡ Some q = ap (λ (d : Entry). reading_of configs before d.event.act) (sym is) ∙ reads in
     let said : r.reply ≡ reply.Message bytes from = ap (λ (d : Entry). d.reply) (sym is) ∙ replies in
     subst (λ (d : Entry). IsDelivery configs before d.ends q bytes from) (sym is)
-    (delivery_is configs before told.standing r ev.act shape.moves q bytes from acts said ((shape.laws told.standing).delivers (ap is_read said)))
+    (delivery_is configs before told.standing r ev.act shape.moves q bytes from acts said ((shape.laws told.standing.fitting).delivers (ap is_read said)))
 
 module _ (configs : List Config) (script : List Event) (log : List Entry) (lawful : IsLawful configs script log) where
   pub each_delivered : EachIsDelivery configs log

@@ -75,8 +75,8 @@ module _ (configs : List Config) (log : List Entry) (a : Act) (q : Queue) (read 
           ended = Each-weaker (λ x. x.queue ≡ q) (λ x. writes configs log a x.queue ≡ true) (λ x is. ap (writes configs log a) is ∙ written) left here.1;
           puts = near;
         };
-        laws = λ stand.
-            let both = split took left first (λ x. is_bare x.item ≡ true) (line_bare log q bare stand.fitting) in
+        laws = λ fitting.
+            let both = split took left first (λ x. is_bare x.item ≡ true) (line_bare log q bare fitting) in
             quiet_laws configs log a r m (none reply.Ok) refl both.0 both.1 (left_items left) quiet;
       }
 
@@ -88,8 +88,8 @@ module _ (configs : List Config) (log : List Entry) (a : Act) (q : Queue) (read 
       record {
         moves = one_move log q x rest first r refl refl;
         reach = record { taken = (first_in (reads configs log a) log q x rest first read, tt); ended = tt; puts = near };
-        laws = λ stand.
-            let both = split (x ∷ []) rest first (λ y. is_bare y.item ≡ true) (line_bare log q bare stand.fitting) in
+        laws = λ fitting.
+            let both = split (x ∷ []) rest first (λ y. is_bare y.item ≡ true) (line_bare log q bare fitting) in
             quiet_laws configs log a r (one_move log q x rest first r refl refl) (none reply.Ok) refl both.0 tt tt quiet;
       }
 

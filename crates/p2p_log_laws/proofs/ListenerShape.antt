@@ -55,8 +55,8 @@ module _ (configs : List Config) (log : List Entry) (m : ℕ) where
           shape = record {
             moves = moves;
             reach = record { taken = (first_in (reads configs log (act.Listener m)) log q x rest first read, tt); ended = tt; puts = near };
-            laws = λ stand.
-                let whole : fits x.queue x.item ≡ true = first_has StandsFit log q x rest stand.fitting first in
+            laws = λ fitting.
+                let whole : fits x.queue x.item ≡ true = first_has StandsFit log q x rest fitting first in
                 let fit : fits q x.item ≡ true = subst (λ p. fits p x.item ≡ true) there whole in
                 quiet_laws configs log (act.Listener m) r moves refl silent (bare_there q x.item bare fit, tt) tt tt quiet;
           };

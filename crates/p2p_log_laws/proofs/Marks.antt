@@ -77,8 +77,9 @@ relay_marked all false n conn copy frame h = h
 module _ (configs : List Config) (log : List Entry) (ev : Event) (r : Row) (m : Moves log r) (laws : Laws configs log ev.act r m) (all : List Entry)
     (here : sending_at all (length log) ≡ sending_of ev.act r.reply) (mark : Each (StandMarks all) (live log)) where
   own_marks : (q : Queue) (i : Item) → OfAct configs log ev.act r.reply q i → Marks all i q
+  own_marks (queue.Tracker n) i h = subst (λ j. Marks all j (queue.Tracker n)) (sym h.3) tt
   own_marks (queue.Router n) i h = elim h [
-    | inl begun ↦ subst (λ j. Marks all j (queue.Router n)) (sym begun.2) tt
+    | inl ready ↦ subst (λ j. Marks all j (queue.Router n)) (sym ready.3) tt
     | inr sent ↦ subst (λ j. Marks all j (queue.Router n)) (sym sent.3) (record { sending = sent.0; at = here ∙ sent.1; by = sent.2; with_priority = refl })
   ]
   own_marks (queue.Link link s) i h = subst (λ j. Marks all j (queue.Link link s)) (sym h.put) tt

@@ -50,7 +50,7 @@ module _ (configs : List Config) (n : ℕ) (key : Key) where
   held_more before ev (stand, held) = (
     stand_more configs n before ev stand,
     let r : Row = row configs before ev.at ev.seed ev.act in
-        let weighs : Weighs configs n key before ev r = each_weighs configs n key before ev.at ev.seed stand.told.standing.fitting (first_grants configs n key before stand) ev.act in
+        let weighs : Weighs configs n key before ev r = each_weighs configs n key before ev.at ev.seed stand.fitting (first_grants configs n key before stand) ev.act in
         held_next g before (entry_of ev r)
         ∙ (ap (λ b. held_after b (turn_by g before (entry_of ev r))) held
         ∙ (sym weighs.turn ∙ ap (λ l. calls.is_held key_cmp l key) (sym (calls_of-append configs before (entry_of ev r) n)))),
@@ -70,7 +70,7 @@ module _ (configs : List Config) (n : ℕ) (key : Key) where
   unfolding effect
   turn_due before ev (stand, held) =
       let r : Row = row configs before ev.at ev.seed ev.act in
-      let weighs : Weighs configs n key before ev r = each_weighs configs n key before ev.at ev.seed stand.told.standing.fitting (first_grants configs n key before stand) ev.act in
+      let weighs : Weighs configs n key before ev r = each_weighs configs n key before ev.at ev.seed stand.fitting (first_grants configs n key before stand) ev.act in
       let holding = weighs.holding in
       let waiting = weighs.waiting in
       let grants = weighed before ev r weighs.moves (puts_grant n key) in

@@ -12,6 +12,9 @@ use Rattle.p2p_tracker_calls.specs.Grants.{is_held}
 use Rattle.p2p_tracker_calls.specs.Jitter.{jitter_of}
 use Rattle.p2p_log.specs.declared.config.Config.{Config}
 use Rattle.p2p_log.specs.declared.queue.Queue.TheVariants as queue
+use Rattle.p2p_log.specs.declared.queue.Side.{Side}
+use Rattle.p2p_log.specs.declared.queue.Side.TheVariants as side
+use Rattle.p2p_log.specs.declared.item.Item.{Item}
 use Rattle.p2p_log.specs.declared.item.Item.TheVariants as item
 use Rattle.p2p_log.specs.declared.entry.Entry.{Entry}
 use Rattle.p2p_log.specs.declared.entry.Reply.TheVariants as reply
@@ -21,6 +24,7 @@ use Rattle.p2p_log.specs.declared.event.Act.{Act}
 use Rattle.p2p_log.specs.declared.event.Act.TheVariants as act
 use Rattle.p2p_log.specs.declared.event.Event.{Event}
 use Rattle.p2p_log.specs.Lines.{ended_item, live, line}
+use Rattle.p2p_log.proofs.Each.{Each-weaker}
 use Rattle.p2p_log_rules.specs.declared.row.Row.{Row}
 use Rattle.p2p_log_rules.specs.Attempting.{Attempt, DialRules, dial_rules_at, begun_of, told_addresses, told_answer, and_then, stepped_attempt, attempts_by, attempts_of, attempt_turn, attempt_by, attempt_row, resolve_row, refuse_row, connect_row}
 use Rattle.p2p_log_rules.specs.Dialing.{dialer_row}
@@ -30,7 +34,7 @@ use Rattle.p2p_log_rules.specs.Handshakes.{is_handshaking, is_finished, peer_at}
 use Rattle.p2p_log_rules.specs.Handshaking.{handshake_deadline, is_due, handshake_turn, handshake_row}
 use Rattle.p2p_log_rules.specs.Links.{openings_of, listening_ends_of, finished_row, verdict, finish_by, finish_row}
 use Rattle.p2p_log_rules.specs.Listening.{listener_row}
-use Rattle.p2p_log_rules.specs.Effect.{entry_of, row}
+use Rattle.p2p_log_rules.specs.Effect.{entry_of, row, send_step_row}
 use Rattle.p2p_log_rules.specs.Facts.{taken, with_named, with_begun}
 use Rattle.p2p_log_rules.specs.Moves.{Moves}
 use Rattle.p2p_log_rules.specs.Rows.{only, is_spawner_full}
@@ -43,14 +47,16 @@ use Rattle.p2p_log_laws.specs.NodeGrants.{releases_key, is_attempt_of, is_connec
 use Rattle.p2p_log_laws.proofs.AttemptGrants.{Ends, attempt_ends}
 use Rattle.p2p_log_laws.proofs.AttemptHolds.{told_kept, none_kept, addresses_kept, answer_kept, others_kept, held_by_attempts, holds_kept, holds_begun, holds_changed}
 use Rattle.p2p_log_laws.proofs.ConnectionHolds.{connections_kept, connections_made}
+use Rattle.p2p_log_laws.proofs.ConnShapes.{send_step_shape}
 use Rattle.p2p_log_laws.proofs.DialerGrants.{Hand, dialer_hands}
 use Rattle.p2p_log_laws.proofs.FinishShape.{finish_plain}
 use Rattle.p2p_log_laws.proofs.Fitting.{StandsFit}
 use Rattle.p2p_log_laws.proofs.HandshakeGrants.{GrantsFirst, Hands, nothing, turn_hands}
-use Rattle.p2p_log_laws.proofs.Plain.{Away, Plain, IsPlain, plain_item, no_grants, no_releases, no_grants_stand, no_releases_stand, plain_out_of_reach}
+use Rattle.p2p_log_laws.proofs.Plain.{IsAside, Away, Plain, StandsPlain, IsPlain, away_aside, plain_aside, plain_item, stand_aside, no_grants, no_releases, no_grants_stand, no_releases_stand, plain_out_of_reach}
 use Rattle.p2p_log_laws.proofs.Shape.{Shape, no_moves}
 use Rattle.p2p_log_laws.proofs.ListenerShape.{listener_plain}
 use Rattle.p2p_log_laws.proofs.Shapes.{row_shape}
+use Rattle.p2p_log_laws.proofs.Starting.{none_ended, each_sent, sent_ends}
 use Rattle.p2p_log_laws.proofs.SpawnerGrants.{Made, spawner_makes}
 use Rattle.p2p_log_laws.proofs.TrackerGrants.{Step, tracker_steps}
 use Rattle.p2p_log_laws.proofs.Weighing.{weight, taken_items}
@@ -153,6 +159,27 @@ module _ (configs : List Config) (n : ℕ) (key : Key) (log : List Entry) where
         → ((k : ℕ) → is_attempt_of key (attempts_by configs n log (entry_of (event at seed a) r) f k) ≡ is_attempt_of key (f k)) → Weighs (event at seed a) r
     other a r shape read written still makes kept =
         plain_weighs (event at seed a) r still makes shape.moves (plain_out_of_reach n key configs a log r shape.moves shape.reach read written) kept
+
+    -- ---- what a sending half tells
+
+    sender_weighs : (conn m : ℕ) → Weighs (event at seed (act.SendStep conn m)) (send_step_row configs log conn m)
+    sender_weighs conn m =
+        let a : Act = act.SendStep conn m in
+        let r : Row = send_step_row configs log conn m in
+        let shape : Shape configs log a r = send_step_shape configs log conn m in
+        plain_weighs (event at seed a) r refl refl shape.moves
+        (record {
+          taken = stand_aside n key shape.moves.taken
+              (Each-weaker (λ x. reads configs log a x.queue ≡ true) (λ x. IsAside n x.queue)
+              (λ x k. away_aside n (reads configs log a) (record { dialer = refl; handshakes = λ h. refl; spawner = refl; tracker = refl }) x.queue k) shape.moves.taken shape.reach.taken);
+          ended = subst (Each (StandsPlain n key)) (sym (none_ended log r shape.moves (sent_ends configs log conn m))) tt;
+          puts = each_sent configs log conn m (Plain n key) (λ k. plain_item n key (queue.Tracker m) (item.Connect conn k) refl refl)
+              (λ k. plain_aside n key (queue.Router m) (item.Ready conn k) (refl, refl)) link_plain;
+        }) (λ k. refl)
+      where
+        link_plain : (e : ℕ) (s : Side) (i : Item) → Plain n key (queue.Link e s, i)
+        link_plain e side.Out i = plain_aside n key (queue.Link e side.Out) i (refl, refl)
+        link_plain e side.In i = plain_aside n key (queue.Link e side.In) i (refl, refl)
 
     -- ---- questions
 
@@ -380,6 +407,7 @@ module _ (configs : List Config) (n : ℕ) (key : Key) (log : List Entry) where
 
     pub each_weighs : Each StandsFit (live log) → ((h : ℕ) → GrantsFirst n key log h) → (a : Act) → Weighs (event at seed a) (row configs log at seed a)
     unfolding row
+    each_weighs fitting first (act.SendStep conn m) = sender_weighs conn m
     each_weighs fitting first (act.Ask what m) = ask_weighs what m
     each_weighs fitting first (act.Answer e) =
         other (act.Answer e) (rows.answer_row log e) (row_shape configs log at seed (act.Answer e)) (told_aside (asked_by log e) e n) (nowhere n) refl refl (λ k. refl)

@@ -22,7 +22,7 @@ use Rattle.p2p_log_laws.proofs.NodeGrants.{each_node_turn}
 use Rattle.p2p_log_laws.proofs.Turns.{one_holder}
 
 -- a connection is of an entry before
-connection_before : (log : List Entry) (n c : ℕ) (a : Spawned) → connections_of log n c ≡ Some a → c < length log
+pub connection_before : (log : List Entry) (n c : ℕ) (a : Spawned) → connections_of log n c ≡ Some a → c < length log
 connection_before log n c a there = go (nat_le (length log) c) refl
   where
     at_least : (m i : ℕ) → nat_le m i ≡ true → m ≤ i
@@ -36,7 +36,7 @@ connection_before log n c a there = go (nat_le (length log) c) refl
     go false early = below (length log) c early
 
 -- of two links of one name, the same nodes are the ends
-same_ends : (log : List Entry) (link i j k m : ℕ) → Links log link i j → Links log link k m → (i ≡ k) × (j ≡ m)
+pub same_ends : (log : List Entry) (link i j k m : ℕ) → Links log link i j → Links log link k m → (i ≡ k) × (j ≡ m)
 same_ends log link i j k m first second =
     let same : first.entry ≡ second.entry = same_Some first.entry second.entry (sym first.at ∙ second.at) in
     let acts : act.Connect first.attempt first.address i j ≡ act.Connect second.attempt second.address k m =
@@ -56,7 +56,7 @@ module _ (configs : List Config) (script : List Event) (log : List Entry) (lawfu
       at_most answers attempts connections waiting false true is = omega (arith, is)
       at_most answers attempts connections waiting false false is = omega (arith, is)
 
-  of_key : (a : Spawned) (c : ℕ) (key : Key) → connections_of log n c ≡ Some a → a.key ≡ key → is_connection_of key (connections_of log n c) ≡ true
+  pub of_key : (a : Spawned) (c : ℕ) (key : Key) → connections_of log n c ≡ Some a → a.key ≡ key → is_connection_of key (connections_of log n c) ≡ true
   of_key a c key there is = ap (is_connection_of key) there ∙ (ap (λ (k : Key). k.0 == key.0) is ∙ eq-eqb key.0 key.0 refl)
 
   with_key : (c d : ℕ) (a b : Spawned) → connections_of log n c ≡ Some a → connections_of log n d ≡ Some b → a.key ≡ b.key → c ≡ d

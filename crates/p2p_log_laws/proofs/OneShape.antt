@@ -31,14 +31,14 @@ module _ (configs : List Config) (log : List Entry) (a : Act) (said : Reply) (no
   handed_shape p i silent near fit same carried from = record {
     moves = one_move log q x rest first (record { reply = said; takes = name_of x ∷ []; puts = (p, i) ∷ []; ends = [] }) refl refl;
     reach = record { taken = (first_in (reads configs log a) log q x rest first read, tt); ended = tt; puts = (near, tt) };
-    laws = λ stand. record {
+    laws = λ fitting. record {
       fitting = (fit, tt);
       moved = Moved-put configs log a said x [] (p, i) [] from same (Moved-nothing configs log a said);
       balanced = λ copy.
           let no_more = accepts-none log a said copy none in
           let taken : count_by (carries copy) (x ∷ []) ≡ one (carries_copy copy i) = count_by-single copy x (carries_copy copy i) (carried copy) in
           omega (arith, no_more, taken);
-      causes = λ ev acts. tt;
+      causes = λ stand ev acts. tt;
       delivers = no_delivery configs log a said (x ∷ []) [] silent;
     };
   }
@@ -52,14 +52,14 @@ module _ (configs : List Config) (log : List Entry) (a : Act) (said : Reply) (no
   spent_shape copy o carried cause delivers = record {
     moves = one_move log q x rest first (record { reply = said; takes = name_of x ∷ []; puts = []; ends = end.Copy copy.0 copy.1 o ∷ [] }) refl refl;
     reach = record { taken = (first_in (reads configs log a) log q x rest first read, tt); ended = tt; puts = tt };
-    laws = λ stand. record {
+    laws = λ fitting. record {
       fitting = tt;
       moved = Moved-taken configs log a said x;
       balanced = λ other.
           let no_more = accepts-none log a said other none in
           let taken : count_by (carries other) (x ∷ []) ≡ one (same_name other copy) = count_by-single other x (same_name other copy) (carried other) in
           omega (arith, no_more, taken);
-      causes = λ ev acts. (cause stand ev acts, tt);
+      causes = λ stand ev acts. (cause stand ev acts, tt);
       delivers = delivers;
     };
   }

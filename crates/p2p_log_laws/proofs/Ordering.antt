@@ -38,13 +38,15 @@ use Rattle.p2p_log_laws.proofs.Drops.{each_read, read_came}
 use Rattle.p2p_log_laws.proofs.Coming.{HasCome, can_read, reading_can}
 use Rattle.p2p_log_laws.proofs.Fitting.{StandsFit}
 use Rattle.p2p_log_laws.proofs.Flow.{AreLed}
+use Rattle.p2p_log_laws.proofs.Halves.{halves_meet}
 use Rattle.p2p_log_laws.proofs.Leads.{Known, is_copy_by, by_sent, sent_in_all, into_channel, own_link, into_link, raw_link, own_relay, into_relay}
 use Rattle.p2p_log.specs.declared.item.Envelope.{Envelope}
 use Rattle.p2p_log_laws.proofs.Ledger.{Told, Told-none, Told-more}
 use Rattle.p2p_log_laws.proofs.Marks.{StandMarks, marks_kept}
+use Rattle.p2p_log_laws.proofs.Meeting.{HalvesMeet}
 use Rattle.p2p_log_laws.proofs.OneLink.{all_puts, on_link, IsLinkedOnce, linked_none, linked_more, one_link, WasPut, put_kept, has_seam}
 use Rattle.p2p_log_laws.proofs.Path.{delivers, delivered, way, way-none, order_kept, delivered_in_order}
-use Rattle.p2p_log_laws.proofs.Prefixes.{at_end}
+use Rattle.p2p_log_laws.proofs.Prefixes.{lawful_at_end}
 use Rattle.p2p_log_laws.proofs.Shape.{Laws, Shape}
 use Rattle.p2p_log_laws.proofs.Shapes.{row_shape}
 use Rattle.p2p_log_laws.specs.Delivered.{IsRead}
@@ -143,7 +145,7 @@ module _ (configs : List Config) (all : List Entry) (sender : Sender) (channel :
         }
 
     -- the queue is one that is read
-    module _ (reads : can_read q ≡ true) (there : IsAtEnd q) where
+    module _ (reads : can_read q ≡ true) (there : IsAtEnd q) (halves : HalvesMeet configs all) where
       module _ (log more : List Entry) (ev : Event) (r : Row) (m : Moves log r) (laws : Laws configs log ev.act r m) (whole : log ++ entry_of ev r ∷ more ≡ all) (told : Told configs log)
           (ordered : IsOrdered log) where
         here : sending_at all (length log) ≡ sending_of ev.act r.reply
@@ -172,7 +174,7 @@ module _ (configs : List Config) (all : List Entry) (sender : Sender) (channel :
         link_led : (s : Sender) → sender ≡ s → (w : Writes configs all s link side) → Led (queue.Link link side) (before_link s w)
         link_led (Node n) is w = inl (
           own_link configs log (entry_of ev r ∷ more) all whole sender channel priority link side test by_sender by_link ev.act r.reply here m.taken r.puts n is,
-          into_link configs log (entry_of ev r ∷ more) all whole sender channel priority link side test by_sender by_link ev.act r.reply here m.taken r.puts n w,
+          into_link configs log (entry_of ev r ∷ more) all whole sender channel priority link side test by_sender by_link ev.act r.reply here m.taken r.puts halves n w,
           inl (
             own_relay configs log (entry_of ev r ∷ more) all whole sender channel priority link side test by_sender by_link ev.act r.reply here m.taken r.puts n w.0,
             into_relay configs log (entry_of ev r ∷ more) all whole sender channel priority link side test by_sender by_link ev.act r.reply here m.taken r.puts n w.0,
@@ -202,21 +204,21 @@ module _ (configs : List Config) (all : List Entry) (sender : Sender) (channel :
       abbrev OrderedIn : List Entry → Type 0
       OrderedIn log = Told configs log × ((more : List Entry) → log ++ more ≡ all → IsOrdered log)
 
-      ordered_step : (before : List Entry) (ev : Event) → OrderedIn before → OrderedIn (before ++ effect configs before ev ∷ [])
+      ordered_step : (script : List Event) (before : List Entry) (ev : Event) → IsLawful configs script before → OrderedIn before → OrderedIn (before ++ effect configs before ev ∷ [])
       unfolding effect
-      ordered_step before ev h =
+      ordered_step script before ev lawful h =
           let r = row configs before ev.at ev.seed ev.act in
           let e = entry_of ev r in
           let shape : Shape configs before ev.act r = row_shape configs before ev.at ev.seed ev.act in (
-            Told-more configs before ev h.0,
+            Told-more configs script before ev lawful h.0,
             λ more whole.
                 let parts : before ++ e ∷ more ≡ all = sym (append_assoc before (e ∷ []) more) ∙ whole in
-                ordered_more before more ev r shape.moves (shape.laws h.0.standing) parts h.0 (h.1 (e ∷ more) parts),
+                ordered_more before more ev r shape.moves (shape.laws h.0.standing.fitting) parts h.0 (h.1 (e ∷ more) parts),
           )
 
       pub way_in_order : (script : List Event) → IsLawful configs script all → AreInOrder (on_way all)
       way_in_order script lawful =
-          ((at_end configs OrderedIn (Told-none configs, λ more whole. ordered_none) ordered_step script all lawful).1 [] (append-nil all)).order
+          ((lawful_at_end configs OrderedIn (Told-none configs, λ more whole. ordered_none) ordered_step script all lawful).1 [] (append-nil all)).order
 
 -- ---- what is delivered went over a link
 
@@ -261,12 +263,12 @@ module _ (configs : List Config) (script : List Event) (log : List Entry) (lawfu
   Once : List Entry → Type 0
   Once before = Told configs before × ((copy : ℕ × ℕ) → IsLinkedOnce copy configs before)
 
-  once_step : (before : List Entry) (ev : Event) → Once before → Once (before ++ effect configs before ev ∷ [])
+  once_step : (so_far : List Event) (before : List Entry) (ev : Event) → IsLawful configs so_far before → Once before → Once (before ++ effect configs before ev ∷ [])
   unfolding effect Once
-  once_step before ev h =
+  once_step so_far before ev due h =
       let r = row configs before ev.at ev.seed ev.act in
       let shape : Shape configs before ev.act r = row_shape configs before ev.at ev.seed ev.act in
-      (Told-more configs before ev h.0, λ copy. linked_more copy configs before ev r shape.moves (shape.laws h.0.standing) (h.1 copy))
+      (Told-more configs so_far before ev due h.0, λ copy. linked_more copy configs before ev r shape.moves (shape.laws h.0.standing.fitting) (h.1 copy))
 
   once_none : Once []
   unfolding Once
@@ -274,7 +276,7 @@ module _ (configs : List Config) (script : List Event) (log : List Entry) (lawfu
 
   linked_once : (copy : ℕ × ℕ) → IsLinkedOnce copy configs log
   unfolding Once
-  linked_once = (at_end configs Once once_none once_step script log lawful).1
+  linked_once = (lawful_at_end configs Once once_none once_step script log lawful).1
 
   -- ---- the order of what is delivered
 
@@ -335,7 +337,7 @@ module _ (configs : List Config) (script : List Event) (log : List Entry) (lawfu
         let stages = stages_of configs log sender channel priority link side q linked_once begins q in
         let order : AreInOrder (delivered configs (pass link side) q stages log) =
         delivered_in_order configs (pass link side) q stages log
-        (way_in_order configs log sender channel priority link side q linked_once begins c.can (ends_there link side first over_first q c.link c.side c.over c.ends) script lawful)
+        (way_in_order configs log sender channel priority link side q linked_once begins c.can (ends_there link side first over_first q c.link c.side c.over c.ends) (halves_meet configs script log lawful) script lawful)
         in
         given_before (delivers configs (pass link side) q stages) IsBefore log first second m n order (gives link side stages first m a over_first) (gives link side stages second n b over_second) h
 

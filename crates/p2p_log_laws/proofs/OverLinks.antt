@@ -1,4 +1,4 @@
--- The order of what is delivered over all links. Two nodes have one connection so far, so that it is the order along a link.
+-- The order of what is delivered over all links. A node has one connection with a key so far, so that it is the order along a link.
 use Rattle.std.proofs.Common.{◌≡◌, ℕ, Bool, List, Option, Some, None, ap, sym, subst, ◌∙◌, arith}
 use Rattle.std.specs.Prelude.{slice_get, take}
 use Rattle.std.proofs.lemmas.Option.{same_Some}
@@ -16,11 +16,12 @@ use Rattle.p2p_log.specs.Sending.{Sender, Sending, sending_of, sending_in, sendi
 use Rattle.p2p_log.specs.Sending.Sender.{Node}
 use Rattle.p2p_log_rules.specs.declared.row.Half.{Half}
 use Rattle.p2p_log_rules.specs.Effect.{other_side}
-use Rattle.p2p_log_rules.specs.Facts.{half_at}
+use Rattle.p2p_log_rules.specs.Connections.{half_at}
 use Rattle.p2p_log_rules.specs.Lawful.{IsLawful}
 use Rattle.p2p_log_rules.specs.Reading.{reading_of}
 use Rattle.p2p_log_laws.specs.Order.{IsDelivered, WentOver, Writes, ComesTo, CameBy, AreDeliveredInOrder, AreDeliveredInOrderOfConnections}
-use Rattle.p2p_log_laws.proofs.Halves.{EndsAt, other_side-twice, one_connection}
+use Rattle.p2p_log_laws.proofs.Halves.{EndsAt, one_connection}
+use Rattle.p2p_log_laws.proofs.Meeting.{other_side-twice}
 use Rattle.p2p_log_laws.proofs.Ordering.{delivered_over_one, each_went_over, one_way}
 
 -- ---- who sends, and who reads
@@ -71,10 +72,10 @@ module _ (configs : List Config) (script : List Event) (log : List Entry) (lawfu
         let same : u.near.0 ≡ v.near.0 =
         one_connection configs script log lawful m n u.near.0 v.near.0 u.near.1 v.near.1 u.near.2 v.near.2 (ends first u) (ends second v)
         in
-        let halves : u.near.1 ≡ v.near.1 = same_Some u.near.1 v.near.1 (sym u.near.2 ∙ (ap (half_at configs log m) same ∙ v.near.2)) in
+        let halves : u.near.1 ≡ v.near.1 = same_Some u.near.1 v.near.1 (sym u.near.2 ∙ (ap (half_at log m) same ∙ v.near.2)) in
         (sym u.near.3 ∙ (ap (λ (h : Half). h.link) halves ∙ v.near.3), sym u.near.4 ∙ (ap (λ (h : Half). h.writes) halves ∙ v.near.4))
       where
-        ends : (copy : ℕ × ℕ) (w : Went configs log copy m n c) → EndsAt configs log w.near.1 n
+        ends : (copy : ℕ × ℕ) (w : Went configs log copy m n c) → EndsAt log w.near.1 n
         ends copy w = record { conn = w.far.0; far = w.far.1; at = w.far.2; link = w.near.3 ∙ sym w.far.3; writes = w.near.4 ∙ w.far.4 }
 
     -- and came by one connection of the node that reads
@@ -83,7 +84,7 @@ module _ (configs : List Config) (script : List Event) (log : List Entry) (lawfu
     one_reader first second older newer u v by_older by_newer =
         one_connection configs script log lawful n m older newer by_older.half by_newer.half by_older.at by_newer.at (ends first older u by_older) (ends second newer v by_newer)
       where
-        ends : (copy : ℕ × ℕ) (conn : ℕ) → Went configs log copy m n c → (by : CameBy configs log copy (queue.Channel n c) conn) → EndsAt configs log by.half m
+        ends : (copy : ℕ × ℕ) (conn : ℕ) → Went configs log copy m n c → (by : CameBy configs log copy (queue.Channel n c) conn) → EndsAt log by.half m
         ends copy conn w by =
             let way = one_way configs script log lawful copy w.link w.side w.over by.half.link (other_side by.half.writes) by.over in
             record {

@@ -7,6 +7,7 @@ use Rattle.p2p_log.specs.declared.event.Event.{Event}
 use Rattle.p2p_log.specs.declared.entry.Entry.{Entry}
 use Rattle.p2p_log_rules.specs.Lawful.{IsLawful}
 use Rattle.p2p_log_rules.specs.Effect.{effect}
+use Rattle.p2p_log_rules.proofs.Lawful.{IsLawful-nil, IsLawful-append}
 
 -- one element more, or none
 pub take_next : {X : Type 0} (xs : List X) (n : ℕ) (x : X) → slice_get xs n ≡ Some x → take (suc n) xs ≡ take n xs ++ x ∷ []
@@ -48,3 +49,21 @@ module _ (configs : List Config) (P : List Entry → Type 0) (base : P [])
 
   pub at_end : (script : List Event) (log : List Entry) → IsLawful configs script log → P log
   at_end script log lawful = subst P (take_all (length log) log (omega arith)) (at_each script log lawful (length log))
+
+-- the same, where the entries before are known to be lawful
+module _ (configs : List Config) (P : List Entry → Type 0) (base : P [])
+    (step : (script : List Event) (before : List Entry) (ev : Event) → IsLawful configs script before → P before → P (before ++ effect configs before ev ∷ [])) where
+  abbrev OfLawful : List Entry → Type 0
+  OfLawful before = (script : List Event) × IsLawful configs script before × P before
+
+  first : OfLawful []
+  first = ([], IsLawful-nil configs, base)
+
+  more : (before : List Entry) (ev : Event) → OfLawful before → OfLawful (before ++ effect configs before ev ∷ [])
+  more before ev (script, lawful, p) = (script ++ ev ∷ [], IsLawful-append configs script before ev lawful, step script before ev lawful p)
+
+  pub lawful_at_each : (script : List Event) (log : List Entry) → IsLawful configs script log → (n : ℕ) → P (take n log)
+  lawful_at_each script log lawful n = (at_each configs OfLawful first more script log lawful n).2
+
+  pub lawful_at_end : (script : List Event) (log : List Entry) → IsLawful configs script log → P log
+  lawful_at_end script log lawful = (at_end configs OfLawful first more script log lawful).2

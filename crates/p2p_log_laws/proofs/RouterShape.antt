@@ -56,9 +56,9 @@ module _ (configs : List Config) (log : List Entry) (n : ℕ) (x : Envelope) (re
   apart : AreApart left
   apart = AreApart-filter (stays (name_of x ∷ [])) (live log) (AreApart-live_from 0 log)
 
-  fit : Standing configs log → (i : Item) → x.item ≡ i → fits (queue.Router n) i ≡ true
-  fit stand i is =
-      let whole : fits x.queue x.item ≡ true = first_has StandsFit log (queue.Router n) x rest stand.fitting first in
+  fit : Each StandsFit (live log) → (i : Item) → x.item ≡ i → fits (queue.Router n) i ≡ true
+  fit fitting i is =
+      let whole : fits x.queue x.item ≡ true = first_has StandsFit log (queue.Router n) x rest fitting first in
       subst (λ j. fits (queue.Router n) j ≡ true) is (subst (λ q. fits q x.item ≡ true) (one_taken log (queue.Router n) x rest first) whole)
 
   in_mailbox : Each (λ y. reads configs log (act.Router n) y.queue ≡ true) (x ∷ [])
@@ -84,10 +84,10 @@ module _ (configs : List Config) (log : List Entry) (n : ℕ) (x : Envelope) (re
       ended = rings_in (λ q. in_router n q ≡ true) left (map (queue.Peers n) cs) (Each-map (λ q. in_router n q ≡ true) (queue.Peers n) cs (Each-always (λ c. in_router n (queue.Peers n c) ≡ true) (λ c. eq-eqb n n refl) cs));
       puts = near;
     };
-    laws = λ stand.
+    laws = λ fitting.
         let r : Row = record { reply = reply.Ok; takes = name_of x ∷ []; puts = puts; ends = Effect.peers_ends left n cs } in
         quiet_laws configs log (act.Router n) r (ringed puts cs) refl refl (light, tt)
-        (rings_bare left (map (queue.Peers n) cs) apart (Each-filter StandsFit (stays (name_of x ∷ [])) (live log) stand.fitting)
+        (rings_bare left (map (queue.Peers n) cs) apart (Each-filter StandsFit (stays (name_of x ∷ [])) (live log) fitting)
         (Each-map (λ q. holds_bare q ≡ true) (queue.Peers n) cs (Each-always (λ c. holds_bare (queue.Peers n c) ≡ true) (λ c. refl) cs)))
         (ring_ends_items left (map (queue.Peers n) cs)) quiet;
   }
@@ -189,7 +189,7 @@ module _ (configs : List Config) (log : List Entry) (n : ℕ) (x : Envelope) (re
         record {
           moves = one_move log (queue.Router n) x rest first r refl (ended_item-none s.ends relays.0);
           reach = record { taken = in_mailbox; ended = tt; puts = Each-weaker IsRelay (λ y. in_router n y.0 ≡ true) (λ y h. h.2) s.puts relays.1 };
-          laws = λ stand. record {
+          laws = λ fitting. record {
             fitting = Each-weaker IsRelay Fits (λ y h. h.0) s.puts relays.1;
             moved = Moved-all configs log (act.Router n) reply.Ok x s.puts
                 (Each-weaker IsRelay (ComesOf configs log x) (λ y h. h.1) s.puts relays.1)
@@ -207,7 +207,7 @@ module _ (configs : List Config) (log : List Entry) (n : ℕ) (x : Envelope) (re
                 in
                 let place = from_first copy.0 copy.1 send (length to) in
                 omega (arith, none, taken, all, place);
-            causes = λ ev steps. content_shows ev stand steps;
+            causes = λ stand ev steps. content_shows ev stand steps;
             delivers = no_delivery configs log (act.Router n) reply.Ok (x ∷ []) s.ends refl;
           };
         }
@@ -217,7 +217,7 @@ module _ (configs : List Config) (log : List Entry) (n : ℕ) (x : Envelope) (re
   misfit i is h = record {
     moves = one_move log (queue.Router n) x rest first (record { reply = reply.Ok; takes = name_of x ∷ []; puts = []; ends = [] }) refl refl;
     reach = record { taken = in_mailbox; ended = tt; puts = tt };
-    laws = λ stand. absurd (false≢true (sym h ∙ fit stand i is));
+    laws = λ fitting. absurd (false≢true (sym h ∙ fit fitting i is));
   }
 
   route_shape : (i : Item) → x.item ≡ i → Shape configs log (act.Router n) (Effect.route_row configs log n (name_of x) i left)

@@ -20,7 +20,8 @@ use Rattle.p2p_log.specs.declared.event.Act.TheVariants as act
 use Rattle.p2p_log_rules.specs.declared.row.Half.{Half}
 use Rattle.p2p_log_rules.specs.declared.row.Row.{Row}
 use Rattle.p2p_log.specs.Lines.{name_of, stands_in, live, line}
-use Rattle.p2p_log_rules.specs.Facts.{half_at, steps_router, item_named, taken, routed_by, routed, history_from, with_route, routes_after, routes, route_to}
+use Rattle.p2p_log_rules.specs.Connections.{half_at}
+use Rattle.p2p_log_rules.specs.Facts.{steps_router, item_named, taken, routed_by, routed, history_from, with_route, routes_after, routes, route_to}
 use Rattle.p2p_log_rules.specs.Effect.{entry_of}
 use Rattle.p2p_log_rules.proofs.Facts.{routes-append}
 use Rattle.p2p_log.proofs.Queues.{same_queue-refl}
@@ -30,12 +31,13 @@ use Rattle.p2p_log_rules.specs.Moves.{Moves}
 use Rattle.p2p_log_rules.proofs.Moves.{taken_stood}
 use Rattle.p2p_log.proofs.QueueNames.{queue_from_same}
 use Rattle.p2p_log_rules.proofs.Touches.{Reach, reads}
-use Rattle.p2p_log_laws.proofs.Telling.{Tells, StandTells, half_at-longer}
+use Rattle.p2p_log_rules.proofs.Connections.{half_at-longer}
+use Rattle.p2p_log_laws.proofs.Telling.{Tells, StandTells}
 use Rattle.p2p_log.proofs.Taken.{Each-taken}
 
 -- the connection is the node's, with a peer of this key
 abbrev pub RouteHolds : List Config → List Entry → ℕ → ℕ × ℕ → Type 0
-RouteHolds configs log n r = (half : Half) × (half_at configs log n r.1 ≡ Some half) × (half.peer.0 ≡ r.0)
+RouteHolds configs log n r = (half : Half) × (half_at log n r.1 ≡ Some half) × (half.peer.0 ≡ r.0)
 
 abbrev pub RoutesHold : List Config → List Entry → Type 0
 RoutesHold configs log = (n : ℕ) → Each (RouteHolds configs log n) (routes log n)
@@ -68,7 +70,7 @@ module _ (P : ℕ × ℕ → Type 0) where
 
 -- the connection that a router has to a key is one whose peer has it
 pub route_peer : (configs : List Config) (log : List Entry) (n : ℕ) (key : Key) (conn : ℕ) → RoutesHold configs log → route_to (routes log n) key ≡ Some conn
-    → (half : Half) × (half_at configs log n conn ≡ Some half) × (half.peer ≡ key)
+    → (half : Half) × (half_at log n conn ≡ Some half) × (half.peer ≡ key)
 route_peer configs log n key conn holds h =
     let found = Each-lookup (RouteHolds configs log n) (λ k. key.0 == k) (routes log n) conn (holds n) h in
     let half : Half = found.2.0 in
@@ -147,7 +149,7 @@ module _ (configs : List Config) (log : List Entry) (ev : Event) (r : Row) (m : 
   routes_kept holds n =
       subst (Each (RouteHolds configs (log ++ entry_of ev r ∷ []) n)) (sym (routes-append log (entry_of ev r) n))
       (Each-weaker (RouteHolds configs log n) (RouteHolds configs (log ++ entry_of ev r ∷ []) n)
-      (λ x h. (h.0, half_at-longer configs log (entry_of ev r ∷ []) n x.1 h.0 h.1, h.2))
+      (λ x h. (h.0, half_at-longer log (entry_of ev r ∷ []) n x.1 h.0 h.1, h.2))
       (routes_after (routes log n) (routed_by n log (entry_of ev r)))
       (with_all configs log n (routes log n) (routed_by n log (entry_of ev r)) (holds n) (routed_cases n (steps_router n ev.act) refl)))
 

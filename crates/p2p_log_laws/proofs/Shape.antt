@@ -20,24 +20,27 @@ use Rattle.p2p_log.specs.declared.entry.Entry.{Entry}
 use Rattle.p2p_log.specs.declared.entry.Reply.{Reply}
 use Rattle.p2p_log.specs.declared.event.Event.{Event}
 use Rattle.p2p_log.specs.declared.event.Act.{Act}
+use Rattle.p2p_log.specs.declared.event.Act.TheVariants as act
 use Rattle.p2p_log_rules.specs.declared.row.Half.{Half}
 use Rattle.p2p_log_rules.specs.declared.row.Row.{Row}
-use Rattle.p2p_log.specs.Lines.{name_of, ended_item, line}
+use Rattle.p2p_log.specs.Lines.{name_of, ended_item, live, line}
 use Rattle.p2p_log.specs.Copies.{carries, carries_copy, ends_copy, copies_of, copies_from}
 use Rattle.p2p_log_rules.specs.Effect.{only, entry_of, relay_queue, other_side}
 use Rattle.p2p_log_rules.specs.Reading.{reading_of, told, is_read}
 use Rattle.p2p_log.specs.Sending.Sender.{Node, Raw}
-use Rattle.p2p_log_rules.specs.Facts.{key_at, half_of, half_at, routes, route_to}
+use Rattle.p2p_log_rules.specs.Connections.{half_at}
+use Rattle.p2p_log_rules.specs.Facts.{key_at, routes, route_to}
 use Rattle.p2p_log_rules.specs.Frames.{frame_of, message_in}
 use Rattle.p2p_log.proofs.Each.{Has, Each-append, Each-weaker, count_by-none}
 use Rattle.p2p_log_rules.specs.Moves.{Moves}
 use Rattle.p2p_log_rules.proofs.Moves.{one_taken, stands_first}
 use Rattle.p2p_log_rules.proofs.Touches.{Reach}
 use Rattle.p2p_log_laws.proofs.Carried.{IsSublist-bare, IsSublist-put}
-use Rattle.p2p_log_laws.proofs.Fitting.{Fits, is_idle, is_bare, is_item_end, bare_carries_none, ends_copy-none}
+use Rattle.p2p_log_laws.proofs.Fitting.{Fits, StandsFit, is_idle, is_bare, is_item_end, bare_carries_none, ends_copy-none}
 use Rattle.p2p_log_laws.proofs.Showing.{Standing, EndShows, item_shows}
 use Rattle.p2p_log_laws.proofs.Spreading.{borne_by, one}
 use Rattle.p2p_log_laws.proofs.Sublists.{IsSublist-nil}
+use Rattle.p2p_log_laws.proofs.Telling.{IsConnection}
 use Rattle.p2p_log_laws.specs.Flow.{IsSublist, put_copies}
 
 -- 1 for a copy of the send that this act is, where it is accepted
@@ -46,9 +49,13 @@ accepts log a r copy = one ((length log == copy.0) && nat_lt copy.1 (length (key
 
 -- ---- where what is put comes from, by the queue that it enters
 
--- the act is a join of this node with this peer
-abbrev pub IsBegun : List Config → List Entry → Act → Reply → ℕ → Item → Type 0
-IsBegun configs log a r n i = (half : Half) × (half_of configs n (length log) a r ≡ Some half) × (i ≡ item.Ready (length log) half.peer)
+-- one of the node's connections begins, and its router is told of it
+abbrev pub IsReady : List Entry → ℕ → Item → Type 0
+IsReady log n i = (conn : ℕ) × (key : Key) × IsConnection log n conn key × (i ≡ item.Ready conn key)
+
+-- and so is its tracker, by a step of its sending half
+abbrev pub IsConnect : List Entry → Act → ℕ → Item → Type 0
+IsConnect log a n i = (conn : ℕ) × (key : Key) × IsConnection log n conn key × (i ≡ item.Connect conn key) × (a ≡ act.SendStep conn n)
 
 -- the act is a send of this node that was accepted
 abbrev pub IsSent : List Config → List Entry → Act → Reply → ℕ → Item → Type 0
@@ -63,7 +70,7 @@ pub record IsRaw (configs : List Config) (log : List Entry) (a : Act) (r : Reply
   pub node : ℕ
   pub conn : ℕ
   pub far : Half
-  pub at : half_at configs log node conn ≡ Some far
+  pub at : half_at log node conn ≡ Some far
   pub over : far.link ≡ link
   pub ends : side ≡ other_side far.writes
   pub keys : sending.keys ≡ key_at configs node ∷ []
@@ -90,7 +97,7 @@ pub record IsWritten (configs : List Config) (log : List Entry) (y : Envelope) (
   pub priority : Bool
   pub half : Half
   pub stood : y.queue ≡ relay_queue priority node conn
-  pub at : half_at configs log node conn ≡ Some half
+  pub at : half_at log node conn ≡ Some half
   pub over : half.link ≡ link
   pub writes : half.writes ≡ s
   pub put : i ≡ y.item
@@ -104,14 +111,15 @@ pub record IsReceived (configs : List Config) (log : List Entry) (y : Envelope) 
   pub limit : ℕ
   pub bytes : List ℕ
   pub stood : y.queue ≡ queue.Link half.link (other_side half.writes)
-  pub at : half_at configs log n conn ≡ Some half
+  pub at : half_at log n conn ≡ Some half
   pub is : y.item ≡ item.Frame (Some copy) frame
   pub read : message_in frame limit ≡ Some (c, bytes)
   pub put : i ≡ item.Message bytes copy half.peer
 
 -- what an act puts there of itself
 abbrev pub OfAct : List Config → List Entry → Act → Reply → Queue → Item → Type 0
-OfAct configs log a r (queue.Router n) i = IsBegun configs log a r n i ⊎ IsSent configs log a r n i
+OfAct configs log a r (queue.Router n) i = IsReady log n i ⊎ IsSent configs log a r n i
+OfAct configs log a r (queue.Tracker n) i = IsConnect log a n i
 OfAct configs log a r (queue.Link link s) i = IsRaw configs log a r link s i
 OfAct configs log a r _ i = ⊥
 
@@ -218,21 +226,21 @@ abbrev pub IsBalanced : (log : List Entry) (a : Act) (r : Row) → Moves log r �
 IsBalanced log a r m =
     (copy : ℕ × ℕ) → accepts log a r.reply copy + (count_by (carries copy) m.taken + count_by (carries copy) m.ended) ≡ borne_by copy r.puts r.ends
 
--- what holds of a row, where what is known of all that stands in queues holds
+-- what holds of a row, where all that stands in queues is of its queue's kind
 pub record Laws (configs : List Config) (log : List Entry) (a : Act) (r : Row) (m : Moves log r) : Type 0 where
   -- each put is of its queue's kind
   pub fitting : Each Fits r.puts
   pub moved : Moved configs log a r.reply m.taken r.puts
   pub balanced : IsBalanced log a r m
-  -- each end of a copy shows its cause
-  pub causes : (ev : Event) → ev.act ≡ a → Each (EndShows configs log (entry_of ev r)) r.ends
+  -- each end of a copy shows its cause, where what stands in queues tells the truth
+  pub causes : Standing configs log → (ev : Event) → ev.act ≡ a → Each (EndShows configs log (entry_of ev r)) r.ends
   pub delivers : is_read r.reply ≡ true → Delivery configs log a r.reply m.taken r.ends
 
 -- what an act's row moves, which queues it reaches, and its laws: the one place that walks the row
 pub record Shape (configs : List Config) (log : List Entry) (a : Act) (r : Row) : Type 0 where
   pub moves : Moves log r
   pub reach : Reach configs a log r moves
-  pub laws : Standing configs log → Laws configs log a r moves
+  pub laws : Each StandsFit (live log) → Laws configs log a r moves
 
 -- ---- what is moved
 
@@ -295,7 +303,7 @@ module _ (configs : List Config) (log : List Entry) (a : Act) (r : Row) (m : Mov
         (Each-weaker (λ d. is_item_end d ≡ true) (λ d. ends_copy copy d ≡ false) (ends_copy-none copy) r.ends items)
         in
         omega (arith, n, t, g, p, d);
-    causes = λ ev acts. Each-weaker (λ d. is_item_end d ≡ true) (EndShows configs log (entry_of ev r)) (item_shows configs log (entry_of ev r)) r.ends items;
+    causes = λ stand ev acts. Each-weaker (λ d. is_item_end d ≡ true) (EndShows configs log (entry_of ev r)) (item_shows configs log (entry_of ev r)) r.ends items;
     delivers = no_delivery configs log a r.reply m.taken r.ends silent;
   }
 
@@ -311,5 +319,5 @@ pub still : (configs : List Config) (log : List Entry) (a : Act) (r : Reply) →
 still configs log a r none silent = record {
   moves = no_moves log (only r) refl refl;
   reach = record { taken = tt; ended = tt; puts = tt };
-  laws = λ stand. quiet_laws configs log a (only r) (no_moves log (only r) refl refl) none silent tt tt tt tt;
+  laws = λ fitting. quiet_laws configs log a (only r) (no_moves log (only r) refl refl) none silent tt tt tt tt;
 }

@@ -17,12 +17,14 @@ use Rattle.p2p_log_rules.proofs.Moves.{one_taken, first_has}
 use Rattle.p2p_log_laws.specs.Causes.{Shows}
 use Rattle.p2p_log_laws.specs.Delivered.{IsRead}
 use Rattle.p2p_log_laws.proofs.Fitting.{StandsFit, is_item_end}
+use Rattle.p2p_log_laws.proofs.Meeting.{HalvesMeet}
 use Rattle.p2p_log_laws.proofs.Telling.{Tells, StandTells, IsSend}
 
--- each item is of its queue's kind, and tells the truth
+-- each item is of its queue's kind and tells the truth, and halves over one link meet
 pub record Standing (configs : List Config) (log : List Entry) : Type 0 where
   pub fitting : Each StandsFit (live log)
   pub tells : Each (StandTells configs log) (live log)
+  pub halves : HalvesMeet configs log
 
 -- what an entry with this end shows
 abbrev pub EndShows : List Config → List Entry → Entry → End → Type 0

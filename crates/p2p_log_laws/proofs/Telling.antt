@@ -7,7 +7,7 @@ use Rattle.p2p_log_rules.specs.Effect.{other_side}
 use Rattle.p2p_log.specs.QueueCode.{owner_of}
 use Rattle.p2p_log_laws.proofs.Fitting.{fits, is_idle}
 use Rattle.std.specs.Prelude.{true}
-use Rattle.std.proofs.Common.{◌≡◌, ℕ, Bool, true, false, List, ◌++◌, Option, Some, None, ◌⊎◌, inl, inr, refl, ap, ◌∙◌}
+use Rattle.std.proofs.Common.{◌≡◌, ℕ, Bool, true, false, List, ◌++◌, Some, None, ◌⊎◌, inl, inr, refl}
 use Rattle.std.specs.Prelude.{slice_get}
 use Rattle.p2p_base.specs.declared.key.Key.{Key}
 use Rattle.p2p_log.specs.declared.config.Config.{Config}
@@ -18,21 +18,14 @@ use Rattle.p2p_log.specs.declared.item.Item.TheVariants as item
 use Rattle.p2p_log.specs.declared.item.Envelope.{Envelope}
 use Rattle.p2p_log.specs.declared.entry.Entry.{Entry}
 use Rattle.p2p_log_rules.specs.declared.row.Half.{Half}
-use Rattle.p2p_log_rules.specs.Facts.{key_at, half_at, half_in}
+use Rattle.p2p_log_rules.specs.Connections.{half_at}
+use Rattle.p2p_log_rules.specs.Facts.{key_at}
 use Rattle.p2p_log_rules.specs.Frames.{frame_of}
+use Rattle.p2p_log_rules.proofs.Connections.{half_at-longer}
 use Rattle.p2p_log_laws.specs.Delivered.{IsCopyOf, HasKey, IsOn}
 use Rattle.p2p_log_laws.specs.Order.{WentOver, Writes, ComesTo}
 
 -- ---- a longer log
-
-pub half_at-longer : (configs : List Config) (log more : List Entry) (n conn : ℕ) (half : Half)
-    → half_at configs log n conn ≡ Some half → half_at configs (log ++ more) n conn ≡ Some half
-unfolding half_at
-half_at-longer configs log more n conn half h = go (slice_get log conn) refl h
-  where
-    go : (o : Option Entry) → slice_get log conn ≡ o → half_in configs n conn o ≡ Some half → half_in configs n conn (slice_get (log ++ more) conn) ≡ Some half
-    go None e h = absurd (cc)
-    go (Some d) e h = ap (half_in configs n conn) (get_longer log more conn d e) ∙ h
 
 pub IsCopyOf-longer : (log more : List Entry) (copy : ℕ × ℕ) (sender : Sender) (channel : ℕ) (bytes : List ℕ) (key : Key)
     → IsCopyOf log copy sender channel bytes key → IsCopyOf (log ++ more) copy sender channel bytes key
@@ -56,7 +49,7 @@ copy_of_send log send node channel bytes keys p key h at = record { priority = h
 
 -- the frame is of a copy that this node sent to the peer of its half
 pub record IsAddressed (configs : List Config) (log : List Entry) (node conn : ℕ) (half : Half) (copy : ℕ × ℕ) (frame : List ℕ) : Type 0 where
-  pub at : half_at configs log node conn ≡ Some half
+  pub at : half_at log node conn ≡ Some half
   pub channel : ℕ
   pub bytes : List ℕ
   pub is : frame ≡ frame_of channel bytes
@@ -65,7 +58,7 @@ pub record IsAddressed (configs : List Config) (log : List Entry) (node conn : �
 pub IsAddressed-longer : (configs : List Config) (log more : List Entry) (node conn : ℕ) (half : Half) (copy : ℕ × ℕ) (frame : List ℕ)
     → IsAddressed configs log node conn half copy frame → IsAddressed configs (log ++ more) node conn half copy frame
 IsAddressed-longer configs log more node conn half copy frame h = record {
-  at = half_at-longer configs log more node conn half h.at;
+  at = half_at-longer log more node conn half h.at;
   channel = h.channel;
   bytes = h.bytes;
   is = h.is;
@@ -77,7 +70,7 @@ pub record IsRawFrame (configs : List Config) (log : List Entry) (link : ℕ) (s
   pub node : ℕ
   pub conn : ℕ
   pub far : Half
-  pub at : half_at configs log node conn ≡ Some far
+  pub at : half_at log node conn ≡ Some far
   pub over : far.link ≡ link
   pub ends : side ≡ other_side far.writes
   pub channel : ℕ
@@ -91,7 +84,7 @@ IsRawFrame-longer configs log more link side copy frame h = record {
   node = h.node;
   conn = h.conn;
   far = h.far;
-  at = half_at-longer configs log more h.node h.conn h.far h.at;
+  at = half_at-longer log more h.node h.conn h.far h.at;
   over = h.over;
   ends = h.ends;
   channel = h.channel;
@@ -106,15 +99,15 @@ WentOver-longer log more copy link side h =
 
 pub HasKey-longer : (configs : List Config) (log more : List Entry) (sender : Sender) (key : Key) → HasKey configs log sender key → HasKey configs (log ++ more) sender key
 HasKey-longer configs log more (Node n) key h = h
-HasKey-longer configs log more (Raw link) key h = (h.0, h.1, h.2, half_at-longer configs log more h.0 h.1 h.2 h.3, h.4, h.5)
+HasKey-longer configs log more (Raw link) key h = (h.0, h.1, h.2, half_at-longer log more h.0 h.1 h.2 h.3, h.4, h.5)
 
 pub Writes-longer : (configs : List Config) (log more : List Entry) (sender : Sender) (link : ℕ) (side : Side) → Writes configs log sender link side → Writes configs (log ++ more) sender link side
-Writes-longer configs log more (Node n) link side h = (h.0, h.1, half_at-longer configs log more n h.0 h.1 h.2, h.3, h.4)
+Writes-longer configs log more (Node n) link side h = (h.0, h.1, half_at-longer log more n h.0 h.1 h.2, h.3, h.4)
 Writes-longer configs log more (Raw e) link side h = h
 
 pub ComesTo-longer : (configs : List Config) (log more : List Entry) (q : Queue) (link : ℕ) (side : Side) → ComesTo configs log q link side → ComesTo configs (log ++ more) q link side
 ComesTo-longer configs log more (queue.Link e s) link side h = h
-ComesTo-longer configs log more q link side h = (h.0, h.1, half_at-longer configs log more (owner_of q) h.0 h.1 h.2, h.3, h.4)
+ComesTo-longer configs log more q link side h = (h.0, h.1, half_at-longer log more (owner_of q) h.0 h.1 h.2, h.3, h.4)
 
 -- the message is of a copy for this node, and came over a link from the one of this key, who sent it
 pub record IsArrived (configs : List Config) (log : List Entry) (bytes : List ℕ) (copy : ℕ × ℕ) (from : Key) (node channel : ℕ) : Type 0 where
@@ -127,7 +120,7 @@ pub record IsArrived (configs : List Config) (log : List Entry) (bytes : List �
   pub begins : Writes configs log sender link side
   pub conn : ℕ
   pub far : Half
-  pub far_at : half_at configs log node conn ≡ Some far
+  pub far_at : half_at log node conn ≡ Some far
   pub far_over : far.link ≡ link
   pub ends : side ≡ other_side far.writes
 
@@ -143,7 +136,7 @@ IsArrived-longer configs log more bytes copy from node channel h = record {
   begins = Writes-longer configs log more h.sender h.link h.side h.begins;
   conn = h.conn;
   far = h.far;
-  far_at = half_at-longer configs log more node h.conn h.far h.far_at;
+  far_at = half_at-longer log more node h.conn h.far h.far_at;
   far_over = h.far_over;
   ends = h.ends;
 }
@@ -160,10 +153,17 @@ IsOnLink-longer configs log more link side copy frame h = elim h [
   | inr raw ↦ inr (IsRawFrame-longer configs log more link side copy frame raw)
 ]
 
+-- the connection is one of this node, with this peer
+abbrev pub IsConnection : List Entry → ℕ → ℕ → Key → Type 0
+IsConnection log n conn key = (half : Half) × (half_at log n conn ≡ Some half) × (half.peer ≡ key)
+
+pub IsConnection-longer : (log more : List Entry) (n conn : ℕ) (key : Key) → IsConnection log n conn key → IsConnection (log ++ more) n conn key
+IsConnection-longer log more n conn key h = (h.0, half_at-longer log more n conn h.0 h.1, h.2)
+
 -- what is true of an item in its queue
 abbrev pub Tells : List Config → List Entry → Item → Queue → Type 0
--- the connection is the node's, with this peer
-Tells configs log (item.Ready conn key) (queue.Router n) = (half : Half) × (half_at configs log n conn ≡ Some half) × (half.peer ≡ key)
+Tells configs log (item.Ready conn key) (queue.Router n) = IsConnection log n conn key
+Tells configs log (item.Connect conn key) (queue.Tracker n) = IsConnection log n conn key
 -- the frame is of what the node sent to these
 Tells configs log (item.Content c frame priority send to) (queue.Router n) = (bytes : List ℕ) × (frame ≡ frame_of c bytes) × IsSend log send n c bytes to
 -- the copy is for the peer of this half
@@ -178,7 +178,8 @@ Tells configs log i q = elim (is_idle i) [ true ↦ Unit {0} | false ↦ ⊥ ]
 
 -- what is true stays so
 pub Tells-longer : (configs : List Config) (log more : List Entry) (i : Item) (q : Queue) → Tells configs log i q → Tells configs (log ++ more) i q
-Tells-longer configs log more (item.Ready conn key) (queue.Router n) h = (h.0, half_at-longer configs log more n conn h.0 h.1, h.2)
+Tells-longer configs log more (item.Ready conn key) (queue.Router n) h = IsConnection-longer log more n conn key h
+Tells-longer configs log more (item.Connect conn key) (queue.Tracker n) h = IsConnection-longer log more n conn key h
 Tells-longer configs log more (item.Content c frame priority send to) (queue.Router n) h = (h.0, h.1, IsSend-longer log more send n c h.0 to h.2)
 Tells-longer configs log more (item.Frame (Some copy) frame) (queue.High n conn) h = (h.0, IsAddressed-longer configs log more n conn h.0 copy frame h.1)
 Tells-longer configs log more (item.Frame (Some copy) frame) (queue.Low n conn) h = (h.0, IsAddressed-longer configs log more n conn h.0 copy frame h.1)

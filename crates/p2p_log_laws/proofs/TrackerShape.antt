@@ -40,7 +40,6 @@ use Rattle.p2p_log_rules.proofs.Touches.{reads, writes, in_tracker, is_told_to}
 use Rattle.p2p_log_laws.proofs.Fitting.{StandsFit, fits, is_bare, holds_bare, bare_there}
 use Rattle.p2p_log_laws.proofs.Overwriting.{rings_bare, ring_ends_items}
 use Rattle.p2p_log_laws.proofs.Shape.{Shape, IsQuiet, still, no_moves, one_move, first_in, quiet_laws}
-use Rattle.p2p_log_laws.proofs.Showing.{Standing}
 use Rattle.p2p_log_laws.proofs.TrackerMoves.{left, left_apart, qs, served_moves, unblocked_moves}
 use Rattle.p2p_log_laws.proofs.TrackerPuts.{EachKind, each_unblocked, each_asked, each_connected}
 
@@ -53,7 +52,7 @@ asked_shape configs log a n none near =
     record {
       moves = no_moves log r refl refl;
       reach = record { taken = tt; ended = tt; puts = (near, tt) };
-      laws = λ stand. quiet_laws configs log a r (no_moves log r refl refl) (none r.reply) refl tt tt tt ((refl, refl), tt);
+      laws = λ fitting. quiet_laws configs log a r (no_moves log r refl refl) (none r.reply) refl tt tt tt ((refl, refl), tt);
     }
 
 pub ask_shape : (configs : List Config) (log : List Entry) (n : ℕ) (what : Asked) → Shape configs log (act.Ask what n) (rows.ask_row configs log n what)
@@ -78,8 +77,8 @@ module _ (configs : List Config) (log : List Entry) (a : Act) (q : Queue) (none 
       record {
         moves = one_move log q x rest first r refl refl;
         reach = record { taken = (first_in (reads configs log a) log q x rest first read, tt); ended = tt; puts = tt };
-        laws = λ stand.
-            let whole : fits x.queue x.item ≡ true = first_has StandsFit log q x rest stand.fitting first in
+        laws = λ fitting.
+            let whole : fits x.queue x.item ≡ true = first_has StandsFit log q x rest fitting first in
             let fit : fits q x.item ≡ true = subst (λ p. fits p x.item ≡ true) (one_taken log q x rest first) whole in
             quiet_laws configs log a r (one_move log q x rest first r refl refl) (none r.reply) (told_silent x.item) (bare_there q x.item bare fit, tt) tt tt tt;
       }
@@ -185,9 +184,9 @@ module _ (configs : List Config) (log : List Entry) (n : ℕ) (xs : List Put) (t
   ends_near : (takes : List (ℕ × ℕ)) → Each (λ x. in_tracker n x.queue ≡ true) (rings (left log xs takes) (qs log xs))
   ends_near takes = rings_in (λ q. in_tracker n q ≡ true) (left log xs takes) (qs log xs) (Each-weaker (IsRing n) (λ q. in_tracker n q ≡ true) (λ q h. h.1) (qs log xs) ringed)
 
-  ends_bare : (takes : List (ℕ × ℕ)) → Standing configs log → Each (λ x. is_bare x.item ≡ true) (rings (left log xs takes) (qs log xs))
-  ends_bare takes stand =
-      rings_bare (left log xs takes) (qs log xs) (left_apart log xs takes) (Each-filter StandsFit (stays takes) (live log) stand.fitting)
+  ends_bare : (takes : List (ℕ × ℕ)) → Each StandsFit (live log) → Each (λ x. is_bare x.item ≡ true) (rings (left log xs takes) (qs log xs))
+  ends_bare takes fitting =
+      rings_bare (left log xs takes) (qs log xs) (left_apart log xs takes) (Each-filter StandsFit (stays takes) (live log) fitting)
       (Each-weaker (IsRing n) (λ q. holds_bare q ≡ true) (λ q h. h.0) (qs log xs) ringed)
 
   -- the oldest message is taken
@@ -198,10 +197,10 @@ module _ (configs : List Config) (log : List Entry) (n : ℕ) (xs : List Put) (t
       record {
         moves = m;
         reach = record { taken = (first_in (reads configs log (act.Tracker n)) log (queue.Tracker n) x rest first (same_queue-refl (queue.Tracker n)), tt); ended = ends_near (name_of x ∷ []); puts = near };
-        laws = λ stand.
-            let whole : fits x.queue x.item ≡ true = first_has StandsFit log (queue.Tracker n) x rest stand.fitting first in
+        laws = λ fitting.
+            let whole : fits x.queue x.item ≡ true = first_has StandsFit log (queue.Tracker n) x rest fitting first in
             let fit : fits (queue.Tracker n) x.item ≡ true = subst (λ p. fits p x.item ≡ true) (one_taken log (queue.Tracker n) x rest first) whole in
-            quiet_laws configs log (act.Tracker n) r m refl refl (bare_there (queue.Tracker n) x.item refl fit, tt) (ends_bare (name_of x ∷ []) stand)
+            quiet_laws configs log (act.Tracker n) r m refl refl (bare_there (queue.Tracker n) x.item refl fit, tt) (ends_bare (name_of x ∷ []) fitting)
             (ring_ends_items (left log xs (name_of x ∷ [])) (qs log xs)) quiet;
       }
 
@@ -213,7 +212,7 @@ module _ (configs : List Config) (log : List Entry) (n : ℕ) (xs : List Put) (t
       record {
         moves = m;
         reach = record { taken = tt; ended = ends_near []; puts = near };
-        laws = λ stand. quiet_laws configs log (act.Tracker n) r m refl refl tt (ends_bare [] stand) (ring_ends_items (left log xs []) (qs log xs)) quiet;
+        laws = λ fitting. quiet_laws configs log (act.Tracker n) r m refl refl tt (ends_bare [] fitting) (ring_ends_items (left log xs []) (qs log xs)) quiet;
       }
 
 module _ (configs : List Config) (log : List Entry) (n at : ℕ) where

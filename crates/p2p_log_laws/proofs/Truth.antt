@@ -19,22 +19,23 @@ use Rattle.p2p_log.specs.declared.event.Event.{Event}
 use Rattle.p2p_log_rules.specs.declared.row.Half.{Half}
 use Rattle.p2p_log_rules.specs.declared.row.Row.{Row}
 use Rattle.p2p_log.specs.Lines.{goes, stays, placed, live}
-use Rattle.p2p_log_rules.specs.Facts.{key_at, half_of, half_in, half_at}
+use Rattle.p2p_log_rules.specs.Connections.{half_at}
+use Rattle.p2p_log_rules.specs.Facts.{key_at}
 use Rattle.p2p_log_rules.specs.Frames.{frame_of, message_in}
 use Rattle.p2p_log_rules.specs.Effect.{entry_of, relay_queue, other_side}
 use Rattle.p2p_log.proofs.Lines.{live-append}
-use Rattle.p2p_log.proofs.Places.{slice_get-seam}
 use Rattle.p2p_log_laws.specs.Delivered.{IsCopyOf, HasKey}
 use Rattle.p2p_log_laws.specs.Order.{WentOver, Writes}
 use Rattle.p2p_log.proofs.Each.{Each-has, Each-append, Each-filter, Each-weaker}
 use Rattle.p2p_log_laws.proofs.Fitting.{Each-placed, is_idle}
-use Rattle.p2p_log_laws.proofs.Halves.{other_side-twice, same_end, opposite}
+use Rattle.p2p_log_laws.proofs.Meeting.{other_side-twice, HalvesMeet}
 use Rattle.p2p_log_laws.proofs.Puts.{IsPut, each_put}
 use Rattle.p2p_log_laws.proofs.Routing.{RoutesHold, route_peer}
 use Rattle.p2p_log_rules.specs.Moves.{Moves}
+use Rattle.p2p_log_rules.proofs.Connections.{half_at-longer}
 use Rattle.p2p_log_rules.proofs.Moves.{taken_stood}
 use Rattle.p2p_log_laws.proofs.Shape.{Origin, OfAct, OfItem, IsSpread, IsReceived, Laws, Moved-origins}
-use Rattle.p2p_log_laws.proofs.Telling.{IsOnLink, IsArrived, half_at-longer, Tells, Tells-longer, PutTells, StandTells, IsAddressed, copy_of_send}
+use Rattle.p2p_log_laws.proofs.Telling.{IsOnLink, IsArrived, IsConnection-longer, Tells, Tells-longer, PutTells, StandTells, IsAddressed, copy_of_send}
 use Rattle.p2p_log.proofs.Taken.{Each-taken}
 
 -- what a frame gives is what it is of
@@ -52,11 +53,6 @@ idle_tells configs log (item.Message bytes copy from) q h = absurd (cc)
 idle_tells configs log (item.Connect conn key) q h = absurd (cc)
 idle_tells configs log _ q h = tt
 
-half_at-new : (configs : List Config) (log : List Entry) (e : Entry) (n : ℕ) (half : Half) → half_of configs n (length log) e.event.act e.reply ≡ Some half
-    → half_at configs (log ++ e ∷ []) n (length log) ≡ Some half
-unfolding half_at
-half_at-new configs log e n half h = ap (half_in configs n (length log)) (slice_get-seam log e []) ∙ h
-
 relay_tells : (configs : List Config) (log : List Entry) (priority : Bool) (n conn : ℕ) (half : Half) (copy : ℕ × ℕ) (frame : List ℕ)
     → IsAddressed configs log n conn half copy frame → Tells configs log (item.Frame (Some copy) frame) (relay_queue priority n conn)
 relay_tells configs log true n conn half copy frame h = (half, h)
@@ -67,7 +63,7 @@ relayed_is : (configs : List Config) (log : List Entry) (priority : Bool) (n con
 relayed_is configs log true n conn copy frame h = h
 relayed_is configs log false n conn copy frame h = h
 
-link_tells : (configs : List Config) (log : List Entry) (priority : Bool) (n conn : ℕ) (half : Half) (i : Item) → half_at configs log n conn ≡ Some half
+link_tells : (configs : List Config) (log : List Entry) (priority : Bool) (n conn : ℕ) (half : Half) (i : Item) → half_at log n conn ≡ Some half
     → Tells configs log i (relay_queue priority n conn) → Tells configs log i (queue.Link half.link half.writes)
 link_tells configs log priority n conn half (item.Frame (Some copy) frame) at h =
     let told = relayed_is configs log priority n conn copy frame h in
@@ -86,15 +82,15 @@ pub record Arrives (configs : List Config) (log : List Entry) (n : ℕ) (half : 
   pub key : HasKey configs log sender half.peer
   pub sent : IsCopyOf log copy sender message.0 message.1 (key_at configs n)
 
-pub arrives : (configs : List Config) → FramesGive → (log : List Entry) (n conn : ℕ) (half : Half) (copy : ℕ × ℕ) (frame : List ℕ) (limit : ℕ) (message : ℕ × List ℕ)
-    → half_at configs log n conn ≡ Some half → Tells configs log (item.Frame (Some copy) frame) (queue.Link half.link (other_side half.writes))
+pub arrives : (configs : List Config) → FramesGive → (log : List Entry) → HalvesMeet configs log → (n conn : ℕ) (half : Half) (copy : ℕ × ℕ) (frame : List ℕ) (limit : ℕ) (message : ℕ × List ℕ)
+    → half_at log n conn ≡ Some half → Tells configs log (item.Frame (Some copy) frame) (queue.Link half.link (other_side half.writes))
     → message_in frame limit ≡ Some message → Arrives configs log n half copy message
-arrives configs frames log n conn half copy frame limit message at told read = elim told [
+arrives configs frames log halves n conn half copy frame limit message at told read = elim told [
   | inl of ↦
       let m : ℕ = of.0 in
       let far : Half = of.2 in
       let addressed : IsAddressed configs log m of.1 far copy frame = of.5 in
-      let peers = opposite configs log m n of.1 conn far half addressed.at at of.3 of.4 in
+      let peers = halves.opposite m n of.1 conn far half addressed.at at of.3 of.4 in
       record {
         sender = Node m;
         begins = (of.1, far, addressed.at, of.3, of.4);
@@ -103,7 +99,7 @@ arrives configs frames log n conn half copy frame limit message at told read = e
       }
   | inr raw ↦
       let writes : raw.far.writes ≡ half.writes = sym (other_side-twice raw.far.writes) ∙ (ap other_side (sym raw.ends) ∙ other_side-twice half.writes) in
-      let same = same_end configs log raw.node n raw.conn conn raw.far half raw.at at raw.over writes in
+      let same = halves.same_end raw.node n raw.conn conn raw.far half raw.at at raw.over writes in
       record {
         sender = Raw half.link;
         begins = refl;
@@ -120,7 +116,7 @@ arrives configs frames log n conn half copy frame limit message at told read = e
         (subst (λ b. IsCopyOf log copy by channel b (key_at configs n)) (sym gives.1) (subst (λ k. IsCopyOf log copy by channel bytes k) same h))
 
 module _ (configs : List Config) (frames : FramesGive) (log : List Entry) (ev : Event) (r : Row) (m : Moves log r) (laws : Laws configs log ev.act r m)
-    (tell : Each (StandTells configs log) (live log)) (hold : RoutesHold configs log) where
+    (tell : Each (StandTells configs log) (live log)) (halves : HalvesMeet configs log) (hold : RoutesHold configs log) where
   abbrev longer : List Entry
   longer = log ++ entry_of ev r ∷ []
 
@@ -132,8 +128,10 @@ module _ (configs : List Config) (frames : FramesGive) (log : List Entry) (ev : 
       (sending_at-last log (entry_of ev r) ∙ sends)
 
   own_tells : (q : Queue) (i : Item) → OfAct configs log ev.act r.reply q i → Tells configs longer i q
+  own_tells (queue.Tracker n) i h =
+      subst (λ j. Tells configs longer j (queue.Tracker n)) (sym h.3) (IsConnection-longer log (entry_of ev r ∷ []) n h.0 h.1 h.2)
   own_tells (queue.Router n) i h = elim h [
-    | inl begun ↦ subst (λ j. Tells configs longer j (queue.Router n)) (sym begun.2) (begun.0, half_at-new configs log (entry_of ev r) n begun.0 begun.1, refl)
+    | inl ready ↦ subst (λ j. Tells configs longer j (queue.Router n)) (sym ready.3) (IsConnection-longer log (entry_of ev r ∷ []) n ready.0 ready.1 ready.2)
     | inr sent ↦
         let s = sent.0 in
         subst (λ j. Tells configs longer j (queue.Router n)) (sym sent.3) (s.bytes, refl, record { priority = s.priority; sends = sends_now s (Node n) sent.1 sent.2 })
@@ -145,7 +143,7 @@ module _ (configs : List Config) (frames : FramesGive) (log : List Entry) (ev : 
         node = h.node;
         conn = h.conn;
         far = h.far;
-        at = half_at-longer configs log (entry_of ev r ∷ []) h.node h.conn h.far h.at;
+        at = half_at-longer log (entry_of ev r ∷ []) h.node h.conn h.far h.at;
         over = h.over;
         ends = h.ends;
         channel = s.channel;
@@ -191,11 +189,11 @@ module _ (configs : List Config) (frames : FramesGive) (log : List Entry) (ev : 
       put = was_put.put ∙ (ap (λ (q : Queue). Some (q, y.item)) stood ∙ ap (λ (i : Item). Some (queue.Link link side, i)) is);
     }
 
-    message_tells : (n c conn : ℕ) (half : Half) (copy : ℕ × ℕ) (frame : List ℕ) (limit : ℕ) (bytes : List ℕ) → half_at configs log n conn ≡ Some half
+    message_tells : (n c conn : ℕ) (half : Half) (copy : ℕ × ℕ) (frame : List ℕ) (limit : ℕ) (bytes : List ℕ) → half_at log n conn ≡ Some half
         → message_in frame limit ≡ Some (c, bytes) → WentOver log copy half.link (other_side half.writes) → IsOnLink configs log half.link (other_side half.writes) copy frame
         → IsArrived configs log bytes copy half.peer n c
     message_tells n c conn half copy frame limit bytes at read over told_there =
-        let a : Arrives configs log n half copy (c, bytes) = arrives configs frames log n conn half copy frame limit (c, bytes) at told_there read in
+        let a : Arrives configs log n half copy (c, bytes) = arrives configs frames log halves n conn half copy frame limit (c, bytes) at told_there read in
         record {
           sender = a.sender;
           key = a.key;

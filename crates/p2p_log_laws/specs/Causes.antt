@@ -18,7 +18,8 @@ use Rattle.p2p_log.specs.declared.entry.Entry.{Entry}
 use Rattle.p2p_log.specs.declared.event.Act.TheVariants as act
 use Rattle.p2p_log_rules.specs.declared.row.Half.{Half}
 use Rattle.p2p_log.specs.Lines.{name_of, line}
-use Rattle.p2p_log_rules.specs.Facts.{is_up, channels, capacity_in, key_at, routes, route_to, half_at}
+use Rattle.p2p_log_rules.specs.Connections.{half_at}
+use Rattle.p2p_log_rules.specs.Facts.{is_up, channels, capacity_in, key_at, routes, route_to}
 use Rattle.p2p_log_rules.specs.Effect.{goes_to, relay_queue, mailbox_size_at, other_side}
 use Rattle.p2p_log_laws.specs.Delivered.{IsCopyOf}
 
@@ -93,7 +94,7 @@ pub record MailboxIsFull (configs : List Config) (before : List Entry) (e : Entr
   pub node : ℕ
   pub steps : e.event.act ≡ act.RecvStep conn node
   pub half : Half
-  pub at : half_at configs before node conn ≡ Some half
+  pub at : half_at before node conn ≡ Some half
   pub oldest : Envelope
   pub later : List Envelope
   pub stood : line before (queue.Link half.link (other_side half.writes)) ≡ oldest ∷ later

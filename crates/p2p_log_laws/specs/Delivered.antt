@@ -14,7 +14,8 @@ use Rattle.p2p_log_rules.specs.declared.row.Half.{Half}
 use Rattle.p2p_log.specs.QueueCode.{owner_of}
 use Rattle.p2p_log.specs.Lines.{name_of, line}
 use Rattle.p2p_log.specs.Copies.{copies_of}
-use Rattle.p2p_log_rules.specs.Facts.{key_at, half_at}
+use Rattle.p2p_log_rules.specs.Connections.{half_at}
+use Rattle.p2p_log_rules.specs.Facts.{key_at}
 use Rattle.p2p_log_rules.specs.Reading.{reading_of, given, told, is_read}
 use Rattle.p2p_log.specs.Sending.{Sender, sending_at}
 use Rattle.p2p_log.specs.Sending.Sender.{Node, Raw}
@@ -30,7 +31,7 @@ pub record IsCopyOf (log : List Entry) (copy : ℕ × ℕ) (sender : Sender) (ch
 abbrev pub HasKey : List Config → List Entry → Sender → Key → Type 0
 HasKey configs log (Node n) key = key ≡ key_at configs n
 HasKey configs log (Raw link) key =
-    (n : ℕ) × (conn : ℕ) × (half : Half) × (half_at configs log n conn ≡ Some half) × (half.link ≡ link) × (half.peer ≡ key)
+    (n : ℕ) × (conn : ℕ) × (half : Half) × (half_at log n conn ≡ Some half) × (half.link ≡ link) × (half.peer ≡ key)
 
 -- the queue is of messages on this channel; no other is read
 abbrev pub IsOn : Queue → ℕ → Type 0

@@ -10,4 +10,5 @@ pub mod NodeGrants
 pub mod OneAnswer
 pub mod OneEnd
 pub mod Order
+pub mod PlainPath
 pub mod Worked

@@ -11,7 +11,7 @@ use Rattle.p2p_log.specs.declared.end.Outcome.TheVariants as outcome
 use Rattle.p2p_log.specs.declared.entry.Entry.{Entry}
 use Rattle.p2p_log_rules.specs.declared.row.Half.{Half}
 use Rattle.p2p_log.specs.QueueCode.{owner_of}
-use Rattle.p2p_log_rules.specs.Facts.{half_at}
+use Rattle.p2p_log_rules.specs.Connections.{half_at}
 use Rattle.p2p_log_rules.specs.Effect.{other_side}
 use Rattle.p2p_log_rules.specs.Reading.{reading_of}
 use Rattle.p2p_log.specs.Sending.{Sender, sending_at}
@@ -44,7 +44,7 @@ pub record WentOver (log : List Entry) (copy : ℕ × ℕ) (link : ℕ) (side : 
 -- the sender writes in this direction of the link: a node by a connection that it has over the link
 abbrev pub Writes : List Config → List Entry → Sender → ℕ → Side → Type 0
 Writes configs log (Node n) link side =
-    (conn : ℕ) × (near : Half) × (half_at configs log n conn ≡ Some near) × (near.link ≡ link) × (near.writes ≡ side)
+    (conn : ℕ) × (near : Half) × (half_at log n conn ≡ Some near) × (near.link ≡ link) × (near.writes ≡ side)
 Writes configs log (Raw e) link side = e ≡ link
 
 -- what comes in this direction of the link comes to the node that has this queue, by a connection that it has over the link;
@@ -52,13 +52,13 @@ Writes configs log (Raw e) link side = e ≡ link
 abbrev pub ComesTo : List Config → List Entry → Queue → ℕ → Side → Type 0
 ComesTo configs log (queue.Link e s) link side = (e ≡ link) × (s ≡ side)
 ComesTo configs log q link side =
-    (conn : ℕ) × (far : Half) × (half_at configs log (owner_of q) conn ≡ Some far) × (far.link ≡ link) × (side ≡ other_side far.writes)
+    (conn : ℕ) × (far : Half) × (half_at log (owner_of q) conn ≡ Some far) × (far.link ≡ link) × (side ≡ other_side far.writes)
 
 -- the copy came by this connection of the node that has the queue: it went over the link of the connection, in the direction
 -- from which that node reads
 pub record CameBy (configs : List Config) (log : List Entry) (copy : ℕ × ℕ) (q : Queue) (conn : ℕ) : Type 0 where
   pub half : Half
-  pub at : half_at configs log (owner_of q) conn ≡ Some half
+  pub at : half_at log (owner_of q) conn ≡ Some half
   pub over : WentOver log copy half.link (other_side half.writes)
 
 -- of two copies of one sender, on one channel with one priority, that were read from one queue, the one accepted first is

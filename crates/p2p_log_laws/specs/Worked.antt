@@ -1,10 +1,9 @@
 -- Scripts with the logs that they have, written out by hand.
-use Rattle.std.specs.Prelude.{true, ℕ, false, List, [], ◌∷◌, ◌++◌, Some}
+use Rattle.std.specs.Prelude.{ℕ, true, false, List, [], ◌∷◌}
 use Rattle.p2p_base.specs.declared.key.Key.{Key}
 use Rattle.p2p_log.specs.declared.config.Config.{Config}
 use Rattle.p2p_log.specs.declared.queue.Queue.{Queue}
 use Rattle.p2p_log.specs.declared.queue.Queue.TheVariants as queue
-use Rattle.p2p_log.specs.declared.queue.Side.TheVariants as side
 use Rattle.p2p_log.specs.declared.item.Item.{Item}
 use Rattle.p2p_log.specs.declared.item.Item.TheVariants as item
 use Rattle.p2p_log.specs.declared.end.Cause.TheVariants as cause
@@ -67,44 +66,6 @@ send_hello = act.Send hello 7 0 false (recipients.One (key 2))
 abbrev pub script_of : List Entry → List Event
 script_of [] = []
 script_of (e ∷ es) = e.event ∷ script_of es
-
--- ---- a delivery
-
-abbrev pub two_nodes : List Config
-two_nodes = node_of 1 ∷ node_of 2 ∷ []
-
--- two nodes register a channel, start and are joined; the first sends, and its router hears of the channel
-abbrev pub delivery_begins : List Entry
-delivery_begins =
-    entry (register 0) (reply.Capacity 8) [] [] []
-    ∷ entry (register 1) (reply.Capacity 8) [] [] []
-    ∷ entry (act.Start 0) reply.Ok [] ((queue.Router 0, item.Subscribe 7) ∷ []) []
-    ∷ entry (act.Start 1) reply.Ok [] ((queue.Router 1, item.Subscribe 7) ∷ []) []
-    ∷ entry (act.Join 0 1) reply.Ok [] ((queue.Router 0, item.Ready 4 (key 2)) ∷ (queue.Router 1, item.Ready 4 (key 1)) ∷ []) []
-    ∷ entry send_hello (reply.Sent (key 2 ∷ [])) [] ((queue.Router 0, item.Content 7 hello_frame false 5 (key 2 ∷ [])) ∷ []) []
-    ∷ entry (act.Router 0) reply.Ok ((2, 0) ∷ []) ((queue.Peers 0 7, item.Peers []) ∷ []) []
-    ∷ []
-
--- the router hears of the connection: the channel's list of peers, which nobody has read, is overwritten
-abbrev pub list_overwritten : Entry
-list_overwritten =
-    entry (act.Router 0) reply.Ok ((4, 0) ∷ []) ((queue.Ready 0 4, item.Answer) ∷ (queue.Peers 0 7, item.Peers (key 2 ∷ [])) ∷ []) (end.Item 6 0 ∷ [])
-
--- the message is relayed, written, received and read
-abbrev pub delivery_goes_on : List Entry
-delivery_goes_on =
-    entry (act.Router 0) reply.Ok ((5, 0) ∷ []) ((queue.Low 0 4, item.Frame (Some (5, 0)) hello_frame) ∷ []) []
-    ∷ entry (act.SendStep 4 0) reply.Ok ((7, 0) ∷ []) [] []
-    ∷ entry (act.SendStep 4 0) reply.Ok ((8, 0) ∷ []) ((queue.Link 4 side.Out, item.Frame (Some (5, 0)) hello_frame) ∷ []) []
-    ∷ entry (act.Router 1) reply.Ok ((3, 0) ∷ []) ((queue.Peers 1 7, item.Peers []) ∷ []) []
-    ∷ entry (act.Router 1) reply.Ok ((4, 1) ∷ []) ((queue.Ready 1 4, item.Answer) ∷ (queue.Peers 1 7, item.Peers (key 1 ∷ [])) ∷ []) (end.Item 11 0 ∷ [])
-    ∷ entry (act.SendStep 4 1) reply.Ok ((12, 0) ∷ []) [] []
-    ∷ entry (act.RecvStep 4 1) reply.Ok ((10, 0) ∷ []) ((queue.Channel 1 7, item.Message hello (5, 0) (key 1)) ∷ []) []
-    ∷ entry (act.Recv 7 1) (reply.Message hello (key 1)) ((14, 0) ∷ []) [] (end.Copy 5 0 outcome.Delivered ∷ [])
-    ∷ []
-
-abbrev pub delivery : List Entry
-delivery = delivery_begins ++ list_overwritten ∷ delivery_goes_on
 
 -- ---- drops
 

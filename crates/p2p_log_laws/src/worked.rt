@@ -6,14 +6,15 @@ ghost use Rattle.p2p_log.specs.declared.report.Fate.TheVariants as fate;
 ghost use Rattle.p2p_log.specs.Fates.{fate_of};
 ghost use Rattle.p2p_log_rules.specs.Effect.{effect};
 ghost use Rattle.p2p_log_rules.specs.Lawful.{IsLawful};
-ghost use Rattle.p2p_log_laws.specs.Worked.{two_nodes, one_node, script_of, delivery, delivery_begins, list_overwritten, drop_before_start, drop_without_connection};
+ghost use Rattle.p2p_log_laws.specs.PlainPath.{two_nodes, delivery, delivery_begins, list_overwritten};
+ghost use Rattle.p2p_log_laws.specs.Worked.{one_node, script_of, drop_before_start, drop_without_connection};
 
 /// States of logs that were written out by hand that they are lawful for their scripts, and what became of the copy in
-/// each: a delivery, on whose way a list of peers is overwritten, and two drops. A wrong definition of what an event comes
-/// to is so seen at an example. It does nothing.
+/// each: a delivery over a connection that a dial brought about, on whose way a list of peers is overwritten, and two drops.
+/// A wrong definition of what an event comes to is so seen at an example. It does nothing.
 pub fn worked_rows()
     ensures delivery { IsLawful two_nodes (script_of delivery) delivery }
-    ensures delivered { fate_of delivery (5, 0) ≡ Some (fate.Delivered (queue.Channel 1 7) 15) }
+    ensures delivered { fate_of delivery (36, 0) ≡ Some (fate.Delivered (queue.Channel 1 7) 40) }
     ensures overwritten { effect two_nodes delivery_begins list_overwritten.event ≡ list_overwritten }
     ensures before_start { IsLawful one_node (script_of drop_before_start) drop_before_start }
     ensures unbound { fate_of drop_before_start (1, 0) ≡ Some (fate.Dropped cause.Unbound 1) }

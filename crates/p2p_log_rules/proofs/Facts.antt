@@ -9,14 +9,14 @@ use Rattle.p2p_log.specs.declared.config.Config.{Config}
 use Rattle.p2p_log.specs.declared.item.Item.{Item}
 use Rattle.p2p_log.specs.declared.event.Event.{Event}
 use Rattle.p2p_log.specs.declared.entry.Entry.{Entry}
-use Rattle.p2p_log_rules.specs.Facts.{events_of, starts, has_started, registers_at, registered, state_from, history_from, history, routed_by, routed, subscriber_of, subscribers, with_route, routes_after, routes, half_of, half_in, half_at, answers_by, is_running, joins, is_joined}
+use Rattle.p2p_log_rules.specs.Facts.{events_of, starts, has_started, registers_at, registered, state_from, history_from, history, routed_by, routed, subscriber_of, subscribers, with_route, routes_after, routes}
 use Rattle.p2p_log.proofs.Places.{slice_get-append}
 
 or-false : (b : Bool) → (b || false) ≡ b
 or-false true = refl
 or-false false = refl
 
-list_any-last : {X : Type 0} (p : X → Bool) (xs : List X) (x : X) → list_any p (xs ++ x ∷ []) ≡ (list_any p xs || p x)
+pub list_any-last : {X : Type 0} (p : X → Bool) (xs : List X) (x : X) → list_any p (xs ++ x ∷ []) ≡ (list_any p xs || p x)
 list_any-last p xs x = list_any-append p xs (x ∷ []) ∙ ap (λ b. list_any p xs || b) (or-false (p x))
 
 flat_map-last : {X A : Type 0} (f : X → List A) (xs : List X) (x : X) → flat_map f (xs ++ x ∷ []) ≡ flat_map f xs ++ f x
@@ -73,32 +73,3 @@ pub routes-append : (log : List Entry) (e : Entry) (n : ℕ) → routes (log ++ 
 unfolding routes
 routes-append log e n =
     ap (routes_after []) (routed-append log e n) ∙ routes_after-append [] (routed log n) (routed_by n log e)
-
-half_in-cond :
-    (configs : List Config) (n conn : ℕ) (b c : Bool) (o : Option Entry) (e : Entry)
-    → half_in configs n conn (cond b o (cond c (Some e) None)) ≡ cond b (half_in configs n conn o) (cond c (half_of configs n conn e.event.act e.reply) None)
-half_in-cond configs n conn true c o e = refl
-half_in-cond configs n conn false true o e = refl
-half_in-cond configs n conn false false o e = refl
-
-pub half_at-append :
-    (configs : List Config) (log : List Entry) (e : Entry) (n conn : ℕ)
-    → half_at configs (log ++ e ∷ []) n conn
-    ≡ cond (nat_lt conn (length log)) (half_at configs log n conn) (cond (conn == length log) (half_of configs n conn e.event.act e.reply) None)
-unfolding half_at
-half_at-append configs log e n conn =
-    ap (half_in configs n conn) (slice_get-append log e conn)
-    ∙ half_in-cond configs n conn (nat_lt conn (length log)) (conn == length log) (slice_get log conn) e
-
-pub is_running-append :
-    (log : List Entry) (e : Entry) (n conn : ℕ)
-    → is_running (log ++ e ∷ []) n conn ≡ (is_running log n conn || list_any (λ b. b) (answers_by n conn log e))
-unfolding is_running
-is_running-append log e n conn =
-    ap (list_any (λ (b : Bool). b)) (history_from-append (answers_by n conn) [] log e)
-    ∙ list_any-append (λ (b : Bool). b) (history (answers_by n conn) log) (answers_by n conn log e)
-
-pub is_joined-append :
-    (log : List Entry) (e : Entry) (a b : ℕ) → is_joined (log ++ e ∷ []) a b ≡ (is_joined log a b || joins a b e.event.act e.reply)
-unfolding is_joined
-is_joined-append log e a b = list_any-last (λ (d : Entry). joins a b d.event.act d.reply) log e

@@ -1,6 +1,7 @@
 -- The connections of a node's spawner after one more entry.
-use Rattle.std.proofs.Common.{◌≡◌, ℕ, suc, ◌≤◌, Bool, true, false, cond, List, [], ◌∷◌, ◌++◌, length, refl, ap, ◌∙◌, arith, Option, None}
+use Rattle.std.proofs.Common.{◌≡◌, ℕ, suc, ◌≤◌, Bool, true, false, cond, List, [], ◌∷◌, ◌++◌, length, refl, ap, sym, ◌∙◌, arith, append_assoc, append-nil, Option, Some, None}
 use Rattle.std.specs.Prelude.{◌==◌}
+use Rattle.std.proofs.lemmas.Bool.Decides.{nat_tests}
 use Rattle.p2p_log.specs.declared.item.Item.{Item}
 use Rattle.p2p_log.specs.declared.entry.Entry.{Entry}
 use Rattle.p2p_log.specs.declared.event.Act.{Act}
@@ -54,3 +55,27 @@ pub connections_of-late : (log : List Entry) (n k : ℕ) → length log ≤ k �
 unfolding connections_of
 connections_of-late log n k past =
     late_none (connections_by n) (λ before e connections none i later. acted_none n (length before) (taken before e) e.event.act connections none i later) [] log (λ j. None) (λ j h. refl) k past
+
+-- one that was made stays
+pub connections_of-next : (log : List Entry) (e : Entry) (n k : ℕ) (c : Spawned) → connections_of log n k ≡ Some c → connections_of (log ++ e ∷ []) n k ≡ Some c
+connections_of-next log e n k c there = connections_of-acted log e n (steps_spawner n e.event.act) refl k ∙ by_step (steps_spawner n e.event.act)
+  where
+    by_name : (x : Spawned) (b : Bool) → (k == length log) ≡ b → cond b (Some x) (connections_of log n k) ≡ Some c
+    by_name x true is = let late : connections_of log n k ≡ None = connections_of-late log n k (at_end k (length log) is) in cc
+      where
+        at_end : (i m : ℕ) → (i == m) ≡ true → m ≤ i
+        at_end i m h = grind (arith, nat_tests)
+    by_name x false is = there
+
+    by_made : (o : Option Spawned) → with_begun o (length log) (connections_of log n) k ≡ Some c
+    by_made None = there
+    by_made (Some x) = by_name x (k == length log) refl
+
+    by_step : (b : Bool) → cond b (with_begun (spawned_of (taken log e)) (length log) (connections_of log n) k) (connections_of log n k) ≡ Some c
+    by_step true = by_made (spawned_of (taken log e))
+    by_step false = there
+
+pub connections_of-longer : (log more : List Entry) (n k : ℕ) (c : Spawned) → connections_of log n k ≡ Some c → connections_of (log ++ more) n k ≡ Some c
+connections_of-longer log [] n k c there = ap (λ l. connections_of l n k) (append-nil log) ∙ there
+connections_of-longer log (e ∷ es) n k c there =
+    ap (λ l. connections_of l n k) (sym (append_assoc log (e ∷ []) es)) ∙ connections_of-longer (log ++ e ∷ []) es n k c (connections_of-next log e n k c there)

@@ -17,7 +17,7 @@ use Rattle.p2p_log.specs.QueueCode.{same_queue}
 use Rattle.p2p_log.specs.Lines.{stands_in, line}
 use Rattle.p2p_log_rules.specs.declared.row.Half.{Half}
 use Rattle.p2p_log_rules.specs.declared.row.Opening.{Opening}
-use Rattle.p2p_log_rules.specs.Facts.{half_at}
+use Rattle.p2p_log_rules.specs.Connections.{half_at}
 use Rattle.p2p_log_rules.specs.Links.{openings_of}
 use Rattle.p2p_log_rules.specs.Reading.{reading_of}
 use Rattle.p2p_log_rules.specs.Tracking.{asked_by}
@@ -47,6 +47,12 @@ in_half o n conn (queue.Ready m e) = (m == n) && (e == conn)
 in_half o n conn (queue.High m e) = (m == n) && (e == conn)
 in_half o n conn (queue.Low m e) = (m == n) && (e == conn)
 in_half o n conn q = in_link o q
+
+-- the mailboxes in which a connection tells that it begins: those of its node's tracker and router
+abbrev pub in_mailboxes : ℕ → Queue → Bool
+in_mailboxes n (queue.Tracker m) = m == n
+in_mailboxes n (queue.Router m) = m == n
+in_mailboxes n _ = false
 
 abbrev pub in_channels : ℕ → Queue → Bool
 in_channels n (queue.Channel m c) = m == n
@@ -87,8 +93,8 @@ is_among qs q = list_any (λ p. same_queue p q) qs
 -- the queues from which an act takes, after these entries
 abbrev pub reads : List Config → List Entry → Act → Queue → Bool
 reads configs log (act.Router n) q = same_queue (queue.Router n) q
-reads configs log (act.SendStep conn n) q = in_half (half_at configs log n conn) n conn q
-reads configs log (act.RecvStep conn n) q = in_link (half_at configs log n conn) q
+reads configs log (act.SendStep conn n) q = in_half (half_at log n conn) n conn q
+reads configs log (act.RecvStep conn n) q = in_link (half_at log n conn) q
 reads configs log (act.Answer e) q = is_told_to (asked_by log e) e q
 reads configs log (act.Next e) q = is_told_to (asked_by log e) e q
 reads configs log (act.Tracker n) q = same_queue (queue.Tracker n) q
@@ -102,10 +108,9 @@ reads configs log a q = elim (reading_of configs log a) [ None ↦ false | Some 
 -- the others in which it puts or ends something
 abbrev pub writes : List Config → List Entry → Act → Queue → Bool
 writes configs log (act.Start n) q = same_queue (queue.Router n) q
-writes configs log (act.Join a b) q = same_queue (queue.Router a) q || same_queue (queue.Router b) q
 writes configs log (act.Send bytes c n priority to) q = same_queue (queue.Router n) q
 writes configs log (act.Router n) q = in_router n q
-writes configs log (act.SendStep conn n) q = in_half (half_at configs log n conn) n conn q
+writes configs log (act.SendStep conn n) q = in_mailboxes n q || in_half (half_at log n conn) n conn q
 writes configs log (act.RecvStep conn n) q = in_channels n q
 writes configs log (act.Ask what n) q = same_queue (queue.Tracker n) q
 writes configs log (act.Tracker n) q = in_tracker n q

@@ -1,5 +1,5 @@
 -- The effect of an event: the one entry that it makes, given the configurations and the entries before it.
-use Rattle.std.specs.Prelude.{ℕ, ◌+◌, Bool, true, false, ◌==◌, ◌&&◌, not, cond, nat_le, nat_lt, List, [], ◌∷◌, ◌++◌, map, filter, length, take, count_by, Option, Some, None, slice_get}
+use Rattle.std.specs.Prelude.{ℕ, ◌+◌, Bool, true, false, cond, nat_le, nat_lt, List, [], ◌∷◌, ◌++◌, map, filter, length, take, count_by, Option, Some, None, slice_get}
 use Rattle.p2p_base.specs.declared.key.Key.{Key}
 use Rattle.p2p_log.specs.declared.config.Config.{Config}
 use Rattle.p2p_log.specs.declared.queue.Queue.{Queue}
@@ -16,6 +16,7 @@ use Rattle.p2p_log.specs.declared.end.Outcome.TheVariants as outcome
 use Rattle.p2p_log.specs.declared.end.Cause.TheVariants as cause
 use Rattle.p2p_log.specs.declared.entry.Entry.{Entry}
 use Rattle.p2p_log.specs.declared.entry.Reply.TheVariants as reply
+use Rattle.p2p_log_rules.specs.declared.row.Half.{Half}
 use Rattle.p2p_log_rules.specs.declared.row.Row.{Row}
 use Rattle.p2p_log.specs.declared.event.Act.{Act}
 use Rattle.p2p_log.specs.declared.event.Act.TheVariants as act
@@ -25,7 +26,8 @@ use Rattle.p2p_log.specs.declared.event.Event.{Event}
 use Rattle.p2p_log.specs.QueueCode.{same_queue}
 use Rattle.p2p_log.specs.Lines.{line, live, name_of, stands_in, stays}
 use Rattle.p2p_log.specs.Copies.{keys_of_recipients}
-use Rattle.p2p_log_rules.specs.Facts.{is_up, channels, capacity_in, capacity_for, sum_capacities, subscribers, routes, with_route, keys_in, route_to, key_at, half_at, is_running, is_joined}
+use Rattle.p2p_log_rules.specs.Facts.{is_up, channels, capacity_in, capacity_for, sum_capacities, subscribers, routes, with_route, keys_in, route_to}
+use Rattle.p2p_log_rules.specs.Connections.{half_at, is_begun, is_running}
 use Rattle.p2p_log_rules.specs.Frames.{frame_of, message_in}
 pub use Rattle.p2p_log_rules.specs.Rows.{only, takes_oldest, mailbox_size_at, overwritten, ring_ends}
 use Rattle.p2p_log_rules.specs.Attempting.{attempt_row, resolve_row, refuse_row, connect_row}
@@ -46,21 +48,6 @@ register_row configs n rate = only (reply.Capacity (capacity_for (slice_get conf
 abbrev pub start_row : List Config → List Entry → ℕ → Row
 start_row configs log n =
     record { reply = reply.Ok; takes = []; puts = map (λ c. (queue.Router n, item.Subscribe c.0)) (channels configs log n); ends = [] }
-
--- join: nodes that run, that are two, and that were not joined before
-abbrev pub may_join : List Entry → ℕ → ℕ → Bool
-may_join log a b = (is_up log a && is_up log b) && (not (a == b) && not (is_joined log a b))
-
-abbrev pub join_row : List Config → List Entry → ℕ → ℕ → Row
-join_row configs log a b =
-    cond (may_join log a b)
-    (record {
-      reply = reply.Ok;
-      takes = [];
-      puts = (queue.Router a, item.Ready (length log) (key_at configs b)) ∷ (queue.Router b, item.Ready (length log) (key_at configs a)) ∷ [];
-      ends = [];
-    })
-    (only reply.Gone)
 
 -- each copy of the send, from this place on, ends so
 abbrev pub copies_end : ℕ → ℕ → List Key → Outcome → List End
@@ -203,16 +190,27 @@ batch_size_at configs n = elim (slice_get configs n) [ None ↦ 0 | Some c ↦ c
 abbrev pub batch : List Config → List Entry → ℕ → ℕ → List Envelope
 batch configs log n conn = take (batch_size_at configs n) (line log (queue.High n conn) ++ line log (queue.Low n conn))
 
+-- it begins: the tracker and the router are told whom it is with
+abbrev pub begin_row : ℕ → ℕ → Key → Row
+begin_row n conn peer = record {
+  reply = reply.Ok;
+  takes = [];
+  puts = (queue.Tracker n, item.Connect conn peer) ∷ (queue.Router n, item.Ready conn peer) ∷ [];
+  ends = [];
+}
+
+-- its half, by whether it has begun and whether it runs: its router's answer comes before what it writes
+abbrev pub half_row : List Config → List Entry → ℕ → ℕ → Half → Bool → Bool → Row
+half_row configs log n conn half false running = begin_row n conn half.peer
+half_row configs log n conn half true false = takes_oldest (line log (queue.Ready n conn))
+half_row configs log n conn half true true = write_row (queue.Link half.link half.writes) (batch configs log n conn)
+
+abbrev pub sender_row : List Config → List Entry → ℕ → ℕ → Option Half → Row
+sender_row configs log n conn None = only reply.Gone
+sender_row configs log n conn (Some half) = half_row configs log n conn half (is_begun log n conn) (is_running log n conn)
+
 abbrev pub send_step_row : List Config → List Entry → ℕ → ℕ → Row
-send_step_row configs log conn n =
-    elim (half_at configs log n conn) [
-      | None ↦ only reply.Gone
-      | Some half ↦
-          cond (is_running log n conn)
-          (write_row (queue.Link half.link half.writes) (batch configs log n conn))
-          -- the router's answer: it runs from then on
-          (takes_oldest (line log (queue.Ready n conn)))
-    ]
+send_step_row configs log conn n = cond (is_up log n) (sender_row configs log n conn (half_at log n conn)) (only reply.Gone)
 
 abbrev pub other_side : Side → Side
 other_side side.Out = side.In
@@ -254,7 +252,7 @@ receive_row configs log n from (x ∷ _) = frame_row configs log n from (name_of
 
 abbrev pub recv_step_row : List Config → List Entry → ℕ → ℕ → Row
 recv_step_row configs log conn n =
-    elim (half_at configs log n conn) [
+    elim (half_at log n conn) [
       | None ↦ only reply.Gone
       | Some half ↦
           cond (is_running log n conn)
@@ -268,7 +266,6 @@ recv_step_row configs log conn n =
 unfoldable pub row : List Config → List Entry → ℕ → ℕ → Act → Row
 row configs log at seed (act.Register c n rate) = register_row configs n rate
 row configs log at seed (act.Start n) = start_row configs log n
-row configs log at seed (act.Join a b) = join_row configs log a b
 row configs log at seed (act.Send bytes c n priority to) = send_row configs log bytes c n priority to
 row configs log at seed (act.Router n) = router_row configs log n
 row configs log at seed (act.SendStep conn n) = send_step_row configs log conn n

@@ -1,4 +1,4 @@
--- What stands of nodes, channels and connections, by the log.
+-- What stands of nodes, channels and routers, by the log.
 use Rattle.std.specs.Prelude.{ℕ, ◌+◌, ◌*◌, Bool, true, false, ◌==◌, ◌&&◌, ◌||◌, cond, List, [], ◌∷◌, ◌++◌, map, flat_map, take, Option, Some, None, slice_get}
 use Rattle.std.specs.List.{list_any}
 use Rattle.std.specs.BTreeMap.{insert_entry}
@@ -7,13 +7,9 @@ use Rattle.std.specs.Ordering.{nat_cmp}
 use Rattle.p2p_base.specs.declared.key.Key.{Key}
 use Rattle.p2p_log.specs.declared.config.Config.{Config}
 use Rattle.p2p_log.specs.declared.queue.Queue.{Queue}
-use Rattle.p2p_log.specs.declared.queue.Side.TheVariants as side
 use Rattle.p2p_log.specs.declared.item.Item.{Item}
 use Rattle.p2p_log.specs.declared.item.Item.TheVariants as item
-use Rattle.p2p_log_rules.specs.declared.row.Half.{Half}
 use Rattle.p2p_log.specs.declared.entry.Entry.{Entry}
-use Rattle.p2p_log.specs.declared.entry.Reply.{Reply}
-use Rattle.p2p_log.specs.declared.entry.Reply.TheVariants as reply
 use Rattle.p2p_log.specs.declared.event.Event.{Event}
 use Rattle.p2p_log.specs.declared.event.Rate.{Rate}
 use Rattle.p2p_log.specs.declared.event.Act.{Act}
@@ -160,45 +156,7 @@ keys_in routes = map (λ r. record { 0 = r.0 }) routes
 abbrev pub route_to : List (ℕ × ℕ) → Key → Option ℕ
 route_to routes key = lookup (λ k. key.0 == k) routes
 
--- ---- connections
+-- ---- keys
 
 abbrev pub key_at : List Config → ℕ → Key
 key_at configs n = elim (slice_get configs n) [ None ↦ record { 0 = 0 } | Some c ↦ c.public_key ]
-
--- the node's half of the connection of this name, which is its link's too
-abbrev pub half_of : List Config → ℕ → ℕ → Act → Reply → Option Half
-half_of configs n conn (act.Join a b) reply.Ok =
-    cond (n == a) (Some (record { peer = key_at configs b; link = conn; writes = side.Out }))
-    (cond (n == b) (Some (record { peer = key_at configs a; link = conn; writes = side.In })) None)
-half_of configs n conn _ _ = None
-
-abbrev pub half_in : List Config → ℕ → ℕ → Option Entry → Option Half
-half_in configs n conn None = None
-half_in configs n conn (Some e) = half_of configs n conn e.event.act e.reply
-
--- the node's half of the connection that an event made
-unfoldable pub half_at : List Config → List Entry → ℕ → ℕ → Option Half
-half_at configs log n conn = half_in configs n conn (slice_get log conn)
-
-abbrev pub steps_sender : ℕ → ℕ → Act → Bool
-steps_sender n conn (act.SendStep e m) = (m == n) && (e == conn)
-steps_sender n conn _ = false
-
-abbrev pub is_answer : Item → Bool
-is_answer item.Answer = true
-is_answer _ = false
-
-abbrev pub answers_by : ℕ → ℕ → List Entry → Entry → List Bool
-answers_by n conn before e = cond (steps_sender n conn e.event.act) (map is_answer (taken before e)) []
-
--- whether the half took its router's answer
-unfoldable pub is_running : List Entry → ℕ → ℕ → Bool
-is_running log n conn = list_any (λ b. b) (history (answers_by n conn) log)
-
-abbrev pub joins : ℕ → ℕ → Act → Reply → Bool
-joins a b (act.Join x y) reply.Ok = ((x == a) && (y == b)) || ((x == b) && (y == a))
-joins a b _ _ = false
-
--- whether two nodes were joined
-unfoldable pub is_joined : List Entry → ℕ → ℕ → Bool
-is_joined log a b = list_any (λ e. joins a b e.event.act e.reply) log

@@ -1,4 +1,5 @@
 pub mod Attempting
+pub mod Connections
 pub mod Dialing
 pub mod Effect
 pub mod Facts

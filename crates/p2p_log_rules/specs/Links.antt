@@ -1,5 +1,6 @@
--- The links over which keys are exchanged, by the log: between whom they are, what has their listening ends, and the row of their end.
-use Rattle.std.specs.Prelude.{ℕ, ◌==◌, ◌&&◌, Bool, true, false, cond, List, [], ◌∷◌, ◌++◌, length, Option, Some, None, is_some}
+-- The links, by the log: who dialed them, between whom keys are exchanged, what has their listening ends, and the row of the end of an
+-- exchange.
+use Rattle.std.specs.Prelude.{ℕ, ◌==◌, ◌&&◌, Bool, true, false, cond, List, [], ◌∷◌, ◌++◌, length, Option, Some, None, is_some, slice_get}
 use Rattle.std.specs.Option.{option_map}
 use Rattle.p2p_base.specs.declared.key.Key.{Key}
 use Rattle.p2p_gates_rules.specs.declared.reply.Reply.TheVariants as gates
@@ -22,7 +23,22 @@ use Rattle.p2p_log_rules.specs.Facts.{key_at, taken, state_from, with_named}
 use Rattle.p2p_log_rules.specs.Handshakes.{ends_handshake, is_accepted, peer_at}
 use Rattle.p2p_log_rules.specs.Rows.{only}
 
--- ---- between whom they are
+-- ---- who dialed them
+
+-- the node that dialed, where an act of this reply and these puts made a link
+abbrev pub dialed_by : Act → Reply → List (Queue × Item) → Option ℕ
+dialed_by (act.Connect e from n to) reply.Ok (told ∷ arrival ∷ puts) = Some n
+dialed_by _ r puts = None
+
+abbrev pub dialer_in : Option Entry → Option ℕ
+dialer_in None = None
+dialer_in (Some e) = dialed_by e.event.act e.reply e.puts
+
+-- the node that dialed the link of this name
+unfoldable pub dialer_of : List Entry → ℕ → Option ℕ
+dialer_of log link = dialer_in (slice_get log link)
+
+-- ---- between whom keys are exchanged
 
 -- a dial that was answered with a link, of the name of its entry, puts an arrival too
 abbrev pub with_opened : ℕ → Opening → Reply → List (Queue × Item) → (ℕ → Option Opening) → ℕ → Option Opening

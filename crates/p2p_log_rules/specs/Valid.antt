@@ -57,14 +57,14 @@ last_moment [] = 0
 last_moment (v ∷ []) = v.at
 last_moment (v ∷ w ∷ vs) = last_moment (w ∷ vs)
 
--- whether an act is a join of the node
-abbrev pub joins_node : ℕ → Option Event → Bool
-joins_node n None = false
-joins_node n (Some v) = elim v.act [ act.Join a b ↦ (a == n) || (b == n) | _ ↦ false ]
+-- whether an act is a step of the node's spawner
+abbrev pub spawns_node : ℕ → Option Event → Bool
+spawns_node n None = false
+spawns_node n (Some v) = elim v.act [ act.Spawner m ↦ m == n | _ ↦ false ]
 
--- whether an earlier event is a join of the node
-abbrev pub names_join : List Event → ℕ → ℕ → Bool
-names_join events n conn = joins_node n (slice_get events conn)
+-- whether an earlier event is a step of the node's spawner
+abbrev pub names_spawner : List Event → ℕ → ℕ → Bool
+names_spawner events n conn = spawns_node n (slice_get events conn)
 
 -- whether an act is a step of the node's dialer
 abbrev pub dials_node : ℕ → Option Event → Bool
@@ -132,11 +132,10 @@ is_node configs (Some n) = nat_lt n (length configs)
 abbrev pub may_act : List Config → List Event → Act → Bool
 may_act configs events (act.Register c n rate) = nat_lt n (length configs) && may_register configs events c n rate
 may_act configs events (act.Start n) = nat_lt n (length configs) && not (has_started events n)
-may_act configs events (act.Join a b) = nat_lt a (length configs) && nat_lt b (length configs)
 may_act configs events (act.Send bytes c n priority to) = nat_lt n (length configs)
 may_act configs events (act.Router n) = nat_lt n (length configs)
-may_act configs events (act.SendStep conn n) = nat_lt n (length configs) && names_join events n conn
-may_act configs events (act.RecvStep conn n) = nat_lt n (length configs) && names_join events n conn
+may_act configs events (act.SendStep conn n) = nat_lt n (length configs) && names_spawner events n conn
+may_act configs events (act.RecvStep conn n) = nat_lt n (length configs) && names_spawner events n conn
 may_act configs events (act.Recv c n) = nat_lt n (length configs)
 may_act configs events (act.Ask what n) = nat_lt n (length configs)
 may_act configs events (act.Answer e) = is_node configs (set_asked_of (slice_get events e))

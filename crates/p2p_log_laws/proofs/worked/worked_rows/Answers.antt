@@ -7,21 +7,39 @@ use Rattle.p2p_log.specs.Sending.{sending_at}
 use Rattle.p2p_log.specs.Fates.{fate_of}
 use Rattle.p2p_log.specs.Lines.{line, live_from}
 use Rattle.p2p_log_rules.specs.Effect.{effect, row}
-use Rattle.p2p_log_rules.specs.Facts.{has_started, registered, taken, history_from, routed, subscribers, routes, half_at, is_running, is_joined}
+use Rattle.p2p_log_rules.specs.Attempting.{attempts_of}
+use Rattle.p2p_log_rules.specs.Connections.{half_at, is_begun, is_running}
+use Rattle.p2p_log_rules.specs.Dialing.{dials_of}
+use Rattle.p2p_log_rules.specs.Facts.{has_started, registered, taken, taken_at, history_from, state_from, routed, subscribers, routes}
+use Rattle.p2p_log_rules.specs.Handshakes.{handshakes_of, has_taken}
+use Rattle.p2p_log_rules.specs.Links.{dialer_of, openings_of, listening_ends_of}
+use Rattle.p2p_log_rules.specs.Listening.{known_of}
+use Rattle.p2p_log_rules.specs.Spawning.{connections_of}
+use Rattle.p2p_log_rules.specs.Tracking.{calls_of, update_subscriptions, blocked_subscriptions}
+use Rattle.p2p_tracker_calls.specs.Blocks.{block_of}
+use Rattle.p2p_tracker_calls.specs.Grants.{is_held}
+use Rattle.p2p_tracker_calls.specs.Lives.{address_of, last_grant, is_stale, is_connected}
+use Rattle.p2p_tracker_calls.specs.Named.{all_names}
+use Rattle.p2p_tracker_calls.specs.Sets.{how_many, accepted_sets, kept_sets, is_tracked, is_primary, primary_sets, secondary_sets}
+use Rattle.p2p_tracker_calls.specs.Keeping.{kept_of}
+use Rattle.p2p_tracker_calls.specs.Overwrites.{overwritten as written_over}
+use Rattle.p2p_runtime.specs.Draws.{exchanged}
+use Rattle.p2p_runtime.specs.QuotaLaw.{admits}
 use Rattle.p2p_wire.specs.Frame.{frame, decode_frame}
 use Rattle.p2p_wire.specs.Varint.{spelling, varint_at}
-use Rattle.p2p_log_laws.specs.Worked.{two_nodes, one_node, delivery, delivery_begins, list_overwritten, drop_before_start, drop_without_connection}
+use Rattle.p2p_log_laws.specs.PlainPath.{two_nodes, delivery, delivery_begins, list_overwritten}
+use Rattle.p2p_log_laws.specs.Worked.{one_node, drop_before_start, drop_without_connection}
 use Rattle.p2p_log_laws.proofs.Following.{Follow, lawful_following}
 use Rattle.p2p_log_laws.proofs.worked.worked_rows.Goals as goal
 
 overwritten : effect two_nodes delivery_begins list_overwritten.event ≡ list_overwritten
-unfolding effect row line live_from has_started registered taken history_from routed subscribers routes half_at is_running is_joined
+unfolding effect row line live_from has_started registered taken taken_at history_from state_from routed subscribers routes half_at is_begun is_running connections_of dialer_of
 overwritten = refl
 
 delivery_follows : Follow two_nodes [] delivery
-unfolding effect row line live_from has_started registered taken history_from routed subscribers routes half_at is_running is_joined frame decode_frame spelling varint_at
+unfolding effect row line live_from has_started registered taken taken_at history_from state_from routed subscribers routes half_at is_begun is_running attempts_of dials_of handshakes_of has_taken dialer_of openings_of listening_ends_of known_of connections_of calls_of update_subscriptions blocked_subscriptions block_of is_held address_of last_grant is_stale is_connected all_names how_many accepted_sets kept_sets is_tracked is_primary primary_sets secondary_sets kept_of written_over frame decode_frame spelling varint_at exchanged admits
 delivery_follows =
-    (refl, (refl, (refl, (refl, (refl, (refl, (refl, (refl, (refl, (refl, (refl, (refl, (refl, (refl, (refl, (refl, tt))))))))))))))))
+    (refl, (refl, (refl, (refl, (refl, (refl, (refl, (refl, (refl, (refl, (refl, (refl, (refl, (refl, (refl, (refl, (refl, (refl, (refl, (refl, (refl, (refl, (refl, (refl, (refl, (refl, (refl, (refl, (refl, (refl, (refl, (refl, (refl, (refl, (refl, (refl, (refl, (refl, (refl, (refl, (refl, tt)))))))))))))))))))))))))))))))))))))))))
 
 drop_before_start_follows : Follow one_node [] drop_before_start
 unfolding effect row line live_from has_started registered
@@ -31,7 +49,7 @@ drop_without_connection_follows : Follow one_node [] drop_without_connection
 unfolding effect row line live_from has_started registered taken history_from routed subscribers routes frame spelling
 drop_without_connection_follows = (refl, (refl, (refl, (refl, (refl, tt)))))
 
-delivered : fate_of delivery (5, 0) ≡ Some (fate.Delivered (queue.Channel 1 7) 15)
+delivered : fate_of delivery (36, 0) ≡ Some (fate.Delivered (queue.Channel 1 7) 40)
 unfolding fate_of sending_at
 delivered = refl
 

@@ -1,0 +1,154 @@
+-- What an entry tells the trackers of connections that begin: of each that it begins it tells once, and of no other.
+use Rattle.std.proofs.Common.{◌≡◌, ℕ, ◌+◌, ◌≤◌, Bool, true, false, cond, List, [], ◌∷◌, map, Option, Some, None, inl, inr, refl, ap, sym, subst, ◌∙◌, arith, eqb-true}
+use Rattle.std.specs.Prelude.{◌==◌, ◌&&◌, ◌||◌, count_by}
+use Rattle.std.specs.List.{AllByRecursion as Each}
+use Rattle.std.proofs.lemmas.Bool.{and_parts}
+use Rattle.std.proofs.lemmas.List.Sums.{sum_by-cons}
+use Rattle.p2p_base.specs.declared.key.Key.{Key}
+use Rattle.p2p_log.specs.declared.config.Config.{Config}
+use Rattle.p2p_log.specs.declared.queue.Queue.{Queue}
+use Rattle.p2p_log.specs.declared.queue.Queue.TheVariants as queue
+use Rattle.p2p_log.specs.declared.item.Item.{Item}
+use Rattle.p2p_log.specs.declared.item.Item.TheVariants as item
+use Rattle.p2p_log.specs.declared.item.Envelope.{Envelope}
+use Rattle.p2p_log.specs.declared.entry.Entry.{Entry}
+use Rattle.p2p_log.specs.declared.entry.Reply.{Reply}
+use Rattle.p2p_log.specs.declared.entry.Reply.TheVariants as reply
+use Rattle.p2p_log.specs.declared.event.Act.{Act}
+use Rattle.p2p_log.specs.declared.event.Act.TheVariants as act
+use Rattle.p2p_log.specs.Lines.{live, line}
+use Rattle.p2p_log.proofs.Each.{Each-weaker, count_by-none}
+use Rattle.p2p_log_rules.specs.declared.row.Half.{Half}
+use Rattle.p2p_log_rules.specs.declared.row.Row.{Row}
+use Rattle.p2p_log_rules.specs.Connections.{half_at, steps_sender, is_done, is_begun, is_running}
+use Rattle.p2p_log_rules.specs.Effect.{row, only, takes_oldest, write_row, batch, begin_row, half_row, sender_row, send_step_row}
+use Rattle.p2p_log_rules.specs.Facts.{is_up}
+use Rattle.p2p_log_laws.specs.Grants.{one}
+use Rattle.p2p_log_laws.proofs.Fitting.{StandsFit, is_idle}
+use Rattle.p2p_log_laws.proofs.Plain.{and_false}
+use Rattle.p2p_log_laws.proofs.Shape.{Shape, Origin, OfAct, OfItem, Moved-origins}
+use Rattle.p2p_log_laws.proofs.Shapes.{row_shape}
+
+abbrev pub at_tracker : ℕ → Queue → Bool
+at_tracker n (queue.Tracker m) = m == n
+at_tracker n _ = false
+
+abbrev pub is_connect : ℕ → Item → Bool
+is_connect conn (item.Connect e key) = e == conn
+is_connect conn _ = false
+
+-- whether what is put tells the node's tracker that this connection begins
+abbrev pub tells_begun : ℕ → ℕ → Queue × Item → Bool
+tells_begun n conn x = at_tracker n x.0 && is_connect conn x.1
+
+module _ (n conn : ℕ) (log : List Entry) where
+  -- what tells of the connection comes with its beginning, and the first time alone
+  abbrev pub BeginsOnce : Act → Row → Type 0
+  BeginsOnce a r = one (is_begun log n conn) + count_by (tells_begun n conn) r.puts ≤ one (is_begun log n conn || (steps_sender n conn a && is_done r.reply))
+
+  silent_begins : (a : Act) (r : Row) → count_by (tells_begun n conn) r.puts ≡ 0 → BeginsOnce a r
+  silent_begins a r none = by (is_begun log n conn) (steps_sender n conn a && is_done r.reply) (count_by (tells_begun n conn) r.puts) none
+    where
+      by : (before now : Bool) (k : ℕ) → k ≡ 0 → one before + k ≤ one (before || now)
+      by true now k none = omega (arith, none)
+      by false true k none = omega (arith, none)
+      by false false k none = omega (arith, none)
+
+  -- ---- acts other than a step of its sending half
+
+  module _ (configs : List Config) (a : Act) (r : Reply) (other : steps_sender n conn a ≡ false) where
+    own_silent : (q : Queue) (i : Item) → OfAct configs log a r q i → tells_begun n conn (q, i) ≡ false
+    own_silent (queue.Tracker m) i h = ap (λ j. (m == n) && is_connect conn j) h.3 ∙ (ap (steps_sender n conn) (sym h.4) ∙ other)
+    own_silent _ i h = refl
+
+    idle_silent : (i : Item) → is_idle i ≡ true → is_connect conn i ≡ false
+    idle_silent (item.Connect e key) h = absurd (cc)
+    idle_silent _ h = refl
+
+    item_silent : (y : Envelope) (q : Queue) (i : Item) → OfItem configs log y q i → tells_begun n conn (q, i) ≡ false
+    item_silent y (queue.Tracker m) i h = absurd h
+    item_silent y _ i h = refl
+
+    origin_silent : (taken : List Envelope) (x : Queue × Item) → Origin configs log a r taken x → tells_begun n conn x ≡ false
+    origin_silent taken x o = elim o [
+      | inl own ↦ elim own [
+        | inl idle ↦ ap (λ b. at_tracker n x.0 && b) (idle_silent x.1 idle) ∙ and_false (at_tracker n x.0)
+        | inr h ↦ own_silent x.0 x.1 h
+      ]
+      | inr item ↦ item_silent item.0 x.0 x.1 item.2
+    ]
+
+  other_begins : (configs : List Config) (a : Act) (r : Row) (shape : Shape configs log a r) → Each StandsFit (live log) → steps_sender n conn a ≡ false → BeginsOnce a r
+  other_begins configs a r shape fitting other =
+      silent_begins a r
+      (count_by-none (tells_begun n conn) r.puts
+      (Each-weaker (Origin configs log a r.reply shape.moves.taken) (λ x. tells_begun n conn x ≡ false) (origin_silent configs a r.reply other shape.moves.taken) r.puts
+      (Moved-origins configs log a r.reply shape.moves.taken r.puts (shape.laws fitting).moved)))
+
+  -- ---- a step of its sending half
+
+  written_silent : (a : Act) (link : Queue) (ys : List Envelope) → at_tracker n link ≡ false → BeginsOnce a (write_row link ys)
+  written_silent a link [] away = silent_begins a (write_row link []) refl
+  written_silent a link (y ∷ ys) away =
+      silent_begins a (write_row link (y ∷ ys)) (count_by-none (tells_begun n conn) (map (λ (z : Envelope). (link, z.item)) (y ∷ ys)) (each (y ∷ ys)))
+    where
+      each : (zs : List Envelope) → Each (λ x. tells_begun n conn x ≡ false) (map (λ (z : Envelope). (link, z.item)) zs)
+      each [] = tt
+      each (z ∷ zs) = (ap (λ b. b && is_connect conn z.item) away, each zs)
+
+  oldest_begins : (a : Act) (xs : List Envelope) → BeginsOnce a (takes_oldest xs)
+  oldest_begins a [] = silent_begins a (takes_oldest []) refl
+  oldest_begins a (x ∷ xs) = silent_begins a (takes_oldest (x ∷ xs)) refl
+
+  -- it tells its own tracker, and its router
+  begin_begins : (key : Key) → is_begun log n conn ≡ false → (n == n) ≡ true → (conn == conn) ≡ true → BeginsOnce (act.SendStep conn n) (begin_row n conn key)
+  begin_begins key none self same =
+      let tracker : Queue × Item = (queue.Tracker n, item.Connect conn key) in
+      let router : Queue × Item = (queue.Router n, item.Ready conn key) in
+      let first : count_by (tells_begun n conn) (tracker ∷ router ∷ []) ≡ one ((n == n) && (conn == conn)) + count_by (tells_begun n conn) (router ∷ []) = sum_by-cons (λ x. one (tells_begun n conn x)) tracker (router ∷ []) in
+      let second : count_by (tells_begun n conn) (router ∷ []) ≡ 0 = count_by-none (tells_begun n conn) (router ∷ []) (refl, tt) in
+      counted (is_begun log n conn) ((n == n) && (conn == conn)) (count_by (tells_begun n conn) (tracker ∷ router ∷ [])) (count_by (tells_begun n conn) (router ∷ [])) none first second
+    where
+      counted : (before now : Bool) (all rest : ℕ) → before ≡ false → all ≡ one now + rest → rest ≡ 0 → one before + all ≤ one (before || (now && true))
+      counted true now all rest none sum zero = absurd (cc)
+      counted false true all rest none sum zero = omega (arith, sum, zero)
+      counted false false all rest none sum zero = omega (arith, sum, zero)
+
+  half_begins : (configs : List Config) (half : Half) (begun running : Bool) → is_begun log n conn ≡ begun → (n == n) ≡ true → (conn == conn) ≡ true
+      → BeginsOnce (act.SendStep conn n) (half_row configs log n conn half begun running)
+  half_begins configs half false running is self same = begin_begins half.peer is self same
+  half_begins configs half true false is self same = oldest_begins (act.SendStep conn n) (line log (queue.Ready n conn))
+  half_begins configs half true true is self same = written_silent (act.SendStep conn n) (queue.Link half.link half.writes) (batch configs log n conn) refl
+
+  sender_begins : (configs : List Config) (o : Option Half) → (n == n) ≡ true → (conn == conn) ≡ true → BeginsOnce (act.SendStep conn n) (sender_row configs log n conn o)
+  sender_begins configs None self same = silent_begins (act.SendStep conn n) (only reply.Gone) refl
+  sender_begins configs (Some half) self same = half_begins configs half (is_begun log n conn) (is_running log n conn) refl self same
+
+  send_begins : (configs : List Config) → (n == n) ≡ true → (conn == conn) ≡ true → BeginsOnce (act.SendStep conn n) (send_step_row configs log conn n)
+  send_begins configs self same = by_up (is_up log n)
+    where
+      by_up : (b : Bool) → BeginsOnce (act.SendStep conn n) (cond b (sender_row configs log n conn (half_at log n conn)) (only reply.Gone))
+      by_up true = sender_begins configs (half_at log n conn) self same
+      by_up false = silent_begins (act.SendStep conn n) (only reply.Gone) refl
+
+  -- ---- each act
+
+  step_begins : (configs : List Config) (m e : ℕ) → (m == n) ≡ true → (e == conn) ≡ true → BeginsOnce (act.SendStep e m) (send_step_row configs log e m)
+  step_begins configs m e node half =
+      let same_node : m ≡ n = eqb-true m n node in
+      let same_half : e ≡ conn = eqb-true e conn half in
+      subst (λ k. BeginsOnce (act.SendStep e k) (send_step_row configs log e k)) (sym same_node)
+      (subst (λ k. BeginsOnce (act.SendStep k n) (send_step_row configs log k n)) (sym same_half)
+      (send_begins configs (subst (λ k. (k == n) ≡ true) same_node node) (subst (λ k. (k == conn) ≡ true) same_half half)))
+
+  stepped_begins : (configs : List Config) (at seed : ℕ) (a : Act) → steps_sender n conn a ≡ true → BeginsOnce a (row configs log at seed a)
+  unfolding row
+  stepped_begins configs at seed (act.SendStep e m) steps = let both = and_parts (m == n) (e == conn) steps in step_begins configs m e both.0 both.1
+  stepped_begins configs at seed _ steps = absurd (cc)
+
+  pub each_begins : (configs : List Config) (at seed : ℕ) (a : Act) → Each StandsFit (live log) → BeginsOnce a (row configs log at seed a)
+  each_begins configs at seed a fitting = by (steps_sender n conn a) refl
+    where
+      by : (b : Bool) → steps_sender n conn a ≡ b → BeginsOnce a (row configs log at seed a)
+      by true steps = stepped_begins configs at seed a steps
+      by false other = other_begins configs a (row configs log at seed a) (row_shape configs log at seed a) fitting other

@@ -1,0 +1,63 @@
+-- The connections of a node, by the log: its half of each, and how far it is.
+use Rattle.std.specs.Prelude.{ℕ, Bool, true, false, ◌==◌, ◌&&◌, cond, List, [], map, Option, Some, None}
+use Rattle.std.specs.List.{list_any}
+use Rattle.std.specs.Option.{option_map}
+use Rattle.p2p_log.specs.declared.queue.Side.{Side}
+use Rattle.p2p_log.specs.declared.queue.Side.TheVariants as side
+use Rattle.p2p_log.specs.declared.item.Item.{Item}
+use Rattle.p2p_log.specs.declared.item.Item.TheVariants as item
+use Rattle.p2p_log.specs.declared.entry.Entry.{Entry}
+use Rattle.p2p_log.specs.declared.entry.Reply.{Reply}
+use Rattle.p2p_log.specs.declared.entry.Reply.TheVariants as reply
+use Rattle.p2p_log.specs.declared.event.Act.{Act}
+use Rattle.p2p_log.specs.declared.event.Act.TheVariants as act
+use Rattle.p2p_log_rules.specs.declared.row.Half.{Half}
+use Rattle.p2p_log_rules.specs.Facts.{taken, history}
+use Rattle.p2p_log_rules.specs.Links.{dialer_of}
+use Rattle.p2p_log_rules.specs.Spawning.{Spawned, connections_of}
+
+-- ---- halves
+
+-- the direction in which a node writes to a link, by the node that dialed it
+abbrev pub side_at : ℕ → ℕ → Side
+side_at n dialer = cond (dialer == n) side.Out side.In
+
+-- the node's half of a connection that its spawner made, by the node that dialed its link
+abbrev pub half_over : ℕ → Spawned → ℕ → Half
+half_over n c dialer = record { peer = c.key; link = c.link; writes = side_at n dialer }
+
+abbrev pub half_of : List Entry → ℕ → Option Spawned → Option Half
+half_of log n None = None
+half_of log n (Some c) = option_map (half_over n c) (dialer_of log c.link)
+
+-- the node's half of the connection of this name
+unfoldable pub half_at : List Entry → ℕ → ℕ → Option Half
+half_at log n conn = half_of log n (connections_of log n conn)
+
+-- ---- how far they are
+
+abbrev pub steps_sender : ℕ → ℕ → Act → Bool
+steps_sender n conn (act.SendStep e m) = (m == n) && (e == conn)
+steps_sender n conn _ = false
+
+abbrev pub is_done : Reply → Bool
+is_done reply.Ok = true
+is_done _ = false
+
+abbrev pub begins : ℕ → ℕ → Entry → Bool
+begins n conn e = steps_sender n conn e.event.act && is_done e.reply
+
+-- whether it has begun: its sending half did a step
+unfoldable pub is_begun : List Entry → ℕ → ℕ → Bool
+is_begun log n conn = list_any (begins n conn) log
+
+abbrev pub is_answer : Item → Bool
+is_answer item.Answer = true
+is_answer _ = false
+
+abbrev pub answers_by : ℕ → ℕ → List Entry → Entry → List Bool
+answers_by n conn before e = cond (steps_sender n conn e.event.act) (map is_answer (taken before e)) []
+
+-- whether it runs: its sending half took its router's answer
+unfoldable pub is_running : List Entry → ℕ → ℕ → Bool
+is_running log n conn = list_any (λ b. b) (history (answers_by n conn) log)
