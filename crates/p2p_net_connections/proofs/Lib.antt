@@ -1,3 +1,3 @@
+pub mod Beginning
 pub mod Changes
-pub mod Joining
 pub mod Spawning

@@ -5,37 +5,36 @@ use Rattle.std.specs.List.{list_any}
 use Rattle.p2p_base.specs.declared.key.Key.{Key}
 use Rattle.p2p_tracker_directory.specs.Reserved.{peer_of}
 use Rattle.p2p_tracker_directory.specs.declared.metadata.Metadata.{Metadata}
-use Rattle.p2p_log.specs.declared.config.Config.{Config}
 use Rattle.p2p_log.specs.declared.queue.Queue.TheVariants as queue
 use Rattle.p2p_log.specs.declared.entry.Entry.{Entry}
 use Rattle.p2p_log.specs.Lines.{line}
-use Rattle.p2p_log_rules.specs.Facts.{answers_by, with_named}
+use Rattle.p2p_log_rules.specs.Connections.{answers_by}
+use Rattle.p2p_log_rules.specs.Facts.{with_named}
 use Rattle.p2p_log_rules.specs.Spawning.{Spawned, connections_of}
 use Rattle.p2p_net_queues.specs.Tables.{at}
 use Rattle.p2p_net_queues.proofs.Tables.{at-inserted}
 use Rattle.p2p_net_connections.specs.Connections.{spawned_on, spawned_with}
-use Rattle.p2p_net_connections.specs.Stands.{ConnectionsStand, JoinsNone}
+use Rattle.p2p_net_connections.specs.Stands.{ConnectionsStand, BeginsNone}
+use Rattle.p2p_net_connections.specs.declared.connections.Connection.{Connection}
 use Rattle.p2p_net_connections.specs.declared.connections.Connections.{Connections}
-use Rattle.p2p_net_connections.specs.declared.connections.NewConnection.{NewConnection}
-use Rattle.p2p_net_connections.proofs.Changes.{half-kept, joined-kept, running-kept}
+use Rattle.p2p_net_connections.proofs.Changes.{begun-kept, running-kept}
 
-on_cond : (b : Bool) (c : NewConnection) (o : Option NewConnection) → spawned_on (cond b (Some c) o) ≡ cond b (spawned_on (Some c)) (spawned_on o)
+on_cond : (b : Bool) (c : Connection) (o : Option Connection) → spawned_on (cond b (Some c) o) ≡ cond b (spawned_on (Some c)) (spawned_on o)
 on_cond true c o = refl
 on_cond false c o = refl
 
 -- an entry in which its spawner makes one, over this link and by this reservation
 pub connections_spawned :
-    (configs : List Config) (log : List Entry) (e : Entry) (n link : ℕ) (m : Metadata Key) (cs : Connections) → ConnectionsStand configs log n cs → JoinsNone configs log e n
+    (log : List Entry) (e : Entry) (n link : ℕ) (m : Metadata Key) (cs : Connections) → ConnectionsStand log n cs
     → ((conn : ℕ) → connections_of (log ++ e ∷ []) n conn ≡ with_named (length log) (Some (record { key = peer_of m; link = link })) (connections_of log n) conn)
-    → ((conn : ℕ) → answers_by n conn log e ≡ []) → ((conn : ℕ) → line (log ++ e ∷ []) (queue.Ready n conn) ≡ line log (queue.Ready n conn))
-    → ConnectionsStand configs (log ++ e ∷ []) n (spawned_with (length log) link m cs)
-connections_spawned configs log e n link m cs s none made begins lines = record {
-  halves = λ conn. s.halves conn ∙ sym (half-kept configs log e n conn (none.no_half conn));
-  running = λ conn. s.running conn ∙ sym (running-kept log e n conn (ap (list_any (λ (b : Bool). b)) (begins conn)));
-  partners = λ k. s.partners k ∙ sym (joined-kept log e n k (none.no_partner k));
+    → BeginsNone log e n → ((conn : ℕ) → line (log ++ e ∷ []) (queue.Ready n conn) ≡ line log (queue.Ready n conn))
+    → ConnectionsStand (log ++ e ∷ []) n (spawned_with (length log) link m cs)
+connections_spawned log e n link m cs s made none lines = record {
   spawned = λ conn.
       ap spawned_on (at-inserted (length log) conn (record { link = link; reservation = m }) cs.spawned)
       ∙ (on_cond (conn == length log) (record { link = link; reservation = m }) (at cs.spawned conn)
       ∙ (ap (λ (o : Option Spawned). cond (conn == length log) (Some (record { key = peer_of m; link = link })) o) (s.spawned conn) ∙ sym (made conn)));
+  begun = λ conn. s.begun conn ∙ sym (begun-kept log e n conn (none.no_begin conn));
+  running = λ conn. s.running conn ∙ sym (running-kept log e n conn (ap (list_any (λ (b : Bool). b)) (none.no_answer conn)));
   waits = λ conn. s.waits conn ∙ sym (lines conn);
 }

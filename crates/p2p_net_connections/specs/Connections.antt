@@ -10,35 +10,24 @@ use Rattle.p2p_log.specs.declared.queue.Queue.TheVariants as queue
 use Rattle.p2p_log.specs.QueueCode.{detail_of, same_queue}
 use Rattle.p2p_log.specs.declared.item.Item.{Item}
 use Rattle.p2p_log.specs.declared.item.Envelope.{Envelope}
-use Rattle.p2p_log_rules.specs.declared.row.Half.{Half}
-use Rattle.p2p_log_rules.specs.Facts.{is_answer}
+use Rattle.p2p_log_rules.specs.Connections.{is_answer}
 use Rattle.p2p_log_rules.specs.Spawning.{Spawned}
-use Rattle.p2p_net_queues.specs.Tables.{at, waiting, pushed_at, popped_at}
+use Rattle.p2p_net_queues.specs.Tables.{waiting, pushed_at, popped_at}
 use Rattle.p2p_net_connections.specs.declared.connections.Connection.{Connection}
-use Rattle.p2p_net_connections.specs.declared.connections.NewConnection.{NewConnection}
 use Rattle.p2p_net_connections.specs.declared.connections.Connections.{Connections}
+use Rattle.p2p_net_connections.specs.declared.connections.Stage.{Stage}
+use Rattle.p2p_net_connections.specs.declared.connections.Stage.TheVariants as stage
 
 abbrev pub no_connections : Connections
-no_connections = record { halves = []; partners = []; answers = []; spawned = [] }
+no_connections = record { spawned = []; stages = []; answers = [] }
 
-abbrev pub half_on : Option Connection → Option Half
-half_on None = None
-half_on (Some c) = Some c.half
-
-abbrev pub runs_on : Option Connection → Bool
-runs_on None = false
-runs_on (Some c) = c.running
-
-abbrev pub joined_with : ℕ → Half → ℕ → Connections → Connections
-joined_with conn half partner cs = record {
-  halves = insert_entry nat_cmp cs.halves conn (record { half = half; running = false });
-  partners = insert_entry nat_cmp cs.partners partner conn;
-  answers = cs.answers;
-  spawned = cs.spawned;
-}
+-- whether a connection at this stage runs
+abbrev pub runs_on : Option Stage → Bool
+runs_on (Some stage.Running) = true
+runs_on _ = false
 
 -- a connection that the spawner made, as the log has it
-abbrev pub spawned_on : Option NewConnection → Option Spawned
+abbrev pub spawned_on : Option Connection → Option Spawned
 spawned_on None = None
 spawned_on (Some c) = Some (record { key = peer_of c.reservation; link = c.link })
 
@@ -62,23 +51,20 @@ abbrev pub answered : ℕ → ℕ → ℕ → List (Queue × Item) → List (ℕ
 answered entry n place [] answers = answers
 answered entry n place (x ∷ xs) answers = answered entry n (place + 1) xs (answered_by entry n place x answers)
 
-abbrev pub ran_by : Option Connection → ℕ → List (ℕ × Connection) → List (ℕ × Connection)
-ran_by None conn halves = halves
-ran_by (Some c) conn halves = insert_entry nat_cmp halves conn (record { half = c.half; running = true })
-
--- a connection runs from now on
-abbrev pub ran : ℕ → List (ℕ × Connection) → List (ℕ × Connection)
-ran conn halves = ran_by (at halves conn) conn halves
+-- a connection has begun
+abbrev pub begun_with : ℕ → Connections → Connections
+begun_with conn cs = record cs { stages = insert_entry nat_cmp cs.stages conn stage.Begun }
 
 -- the name of what stands first, and whether it is the router's answer
 abbrev pub named_answer : Option Envelope → Option ((ℕ × ℕ) × Bool)
 named_answer None = None
 named_answer (Some x) = Some ((x.entry, x.place), is_answer x.item)
 
-abbrev pub begun_on : Option Envelope → ℕ → Connections → Connections
-begun_on None conn cs = record cs { answers = popped_at cs.answers conn }
-begun_on (Some x) conn cs = record cs { halves = cond (is_answer x.item) (ran conn cs.halves) cs.halves; answers = popped_at cs.answers conn }
+-- the stages, once this was taken for a connection
+abbrev pub stages_with : Option Envelope → ℕ → List (ℕ × Stage) → List (ℕ × Stage)
+stages_with None conn stages = stages
+stages_with (Some x) conn stages = cond (is_answer x.item) (insert_entry nat_cmp stages conn stage.Running) stages
 
 -- the first answer of a connection was taken
-abbrev pub begun : ℕ → Connections → Connections
-begun conn cs = begun_on (slice_get (waiting cs.answers conn) 0) conn cs
+abbrev pub without_answer : ℕ → Connections → Connections
+without_answer conn cs = record cs { stages = stages_with (slice_get (waiting cs.answers conn) 0) conn cs.stages; answers = popped_at cs.answers conn }

@@ -1,43 +1,44 @@
 //! `Connections`, the connections of a node.
-ghost use Rattle.std.specs.Prelude.{◌≡◌, ◌++◌, [], is_some, slice_get, IfOk, OnOk};
-ghost use Rattle.p2p_log_rules.specs.Facts.{is_answer as answer_test};
+ghost use Rattle.std.specs.Prelude.{◌≡◌, ◌++◌, [], slice_get, IfOk, OnOk};
+ghost use Rattle.std.specs.Option.{option_copied};
+ghost use Rattle.p2p_log_rules.specs.Connections.{is_answer as answer_test};
 ghost use Rattle.p2p_log_rules.specs.Effect.{takes_oldest};
 ghost use Rattle.p2p_log.specs.Lines.{name_of};
 ghost use Rattle.p2p_net_queues.specs.Tables.{at, waiting, popped_at};
-ghost use Rattle.p2p_net_connections.specs.Connections.{no_connections, spawned_with, joined_with, answered_by, answered, ran_by, ran, begun, named_answer};
+ghost use Rattle.p2p_net_connections.specs.Connections.{no_connections, spawned_with, begun_with, answered_by, answered, without_answer, named_answer};
 
 use p2p_base::Key;
 use p2p_log::{Envelope, Item, Queue, Reply};
-use p2p_log_rules::{Half, Row};
+use p2p_log_rules::Row;
 use p2p_net_queues::{Deque, Table, Turn, only, taking};
 use p2p_tracker_directory::Reservation;
 use std::alloc::{AllocError, Global};
 
-/// A connection of a node: its half, and whether it took its router's answer.
-#[derive(Clone, Copy, Debug, PartialEq, Eq)]
-pub struct Connection {
-    pub half: Half,
-    pub running: bool,
-}
-
-/// A connection that the node's spawner made: the link that it goes over, by its name, and the right to connect with its peer.
+/// A connection of a node: the link that it goes over, by its name, and the right to connect with its peer.
 #[derive(Drop)]
-pub struct NewConnection {
+pub struct Connection {
     pub link: u64,
     pub reservation: Reservation<Key>,
+}
+
+/// How far a connection is that has begun.
+#[derive(Clone, Copy, Debug, PartialEq, Eq)]
+pub enum Stage {
+    /// It waits for its router's answer.
+    Begun,
+    /// It runs.
+    Running,
 }
 
 /// The connections of a node, by the events that made them, and the router's answers that wait for them.
 #[derive(Drop)]
 pub struct Connections {
-    /// Each connection.
-    pub halves: Table<Connection>,
-    /// The nodes that this one was joined to, each with the connection.
-    pub partners: Table<u64>,
+    /// Each connection that its spawner made.
+    pub spawned: Table<Connection>,
+    /// How far those are that have begun.
+    pub stages: Table<Stage>,
     /// The answers that wait for each connection, the oldest first.
     pub answers: Table<Deque<Envelope>>,
-    /// The connections that its spawner made. None of them has begun.
-    pub spawned: Table<NewConnection>,
 }
 
 /// Whether an item is the router's answer.
@@ -56,25 +57,24 @@ impl Connections {
         ensures { result ≡ no_connections }
     {
         Connections {
-            halves: Table::new(alloc),
-            partners: Table::new(alloc),
-            answers: Table::new(alloc),
             spawned: Table::new(alloc),
+            stages: Table::new(alloc),
+            answers: Table::new(alloc),
         }
     }
 
     /// The connection that an event made.
-    pub fn get(&self, conn: u64) -> Option<Connection>
-        ensures { result ≡ at self.now.halves conn }
+    pub fn find(&self, conn: u64) -> Option<&Connection>
+        ensures { option_copied result ≡ at self.now.spawned conn }
     {
-        self.halves.get(conn)
+        self.spawned.find(conn)
     }
 
-    /// Whether the node was joined to this one.
-    pub fn is_joined(&self, partner: u64) -> bool
-        ensures { result ≡ is_some (at self.now.partners partner) }
+    /// How far the connection that an event made is, where it has begun.
+    pub fn stage(&self, conn: u64) -> Option<Stage>
+        ensures { result ≡ at self.now.stages conn }
     {
-        self.partners.has(partner)
+        self.stages.get(conn)
     }
 
     /// The node's spawner made a connection over this link, with the peer of this reservation.
@@ -88,23 +88,18 @@ impl Connections {
     ) -> Result<(), AllocError>
         ensures { OnOk result (self.new ≡ spawned_with turn.entry link reservation self.old) }
     {
-        let connection = NewConnection { link, reservation };
+        let connection = Connection { link, reservation };
         self.spawned.insert(turn.entry, connection)?;
         Ok(())
     }
 
-    /// An event made a connection with a partner, of which this is the node's half.
+    /// A connection has begun.
     ///
-    /// `Err` only where there is no memory. The half may then be kept without its partner, and its node goes no further.
-    pub fn join(&mut self, turn: Turn, half: Half, partner: u64) -> Result<(), AllocError>
-        ensures { OnOk result (self.new ≡ joined_with turn.entry half partner self.old) }
+    /// `Err` only where there is no memory. Nothing is changed then, and its node goes no further.
+    pub fn begin(&mut self, conn: u64) -> Result<(), AllocError>
+        ensures { OnOk result (self.new ≡ begun_with conn self.old) }
     {
-        let connection = Connection {
-            half,
-            running: false,
-        };
-        self.halves.insert(turn.entry, connection)?;
-        self.partners.insert(partner, turn.entry)?;
+        self.stages.insert(conn, Stage::Begun)?;
         Ok(())
     }
 
@@ -146,21 +141,6 @@ impl Connections {
         Ok(())
     }
 
-    /// A connection runs from now on.
-    fn run(&mut self, conn: u64) -> Result<(), AllocError>
-        ensures { OnOk result (self.new ≡ record self.old { halves = ran conn self.old.halves }) }
-    {
-        let Some(connection) = self.halves.get(conn) else {
-            return Ok(());
-        };
-        let running = Connection {
-            half: connection.half,
-            running: true,
-        };
-        self.halves.insert(conn, running)?;
-        Ok(())
-    }
-
     /// Takes what stands first for a connection: its name, and whether it is the router's answer.
     fn pop(&mut self, conn: u64) -> Option<((u64, u64), bool)>
         ensures first { result ≡ named_answer (slice_get (waiting self.old.answers conn) 0) }
@@ -176,15 +156,15 @@ impl Connections {
     ///
     /// `Err` only where there is no memory. The answer may then be taken and the connection not run, and its node goes no
     /// further.
-    pub fn begin(&mut self, alloc: Global, conn: u64) -> Result<Row, AllocError>
+    pub fn run(&mut self, alloc: Global, conn: u64) -> Result<Row, AllocError>
         ensures row { IfOk result (λ r. r ≡ takes_oldest (waiting self.old.answers conn)) }
-        ensures after { OnOk result (self.new ≡ begun conn self.old) }
+        ensures after { OnOk result (self.new ≡ without_answer conn self.old) }
     {
         match self.pop(conn) {
             None => Ok(only(alloc, Reply::Idle)),
             Some((name, is_answer)) => {
                 if is_answer {
-                    self.run(conn)?;
+                    self.stages.insert(conn, Stage::Running)?;
                 }
                 let row = taking(alloc, name)?;
                 Ok(row)

@@ -1,6 +1,6 @@
-//! The connections of a node: its half of each, the router's answers that wait for them, and those that its spawner made.
+//! The connections of a node, which its spawner made, how far they are, and the router's answers that wait for them.
 #![tactic(auto)]
 
 pub mod connections;
 
-pub use connections::{Connection, Connections, NewConnection};
+pub use connections::{Connection, Connections, Stage};

@@ -4,6 +4,7 @@ use Rattle.std.specs.Prelude.{◌==◌, filter, map, ◌&&◌}
 use Rattle.std.specs.BTreeMap.{is_at, insert_entry}
 use Rattle.std.specs.Ordering.{nat_cmp}
 use Rattle.std.proofs.lemmas.Bool.Decides.{nat_tests}
+use Rattle.std.proofs.lemmas.Option.{same_Some}
 use Rattle.p2p_log.specs.declared.queue.Queue.{Queue}
 use Rattle.p2p_log.specs.declared.queue.Queue.TheVariants as queue
 use Rattle.p2p_log.specs.declared.queue.Side.{Side}
@@ -20,12 +21,13 @@ use Rattle.p2p_log.specs.Lines.{line, stands_in, placed}
 use Rattle.p2p_log.proofs.Queues.{same_queue-sym}
 use Rattle.p2p_log_rules.specs.declared.row.Opening.{Opening}
 use Rattle.p2p_log_rules.specs.Facts.{state_from, with_named}
-use Rattle.p2p_log_rules.specs.Links.{with_opened, without_finished, acted_openings, openings_by, openings_of}
+use Rattle.p2p_log_rules.specs.Links.{dialed_by, dialer_of, with_opened, without_finished, acted_openings, openings_by, openings_of}
+use Rattle.p2p_log_rules.proofs.Connections.{dialer_of-append, dialer_of-unmade}
 use Rattle.p2p_log_rules.proofs.Links.{openings_of-append}
 use Rattle.p2p_net_queues.specs.Tables.{at, waiting, pushed_at, popped_at}
 use Rattle.p2p_net_queues.proofs.Holding.{longer}
 use Rattle.p2p_net_queues.proofs.Tables.{waiting-pushed_at, waiting-popped_at, at-inserted}
-use Rattle.p2p_net_links.specs.Links.{no_links, way_of, with_way, written_way}
+use Rattle.p2p_net_links.specs.Links.{no_links, way_of, with_way, written_way, opened_with}
 use Rattle.p2p_net_links.specs.Stands.{LinksStand}
 use Rattle.p2p_net_links.specs.declared.links.Links.{Links}
 
@@ -65,6 +67,20 @@ changed l s t k j w f h =
     ]) refl
     ∙ ap (λ b. cond b (f (waiting (way_of l t) j)) (waiting (way_of l t) j)) (sym (same_link s t k j)))
 
+-- ---- who dialed, by the log
+
+-- no links stand for no log
+pub dialers_new : (k : ℕ) → at no_links.dialers k ≡ dialer_of [] k
+unfolding dialer_of
+dialers_new k = refl
+
+-- an entry makes no link
+abbrev pub DialsNone : Entry → Type 0
+DialsNone e = dialed_by e.event.act e.reply e.puts ≡ None
+
+dialers_kept : (log : List Entry) (e : Entry) (dialers : List (ℕ × ℕ)) → ((k : ℕ) → at dialers k ≡ dialer_of log k) → DialsNone e → (k : ℕ) → at dialers k ≡ dialer_of (log ++ e ∷ []) k
+dialers_kept log e dialers is none k = is k ∙ sym (dialer_of-unmade log e none k)
+
 -- ---- between whom keys are exchanged, by the log
 
 -- no links stand for no log
@@ -72,7 +88,11 @@ pub openings_new : (k : ℕ) → at no_links.openings k ≡ openings_of [] k
 unfolding openings_of state_from
 openings_new k = refl
 
--- an entry leaves them alone by its act: whether that neither makes a link over which keys are exchanged nor ends such an exchange
+-- an entry makes no link, and leaves them alone
+abbrev pub OpensNone : List Entry → Entry → Type 0
+OpensNone log e = DialsNone e × ((k : ℕ) → openings_by log e (openings_of log) k ≡ openings_of log k)
+
+-- by its act: whether that neither makes a link over which keys are exchanged nor ends such an exchange
 abbrev pub opens_none : Act → Bool
 opens_none (act.Connect e from n to) = false
 opens_none (act.Finish link ok) = false
@@ -84,8 +104,12 @@ unmoved name k r puts (act.Connect e from n to) openings h = cc
 unmoved name k r puts (act.Finish link ok) openings h = cc
 unmoved name k r puts _ openings h = refl
 
-pub openings_unmoved : (log : List Entry) (e : Entry) → opens_none e.event.act ≡ true → (k : ℕ) → openings_by log e (openings_of log) k ≡ openings_of log k
-openings_unmoved log e h k = unmoved (length log) k e.reply e.puts e.event.act (openings_of log) h
+undialed : (a : Act) (r : Reply) (puts : List (Queue × Item)) → opens_none a ≡ true → dialed_by a r puts ≡ None
+undialed (act.Connect e from n to) r puts h = absurd (cc)
+undialed _ r puts h = refl
+
+pub openings_unmoved : (log : List Entry) (e : Entry) → opens_none e.event.act ≡ true → OpensNone log e
+openings_unmoved log e h = (undialed e.event.act e.reply e.puts h, λ k. unmoved (length log) k e.reply e.puts e.event.act (openings_of log) h)
 
 -- or by its reply, whatever its act: whether that says that it was done
 abbrev pub is_ok_reply : Reply → Bool
@@ -106,8 +130,13 @@ unanswered name k r puts (act.Connect e from n to) openings h = unopened name k 
 unanswered name k r puts (act.Finish link ok) openings h = unfinished link k r openings h
 unanswered name k r puts _ openings h = refl
 
-pub openings_unanswered : (log : List Entry) (e : Entry) → is_ok_reply e.reply ≡ false → (k : ℕ) → openings_by log e (openings_of log) k ≡ openings_of log k
-openings_unanswered log e h k = unanswered (length log) k e.reply e.puts e.event.act (openings_of log) h
+undone : (a : Act) (r : Reply) (puts : List (Queue × Item)) → is_ok_reply r ≡ false → dialed_by a r puts ≡ None
+undone (act.Connect e from n to) reply.Ok puts h = absurd (cc)
+undone (act.Connect e from n to) _ puts h = refl
+undone _ r puts h = refl
+
+pub openings_unanswered : (log : List Entry) (e : Entry) → is_ok_reply e.reply ≡ false → OpensNone log e
+openings_unanswered log e h = (undone e.event.act e.reply e.puts h, λ k. unanswered (length log) k e.reply e.puts e.event.act (openings_of log) h)
 
 -- between whom keys are exchanged over the link of this act, where it makes one
 abbrev pub linked_by : Act → Option Opening
@@ -121,10 +150,16 @@ one_put name k reply.Ok told (act.Connect e from n to) openings o h = refl
 one_put name k _ told (act.Connect e from n to) openings o h = refl
 one_put name k r told _ openings o h = cc
 
-pub openings_linkless : (log : List Entry) (e : Entry) (o : Opening) (told : Queue × Item) → linked_by e.event.act ≡ Some o → e.puts ≡ told ∷ []
-    → (k : ℕ) → openings_by log e (openings_of log) k ≡ openings_of log k
-openings_linkless log e o told dials one k =
-    ap (λ puts. acted_openings (length log) e.reply puts e.event.act (openings_of log) k) one ∙ one_put (length log) k e.reply told e.event.act (openings_of log) o dials
+pub openings_linkless : (log : List Entry) (e : Entry) (o : Opening) (told : Queue × Item) → linked_by e.event.act ≡ Some o → e.puts ≡ told ∷ [] → OpensNone log e
+openings_linkless log e o told dials one = (
+  ap (dialed_by e.event.act e.reply) one ∙ lone e.event.act e.reply,
+  λ k. ap (λ puts. acted_openings (length log) e.reply puts e.event.act (openings_of log) k) one ∙ one_put (length log) k e.reply told e.event.act (openings_of log) o dials,
+)
+  where
+    lone : (a : Act) (r : Reply) → dialed_by a r (told ∷ []) ≡ None
+    lone (act.Connect d from n to) reply.Ok = refl
+    lone (act.Connect d from n to) _ = refl
+    lone _ r = refl
 
 -- an entry changes them: a dial that was answered with a link
 two_puts : (name k : ℕ) (told arrival : Queue × Item) (rest : List (Queue × Item)) (a : Act) (openings : ℕ → Option Opening) (o : Opening) → linked_by a ≡ Some o
@@ -132,19 +167,34 @@ two_puts : (name k : ℕ) (told arrival : Queue × Item) (rest : List (Queue × 
 two_puts name k told arrival rest (act.Connect e from n to) openings o h = ap (λ p. with_named name p openings k) h
 two_puts name k told arrival rest _ openings o h = cc
 
+-- who dialed and who is dialed over the link that an entry makes, and it is the only one that begins
+pub record Opens (log : List Entry) (e : Entry) (o : Opening) : Type 0 where
+  pub dialer : dialed_by e.event.act e.reply e.puts ≡ Some o.node
+  pub openings : (k : ℕ) → openings_of (log ++ e ∷ []) k ≡ with_named (length log) (Some o) (openings_of log) k
+
 pub openings_opened : (log : List Entry) (e : Entry) (o : Opening) (told arrival : Queue × Item) (rest : List (Queue × Item)) → linked_by e.event.act ≡ Some o → e.reply ≡ reply.Ok
-    → e.puts ≡ told ∷ arrival ∷ rest → (k : ℕ) → openings_of (log ++ e ∷ []) k ≡ with_named (length log) (Some o) (openings_of log) k
-openings_opened log e o told arrival rest dials answered two k =
-    openings_of-append log e k
-    ∙ (ap (λ r. acted_openings (length log) r e.puts e.event.act (openings_of log) k) answered
-    ∙ (ap (λ puts. acted_openings (length log) reply.Ok puts e.event.act (openings_of log) k) two ∙ two_puts (length log) k told arrival rest e.event.act (openings_of log) o dials))
+    → e.puts ≡ told ∷ arrival ∷ rest → Opens log e o
+openings_opened log e o told arrival rest dials answered two = record {
+  dialer = ap (dialed_by e.event.act e.reply) two ∙ (ap (λ r. dialed_by e.event.act r (told ∷ arrival ∷ rest)) answered ∙ by e.event.act dials);
+  openings = λ k.
+      openings_of-append log e k
+      ∙ (ap (λ r. acted_openings (length log) r e.puts e.event.act (openings_of log) k) answered
+      ∙ (ap (λ puts. acted_openings (length log) reply.Ok puts e.event.act (openings_of log) k) two ∙ two_puts (length log) k told arrival rest e.event.act (openings_of log) o dials));
+}
+  where
+    by : (a : Act) → linked_by a ≡ Some o → dialed_by a reply.Ok (told ∷ arrival ∷ rest) ≡ Some o.node
+    by (act.Connect d from n to) h = let same = same_Some (record { node = n; attempt = d; to = to }) o h in ap (λ (p : Opening). Some p.node) same
+    by _ h = absurd (cc)
 
 -- or the end of an exchange
 pub openings_finished : (log : List Entry) (e : Entry) (link : ℕ) (ok : Bool) → e.event.act ≡ act.Finish link ok → e.reply ≡ reply.Ok
-    → (k : ℕ) → openings_of (log ++ e ∷ []) k ≡ with_named link None (openings_of log) k
-openings_finished log e link ok is answered k =
-    openings_of-append log e k
-    ∙ (ap (λ a. acted_openings (length log) e.reply e.puts a (openings_of log) k) is ∙ ap (λ r. without_finished link r (openings_of log) k) answered)
+    → DialsNone e × ((k : ℕ) → openings_of (log ++ e ∷ []) k ≡ with_named link None (openings_of log) k)
+openings_finished log e link ok is answered = (
+  ap (λ a. dialed_by a e.reply e.puts) is,
+  λ k.
+      openings_of-append log e k
+      ∙ (ap (λ a. acted_openings (length log) e.reply e.puts a (openings_of log) k) is ∙ ap (λ r. without_finished link r (openings_of log) k) answered),
+)
 
 -- ---- and by the links
 
@@ -162,52 +212,62 @@ named name k o openings before is = ap (λ v. cond (k == name) o v) (is k)
 
 -- an entry that leaves them alone
 pub links_frame : (log : List Entry) (e : Entry) (l : Links) → LinksStand log l → ((s : Side) (link : ℕ) → line (log ++ e ∷ []) (queue.Link link s) ≡ line log (queue.Link link s))
-    → ((k : ℕ) → openings_by log e (openings_of log) k ≡ openings_of log k) → LinksStand (log ++ e ∷ []) l
+    → OpensNone log e → LinksStand (log ++ e ∷ []) l
 links_frame log e l st lines same = record {
   waits = λ s link. st.waits s link ∙ sym (lines s link);
-  openings = openings_kept log e l.openings st.openings same;
+  dialers = dialers_kept log e l.dialers st.dialers same.0;
+  openings = openings_kept log e l.openings st.openings same.1;
 }
 
-same_ways : (l : Links) (s : Side) (os : List (ℕ × Opening)) → way_of (record l { openings = os }) s ≡ way_of l s
-same_ways l side.Out os = refl
-same_ways l side.In os = refl
+same_ways : (l : Links) (s : Side) (ds : List (ℕ × ℕ)) (os : List (ℕ × Opening)) → way_of (record l { dialers = ds; openings = os }) s ≡ way_of l s
+same_ways l side.Out ds os = refl
+same_ways l side.In ds os = refl
+
+same_dialers : (l : Links) (s : Side) (w : List (ℕ × List Envelope)) → (with_way l s w).dialers ≡ l.dialers
+same_dialers l side.Out w = refl
+same_dialers l side.In w = refl
 
 same_openings : (l : Links) (s : Side) (w : List (ℕ × List Envelope)) → (with_way l s w).openings ≡ l.openings
 same_openings l side.Out w = refl
 same_openings l side.In w = refl
 
--- an entry that changes one direction, and not between whom keys are exchanged
-with_way_kept : (log : List Entry) (e : Entry) (l : Links) (s : Side) (w : List (ℕ × List Envelope)) → LinksStand log l
-    → ((k : ℕ) → openings_by log e (openings_of log) k ≡ openings_of log k) → (k : ℕ) → at (with_way l s w).openings k ≡ openings_of (log ++ e ∷ []) k
-with_way_kept log e l s w st same k = ap (λ (m : List (ℕ × Opening)). at m k) (same_openings l s w) ∙ openings_kept log e l.openings st.openings same k
+-- an entry that changes one direction, and not who dialed nor between whom keys are exchanged
+with_way_kept : (log : List Entry) (e : Entry) (l : Links) (s : Side) (w : List (ℕ × List Envelope)) → LinksStand log l → OpensNone log e
+    → ((k : ℕ) → at (with_way l s w).dialers k ≡ dialer_of (log ++ e ∷ []) k) × ((k : ℕ) → at (with_way l s w).openings k ≡ openings_of (log ++ e ∷ []) k)
+with_way_kept log e l s w st same = (
+  λ k. ap (λ (m : List (ℕ × ℕ)). at m k) (same_dialers l s w) ∙ dialers_kept log e l.dialers st.dialers same.0 k,
+  λ k. ap (λ (m : List (ℕ × Opening)). at m k) (same_openings l s w) ∙ openings_kept log e l.openings st.openings same.1 k,
+)
 
--- an entry that changes no direction, where this is between whom keys are exchanged after it
-with_openings : (log : List Entry) (e : Entry) (l : Links) (os : List (ℕ × Opening)) → LinksStand log l
+-- an entry that changes no direction, where these are who dialed and between whom keys are exchanged after it
+with_openings : (log : List Entry) (e : Entry) (l : Links) (ds : List (ℕ × ℕ)) (os : List (ℕ × Opening)) → LinksStand log l
     → ((s : Side) (link : ℕ) → line (log ++ e ∷ []) (queue.Link link s) ≡ line log (queue.Link link s))
-    → ((k : ℕ) → at os k ≡ openings_of (log ++ e ∷ []) k) → LinksStand (log ++ e ∷ []) (record l { openings = os })
-with_openings log e l os st lines is = record {
-  waits = λ s link. ap (λ w. waiting w link) (same_ways l s os) ∙ (st.waits s link ∙ sym (lines s link));
+    → ((k : ℕ) → at ds k ≡ dialer_of (log ++ e ∷ []) k) → ((k : ℕ) → at os k ≡ openings_of (log ++ e ∷ []) k) → LinksStand (log ++ e ∷ []) (record l { dialers = ds; openings = os })
+with_openings log e l ds os st lines dials is = record {
+  waits = λ s link. ap (λ w. waiting w link) (same_ways l s ds os) ∙ (st.waits s link ∙ sym (lines s link));
+  dialers = dials;
   openings = is;
 }
 
--- keys are exchanged over the link of the entry's name from then on
+-- the link of the entry's name is made, and keys are exchanged over it from then on
 pub links_opened : (log : List Entry) (e : Entry) (l : Links) (o : Opening) → LinksStand log l
     → ((s : Side) (link : ℕ) → line (log ++ e ∷ []) (queue.Link link s) ≡ line log (queue.Link link s))
-    → ((k : ℕ) → openings_of (log ++ e ∷ []) k ≡ with_named (length log) (Some o) (openings_of log) k)
-    → LinksStand (log ++ e ∷ []) (record l { openings = insert_entry nat_cmp l.openings (length log) o })
+    → Opens log e o → LinksStand (log ++ e ∷ []) (opened_with (length log) o l)
 links_opened log e l o st lines opened =
-    with_openings log e l (insert_entry nat_cmp l.openings (length log) o) st lines
-    (λ k. at-inserted (length log) k o l.openings ∙ (named (length log) k (Some o) l.openings (openings_of log) st.openings ∙ sym (opened k)))
+    with_openings log e l (insert_entry nat_cmp l.dialers (length log) o.node) (insert_entry nat_cmp l.openings (length log) o) st lines
+    (λ k. at-inserted (length log) k o.node l.dialers ∙ (ap (λ v. cond (k == length log) (Some o.node) v) (st.dialers k) ∙ sym (dialer_of-append log e o.node opened.dialer k)))
+    (λ k. at-inserted (length log) k o l.openings ∙ (named (length log) k (Some o) l.openings (openings_of log) st.openings ∙ sym (opened.openings k)))
 
 -- an exchange of keys has ended
 pub links_finished : (log : List Entry) (e : Entry) (l ls : Links) (link : ℕ) → LinksStand log l
     → ((s : Side) (j : ℕ) → line (log ++ e ∷ []) (queue.Link j s) ≡ line log (queue.Link j s))
-    → ((k : ℕ) → openings_of (log ++ e ∷ []) k ≡ with_named link None (openings_of log) k)
+    → DialsNone e × ((k : ℕ) → openings_of (log ++ e ∷ []) k ≡ with_named link None (openings_of log) k)
     → ((k : ℕ) → at ls.openings k ≡ cond (k == link) None (at l.openings k)) → ls ≡ record l { openings = ls.openings }
     → LinksStand (log ++ e ∷ []) ls
 links_finished log e l ls link st lines finished out rest =
     subst (LinksStand (log ++ e ∷ [])) (sym rest)
-    (with_openings log e l ls.openings st lines (λ k. out k ∙ (named link k None l.openings (openings_of log) st.openings ∙ sym (finished k))))
+    (with_openings log e l l.dialers ls.openings st lines (dialers_kept log e l.dialers st.dialers finished.0)
+    (λ k. out k ∙ (named link k None l.openings (openings_of log) st.openings ∙ sym (finished.1 k))))
 
 -- a line without its first, by its code
 first_gone : (log : List Entry) (p q : Queue) (x : Envelope) (rest : List Envelope) (b : Bool) → same_queue p q ≡ b → (b ≡ true → line log q ≡ line log p) → line log p ≡ x ∷ rest → cond b (drop 1 (line log q)) (line log q) ≡ cond b rest (line log q)
@@ -223,13 +283,14 @@ same_end side.In side.Out k j log h = cc
 -- the oldest frame of one direction is taken
 pub links_taken : (log : List Entry) (e : Entry) (l : Links) (s : Side) (k : ℕ) (x : Envelope) (rest : List Envelope) → LinksStand log l → line log (queue.Link k s) ≡ x ∷ rest
     → ((t : Side) (j : ℕ) → line (log ++ e ∷ []) (queue.Link j t) ≡ cond (same_queue (queue.Link k s) (queue.Link j t)) rest (line log (queue.Link j t)))
-    → ((j : ℕ) → openings_by log e (openings_of log) j ≡ openings_of log j) → LinksStand (log ++ e ∷ []) (with_way l s (popped_at (way_of l s) k))
+    → OpensNone log e → LinksStand (log ++ e ∷ []) (with_way l s (popped_at (way_of l s) k))
 links_taken log e l s k x rest st first lines kept = record {
   waits = λ t j.
       changed l s t k j (popped_at (way_of l s) k) (drop 1) (λ i. waiting-popped_at k i (way_of l s))
       ∙ (ap (λ v. cond (same_queue (queue.Link k s) (queue.Link j t)) (drop 1 v) v) (st.waits t j)
       ∙ (first_gone log (queue.Link k s) (queue.Link j t) x rest (same_queue (queue.Link k s) (queue.Link j t)) refl (same_end s t k j log) first ∙ sym (lines t j)));
-  openings = with_way_kept log e l s (popped_at (way_of l s) k) st kept;
+  dialers = (with_way_kept log e l s (popped_at (way_of l s) k) st kept).0;
+  openings = (with_way_kept log e l s (popped_at (way_of l s) k) st kept).1;
 }
 
 -- ---- a batch
@@ -269,7 +330,7 @@ placed_in entry p k j s t (f ∷ fs) b e =
 -- a batch is written to one direction
 pub links_written : (log : List Entry) (e : Entry) (l : Links) (s : Side) (k entry : ℕ) (fs : List ((ℕ × ℕ) × Item)) → LinksStand log l
     → ((t : Side) (j : ℕ) → line (log ++ e ∷ []) (queue.Link j t) ≡ line log (queue.Link j t) ++ filter (stands_in (queue.Link j t)) (placed entry 0 (frames_put k s fs)))
-    → ((j : ℕ) → openings_by log e (openings_of log) j ≡ openings_of log j) → LinksStand (log ++ e ∷ []) (with_way l s (written_way entry k s 0 fs (way_of l s)))
+    → OpensNone log e → LinksStand (log ++ e ∷ []) (with_way l s (written_way entry k s 0 fs (way_of l s)))
 links_written log e l s k entry fs st lines kept = record {
   waits = λ t j.
       let put = placed entry 0 (frames_put k s fs) in
@@ -278,5 +339,6 @@ links_written log e l s k entry fs st lines kept = record {
       ∙ (ap (λ v. cond same (v ++ put) v) (st.waits t j)
       ∙ (longer same (line log (queue.Link j t)) put
       ∙ (ap (λ v. line log (queue.Link j t) ++ v) (sym (placed_in entry 0 k j s t fs same (same_queue-sym (queue.Link j t) (queue.Link k s)))) ∙ sym (lines t j))));
-  openings = with_way_kept log e l s (written_way entry k s 0 fs (way_of l s)) st kept;
+  dialers = (with_way_kept log e l s (written_way entry k s 0 fs (way_of l s)) st kept).0;
+  openings = (with_way_kept log e l s (written_way entry k s 0 fs (way_of l s)) st kept).1;
 }

@@ -1,18 +1,25 @@
 -- The links as values: what each call makes of them.
 use Rattle.std.specs.Prelude.{ℕ, ◌+◌, List, [], ◌∷◌, ◌++◌, map}
+use Rattle.std.specs.BTreeMap.{insert_entry}
+use Rattle.std.specs.Ordering.{nat_cmp}
 use Rattle.p2p_log.specs.declared.queue.Queue.TheVariants as queue
 use Rattle.p2p_log.specs.declared.queue.Side.{Side}
 use Rattle.p2p_log.specs.declared.queue.Side.TheVariants as side
 use Rattle.p2p_log.specs.declared.item.Item.{Item}
 use Rattle.p2p_log.specs.declared.item.Envelope.{Envelope}
 use Rattle.p2p_log.specs.declared.entry.Reply.TheVariants as reply
+use Rattle.p2p_log_rules.specs.declared.row.Opening.{Opening}
 use Rattle.p2p_log_rules.specs.declared.row.Row.{Row}
 use Rattle.p2p_log_rules.specs.Effect.{only}
 use Rattle.p2p_net_queues.specs.Tables.{pushed_at}
 use Rattle.p2p_net_links.specs.declared.links.Links.{Links}
 
 abbrev pub no_links : Links
-no_links = record { outward = []; inward = []; openings = [] }
+no_links = record { outward = []; inward = []; dialers = []; openings = [] }
+
+-- a link more, over which keys are exchanged between these
+abbrev pub opened_with : ℕ → Opening → Links → Links
+opened_with link o l = record l { dialers = insert_entry nat_cmp l.dialers link o.node; openings = insert_entry nat_cmp l.openings link o }
 
 -- one direction of the links
 abbrev pub way_of : Links → Side → List (ℕ × List Envelope)

@@ -1,4 +1,4 @@
-//! `Links`, the frames in flight, and between whom keys are exchanged.
+//! `Links`, the frames in flight, who dialed, and between whom keys are exchanged.
 ghost use Rattle.std.specs.Prelude.{◌≡◌, ℕ, ◌++◌, ◌∷◌, [], length, map, slice_get, IfOk, OnOk};
 ghost use Rattle.std.specs.Option.{option_copied};
 ghost use Rattle.p2p_net_queues.specs.Tables.{waiting, popped_at};
@@ -10,14 +10,16 @@ use p2p_log_rules::{Opening, Row};
 use p2p_net_queues::{Deque, Table, Turn, only};
 use std::alloc::{AllocError, Global};
 
-/// The frames in flight over each link, the oldest first, by the direction in which they go, and between whom keys are
-/// exchanged over it.
+/// The frames in flight over each link, the oldest first, by the direction in which they go, who dialed it, and between whom
+/// keys are exchanged over it.
 #[derive(Drop)]
 pub struct Links {
     /// From the end that dialed.
     pub outward: Table<Deque<Envelope>>,
     /// From the end that listened.
     pub inward: Table<Deque<Envelope>>,
+    /// The nodes that dialed, by the events that made the links.
+    pub dialers: Table<u64>,
     /// Between whom keys are exchanged, by the events that made the links.
     pub openings: Table<Opening>,
 }
@@ -44,13 +46,14 @@ fn write_all(
 }
 
 impl Links {
-    /// Links over which nothing is in flight, and no keys are exchanged.
+    /// No links.
     pub fn new(alloc: Global) -> Links
         ensures { result ≡ no_links }
     {
         Links {
             outward: Table::new(alloc),
             inward: Table::new(alloc),
+            dialers: Table::new(alloc),
             openings: Table::new(alloc),
         }
     }

@@ -1,14 +1,20 @@
-//! Between whom keys are exchanged over the links: how an exchange begins, and how it ends.
+//! Who dialed the links, and between whom keys are exchanged over them: how an exchange begins, and how it ends.
 ghost use Rattle.std.specs.Prelude.{◌≡◌, ◌==◌, ℕ, None, cond, OnOk};
-ghost use Rattle.std.specs.BTreeMap.{insert_entry};
-ghost use Rattle.std.specs.Ordering.{nat_cmp};
 ghost use Rattle.p2p_net_queues.specs.Tables as table;
+ghost use Rattle.p2p_net_links.specs.Links.{opened_with};
 
 use crate::links::Links;
 use p2p_log_rules::Opening;
 use std::alloc::AllocError;
 
 impl Links {
+    /// The node that dialed a link, where there is one of this name.
+    pub fn dialer(&self, link: u64) -> Option<u64>
+        ensures { result ≡ table.at self.now.dialers link }
+    {
+        self.dialers.get(link)
+    }
+
     /// Between whom keys are exchanged over a link, where they are.
     pub fn opening(&self, link: u64) -> Option<Opening>
         ensures { result ≡ table.at self.now.openings link }
@@ -16,13 +22,13 @@ impl Links {
         self.openings.get(link)
     }
 
-    /// Keys are exchanged over a link from now on, between these.
+    /// A link is made, and keys are exchanged over it from now on, between these.
     ///
-    /// `Err` only where there is no memory.
+    /// `Err` only where there is no memory. The link may then be kept without the exchange.
     pub fn open(&mut self, link: u64, opening: Opening) -> Result<(), AllocError>
-        ensures { OnOk result
-            (self.new ≡ record self.old { openings = insert_entry nat_cmp self.old.openings link opening }) }
+        ensures { OnOk result (self.new ≡ opened_with link opening self.old) }
     {
+        self.dialers.insert(link, opening.node)?;
         self.openings.insert(link, opening)?;
         Ok(())
     }

@@ -213,22 +213,29 @@ impl Router {
     /// places a lane. The put of that place names the message.
     ///
     /// `Err` only where there is no memory. The router may then have done a part of it, and its node goes no further.
-    pub fn ready(&mut self, turn: Turn, place: u64, key: Key, size: usize) -> Result<(), AllocError>
+    pub fn ready(
+        &mut self,
+        turn: Turn,
+        place: u64,
+        conn: u64,
+        key: Key,
+        size: usize,
+    ) -> Result<(), AllocError>
         requires size { 1 ≤ size }
         requires bound { IsTrue (is_bound self.old.messenger.binding) }
-        ensures holds { OnOk result ((items : _) → Holds size self.old items → IsStranger self.old turn.entry key
-            → Holds size self.new (items ++ record { entry = turn.entry; place = place; queue = Queue.Router self.old.number; item = Item.Ready turn.entry key } ∷ [])) }
-        ensures peers { OnOk result ((c : ℕ) → get nat_cmp self.new.peers c ≡ (if is_eq (nat_cmp turn.entry c) then Some key else get nat_cmp self.old.peers c)) }
+        ensures holds { OnOk result ((items : _) → Holds size self.old items → IsStranger self.old conn key
+            → Holds size self.new (items ++ record { entry = turn.entry; place = place; queue = Queue.Router self.old.number; item = Item.Ready conn key } ∷ [])) }
+        ensures peers { OnOk result ((c : ℕ) → get nat_cmp self.new.peers c ≡ (if is_eq (nat_cmp conn c) then Some key else get nat_cmp self.old.peers c)) }
         ensures rest { OnOk result (self.new ≡ record self.old { messenger = self.new.messenger; peers = self.new.peers; names = self.new.names }) }
         ensures stands { OnOk result ((configs : _) (log : _) (e : _) → StandsFor configs log self.old → length log ≡ turn.entry → size ≡ mailbox_size_at configs self.old.number
-            → IsStranger self.old turn.entry key → IsBeside configs log e self.old.number → IsReadied e self.old.number place turn.entry key
+            → IsStranger self.old conn key → IsBeside configs log e self.old.number → IsReadied e self.old.number place conn key
             → StandsFor configs (log ++ e ∷ []) self.new) }
         ensures bound { OnOk result (IsTrue (is_bound self.new.messenger.binding)) }
         ensures places { OnOk result ((places : _) → HasPlaces places self.old.messenger.binding → HasPlaces places self.new.messenger.binding) }
     {
         let relay = Relay::new(turn.alloc, size)?;
-        tell_ready(&mut self.messenger, key, relay, turn.entry)?;
-        self.peers.insert(turn.entry, key)?;
+        tell_ready(&mut self.messenger, key, relay, conn)?;
+        self.peers.insert(conn, key)?;
         let queue = Queue::Router(self.number);
         let name = Name {
             entry: turn.entry,

@@ -1,24 +1,25 @@
 -- A new tracker stands for no entry, and what waits for one that stands may be taken.
 use Rattle.std.proofs.Common.{◌≡◌, ℕ, Bool, true, false, cond, List, [], ◌∷◌, map, length, refl, ap, sym, subst, ◌∙◌, Option, Some, None}
-use Rattle.std.specs.Prelude.{slice_get, IfSome, not, ◌==◌}
+use Rattle.std.specs.Prelude.{slice_get, is_some, IfSome, not, ◌&&◌, ◌||◌, ◌==◌}
 use Rattle.std.specs.BTreeMap.{is_at}
 use Rattle.std.specs.List.{list_any, IsDistinct}
 use Rattle.std.specs.Map.{lookup}
 use Rattle.std.specs.Option.{option_map}
 use Rattle.p2p_address.specs.declared.peer.Address.{Address}
 use Rattle.p2p_base.specs.declared.key.Key.{Key}
-use Rattle.p2p_tracker_calls.specs.Blocks.{is_local}
+use Rattle.p2p_tracker_calls.specs.Blocks.{is_local, is_blocked}
 use Rattle.p2p_tracker_calls.specs.Grants.{is_held}
 use Rattle.p2p_tracker_calls.specs.Keeping.{kept_of}
 use Rattle.p2p_tracker_calls.specs.Lives.{address_of, is_connected}
+use Rattle.p2p_tracker_calls.specs.Sets.{is_tracked}
 use Rattle.p2p_tracker_calls.specs.declared.call.Call.{Call}
-use Rattle.p2p_tracker_directory.specs.Recorded.{is_inert, is_held_or_unknown}
+use Rattle.p2p_tracker_directory.specs.Recorded.{is_inert, is_reserved, is_reserved_in, is_held_or_unknown}
 use Rattle.p2p_tracker_directory.specs.Stands.{Kept, StandsFor, status_of, own_record, peer_record, record_of}
 use Rattle.p2p_tracker_mailbox.specs.Desk.{next_message}
 use Rattle.p2p_tracker_mailbox.specs.Lines.{line_of}
 use Rattle.p2p_tracker_mailbox.specs.declared.message.Message.{Message}
 use Rattle.p2p_tracker.specs.Following.{Follows}
-use Rattle.p2p_tracker.specs.Serving.{MayTake}
+use Rattle.p2p_tracker.specs.Serving.{IsEligible, MayTake}
 use Rattle.p2p_tracker.specs.Tracking.{Tracking}
 use Rattle.p2p_tracker_mailbox.specs.declared.mailbox.Mailbox.{Mailbox}
 use Rattle.p2p_tracker_calls.specs.Rules.{Rules}
@@ -40,8 +41,8 @@ use Rattle.p2p_net_queues.specs.Tables as table
 use Rattle.p2p_net_tracker.specs.declared.tracker.Tracker.{Tracker}
 use Rattle.p2p_net_tracker.specs.Begins.{IsNew}
 use Rattle.p2p_net_queues.specs.Matching.{Match}
-use Rattle.p2p_net_tracker.specs.Stands.{IsTicket, IsMessage, IsAnswer, HeardStands, HandshakeStands, AreDistinct, IsHeldByPeer, ReleasesHeld, TrackerStands}
-use Rattle.p2p_net_tracker.proofs.Serving.{MayRelease, item-may_take}
+use Rattle.p2p_net_tracker.specs.Stands.{IsTicket, IsMessage, IsAnswer, HeardStands, HandshakeStands, AreDistinct, IsHeldByPeer, ReleasesHeld, ConnectsReserved, TrackerStands}
+use Rattle.p2p_net_tracker.proofs.Serving.{MayRelease, MayConnect, item-may_take}
 
 no_calls : (configs : List Config) (n : ℕ) → calls_of configs [] n ≡ []
 unfolding calls_of state_from
@@ -125,9 +126,43 @@ held_record rules calls key held others =
     by None = refl
     by (Some a) = by_status (is_held key_cmp calls key) (is_connected key_cmp rules calls key) held
 
--- the oldest message may be taken, where a release that is oldest is of a key that is held
-pub may_take : (configs : List Config) (log : List Entry) (n now : ℕ) (t : Tracker) → TrackerStands configs log n t → ReleasesHeld configs log n → IfSome (next_message t.mailbox.desk) (λ m. MayTake key_cmp t.actor.directory m now)
-may_take configs log n now t s released = of_line (line log (queue.Tracker n)) t.mailbox.desk.messages.items s.messages refl
+-- a key that is another's, held and not connected since has a record that says that it is reserved, where it has one
+reserved_record : (rules : Rules Key) (calls : List (Call Key)) (key : Key) → is_local key_cmp rules key ≡ false → is_some (address_of key_cmp rules calls key) ≡ true
+    → is_held key_cmp calls key ≡ true → is_connected key_cmp rules calls key ≡ false → is_reserved_in (record_of key_cmp rules calls key) ≡ true
+unfolding record_of
+reserved_record rules calls key others known held apart =
+    ap (λ b. is_reserved_in (cond b (Some (own_record key_cmp rules calls key)) (option_map (peer_record key_cmp rules calls key) (address_of key_cmp rules calls key)))) others
+    ∙ by (address_of key_cmp rules calls key) known
+  where
+    by_status : (h c : Bool) → h ≡ true → c ≡ false → is_reserved (status_of h c) ≡ true
+    by_status true false is none = refl
+    by_status true true is none = cc
+    by_status false c is none = cc
+
+    by : (o : Option Address) → is_some o ≡ true → is_reserved_in (option_map (peer_record key_cmp rules calls key) o) ≡ true
+    by None some = cc
+    by (Some a) some = by_status (is_held key_cmp calls key) (is_connected key_cmp rules calls key) held apart
+
+-- a directory that stands for calls by which a key is held, and not connected since, has it reserved where it is eligible
+pub reserved_there : (kept : Kept Key) (calls : List (Call Key)) (key : Key) (now : ℕ) → StandsFor key_cmp kept calls
+    → is_held key_cmp calls key ≡ true → is_connected key_cmp kept.rules calls key ≡ false → IsEligible key_cmp kept key now → is_reserved_in (lookup (is_at (key_cmp key)) kept.records) ≡ true
+reserved_there kept calls key now s held apart eligible =
+    let others = others_by (is_local key_cmp kept.rules key) (is_tracked key_cmp kept.rules calls key) (not (is_blocked key_cmp kept.rules calls key now)) (eligible calls s) in
+    let known = sym (s.addressed key others) ∙ alive_by (is_tracked key_cmp kept.rules calls key) (is_held key_cmp calls key) held in
+    ap is_reserved_in (s.records key) ∙ reserved_record kept.rules calls key others known held apart
+  where
+    others_by : (l t b : Bool) → (not l && t && b) ≡ true → l ≡ false
+    others_by true t b h = cc
+    others_by false t b h = refl
+
+    alive_by : (t h : Bool) → h ≡ true → (t || h) ≡ true
+    alive_by true h is = refl
+    alive_by false h is = is
+
+-- the oldest message may be taken, where a release that is oldest is of a key that is held, and a connection that begins of one that is reserved
+pub may_take : (configs : List Config) (log : List Entry) (n now : ℕ) (t : Tracker) → TrackerStands configs log n t → ReleasesHeld configs log n → ConnectsReserved configs log n
+    → IfSome (next_message t.mailbox.desk) (λ m. MayTake key_cmp t.actor.directory m now)
+may_take configs log n now t s released reserved = of_line (line log (queue.Tracker n)) t.mailbox.desk.messages.items s.messages refl
   where
     held_there : (key : Key) → IsHeldByPeer configs log n key → is_held_or_unknown (lookup (is_at (key_cmp key)) t.actor.directory.records) ≡ true
     held_there key h =
@@ -138,8 +173,14 @@ may_take configs log n now t s released = of_line (line log (queue.Tracker n)) t
     may_release x l first (item.Release key) is = held_there key (released key x l first is)
     may_release x l first _ is = tt
 
+    may_connect : (x : Envelope) (l : List Envelope) → line log (queue.Tracker n) ≡ x ∷ l → (i : Item) → x.item ≡ i → MayConnect t.actor.directory now i
+    may_connect x l first (item.Connect conn key) is =
+        let h = reserved conn key x l first is in
+        reserved_there t.actor.directory (calls_of configs log n) key now s.follows.stands h.0 (ap (λ r. is_connected key_cmp r (calls_of configs log n) key) s.rules ∙ h.1)
+    may_connect x l first _ is = tt
+
     of_line : (l : List Envelope) (ms : List (Message Key)) → Match (λ x m. IsMessage t.tickets log x.item m) l ms → line log (queue.Tracker n) ≡ l → IfSome (slice_get ms 0) (λ m. MayTake key_cmp t.actor.directory m now)
     of_line [] [] h first = tt
-    of_line (x ∷ l) (m ∷ ms) h first = item-may_take t.actor.directory t.tickets log x.item m now h.0 (may_release x l first x.item refl)
+    of_line (x ∷ l) (m ∷ ms) h first = item-may_take t.actor.directory t.tickets log x.item m now h.0 (may_release x l first x.item refl) (may_connect x l first x.item refl)
     of_line [] (m ∷ ms) h first = absurd h
     of_line (x ∷ l) [] h first = absurd h

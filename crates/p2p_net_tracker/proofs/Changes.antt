@@ -59,6 +59,7 @@ Says-more old new more e _ m h = absurd h
 
 IsMessage-longer : (old new : Tickets) → AreMore old new → (log more : List Entry) (i : Item) (m : Message Key) → IsMessage old log i m → IsMessage new (log ++ more) i m
 IsMessage-longer old new given log more (item.Call e) m h = (h.0, asked_by-longer log more e h.0 h.1, Says-more old new given e h.0 m h.2)
+IsMessage-longer old new given log more (item.Connect conn key) m h = h
 IsMessage-longer old new given log more item.AskDialable m h = h
 IsMessage-longer old new given log more (item.AskDial key) m h = h
 IsMessage-longer old new given log more (item.AskAcceptable name key) m h = (h.0, source_at-longer log more name h.0 h.1, h.2)

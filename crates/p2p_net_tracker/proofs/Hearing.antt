@@ -18,7 +18,7 @@ use Rattle.p2p_tracker_calls.specs.BlockedKeys.{blocked_keys}
 use Rattle.p2p_tracker_calls.specs.Blocks.{is_blockable}
 use Rattle.p2p_tracker_calls.specs.Keeping.{kept_of}
 use Rattle.p2p_tracker_calls.specs.Kills.{killed_keys}
-use Rattle.p2p_tracker_calls.specs.Lives.{is_overwritten}
+use Rattle.p2p_tracker_calls.specs.Lives.{accepts, is_overwritten}
 use Rattle.p2p_tracker_calls.specs.Overwrites.{overwritten, overwritten_keys}
 use Rattle.p2p_tracker_calls.specs.Peers.{latest_update}
 use Rattle.p2p_tracker_calls.specs.Rules.{Rules}
@@ -182,6 +182,11 @@ module _ (rules : Rules Key) where
     -- what is put for a message
     pub item_few : (t : Tickets) (log : List Entry) (i : Item) (m : Message Key) → IsMessage t log i m → PutsFew m
     item_few t log (item.Call e) m h = says_few t e h.0 m h.2
+    item_few t log (item.Connect conn key) m h = subst PutsFew (sym h) (inl (killed_once (accepts key_cmp rules calls key (Some now))))
+      where
+        killed_once : (b : Bool) → HearsOnce (cond b [] (put.Kill key conn ∷ []))
+        killed_once true = tt
+        killed_once false = tt
     item_few t log item.AskDialable m h = subst PutsFew (sym h) (inl tt)
     item_few t log (item.AskDial key) m h = subst PutsFew (sym h) (inl tt)
     item_few t log (item.AskAcceptable name key) m h = subst PutsFew (sym h.2) (inr (name, put.Acceptable name (is_acceptable key_cmp rules calls key h.0 now), refl, refl))

@@ -1,6 +1,7 @@
 pub mod Answering
 pub mod Begins
 pub mod Changes
+pub mod ConnectSteps
 pub mod Desk
 pub mod DialerSteps
 pub mod Dialing

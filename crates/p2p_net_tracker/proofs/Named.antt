@@ -14,7 +14,7 @@ use Rattle.p2p_tracker_calls.specs.BlockedKeys.{blocked_keys}
 use Rattle.p2p_tracker_calls.specs.Blocks.{is_blockable}
 use Rattle.p2p_tracker_calls.specs.Keeping.{kept_of}
 use Rattle.p2p_tracker_calls.specs.Kills.{killed_keys}
-use Rattle.p2p_tracker_calls.specs.Lives.{address_of, is_overwritten}
+use Rattle.p2p_tracker_calls.specs.Lives.{accepts, address_of, is_overwritten}
 use Rattle.p2p_tracker_calls.specs.Overwrites.{overwritten, overwritten_keys}
 use Rattle.p2p_tracker_calls.specs.Peers.{peer_set_of, latest_update}
 use Rattle.p2p_tracker_calls.specs.Rules.{Rules}
@@ -164,6 +164,12 @@ module _ (n : ℕ) (t : Tickets) where
       pub named-item : (log : List Entry) (i : Item) (m : Message Key) → ((k : ℕ) → runs k ≡ is_handshaking log n k) → IsMessage t log i m
           → named_puts n t (puts_for key_cmp rules updates sets waiting heard runs calls now m) ≡ puts.item_puts rules n now us bs calls log i
       named-item log (item.Call e) m runs_now h = named-message e h.0 m h.2 ∙ ap (λ o. puts.asked_puts rules n now us bs calls e o) (sym h.1)
+      named-item log (item.Connect conn key) m runs_now h =
+          ap (λ d. named_puts n t (puts_for key_cmp rules updates sets waiting heard runs calls now d)) h ∙ killed (accepts key_cmp rules calls key (Some now))
+        where
+          killed : (b : Bool) → named_puts n t (cond b [] (put.Kill key conn ∷ [])) ≡ cond b [] (puts.kill_put n (Some conn))
+          killed true = refl
+          killed false = refl
       named-item log item.AskDialable m runs_now h = ap (λ d. named_puts n t (puts_for key_cmp rules updates sets waiting heard runs calls now d)) h
       named-item log (item.AskDial key) m runs_now h =
           ap (λ d. named_puts n t (puts_for key_cmp rules updates sets waiting heard runs calls now d)) h

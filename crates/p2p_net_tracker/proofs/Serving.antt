@@ -16,9 +16,9 @@ use Rattle.p2p_tracker_calls.specs.Lives.{address_of, cool}
 use Rattle.p2p_tracker_calls.specs.Sets.{is_primary}
 use Rattle.p2p_tracker_calls.specs.Rules.{Rules}
 use Rattle.p2p_tracker_mailbox.specs.declared.message.Message.{Message}
-use Rattle.p2p_tracker_directory.specs.Recorded.{is_held_or_unknown}
+use Rattle.p2p_tracker_directory.specs.Recorded.{is_reserved_in, is_held_or_unknown}
 use Rattle.p2p_tracker_directory.specs.Stands.{Kept}
-use Rattle.p2p_tracker.specs.Serving.{calls_after, MayTake}
+use Rattle.p2p_tracker.specs.Serving.{calls_after, IsEligible, MayTake}
 use Rattle.p2p_tracker.specs.Steps.{updates_for, sets_for}
 use Rattle.p2p_log.specs.declared.queue.Queue.TheVariants as queue
 use Rattle.p2p_log.specs.declared.item.Item.{Item}
@@ -92,6 +92,7 @@ pub item-updates : (t : Tickets) (log : List Entry) (i : Item) (m : Message Key)
     → Match (IsTicket t.updates) (updates_for m ts) (es ++ flat_map (call_where subscribes log) (i ∷ []))
 item-updates t log (item.Call e) m ts es h s =
     subst (λ o. Match (IsTicket t.updates) (updates_for m ts) (es ++ ((elim o [ None ↦ [] | Some b ↦ cond (subscribes b) (e ∷ []) [] ]) ++ []))) (sym h.1) (says-updates t e h.0 m ts es h.2 s)
+item-updates t log (item.Connect conn key) m ts es h s = subst (λ d. Match (IsTicket t.updates) (updates_for d ts) (es ++ [])) (sym h) (same_events (IsTicket t.updates) ts es s)
 item-updates t log item.AskDialable m ts es h s = subst (λ d. Match (IsTicket t.updates) (updates_for d ts) (es ++ [])) (sym h) (same_events (IsTicket t.updates) ts es s)
 item-updates t log (item.AskDial key) m ts es h s = subst (λ d. Match (IsTicket t.updates) (updates_for d ts) (es ++ [])) (sym h) (same_events (IsTicket t.updates) ts es s)
 item-updates t log (item.AskAcceptable name key) m ts es h s = subst (λ d. Match (IsTicket t.updates) (updates_for d ts) (es ++ [])) (sym h.2) (same_events (IsTicket t.updates) ts es s)
@@ -103,6 +104,7 @@ pub item-sets : (t : Tickets) (log : List Entry) (i : Item) (m : Message Key) (t
     → Match (IsTicket t.blocked) (sets_for m ts) (es ++ flat_map (call_where subscribes_blocked log) (i ∷ []))
 item-sets t log (item.Call e) m ts es h s =
     subst (λ o. Match (IsTicket t.blocked) (sets_for m ts) (es ++ ((elim o [ None ↦ [] | Some b ↦ cond (subscribes_blocked b) (e ∷ []) [] ]) ++ []))) (sym h.1) (says-sets t e h.0 m ts es h.2 s)
+item-sets t log (item.Connect conn key) m ts es h s = subst (λ d. Match (IsTicket t.blocked) (sets_for d ts) (es ++ [])) (sym h) (same_events (IsTicket t.blocked) ts es s)
 item-sets t log item.AskDialable m ts es h s = subst (λ d. Match (IsTicket t.blocked) (sets_for d ts) (es ++ [])) (sym h) (same_events (IsTicket t.blocked) ts es s)
 item-sets t log (item.AskDial key) m ts es h s = subst (λ d. Match (IsTicket t.blocked) (sets_for d ts) (es ++ [])) (sym h) (same_events (IsTicket t.blocked) ts es s)
 item-sets t log (item.AskAcceptable name key) m ts es h s = subst (λ d. Match (IsTicket t.blocked) (sets_for d ts) (es ++ [])) (sym h.2) (same_events (IsTicket t.blocked) ts es s)
@@ -115,15 +117,22 @@ abbrev pub MayRelease : Kept Key → Item → Type 0
 MayRelease kept (item.Release key) = is_held_or_unknown (lookup (is_at (key_cmp key)) kept.records) ≡ true
 MayRelease kept _ = Unit {0}
 
-pub item-may_take : (kept : Kept Key) (t : Tickets) (log : List Entry) (i : Item) (m : Message Key) (now : ℕ) → IsMessage t log i m → MayRelease kept i → MayTake key_cmp kept m now
-item-may_take kept t log (item.Call e) m now h released = says-may_take kept t e h.0 m now h.2
-item-may_take kept t log item.AskDialable m now h released = subst (λ k. MayTake key_cmp kept k now) (sym h) tt
-item-may_take kept t log (item.AskDial key) m now h released = subst (λ k. MayTake key_cmp kept k now) (sym h) tt
-item-may_take kept t log (item.AskAcceptable name key) m now h released = subst (λ k. MayTake key_cmp kept k now) (sym h.2) tt
-item-may_take kept t log (item.AskListen name key) m now h released = subst (λ k. MayTake key_cmp kept k now) (sym h.2) tt
-item-may_take kept t log (item.Release key) m now h released =
+-- a connection that begins is of a key that is reserved, where that is eligible
+abbrev pub MayConnect : Kept Key → ℕ → Item → Type 0
+MayConnect kept now (item.Connect conn key) = IsEligible key_cmp kept key now → is_reserved_in (lookup (is_at (key_cmp key)) kept.records) ≡ true
+MayConnect kept now _ = Unit {0}
+
+pub item-may_take : (kept : Kept Key) (t : Tickets) (log : List Entry) (i : Item) (m : Message Key) (now : ℕ) → IsMessage t log i m → MayRelease kept i → MayConnect kept now i
+    → MayTake key_cmp kept m now
+item-may_take kept t log (item.Call e) m now h released reserved = says-may_take kept t e h.0 m now h.2
+item-may_take kept t log (item.Connect conn key) m now h released reserved = subst (λ k. MayTake key_cmp kept k now) (sym h) reserved
+item-may_take kept t log item.AskDialable m now h released reserved = subst (λ k. MayTake key_cmp kept k now) (sym h) tt
+item-may_take kept t log (item.AskDial key) m now h released reserved = subst (λ k. MayTake key_cmp kept k now) (sym h) tt
+item-may_take kept t log (item.AskAcceptable name key) m now h released reserved = subst (λ k. MayTake key_cmp kept k now) (sym h.2) tt
+item-may_take kept t log (item.AskListen name key) m now h released reserved = subst (λ k. MayTake key_cmp kept k now) (sym h.2) tt
+item-may_take kept t log (item.Release key) m now h released reserved =
     subst (λ k. MayTake key_cmp kept k now) (sym h.2) (ap (λ k. is_held_or_unknown (lookup (is_at (key_cmp k)) kept.records)) h.1 ∙ released)
-item-may_take kept t log _ m now h released = absurd h
+item-may_take kept t log _ m now h released reserved = absurd h
 
 -- a dial is granted where the answer reserves someone
 dial-granted : (rules : Rules Key) (n : ℕ) (calls : List (Call Key)) (k : Key) (now : ℕ)
@@ -159,6 +168,7 @@ AskerRuns log n _ = Unit {0}
 pub item-calls : (rules : Rules Key) (n : ℕ) (t : Tickets) (log : List Entry) (i : Item) (m : Message Key) (now jitter : ℕ) (us bs : List ℕ) (calls : List (Call Key)) → IsMessage t log i m → AskerRuns log n i
     → calls_after key_cmp rules m now jitter calls ≡ item_calls log i now jitter (list_any grants_peer (puts.item_puts rules n now us bs calls log i)) calls
 item-calls rules n t log (item.Call e) m now jitter us bs calls h runs = says-calls rules t e h.0 m now jitter calls h.2 ∙ ap (λ o. asked_calls o now calls) (sym h.1)
+item-calls rules n t log (item.Connect conn key) m now jitter us bs calls h runs = ap (λ d. calls_after key_cmp rules d now jitter calls) h
 item-calls rules n t log item.AskDialable m now jitter us bs calls h runs = ap (λ d. calls_after key_cmp rules d now jitter calls) h
 item-calls rules n t log (item.AskDial key) m now jitter us bs calls h runs =
     ap (λ d. calls_after key_cmp rules d now jitter calls) h ∙ ap (λ b. call.Dial key now jitter b ∷ calls) (sym (dial-granted rules n calls key now))

@@ -1,5 +1,6 @@
 pub mod Asking
 pub mod Begins
+pub mod Connecting
 pub mod Dialed
 pub mod Finishing
 pub mod Handshaking

@@ -9,6 +9,7 @@ use Rattle.p2p_address.specs.declared.ip.IpAddr.{IpAddr}
 use Rattle.p2p_address.specs.declared.peer.Ingress.{Ingress}
 use Rattle.p2p_tracker_calls.specs.Blocks.{is_local}
 use Rattle.p2p_tracker_calls.specs.Grants.{is_held}
+use Rattle.p2p_tracker_calls.specs.Lives.{is_connected}
 use Rattle.p2p_tracker_directory.specs.Reserved.{peer_of}
 use Rattle.p2p_tracker_directory.specs.declared.metadata.Metadata.{Metadata}
 use Rattle.p2p_tracker_mailbox.specs.declared.answer.DialerAnswer.{DialerAnswer}
@@ -84,9 +85,11 @@ abbrev pub Says : Tickets → ℕ → Act → Message Key → Type 0
 Says t e (act.Ask what n) m = (ticket : ℕ) × (m ≡ message_of what ticket) × HasTicket t (kind_of what) ticket e
 Says t e _ m = ⊥
 
--- the item names the event that the message is of, or is what a dialer, a listener or a handshake asks, or gives a reservation of its key back
+-- the item names the event that the message is of, or is what a dialer, a listener or a handshake asks, or says that a connection has begun, or
+-- gives a reservation of its key back
 abbrev pub IsMessage : Tickets → List Entry → Item → Message Key → Type 0
 IsMessage t log (item.Call e) m = (a : Act) × (asked_by log e ≡ Some a) × Says t e a m
+IsMessage t log (item.Connect conn key) m = m ≡ message.Connect key conn
 IsMessage t log item.AskDialable m = m ≡ message.Dialable
 IsMessage t log (item.AskDial key) m = m ≡ message.Dial key
 IsMessage t log (item.AskAcceptable name key) m = (source : IpAddr) × (source_at log name ≡ Some source) × (m ≡ message.Acceptable key source name)
@@ -128,6 +131,15 @@ IsHeldByPeer configs log n key = (is_held key_cmp (calls_of configs log n) key �
 -- a release that is the oldest of what waits is of a key that is held
 abbrev pub ReleasesHeld : List Config → List Entry → ℕ → Type 0
 ReleasesHeld configs log n = (key : Key) (x : Envelope) (rest : List Envelope) → line log (queue.Tracker n) ≡ x ∷ rest → x.item ≡ item.Release key → IsHeldByPeer configs log n key
+
+-- by the calls so far the key is held, and no connection of it was accepted since it was granted
+abbrev pub IsReservedByCalls : List Config → List Entry → ℕ → Key → Type 0
+IsReservedByCalls configs log n key = (is_held key_cmp (calls_of configs log n) key ≡ true) × (is_connected key_cmp (rules_at configs n) (calls_of configs log n) key ≡ false)
+
+-- a connection that begins, where that is the oldest of what waits, is of a key that is reserved
+abbrev pub ConnectsReserved : List Config → List Entry → ℕ → Type 0
+ConnectsReserved configs log n =
+    (conn : ℕ) (key : Key) (x : Envelope) (rest : List Envelope) → line log (queue.Tracker n) ≡ x ∷ rest → x.item ≡ item.Connect conn key → IsReservedByCalls configs log n key
 
 -- a handshake that asks for its peer runs while that is the oldest of what waits
 abbrev pub AsksRun : List Entry → ℕ → Type 0

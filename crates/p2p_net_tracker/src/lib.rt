@@ -2,6 +2,7 @@
 #![tactic(auto)]
 
 pub mod asking;
+pub mod connecting;
 pub mod dialed;
 pub mod finishing;
 pub mod handshaking;

@@ -19,10 +19,10 @@ pub returns-clause-holds : goal.returns-clause-holds
 returns-clause-holds c =
     λ items h stranger.
     let r = c.args.self.now in
-    Holds-readied c.args.size r c.tell_ready.new.messenger c.insert.new.self c.push.new.self c.args.turn.entry c.args.place c.args.turn.entry c.args.key items
+    Holds-readied c.args.size r c.tell_ready.new.messenger c.insert.new.self c.push.new.self c.args.turn.entry c.args.place c.args.conn c.args.key items
     r.messenger.binding refl c.requires.bound
     (c.in_ok-tell_ready.ensures
-    ∙ ap (λ (l : Lanes EncodedData). record r.messenger { binding = in_mailbox (λ q. appended q (message.Ready c.args.key l c.args.turn.entry)) r.messenger.binding }) c.in_ok-relay.ensures)
+    ∙ ap (λ (l : Lanes EncodedData). record r.messenger { binding = in_mailbox (λ q. appended q (message.Ready c.args.key l c.args.conn)) r.messenger.binding }) c.in_ok-relay.ensures)
     h stranger (c.in_ok-insert.ensures.updates.0) c.in_ok-push.ensures
 
 pub returns-clause-bound : goal.returns-clause-bound
@@ -40,14 +40,14 @@ returns-clause-stands c =
     let r = c.args.self.now in
     let told =
     c.in_ok-tell_ready.ensures
-    ∙ ap (λ (l : Lanes EncodedData). record r.messenger { binding = in_mailbox (λ q. appended q (message.Ready c.args.key l c.args.turn.entry)) r.messenger.binding }) c.in_ok-relay.ensures
+    ∙ ap (λ (l : Lanes EncodedData). record r.messenger { binding = in_mailbox (λ q. appended q (message.Ready c.args.key l c.args.conn)) r.messenger.binding }) c.in_ok-relay.ensures
     in
     let holds =
-    Holds-readied c.args.size r c.tell_ready.new.messenger c.insert.new.self c.push.new.self c.args.turn.entry c.args.place c.args.turn.entry c.args.key (live log)
+    Holds-readied c.args.size r c.tell_ready.new.messenger c.insert.new.self c.push.new.self c.args.turn.entry c.args.place c.args.conn c.args.key (live log)
     r.messenger.binding refl c.requires.bound told (subst (λ k. Holds k r (live log)) (sym room) s.holds) stranger (c.in_ok-insert.ensures.updates.0) c.in_ok-push.ensures
     in
-    readied_stands configs log e r c.tell_ready.new.messenger c.insert.new.self c.push.new.self c.args.place c.args.turn.entry c.args.key s b g
+    readied_stands configs log e r c.tell_ready.new.messenger c.insert.new.self c.push.new.self c.args.place c.args.conn c.args.key s b g
     (ap (λ (d : Desk Key). is_bound d.binding) told ∙ bound_appended r.messenger.binding _)
     (λ k h. subst (λ (d : Desk Key). HasPlaces k d.binding) (sym told) (places_appended k r.messenger.binding _ h))
-    (subst (λ k. Holds k (moved_to r c.tell_ready.new.messenger r.actor c.insert.new.self c.push.new.self) (live log ++ record { entry = length log; place = c.args.place; queue = queue.Router r.number; item = item.Ready c.args.turn.entry c.args.key } ∷ [])) room
-    (subst (λ n. Holds c.args.size (moved_to r c.tell_ready.new.messenger r.actor c.insert.new.self c.push.new.self) (live log ++ record { entry = n; place = c.args.place; queue = queue.Router r.number; item = item.Ready c.args.turn.entry c.args.key } ∷ [])) (sym at) holds))
+    (subst (λ k. Holds k (moved_to r c.tell_ready.new.messenger r.actor c.insert.new.self c.push.new.self) (live log ++ record { entry = length log; place = c.args.place; queue = queue.Router r.number; item = item.Ready c.args.conn c.args.key } ∷ [])) room
+    (subst (λ n. Holds c.args.size (moved_to r c.tell_ready.new.messenger r.actor c.insert.new.self c.push.new.self) (live log ++ record { entry = n; place = c.args.place; queue = queue.Router r.number; item = item.Ready c.args.conn c.args.key } ∷ [])) (sym at) holds))
