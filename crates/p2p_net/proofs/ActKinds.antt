@@ -1,25 +1,22 @@
--- The kinds of acts: those that change which channels, nodes, connections and answers there are, and the plain ones.
-use Rattle.std.proofs.Common.{◌≡◌, ℕ, false, List, [], refl, ap, ◌∙◌, None}
+-- The kinds of acts: those that change which channels, nodes and answers there are, and the plain ones.
+use Rattle.std.proofs.Common.{◌≡◌, ℕ, false, List, [], refl, ap, ◌∙◌}
 use Rattle.p2p_log.specs.declared.config.Config.{Config}
-use Rattle.p2p_log.specs.declared.entry.Reply.{Reply}
 use Rattle.p2p_log.specs.declared.event.Rate.{Rate}
 use Rattle.p2p_log.specs.declared.event.Act.{Act}
 use Rattle.p2p_log.specs.declared.event.Act.TheVariants as act
-use Rattle.p2p_log_rules.specs.Facts.{registers_at, starts, half_of, joins, steps_router, steps_sender}
+use Rattle.p2p_log_rules.specs.Connections.{steps_sender}
+use Rattle.p2p_log_rules.specs.Facts.{registers_at, starts, steps_router}
 
--- an act that registers no channel, starts and joins no node, and steps no router and no sending half
+-- an act that registers no channel, starts no node, and steps no router and no sending half
 pub record IsPlain (a : Act) : Type 0 where
   pub registers : (configs : List Config) (n : ℕ) → registers_at configs n a ≡ []
   pub starts : (n : ℕ) → starts n a ≡ false
-  pub half : (configs : List Config) (n conn : ℕ) (r : Reply) → half_of configs n conn a r ≡ None
-  pub joins : (n m : ℕ) (r : Reply) → joins n m a r ≡ false
   pub routes : (n : ℕ) → steps_router n a ≡ false
   pub sends : (n conn : ℕ) → steps_sender n conn a ≡ false
 
 pub data Kind (a : Act) : Type 0 where
   registering : (c n : ℕ) (rate : Rate) → a ≡ act.Register c n rate → Kind a
   starting : (n : ℕ) → a ≡ act.Start n → Kind a
-  joining : (m n : ℕ) → a ≡ act.Join m n → Kind a
   routing : (n : ℕ) → a ≡ act.Router n → Kind a
   sending : (conn n : ℕ) → a ≡ act.SendStep conn n → Kind a
   plain : IsPlain a → Kind a
@@ -27,11 +24,10 @@ pub data Kind (a : Act) : Type 0 where
 pub kind_of : (a : Act) → Kind a
 kind_of (act.Register c n rate) = registering c n rate refl
 kind_of (act.Start n) = starting n refl
-kind_of (act.Join m n) = joining m n refl
 kind_of (act.Router n) = routing n refl
 kind_of (act.SendStep conn n) = sending conn n refl
 kind_of _ =
-    plain (record { registers = λ _ _. refl; starts = λ _. refl; half = λ _ _ _ _. refl; joins = λ _ _ _. refl; routes = λ _. refl; sends = λ _ _. refl })
+    plain (record { registers = λ _ _. refl; starts = λ _. refl; routes = λ _. refl; sends = λ _ _. refl })
 
 -- what an act is not, by what it would be
 
@@ -41,7 +37,6 @@ registers_unless configs n a h = by (kind_of a)
     by : Kind a → registers_at configs n a ≡ []
     by (registering c m rate is) = ap (registers_at configs n) is ∙ h c m rate is
     by (starting m is) = ap (registers_at configs n) is
-    by (joining l m is) = ap (registers_at configs n) is
     by (routing m is) = ap (registers_at configs n) is
     by (sending conn m is) = ap (registers_at configs n) is
     by (plain p) = p.registers configs n
@@ -52,32 +47,9 @@ starts_unless n a h = by (kind_of a)
     by : Kind a → starts n a ≡ false
     by (registering c m rate is) = ap (starts n) is
     by (starting m is) = ap (starts n) is ∙ h m is
-    by (joining l m is) = ap (starts n) is
     by (routing m is) = ap (starts n) is
     by (sending conn m is) = ap (starts n) is
     by (plain p) = p.starts n
-
-pub half_unless : (configs : List Config) (n conn : ℕ) (a : Act) (r : Reply) → ((l m : ℕ) → a ≡ act.Join l m → half_of configs n conn (act.Join l m) r ≡ None) → half_of configs n conn a r ≡ None
-half_unless configs n conn a r h = by (kind_of a)
-  where
-    by : Kind a → half_of configs n conn a r ≡ None
-    by (registering c m rate is) = ap (λ x. half_of configs n conn x r) is
-    by (starting m is) = ap (λ x. half_of configs n conn x r) is
-    by (joining l m is) = ap (λ x. half_of configs n conn x r) is ∙ h l m is
-    by (routing m is) = ap (λ x. half_of configs n conn x r) is
-    by (sending d m is) = ap (λ x. half_of configs n conn x r) is
-    by (plain p) = p.half configs n conn r
-
-pub joins_unless : (n k : ℕ) (a : Act) (r : Reply) → ((l m : ℕ) → a ≡ act.Join l m → joins n k (act.Join l m) r ≡ false) → joins n k a r ≡ false
-joins_unless n k a r h = by (kind_of a)
-  where
-    by : Kind a → joins n k a r ≡ false
-    by (registering c m rate is) = ap (λ x. joins n k x r) is
-    by (starting m is) = ap (λ x. joins n k x r) is
-    by (joining l m is) = ap (λ x. joins n k x r) is ∙ h l m is
-    by (routing m is) = ap (λ x. joins n k x r) is
-    by (sending conn m is) = ap (λ x. joins n k x r) is
-    by (plain p) = p.joins n k r
 
 pub routes_unless : (n : ℕ) (a : Act) → ((m : ℕ) → a ≡ act.Router m → steps_router n (act.Router m) ≡ false) → steps_router n a ≡ false
 routes_unless n a h = by (kind_of a)
@@ -85,7 +57,6 @@ routes_unless n a h = by (kind_of a)
     by : Kind a → steps_router n a ≡ false
     by (registering c m rate is) = ap (steps_router n) is
     by (starting m is) = ap (steps_router n) is
-    by (joining l m is) = ap (steps_router n) is
     by (routing m is) = ap (steps_router n) is ∙ h m is
     by (sending conn m is) = ap (steps_router n) is
     by (plain p) = p.routes n
@@ -96,7 +67,6 @@ sends_unless n conn a h = by (kind_of a)
     by : Kind a → steps_sender n conn a ≡ false
     by (registering c m rate is) = ap (steps_sender n conn) is
     by (starting m is) = ap (steps_sender n conn) is
-    by (joining l m is) = ap (steps_sender n conn) is
     by (routing m is) = ap (steps_sender n conn) is
     by (sending d m is) = ap (steps_sender n conn) is ∙ h d m is
     by (plain p) = p.sends n conn

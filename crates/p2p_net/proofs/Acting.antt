@@ -5,39 +5,35 @@ use Rattle.std.specs.List.{list_any}
 use Rattle.std.proofs.lemmas.Bool.Decides.{nat_tests}
 use Rattle.std.proofs.lemmas.Option.{same_Some}
 use Rattle.std.proofs.lemmas.List.{length-set}
-use Rattle.p2p_base.specs.declared.key.Key.{Key}
 use Rattle.p2p_log.specs.declared.config.Config.{Config}
-use Rattle.p2p_log.specs.declared.queue.Side.TheVariants as side
 use Rattle.p2p_log.specs.declared.entry.Entry.{Entry}
-use Rattle.p2p_log.specs.declared.entry.Reply.TheVariants as reply
 use Rattle.p2p_log.specs.declared.event.Event.{Event}
 use Rattle.p2p_log.specs.declared.event.Act.{Act}
 use Rattle.p2p_log.specs.declared.event.Act.TheVariants as act
 use Rattle.p2p_log_rules.specs.declared.row.Row.{Row}
-use Rattle.p2p_log_rules.specs.Facts.{events_of, key_at}
-use Rattle.p2p_log_rules.specs.Effect.{only, row, effect, entry_of, may_join}
+use Rattle.p2p_log_rules.specs.Facts.{events_of}
+use Rattle.p2p_log_rules.specs.Effect.{row, effect}
 use Rattle.p2p_log_rules.specs.Lawful.{IsLawful}
 use Rattle.p2p_log_rules.specs.Valid.{may_act}
 use Rattle.p2p_log_laws.proofs.HandshakeLaws.{each_handshake, asker_runs}
+use Rattle.p2p_log_laws.proofs.OneConnection.{connections_are_one}
 use Rattle.p2p_net_links.specs.Stands.{LinksStand}
 use Rattle.p2p_net_links.specs.declared.links.Links.{Links}
 use Rattle.p2p_net_tracker.specs.Stands.{AsksRun}
-use Rattle.p2p_net.specs.Places.{Part, router, connections, same_part, at, parts_of, parts_named, names_links, places_at, same_place, names, node_of}
+use Rattle.p2p_net.specs.Places.{Part, same_part, at, parts_of, parts_named, names_links, places_at, same_place, names, node_of}
 use Rattle.p2p_net.specs.Acts.{NodeDoes}
-use Rattle.p2p_net.specs.Joining.{Welcomes, Connects, JoinsBy, Joins, OneDoes, Meets, DoesOn, WorldDoes, joined_row}
+use Rattle.p2p_net.specs.Events.{OneDoes, Meets, DoesOn, WorldDoes}
 use Rattle.p2p_net.specs.Meetings.{meeting_of}
 use Rattle.p2p_net.specs.declared.meeting.Meeting.{Meeting}
 use Rattle.p2p_net.specs.declared.meeting.Meeting.TheVariants as meeting
-use Rattle.p2p_net.specs.Joining as joining
 use Rattle.p2p_net.specs.Stands.{NodeStands, WorldStands}
 use Rattle.p2p_net.specs.declared.node.Node.{Node}
 use Rattle.p2p_net.proofs.Nodes.{slice_get-set, below}
-use Rattle.p2p_net.proofs.Frames.{part_frame, links_kept}
-use Rattle.p2p_net.proofs.Performing.{asked, Performs, Simulates, part_still, links_still, effect-still}
+use Rattle.p2p_net.proofs.Frames.{part_frame}
+use Rattle.p2p_net.proofs.Performing.{asked, Performs, Simulates}
 use Rattle.p2p_net.proofs.DialAnswers.{refuse_performs}
 use Rattle.p2p_net.proofs.Arrivals.{link_simulates}
 use Rattle.p2p_net.proofs.Exchanged.{finish_simulates}
-use Rattle.p2p_net.proofs.Readying.{key_is}
 use Rattle.p2p_net.proofs.Resolving.{resolve_performs}
 use Rattle.p2p_net.proofs.Calling.{register_performs, start_performs, send_performs, read_performs}
 use Rattle.p2p_net.proofs.Dialing.{dialer_performs}
@@ -47,9 +43,8 @@ use Rattle.p2p_net.proofs.SpawnerStep.{spawner_performs}
 use Rattle.p2p_net.proofs.Stepping.{route_performs}
 use Rattle.p2p_net.proofs.Trying.{attempt_performs}
 use Rattle.p2p_net.proofs.Tracking.{ask_performs, answer_performs, next_performs, tracker_performs}
-use Rattle.p2p_net.proofs.Writing.{send_step_performs}
+use Rattle.p2p_net.proofs.Sending.{send_step_performs}
 use Rattle.p2p_net.proofs.Receiving.{recv_step_performs}
-use Rattle.p2p_net.proofs.Welcoming.{MayJoin-test, may_join-nodes, Told, ready_row, told_first, told_second, welcome_stands}
 
 -- ---- acts that name one node
 
@@ -65,7 +60,7 @@ node_performs configs log moment seed (act.Register c n rate) x y l links r s t 
 node_performs configs log moment seed (act.Start n) x y l links r s t lawful valid one d = start_performs configs log moment seed n x y l links r s t d.0 d.1
 node_performs configs log moment seed (act.Send bytes c n priority to) x y l links r s t lawful valid one d = send_performs configs log moment seed n c bytes priority to x y l links r s t d.0 d.1
 node_performs configs log moment seed (act.Router n) x y l links r s t lawful valid one d = route_performs configs log moment seed n x y l links r s t d.0 d.1
-node_performs configs log moment seed (act.SendStep conn n) x y l links r s t lawful valid one d = send_step_performs configs log moment seed conn n x y l links r s t d
+node_performs configs log moment seed (act.SendStep conn n) x y l links r s t lawful valid one d = send_step_performs configs log moment seed conn n x y l links r s t (connections_are_one configs (events_of log) log lawful) d
 node_performs configs log moment seed (act.RecvStep conn n) x y l links r s t lawful valid one d = recv_step_performs configs log moment seed conn n x y l links r s t d
 node_performs configs log moment seed (act.Recv c n) x y l links r s t lawful valid one d = read_performs configs log moment seed n c x y l links r s t d.0 d.1
 node_performs configs log moment seed (act.Ask what n) x y l links r s t lawful valid one d = ask_performs configs log moment seed n what x y l links r s t d.0.0 d.0.1 d.1
@@ -79,7 +74,6 @@ node_performs configs log moment seed (act.Handshake e n) x y l links r s t lawf
 node_performs configs log moment seed (act.Attempt e n) x y l links r s t lawful valid one d = attempt_performs configs log moment seed e n x y l links r s t d.0 d.1
 node_performs configs log moment seed (act.Resolve addresses e n) x y l links r s t lawful valid one d = resolve_performs configs log moment seed addresses e n x y l links r s t d.0.0 d.0.1 d.1
 node_performs configs log moment seed (act.Refuse e n) x y l links r s t lawful valid one d = refuse_performs configs log moment seed e n x y l links r s t d.0.0 d.0.1 d.1
-node_performs configs log moment seed (act.Join a b) x y l links r s t lawful valid one d = cc
 node_performs configs log moment seed (act.Connect e from n m) x y l links r s t lawful valid one d = cc
 node_performs configs log moment seed (act.Finish link ok) x y l links r s t lawful valid one d = cc
 
@@ -100,7 +94,6 @@ unnamed_at false ps p n m ne = parts_elsewhere ps p n m ne
 unnamed_at true ps p n m ne = parts_elsewhere ps p n m ne
 
 others_unnamed : (log : List Entry) (a : Act) (p : Part) (m : ℕ) → meeting_of a ≡ None → (node_of log a == m) ≡ false → names log a (at p m) ≡ false
-others_unnamed log (act.Join a b) p m one ne = cc
 others_unnamed log (act.Connect e from n k) p m one ne = cc
 others_unnamed log (act.Finish link ok) p m one ne = cc
 others_unnamed log a p m one ne = unnamed_at (names_links a) (parts_named a) p (node_of log a) m ne
@@ -142,122 +135,11 @@ one_simulates configs log ev nodes new l links r s lawful valid one d =
           });
     }
 
--- ---- a join
-
-unjoined : (ps qs : List Part) (p : Part) (a b m : ℕ) → (a == m) ≡ false → (b == m) ≡ false → list_any (λ q. same_place q (at p m)) (parts_of a ps ++ parts_of b qs) ≡ false
-unjoined [] qs p a b m h k = parts_elsewhere qs p b m k
-unjoined (q ∷ ps) qs p a b m h k = ap (λ t. t || list_any (λ r. same_place r (at p m)) (parts_of a ps ++ parts_of b qs)) (part_elsewhere q p a m h) ∙ unjoined ps qs p a b m h k
-
-both_each :
-    (configs : List Config) (log : List Entry) (ev : Event) (a b : ℕ) (nodes : List Node) (l : Links) (v w : Node) → ev.act ≡ act.Join a b → WorldStands configs log nodes l
-    → NodeStands configs (log ++ effect configs log ev ∷ []) a v → NodeStands configs (log ++ effect configs log ev ∷ []) b w
-    → (m : ℕ) (z : Node) (p q : Bool) → (b == m) ≡ p → (a == m) ≡ q → cond p (Some w) (cond q (Some v) (slice_get nodes m)) ≡ Some z → NodeStands configs (log ++ effect configs log ev ∷ []) m z
-both_each configs log ev a b nodes l v w is s hv hw m z true q i j g =
-    let same : b ≡ m = grind (arith, nat_tests) in
-    let it : w ≡ z = cc in
-    subst (λ (x : Node). NodeStands configs (log ++ effect configs log ev ∷ []) m x) it (subst (λ k. NodeStands configs (log ++ effect configs log ev ∷ []) k w) same hw)
-both_each configs log ev a b nodes l v w is s hv hw m z false true i j g =
-    let same : a ≡ m = grind (arith, nat_tests) in
-    let it : v ≡ z = cc in
-    subst (λ (x : Node). NodeStands configs (log ++ effect configs log ev ∷ []) m x) it (subst (λ k. NodeStands configs (log ++ effect configs log ev ∷ []) k v) same hv)
-both_each configs log ev a b nodes l v w is s hv hw m z false false i j g =
-    node_frame configs log ev m z (s.each m z g) (λ p. ap (λ c. names log c (at p m)) is ∙ unjoined (router ∷ connections ∷ []) (router ∷ connections ∷ []) p a b m j i)
-
--- the row of a join that comes about
-joined_is : (configs : List Config) (log : List Entry) (moment seed a b : ℕ) → may_join log a b ≡ true → ready_row configs log a b ≡ row configs log moment seed (act.Join a b)
-unfolding row
-joined_is configs log moment seed a b may = sym (ap (λ t. cond t (ready_row configs log a b) (only reply.Gone)) may)
-
-gone_is : (configs : List Config) (log : List Entry) (moment seed a b : ℕ) → may_join log a b ≡ false → row configs log moment seed (act.Join a b) ≡ only reply.Gone
-unfolding row
-gone_is configs log moment seed a b may = ap (λ t. cond t (ready_row configs log a b) (only reply.Gone)) may
-
-made_is : (configs : List Config) (log : List Entry) (moment seed a b : ℕ) → may_join log a b ≡ true → entry_of (asked moment seed (act.Join a b)) (ready_row configs log a b) ≡ effect configs log (asked moment seed (act.Join a b))
-unfolding effect
-made_is configs log moment seed a b may = ap (entry_of (asked moment seed (act.Join a b))) (joined_is configs log moment seed a b may)
-
-asks : (configs : List Config) (log : List Entry) (ev : Event) → (effect configs log ev).event.act ≡ ev.act
-unfolding effect
-asks configs log ev = refl
-
-join_by : (configs : List Config) (log : List Entry) (moment seed a b : ℕ) (t : Bool) (x y : Node) (nodes new : List Node) (l links : Links) (r : Row) → WorldStands configs log nodes l → slice_get nodes a ≡ Some x → slice_get nodes b ≡ Some y
-    → may_join log a b ≡ t → JoinsBy t (length log) a b x y nodes new r → links ≡ l → Simulates configs log (asked moment seed (act.Join a b)) new links r
-join_by configs log moment seed a b false x y nodes new l links r s first second may d kept =
-    let ev = asked moment seed (act.Join a b) in
-    let e = effect configs log ev in
-    let is = gone_is configs log moment seed a b may in
-    let still = effect-still configs log ev reply.Gone is in
-    record {
-      row_is = d.0 ∙ sym is;
-      stands = subst (λ (ns : List Node). WorldStands configs (log ++ e ∷ []) ns links) (sym d.1)
-          (subst (λ (ls : Links). WorldStands configs (log ++ e ∷ []) nodes ls) (sym kept)
-          (record {
-            valid = s.valid;
-            long = s.long;
-            each = λ m z g. let h = s.each m z g in record { own = h.own; each = λ p. part_still p configs log e m z (act.Join a b) reply.Gone (h.each p) (asks configs log ev) refl still };
-            linked = links_still log e (act.Join a b) reply.Gone l s.linked (asks configs log ev) refl still;
-          }));
-    }
-join_by configs log moment seed a b true x y nodes new l links r s first second may d kept =
-    let ev = asked moment seed (act.Join a b) in
-    let e = effect configs log ev in
-    let both = MayJoin-test log a b may in
-    let c : Connects (length log) a b x.config.public_key y.config.public_key nodes new = d.1 in
-    let first_key : x.config.public_key ≡ key_at configs a = key_is configs a x (s.each a x first).own in
-    let second_key : y.config.public_key ≡ key_at configs b = key_is configs b y (s.each b y second).own in
-    let u : Node = c.0 in
-    let z : Node = c.1.0 in
-    let v : Node = c.1.1.0 in
-    let w : Node = c.1.1.1.0 in
-    let at_first : slice_get nodes a ≡ Some u = c.1.1.1.1.0 in
-    let at_second : slice_get nodes b ≡ Some z = c.1.1.1.1.1.0 in
-    let dials : Welcomes (length log) 0 (record { peer = y.config.public_key; link = length log; writes = side.Out }) b u v = c.1.1.1.1.1.1.0 in
-    let listens : Welcomes (length log) 1 (record { peer = x.config.public_key; link = length log; writes = side.In }) a z w = c.1.1.1.1.1.1.1.0 in
-    let set : new ≡ slice_set (slice_set nodes a v) b w = c.1.1.1.1.1.1.1.1 in
-    let la : a < length nodes = below nodes a u at_first in
-    let lb : b < length nodes = below nodes b z at_second in
-    let made = made_is configs log moment seed a b may in
-    let long = s.long in
-    let told_a = subst (λ (k : Entry). Told configs log k a 0 (record { peer = key_at configs b; link = length log; writes = side.Out }) b a b) made (told_first configs log moment seed a b (omega (arith, long, lb)) both) in
-    let told_b = subst (λ (k : Entry). Told configs log k b 1 (record { peer = key_at configs a; link = length log; writes = side.In }) a a b) made (told_second configs log moment seed a b (omega (arith, long, la)) both) in
-    let hv : NodeStands configs (log ++ e ∷ []) a v =
-    welcome_stands configs log ev a a b 0 b (record { peer = key_at configs b; link = length log; writes = side.Out }) u v s.valid (s.each a u at_first) told_a refl
-    (subst (λ (k : Key). Welcomes (length log) 0 (record { peer = k; link = length log; writes = side.Out }) b u v) second_key dials)
-    in
-    let hw : NodeStands configs (log ++ e ∷ []) b w =
-    welcome_stands configs log ev b a b 1 a (record { peer = key_at configs a; link = length log; writes = side.In }) z w s.valid (s.each b z at_second) told_b refl
-    (subst (λ (k : Key). Welcomes (length log) 1 (record { peer = k; link = length log; writes = side.In }) a z w) first_key listens)
-    in
-    let mid : length (slice_set nodes a v) ≡ length nodes = length-set nodes a v in
-    record {
-      row_is = d.0 ∙ (ap (λ k. joined_row (length log) a b k y.config.public_key) first_key ∙ (ap (λ k. joined_row (length log) a b (key_at configs a) k) second_key ∙ joined_is configs log moment seed a b may));
-      stands = subst (λ (ns : List Node). WorldStands configs (log ++ e ∷ []) ns links) (sym set)
-          (record {
-            valid = s.valid;
-            long = length-set (slice_set nodes a v) b w ∙ (mid ∙ s.long);
-            each = λ m q g.
-                both_each configs log ev a b nodes l v w refl s hv hw m q (b == m) (a == m) refl refl
-                (ap (λ o. cond (b == m) (Some w) o) (sym (slice_get-set nodes a m v la)) ∙ (sym (slice_get-set (slice_set nodes a v) b m w (omega (arith, mid, lb))) ∙ g));
-            linked = subst (LinksStand (log ++ e ∷ [])) (sym kept) (links_kept configs log ev l s.linked refl);
-          });
-    }
-
-join_simulates : (configs : List Config) (log : List Entry) (moment seed a b : ℕ) (nodes new : List Node) (l links : Links) (r : Row) → WorldStands configs log nodes l → Joins (length log) a b nodes new r → links ≡ l
-    → Simulates configs log (asked moment seed (act.Join a b)) new links r
-join_simulates configs log moment seed a b nodes new l links r s d kept =
-    let x : Node = d.0 in
-    let y : Node = d.1.0 in
-    join_by configs log moment seed a b (joining.may_join a b x y) x y nodes new l links r s d.1.1.0 d.1.1.1.0
-    (sym (may_join-nodes configs log a b x y (s.each a x d.1.1.0) (s.each b y d.1.1.1.0))) d.1.1.1.1 kept
-
 -- ---- all acts
 
 by_meeting : (configs : List Config) (log : List Entry) (moment seed : ℕ) (a : Act) (o : Option Meeting) (nodes new : List Node) (l links : Links) (r : Row) → WorldStands configs log nodes l → IsLawful configs (events_of log) log
     → may_act configs (events_of log) a ≡ true → meeting_of a ≡ o → DoesOn o (length log) (node_of log a) (asked moment seed a) nodes new l links r → Simulates configs log (asked moment seed a) new links r
 by_meeting configs log moment seed a None nodes new l links r s lawful valid is d = one_simulates configs log (asked moment seed a) nodes new l links r s lawful valid is d
-by_meeting configs log moment seed (act.Join m k) (Some how) nodes new l links r s lawful valid is d =
-    let joins = subst (λ (h : Meeting). Meets h (length log) nodes new l links r) (sym (same_Some (meeting.Join (record { dials = m; listens = k })) how is)) d in
-    join_simulates configs log moment seed m k nodes new l links r s joins.0 joins.1
 by_meeting configs log moment seed (act.Connect e from n m) (Some how) nodes new l links r s lawful valid is d =
     link_simulates configs log moment seed e n m from nodes new l links r s
     (subst (λ (h : Meeting). Meets h (length log) nodes new l links r) (sym (same_Some (meeting.Link e from (record { dials = n; listens = m })) how is)) d)

@@ -42,7 +42,7 @@ use Rattle.p2p_net_listener.proofs.Changes.{listener_frame, listener_arrived}
 use Rattle.p2p_net_listener.proofs.Handshakes.{other_tells}
 use Rattle.p2p_net_links.specs.declared.links.Links.{Links}
 use Rattle.p2p_net_links.specs.Stands.{LinksStand}
-use Rattle.p2p_net_links.proofs.Changes.{links_frame, links_opened, is_ok_reply, openings_unanswered, openings_linkless, openings_opened}
+use Rattle.p2p_net_links.proofs.Changes.{links_frame, links_opened, is_ok_reply, OpensNone, Opens, openings_unanswered, openings_linkless, openings_opened}
 use Rattle.p2p_net.specs.Linking.{arrives, with_arrival, Arrives, opened, IsLinked}
 use Rattle.p2p_net.specs.Places.{Part, dialer, listener, same_part, at, names}
 use Rattle.p2p_net.specs.Ready.{is_started}
@@ -278,21 +278,21 @@ module _ (configs : List Config) (log : List Entry) (moment seed name n m : ℕ)
   link_lines side.Out link = line-untouched configs log ev (queue.Link link side.Out) refl refl
   link_lines side.In link = line-untouched configs log ev (queue.Link link side.In) refl refl
 
-  nothing_opened : Told up name n c.told → comes ≡ false → (i : ℕ) → openings_by log e (openings_of log) i ≡ openings_of log i
+  nothing_opened : Told up name n c.told → comes ≡ false → OpensNone log e
   nothing_opened (nothing rep silent same none) no_one =
-      subst (λ (z : Entry). (i : ℕ) → openings_by log z (openings_of log) i ≡ openings_of log i) is_effect
+      subst (OpensNone log) is_effect
       (openings_unanswered log (entry_of ev due) (ap (λ (d : Row). is_ok_reply d.reply) (ap (λ t. with_arrival t m arrival c.told) none ∙ same) ∙ silent))
   nothing_opened (refused same none) no_one =
-      subst (λ (z : Entry). (i : ℕ) → openings_by log z (openings_of log) i ≡ openings_of log i) is_effect
+      subst (OpensNone log) is_effect
       (openings_linkless log (entry_of ev due) opening (queue.Attempt n name, item.Refused) refl (ap (λ (d : Row). d.puts) (ap (λ t. with_arrival t m arrival c.told) none ∙ same)))
   nothing_opened (linked same some) no_one = absurd (false≢true (sym no_one ∙ some))
 
-  one_opened : Told up name n c.told → comes ≡ true → (i : ℕ) → openings_of (log ++ e ∷ []) i ≡ with_named k (Some opening) (openings_of log) i
+  one_opened : Told up name n c.told → comes ≡ true → Opens log e opening
   one_opened (nothing rep silent same none) some_one = absurd (false≢true (sym none ∙ some_one))
   one_opened (refused same none) some_one = absurd (false≢true (sym none ∙ some_one))
   one_opened (linked same some) some_one =
       let due_two : due ≡ with_arrival true m arrival (told_row name n item.Linked) = ap (λ t. with_arrival t m arrival c.told) some ∙ ap (with_arrival true m arrival) same in
-      subst (λ (z : Entry). (i : ℕ) → openings_of (log ++ z ∷ []) i ≡ with_named k (Some opening) (openings_of log) i) is_effect
+      subst (λ (z : Entry). Opens log z opening) is_effect
       (openings_opened log (entry_of ev due) opening (queue.Attempt n name, item.Linked) (queue.Arrivals m, arrival) [] refl (ap (λ (d : Row). d.reply) due_two) (ap (λ (d : Row). d.puts) due_two))
 
   links_now : (b : Bool) → comes ≡ b → links ≡ opened b k opening l → LinksStand (log ++ e ∷ []) links

@@ -7,7 +7,6 @@ use Rattle.std.proofs.lemmas.Bool.Decides.{nat_tests}
 use Rattle.p2p_log.specs.declared.config.Config.{Config}
 use Rattle.p2p_log.specs.declared.queue.Queue.{Queue}
 use Rattle.p2p_log.specs.declared.queue.Queue.TheVariants as queue
-use Rattle.p2p_log.specs.declared.queue.Side.TheVariants as side
 use Rattle.p2p_log.specs.declared.entry.Entry.{Entry}
 use Rattle.p2p_log.specs.declared.entry.Reply.{Reply}
 use Rattle.p2p_log.specs.declared.entry.Reply.TheVariants as reply
@@ -16,8 +15,8 @@ use Rattle.p2p_log.specs.declared.event.Rate.{Rate}
 use Rattle.p2p_log.specs.declared.event.Act.{Act}
 use Rattle.p2p_log.specs.declared.event.Act.TheVariants as act
 use Rattle.p2p_log.specs.Lines.{live, line, stands_in}
-use Rattle.p2p_log_rules.specs.declared.row.Half.{Half}
-use Rattle.p2p_log_rules.specs.Facts.{starts, registers_at, capacity_for, taken, steps_router, steps_sender, is_answer, half_of, key_at, answers_by, joins}
+use Rattle.p2p_log_rules.specs.Connections.{steps_sender, is_done, is_answer}
+use Rattle.p2p_log_rules.specs.Facts.{starts, registers_at, capacity_for, taken, steps_router}
 use Rattle.p2p_log_rules.specs.Spawning.{steps_spawner}
 use Rattle.p2p_log_rules.proofs.Spawning.{connections_of-unmade}
 use Rattle.p2p_log_rules.specs.Effect.{row, effect}
@@ -37,7 +36,7 @@ use Rattle.p2p_net_router.specs.Stands.{IsBeside}
 use Rattle.p2p_net_router.specs.declared.router.Router.{Router}
 use Rattle.p2p_net_router.proofs.Beside.{stands_beside}
 use Rattle.p2p_net_channels.proofs.Changes.{channels_frame}
-use Rattle.p2p_net_connections.specs.Stands.{JoinsNone}
+use Rattle.p2p_net_connections.specs.Stands.{BeginsNone}
 use Rattle.p2p_net_connections.proofs.Changes.{connections_frame}
 use Rattle.p2p_net_links.specs.Stands.{LinksStand}
 use Rattle.p2p_net_links.specs.declared.links.Links.{Links}
@@ -46,7 +45,7 @@ use Rattle.p2p_net_spawner.proofs.Changes.{spawner_kept}
 use Rattle.p2p_net.specs.Places.{Part, router, channels, connections, tracker, dialer, listener, spawner, same_part, links, home, names, at, asked_node, or_first, node_asked}
 use Rattle.p2p_net.specs.Stands.{RouterStands, PartStands}
 use Rattle.p2p_net.specs.declared.node.Node.{Node}
-use Rattle.p2p_net.proofs.ActKinds.{registers_unless, starts_unless, half_unless, joins_unless, routes_unless, sends_unless}
+use Rattle.p2p_net.proofs.ActKinds.{registers_unless, starts_unless, routes_unless, sends_unless}
 use Rattle.p2p_net.proofs.Routers.{RouterStands-moved}
 use Rattle.p2p_net.proofs.Touching.{line-unnamed}
 
@@ -68,46 +67,6 @@ registers_none configs log n p a apart h =
 
 -- ---- connections
 
--- a join of two other nodes
-half_other : (configs : List Config) (n conn a b : ℕ) (r : Reply) → (a == n) ≡ false → (b == n) ≡ false → half_of configs n conn (act.Join a b) r ≡ None
-half_other configs n conn a b reply.Ok p q =
-    let p' : (n == a) ≡ false = grind (arith, nat_tests) in
-    let q' : (n == b) ≡ false = grind (arith, nat_tests) in
-    let first : Option Half = Some (record { peer = key_at configs b; link = conn; writes = side.Out }) in
-    let second : Option Half = Some (record { peer = key_at configs a; link = conn; writes = side.In }) in
-    ap (λ t. cond t first (cond (n == b) second None)) p' ∙ ap (λ t. cond t second None) q'
-half_other configs n conn a b _ p q = refl
-
-joins_other : (n m a b : ℕ) (r : Reply) → (a == n) ≡ false → (b == n) ≡ false → joins n m (act.Join a b) r ≡ false
-joins_other n m a b reply.Ok p q = grind (arith, nat_tests)
-joins_other n m a b _ p q = refl
-
--- whether an act joins nodes
-abbrev pub is_join : Act → Bool
-is_join (act.Join a b) = true
-is_join _ = false
-
--- the entry of an act that joins no nodes
-pub joins_none : (configs : List Config) (log : List Entry) (e : Entry) (n : ℕ) (a : Act) → e.event.act ≡ a → is_join a ≡ false → JoinsNone configs log e n
-joins_none configs log e n a is h = record {
-  no_half = λ conn. ap (λ x. half_of configs n conn x e.reply) is ∙ half_unless configs n conn a e.reply (λ l m j. let t : true ≡ false = sym (ap is_join j) ∙ h in cc);
-  no_partner = λ k. ap (λ x. joins n k x e.reply) is ∙ joins_unless n k a e.reply (λ l m j. let t : true ≡ false = sym (ap is_join j) ∙ h in cc);
-}
-
-join_ends : (log : List Entry) (n a b : ℕ) → names log (act.Join a b) (at connections n) ≡ false → ((a == n) ≡ false) × ((b == n) ≡ false)
-join_ends log n a b h = (grind (arith, nat_tests), grind (arith, nat_tests))
-
-joins_unnamed : (configs : List Config) (log : List Entry) (e : Entry) (n : ℕ) (a : Act) → e.event.act ≡ a → names log a (at connections n) ≡ false → JoinsNone configs log e n
-joins_unnamed configs log e n a is h = record {
-  no_half = λ conn. ap (λ x. half_of configs n conn x e.reply) is
-      ∙ half_unless configs n conn a e.reply (λ l m j. let ends = away l m j in half_other configs n conn l m e.reply ends.0 ends.1);
-  no_partner = λ k. ap (λ x. joins n k x e.reply) is
-      ∙ joins_unless n k a e.reply (λ l m j. let ends = away l m j in joins_other n k l m e.reply ends.0 ends.1);
-}
-  where
-    away : (l m : ℕ) → a ≡ act.Join l m → ((l == n) ≡ false) × ((m == n) ≡ false)
-    away l m j = join_ends log n l m (sym (ap (λ x. names log x (at connections n)) j) ∙ h)
-
 -- a spawner's step of another node
 spawns_none : (log : List Entry) (n : ℕ) (a : Act) → names log a (at connections n) ≡ false → steps_spawner n a ≡ false
 spawns_none log n (act.Spawner m) h = grind (arith, nat_tests)
@@ -116,13 +75,15 @@ spawns_none log n _ h = refl
 steps_other : (log : List Entry) (n conn d m : ℕ) → names log (act.SendStep d m) (at connections n) ≡ false → ((m == n) && (d == conn)) ≡ false
 steps_other log n conn d m h = grind (arith, nat_tests)
 
-begins_none : (log : List Entry) (e : Entry) (n conn : ℕ) (a : Act) → names log a (at connections n) ≡ false → cond (steps_sender n conn a) (map is_answer (taken log e)) [] ≡ []
-begins_none log e n conn a h =
-    ap (λ b. cond b (map is_answer (taken log e)) []) (sends_unless n conn a (λ d m is. steps_other log n conn d m (sym (ap (λ x. names log x (at connections n)) is) ∙ h)))
+sends_none : (log : List Entry) (n conn : ℕ) (a : Act) → names log a (at connections n) ≡ false → steps_sender n conn a ≡ false
+sends_none log n conn a h = sends_unless n conn a (λ d m is. steps_other log n conn d m (sym (ap (λ x. names log x (at connections n)) is) ∙ h))
 
--- the entry begins no connection, where its act is no step of a sending half
-pub begins_by : (log : List Entry) (e : Entry) (n conn : ℕ) (a : Act) → e.event.act ≡ a → names log a (at connections n) ≡ false → answers_by n conn log e ≡ []
-begins_by log e n conn a is h = ap (λ x. cond (steps_sender n conn x) (map is_answer (taken log e)) []) is ∙ begins_none log e n conn a h
+-- the entry begins none of the node's connections, and takes no answer to one, where its act is no step of a sending half
+pub begins_unsent : (log : List Entry) (e : Entry) (n : ℕ) (a : Act) → e.event.act ≡ a → ((conn : ℕ) → steps_sender n conn a ≡ false) → BeginsNone log e n
+begins_unsent log e n a is none = record {
+  no_begin = λ conn. ap (λ x. steps_sender n conn x && is_done e.reply) is ∙ ap (λ b. b && is_done e.reply) (none conn);
+  no_answer = λ conn. ap (λ x. cond (steps_sender n conn x) (map is_answer (taken log e)) []) is ∙ ap (λ b. cond b (map is_answer (taken log e)) []) (none conn);
+}
 
 -- ---- the router
 
@@ -279,11 +240,10 @@ part_frame channels configs log ev n x s h =
     })
 part_frame connections configs log ev n x s h =
     let e = effect configs log ev in
-    connections_frame configs log e n x.connections s
+    connections_frame log e n x.connections s
     (record {
-      joins = joins_unnamed configs log e n ev.act (effect-act configs log ev) h;
       spawns = λ conn. connections_of-unmade log e n (ap (steps_spawner n) (effect-act configs log ev) ∙ spawns_none log n ev.act h) conn;
-      begins = λ conn. begins_by log e n conn ev.act (effect-act configs log ev) h;
+      begins = begins_unsent log e n ev.act (effect-act configs log ev) (λ conn. sends_none log n conn ev.act h);
       lines = λ conn. line-unnamed configs log ev (queue.Ready n conn) h;
     })
 part_frame tracker configs log ev n x s h =

@@ -2,6 +2,7 @@ pub mod ActKinds
 pub mod Acting
 pub mod Arrivals
 pub mod Attempting
+pub mod Beginning
 pub mod Between
 pub mod Calling
 pub mod DialAnswers
@@ -11,13 +12,14 @@ pub mod Exchanged
 pub mod Faults
 pub mod Finished
 pub mod Frames
+pub mod Halves
 pub mod HandingOn
 pub mod Handshaking
-pub mod Joined
 pub mod Keys
 pub mod Linked
 pub mod LinkedNodes
 pub mod Listening
+pub mod Meetings
 pub mod Nodes
 pub mod Performing
 pub mod Readying
@@ -26,11 +28,11 @@ pub mod Records
 pub mod Resolving
 pub mod Routers
 pub mod Running
+pub mod Sending
 pub mod SpawnerStep
 pub mod Starts
 pub mod Stepping
 pub mod Touching
 pub mod Tracking
 pub mod Trying
-pub mod Welcoming
 pub mod Writing

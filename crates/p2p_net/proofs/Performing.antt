@@ -1,6 +1,6 @@
 -- What an act has to show at a node, and acts that move nothing.
 use Rattle.std.proofs.Common.{◌≡◌, ℕ, Bool, true, false, cond, List, [], ◌∷◌, ◌++◌, length, refl, ap, sym, subst, ◌∙◌, append-nil, Option, None}
-use Rattle.std.specs.Prelude.{map, filter, flat_map, ◌==◌}
+use Rattle.std.specs.Prelude.{map, filter, flat_map, ◌==◌, ◌&&◌}
 use Rattle.p2p_log.specs.declared.config.Config.{Config}
 use Rattle.p2p_log.specs.declared.queue.Queue.{Queue}
 use Rattle.p2p_log.specs.declared.queue.Queue.TheVariants as queue
@@ -17,10 +17,10 @@ use Rattle.p2p_log_rules.specs.Attempting.{Attempt, DialRules, dial_rules_at, ac
 use Rattle.p2p_log_rules.specs.Dialing.{Pace, pace_at, Dials, acted_dials, dials_of}
 use Rattle.p2p_net_dialer.proofs.Changes.{dialer_frame}
 use Rattle.p2p_net_listener.proofs.Changes.{listener_frame}
-use Rattle.p2p_log_rules.specs.Facts.{starts, registers_at, taken, item_named, steps_router, steps_sender, is_answer, half_of, joins}
+use Rattle.p2p_log_rules.specs.Connections.{steps_sender, is_done, is_answer}
+use Rattle.p2p_log_rules.specs.Facts.{starts, registers_at, taken, item_named, steps_router}
 use Rattle.p2p_log_rules.proofs.Spawning.{connections_of-untaken}
 use Rattle.p2p_log_rules.specs.Effect.{only, row, effect}
-use Rattle.p2p_log_rules.specs.Links.{openings_by, openings_of}
 use Rattle.p2p_log_rules.specs.Handshakes.{ends_handshake, steps_listener, acted_handshakes, handshakes_by, handshakes_of}
 use Rattle.p2p_log_rules.specs.Listening.{gate_rules_at, took_known, known_of}
 use Rattle.p2p_log_rules.specs.Tracking.{steps_tracker}
@@ -32,14 +32,14 @@ use Rattle.p2p_net_channels.proofs.Changes.{channels_frame}
 use Rattle.p2p_net_connections.proofs.Changes.{connections_frame}
 use Rattle.p2p_net_links.specs.Stands.{LinksStand}
 use Rattle.p2p_net_links.specs.declared.links.Links.{Links}
-use Rattle.p2p_net_links.proofs.Changes.{opens_none, openings_unmoved, is_ok_reply, openings_unanswered, links_frame}
+use Rattle.p2p_net_links.proofs.Changes.{opens_none, OpensNone, openings_unmoved, is_ok_reply, openings_unanswered, links_frame}
 use Rattle.p2p_net_listener.proofs.Ends.{ends_quiet}
 use Rattle.p2p_net_listener.proofs.Handshakes.{nothing_tells}
 use Rattle.p2p_net_spawner.proofs.Changes.{spawner_kept}
 use Rattle.p2p_net.specs.Places.{Part, router, channels, connections, tracker, dialer, listener, spawner}
 use Rattle.p2p_net.specs.Stands.{PartStands, NodeStands, WorldStands}
 use Rattle.p2p_net.specs.declared.node.Node.{Node}
-use Rattle.p2p_net.proofs.ActKinds.{registers_unless, starts_unless, half_unless, joins_unless}
+use Rattle.p2p_net.proofs.ActKinds.{registers_unless, starts_unless}
 use Rattle.p2p_net.proofs.Routers.{RouterStands-idle}
 
 -- an event with this act
@@ -59,12 +59,12 @@ pub record Simulates (configs : List Config) (log : List Entry) (ev : Event) (no
 
 -- ---- acts that move nothing
 
--- whether an act with this reply registers, starts and joins nothing, and leaves the trackers alone
+-- whether an act with this reply registers, starts and begins nothing, and leaves the trackers alone
 abbrev pub is_quiet : Act → Reply → Bool
 is_quiet (act.Register c n rate) r = false
 is_quiet (act.Start n) r = false
-is_quiet (act.Join a b) reply.Gone = true
-is_quiet (act.Join a b) r = false
+is_quiet (act.SendStep conn n) reply.Ok = false
+is_quiet (act.SendStep conn n) r = true
 is_quiet (act.Ask what n) r = false
 is_quiet (act.Answer e) r = false
 is_quiet (act.Tracker n) r = false
@@ -91,22 +91,15 @@ quiet_registers configs n a r h = registers_unless configs n a (λ c m rate is. 
 quiet_starts : (n : ℕ) (a : Act) (r : Reply) → is_quiet a r ≡ true → starts n a ≡ false
 quiet_starts n a r h = starts_unless n a (λ m is. let t : false ≡ true = sym (ap (λ x. is_quiet x r) is) ∙ h in cc)
 
--- a join that is refused
-half_refused : (configs : List Config) (n conn l m : ℕ) (r : Reply) → is_quiet (act.Join l m) r ≡ true → half_of configs n conn (act.Join l m) r ≡ None
-half_refused configs n conn l m reply.Gone h = refl
-half_refused configs n conn l m reply.Ok h = cc
-half_refused configs n conn l m _ h = refl
-
-joins_refused : (n k l m : ℕ) (r : Reply) → is_quiet (act.Join l m) r ≡ true → joins n k (act.Join l m) r ≡ false
-joins_refused n k l m reply.Gone h = refl
-joins_refused n k l m reply.Ok h = cc
-joins_refused n k l m _ h = refl
-
-quiet_half : (configs : List Config) (n conn : ℕ) (a : Act) (r : Reply) → is_quiet a r ≡ true → half_of configs n conn a r ≡ None
-quiet_half configs n conn a r h = half_unless configs n conn a r (λ l m is. half_refused configs n conn l m r (sym (ap (λ x. is_quiet x r) is) ∙ h))
-
-quiet_joins : (n k : ℕ) (a : Act) (r : Reply) → is_quiet a r ≡ true → joins n k a r ≡ false
-quiet_joins n k a r h = joins_unless n k a r (λ l m is. joins_refused n k l m r (sym (ap (λ x. is_quiet x r) is) ∙ h))
+-- no connection begins
+quiet_begins : (n conn : ℕ) (a : Act) (r : Reply) → is_quiet a r ≡ true → (steps_sender n conn a && is_done r) ≡ false
+quiet_begins n conn (act.SendStep d m) reply.Ok h = cc
+quiet_begins n conn (act.SendStep d m) _ h = and_false ((m == n) && (d == conn))
+  where
+    and_false : (b : Bool) → (b && false) ≡ false
+    and_false true = refl
+    and_false false = refl
+quiet_begins n conn _ r h = refl
 
 quiet_tracks : (n : ℕ) (a : Act) (r : Reply) → is_quiet a r ≡ true → steps_tracker n a ≡ false
 quiet_tracks n (act.Tracker m) r h = cc
@@ -202,14 +195,13 @@ part_still channels configs log e n x a rep s is q h =
     channels_frame configs log e n x.channels s
     (record { registers = ap (registers_at configs n) is ∙ quiet_registers configs n a rep q; lines = λ c. line-still log e rep (queue.Channel n c) h })
 part_still connections configs log e n x a rep s is q h =
-    connections_frame configs log e n x.connections s
+    connections_frame log e n x.connections s
     (record {
-      joins = record {
-        no_half = λ conn. ap (λ b. half_of configs n conn b e.reply) is ∙ (ap (half_of configs n conn a) h.reply ∙ quiet_half configs n conn a rep q);
-        no_partner = λ m. ap (λ b. joins n m b e.reply) is ∙ (ap (joins n m a) h.reply ∙ quiet_joins n m a rep q);
-      };
       spawns = connections_of-untaken log e n (taken-none log e h.takes);
-      begins = λ conn. ap (λ b. cond (steps_sender n conn b) (map is_answer (taken log e)) []) is ∙ either_nothing (steps_sender n conn a) (map is_answer (taken log e)) (ap (map is_answer) (taken-none log e h.takes));
+      begins = record {
+        no_begin = λ conn. ap (λ b. steps_sender n conn b && is_done e.reply) is ∙ (ap (λ r. steps_sender n conn a && is_done r) h.reply ∙ quiet_begins n conn a rep q);
+        no_answer = λ conn. ap (λ b. cond (steps_sender n conn b) (map is_answer (taken log e)) []) is ∙ either_nothing (steps_sender n conn a) (map is_answer (taken log e)) (ap (map is_answer) (taken-none log e h.takes));
+      };
       lines = λ conn. line-still log e rep (queue.Ready n conn) h;
     })
 part_still tracker configs log e n x a rep s is q h =
@@ -254,14 +246,14 @@ part_still listener configs log e n x a rep s is q h =
 part_still spawner configs log e n x a rep s is q h = spawner_kept configs log e n x.spawning s (line-still log e rep (queue.Spawner n) h)
 
 -- no link is opened, and no exchange over one ends
-quiet_opens : (log : List Entry) (e : Entry) (a : Act) (rep : Reply) → e.event.act ≡ a → is_quiet a rep ≡ true → e.reply ≡ rep → (k : ℕ) → openings_by log e (openings_of log) k ≡ openings_of log k
-quiet_opens log e (act.Connect d from n to) rep is q told k = cc
-quiet_opens log e (act.Finish link ok) rep is q told k = openings_unanswered log e (ap is_ok_reply told ∙ unanswered rep q) k
+quiet_opens : (log : List Entry) (e : Entry) (a : Act) (rep : Reply) → e.event.act ≡ a → is_quiet a rep ≡ true → e.reply ≡ rep → OpensNone log e
+quiet_opens log e (act.Connect d from n to) rep is q told = cc
+quiet_opens log e (act.Finish link ok) rep is q told = openings_unanswered log e (ap is_ok_reply told ∙ unanswered rep q)
   where
     unanswered : (r : Reply) → is_quiet (act.Finish link ok) r ≡ true → is_ok_reply r ≡ false
     unanswered reply.Ok h = cc
     unanswered _ h = refl
-quiet_opens log e _ rep is q told k = openings_unmoved log e (ap opens_none is) k
+quiet_opens log e _ rep is q told = openings_unmoved log e (ap opens_none is)
 
 pub links_still : (log : List Entry) (e : Entry) (a : Act) (rep : Reply) (l : Links) → LinksStand log l → e.event.act ≡ a → is_quiet a rep ≡ true → IsStill e rep → LinksStand (log ++ e ∷ []) l
 links_still log e a rep l s is q h = links_frame log e l s (λ t link. line-still log e rep (queue.Link link t) h) (quiet_opens log e a rep is q h.reply)

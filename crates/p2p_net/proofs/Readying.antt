@@ -12,12 +12,13 @@ use Rattle.p2p_log.specs.declared.event.Act.{Act}
 use Rattle.p2p_log.specs.declared.event.Act.TheVariants as act
 use Rattle.p2p_log_rules.specs.Facts.{events_of, has_started, is_up, key_at, registered, capacity_for, capacity_in}
 use Rattle.p2p_log_rules.specs.Effect.{mailbox_size_at, limit_at}
-use Rattle.p2p_log_rules.specs.Valid.{fits, sizes_fit, gates_fit, is_quota, fits_usize, names_join}
+use Rattle.p2p_log_rules.specs.Valid.{fits, sizes_fit, gates_fit, is_quota, fits_usize}
 use Rattle.p2p_log_rules.specs.Valid as valid
 use Rattle.p2p_log_rules.specs.Lawful.{IsLawful}
+use Rattle.p2p_log_laws.proofs.Connecting.{connect_is_reserved}
 use Rattle.p2p_log_laws.proofs.HeldPeers.{held_is_others}
 use Rattle.p2p_log_laws.proofs.NodeGrants.{release_is_held}
-use Rattle.p2p_net_tracker.specs.Stands.{ReleasesHeld}
+use Rattle.p2p_net_tracker.specs.Stands.{ReleasesHeld, ConnectsReserved}
 use Rattle.p2p_net_channels.specs.Channels.{capacity_at}
 use Rattle.p2p_net_channels.specs.Stands.{ChannelsStand}
 use Rattle.p2p_net_links.specs.declared.links.Links.{Links}
@@ -29,7 +30,7 @@ use Rattle.p2p_net_queues.specs.Tables as table
 use Rattle.p2p_net_links.specs.Stands.{LinksStand}
 use Rattle.p2p_net.specs.Places.{asked_node, or_first, node_asked, linked_by, nodes_linked, node_of, other_of}
 use Rattle.p2p_net.proofs.LinkedNodes.{opening_made}
-use Rattle.p2p_net.specs.Ready.{is_started, capacity_by, may_register, names_node, asks_set, subscribes, may_ask, may_at, may_act, IsReady, MayPerform, names_dialer, names_listener, is_link, links_attempt}
+use Rattle.p2p_net.specs.Ready.{is_started, capacity_by, may_register, names_spawner, asks_set, subscribes, may_ask, may_at, may_act, IsReady, MayPerform, names_dialer, names_listener, is_link, links_attempt}
 use Rattle.p2p_net.specs.Meetings.{meeting_of, MeetsThere}
 use Rattle.p2p_net.specs.Stands.{RouterStands, OwnStands, NodeStands, WorldStands}
 use Rattle.p2p_net.specs.declared.meeting.Ends.{Ends}
@@ -67,10 +68,10 @@ register_is configs log n c rate x s =
     ∙ (ap (λ k. (not (has_started (events_of log) n) && not (is_some (capacity_in regs c))) && (fits_usize (capacity_for (slice_get configs n) rate) && fits_usize (k + (x.channels.total + capacity_for (slice_get configs n) rate)))) (size_is configs n x s.own)
     ∙ ap (λ k. (not (has_started (events_of log) n) && not (is_some (capacity_in regs c))) && (fits_usize (capacity_for (slice_get configs n) rate) && fits_usize (mailbox_size_at configs n + (k + capacity_for (slice_get configs n) rate)))) chan.total)))
 
-named_is : (log : List Entry) (n conn : ℕ) → names_node n (slice_get log conn) ≡ names_join (events_of log) n conn
-named_is [] n conn = refl
-named_is (e ∷ es) n zero = refl
-named_is (e ∷ es) n (suc i) = named_is es n i
+spawned_is : (log : List Entry) (n conn : ℕ) → names_spawner n (slice_get log conn) ≡ valid.names_spawner (events_of log) n conn
+spawned_is [] n conn = refl
+spawned_is (e ∷ es) n zero = refl
+spawned_is (e ∷ es) n (suc i) = spawned_is es n i
 
 and-true : (b : Bool) → (b && true) ≡ b
 and-true true = refl
@@ -148,11 +149,6 @@ all_there : (p q at rest : Bool) → (p ≡ true → at ≡ rest) → (p && (q &
 all_there true q at rest h = ap (λ b. q && b) (h refl)
 all_there false q at rest h = refl
 
-pair_there : (p q at : Bool) → (p ≡ true → at ≡ true) → (p && (q && at)) ≡ (p && q)
-pair_there true true at h = h refl
-pair_there true false at h = refl
-pair_there false q at h = refl
-
 module _ (configs : List Config) (log : List Entry) (nodes : List Node) (links : Links) (s : WorldStands configs log nodes links) where
   -- what is asked of a node that is there
   asked_at : (n : ℕ) (f : Node → Bool) (b : Bool) → nat_lt n (length nodes) ≡ true → ((x : Node) → NodeStands configs log n x → f x ≡ b) → elim (slice_get nodes n) [ None ↦ false | Some x ↦ f x ] ≡ b
@@ -191,17 +187,14 @@ module _ (configs : List Config) (log : List Entry) (nodes : List Node) (links :
       there (nat_lt n (length nodes)) (may_at (slice_get nodes n) log (act.Start n)) (not (has_started (events_of log) n))
       (λ lt. asks (act.Start n) (not (has_started (events_of log) n)) lt (λ x t. ap (λ b. not b) (started_is configs log n x t)))
       ∙ ap (λ b. b && not (has_started (events_of log) n)) (counted n)
-  may_by (act.Join a b) =
-      pair_there (nat_lt a (length nodes)) (nat_lt b (length nodes)) (may_at (slice_get nodes a) log (act.Join a b)) (λ lt. asks (act.Join a b) true lt (λ x t. refl))
-      ∙ (ap (λ c. c && nat_lt b (length nodes)) (counted a) ∙ ap (λ c. nat_lt a (length configs) && c) (counted b))
   may_by (act.SendStep conn n) =
-      there (nat_lt n (length nodes)) (may_at (slice_get nodes n) log (act.SendStep conn n)) (names_join (events_of log) n conn)
-      (λ lt. asks (act.SendStep conn n) (names_join (events_of log) n conn) lt (λ x t. named_is log n conn))
-      ∙ ap (λ b. b && names_join (events_of log) n conn) (counted n)
+      there (nat_lt n (length nodes)) (may_at (slice_get nodes n) log (act.SendStep conn n)) (valid.names_spawner (events_of log) n conn)
+      (λ lt. asks (act.SendStep conn n) (valid.names_spawner (events_of log) n conn) lt (λ x t. spawned_is log n conn))
+      ∙ ap (λ b. b && valid.names_spawner (events_of log) n conn) (counted n)
   may_by (act.RecvStep conn n) =
-      there (nat_lt n (length nodes)) (may_at (slice_get nodes n) log (act.RecvStep conn n)) (names_join (events_of log) n conn)
-      (λ lt. asks (act.RecvStep conn n) (names_join (events_of log) n conn) lt (λ x t. named_is log n conn))
-      ∙ ap (λ b. b && names_join (events_of log) n conn) (counted n)
+      there (nat_lt n (length nodes)) (may_at (slice_get nodes n) log (act.RecvStep conn n)) (valid.names_spawner (events_of log) n conn)
+      (λ lt. asks (act.RecvStep conn n) (valid.names_spawner (events_of log) n conn) lt (λ x t. spawned_is log n conn))
+      ∙ ap (λ b. b && valid.names_spawner (events_of log) n conn) (counted n)
   may_by (act.Answer e) =
       let n = node_asked (slice_get log e) in
       there (nat_lt n (length nodes)) (may_at (slice_get nodes n) log (act.Answer e)) (asks_set (slice_get log e)) (λ lt. asks (act.Answer e) (asks_set (slice_get log e)) lt (λ x t. refl))
@@ -265,11 +258,11 @@ fits_below m t k h = grind (arith, nat_tests)
 short : (k m : ℕ) → nat_le k m ≡ true → nat_le m 16777200 ≡ true → k < 2 ^ 32
 short k m h g = grind (arith, nat_tests)
 
-ready_by : (configs : List Config) (log : List Entry) (n : ℕ) (a : Act) (x : Node) → NodeStands configs log n x → ReleasesHeld configs log n → fits x.config ≡ true → may_ask log x a ≡ true → IsReady a x
-ready_by configs log n (act.Register c m rate) x s released fit may =
+ready_by : (configs : List Config) (log : List Entry) (n : ℕ) (a : Act) (x : Node) → NodeStands configs log n x → ReleasesHeld configs log n → ConnectsReserved configs log n → fits x.config ≡ true → may_ask log x a ≡ true → IsReady a x
+ready_by configs log n (act.Register c m rate) x s released reserved fit may =
     let halves = and_parts (not (is_started x) && not (is_some (capacity_at x.channels c))) (fits_usize (capacity_by x rate) && fits_usize (x.config.mailbox_size + (x.channels.total + capacity_by x rate))) may in
     fits_below x.config.mailbox_size x.channels.total (capacity_by x rate) (and_parts (fits_usize (capacity_by x rate)) (fits_usize (x.config.mailbox_size + (x.channels.total + capacity_by x rate))) halves.1).1
-ready_by configs log n (act.Start m) x s released fit may =
+ready_by configs log n (act.Start m) x s released reserved fit may =
     let chan : ChannelsStand configs log n x.channels = s.each place.channels in
     let off : is_up log n ≡ false = sym (started_is configs log n x s) ∙ not-true (is_started x) may in (
       is_unbound-before configs log n x.router (s.each place.router) off,
@@ -278,9 +271,10 @@ ready_by configs log n (act.Start m) x s released fit may =
         (subst (λ k. k + x.channels.total < 2 ^ 64) (sym (size_is configs n x s.own)) chan.room, quotas x.config fit),
       ),
     )
-ready_by configs log n (act.Tracker m) x s released fit may = λ now. may_take configs log n now x.tracker (s.each place.tracker) released
-ready_by configs log n (act.Handshake e m) x s released fit may = λ there. place_held configs log n e x.listening (s.each place.listener) there
-ready_by configs log n _ x s released fit may = tt
+ready_by configs log n (act.SendStep conn m) x s released reserved fit may = one_mailbox x.config fit
+ready_by configs log n (act.Tracker m) x s released reserved fit may = λ now. may_take configs log n now x.tracker (s.each place.tracker) released reserved
+ready_by configs log n (act.Handshake e m) x s released reserved fit may = λ there. place_held configs log n e x.listening (s.each place.listener) there
+ready_by configs log n _ x s released reserved fit may = tt
 
 -- in a lawful log a release that the tracker is to take is of a key that is held
 releases_held : (configs : List Config) (log : List Entry) (n : ℕ) → IsLawful configs (events_of log) log → ReleasesHeld configs log n
@@ -288,11 +282,13 @@ releases_held configs log n lawful key x rest first is =
     let held = release_is_held configs (events_of log) log lawful n key x rest first is in
     (held, held_is_others configs (events_of log) log lawful n key held)
 
+-- and a connection that the tracker is to hear of is of a key that is reserved
+connects_reserved : (configs : List Config) (log : List Entry) (n : ℕ) → IsLawful configs (events_of log) log → ConnectsReserved configs log n
+connects_reserved configs log n lawful conn key x rest first is = connect_is_reserved configs (events_of log) log lawful n conn key x rest first is
+
 -- the nodes that an act brings together are those that it names
 ends_there : (log : List Entry) (nodes : List Node) (l : Links) → LinksStand log l → (a : Act) → node_of log a < length nodes → other_of log (node_of log a) a < length nodes
     → (how : Meeting) → meeting_of a ≡ Some how → MeetsThere how nodes l
-ends_there log nodes l t (act.Join m k) first second how is =
-    subst (λ h. MeetsThere h nodes l) (same_Some (meeting.Join (record { dials = m; listens = k })) how is) (first, second)
 ends_there log nodes l t (act.Connect e from m k) first second how is =
     subst (λ h. MeetsThere h nodes l) (same_Some (meeting.Link e from (record { dials = m; listens = k })) how is) (first, second)
 ends_there log nodes l t (act.Finish link ok) first second how is = subst (λ h. MeetsThere h nodes l) (same_Some (meeting.Finish link ok) how is) open_there
@@ -315,7 +311,7 @@ may_perform configs log nodes links a s lawful may =
     record {
       first = lower n (length nodes) one.0;
       ready = λ x there.
-          ready_by configs log n a x (s.each n x there) (releases_held configs log n lawful) (sizes_there configs log nodes links s n x there) (sym (ap (λ o. may_at o log a) there) ∙ two.1);
+          ready_by configs log n a x (s.each n x there) (releases_held configs log n lawful) (connects_reserved configs log n lawful) (sizes_there configs log nodes links s n x there) (sym (ap (λ o. may_at o log a) there) ∙ two.1);
       ends = λ how is. ends_there log nodes links s.linked a (lower n (length nodes) one.0) (lower m (length nodes) two.0) how is;
       sizes = λ i x there. one_mailbox x.config (sizes_there configs log nodes links s i x there);
       numbers = λ i x there. let r : RouterStands configs log i x.router = (s.each i x there).each place.router in r.number;

@@ -18,7 +18,8 @@ use Rattle.p2p_log.specs.Lines.{line, name_of, placed, stands_in, ended_item}
 use Rattle.p2p_log_rules.specs.declared.row.Half.{Half}
 use Rattle.p2p_log_rules.specs.declared.row.Row.{Row}
 use Rattle.p2p_log_rules.specs.Frames.{message_in}
-use Rattle.p2p_log_rules.specs.Facts.{registers_at, channels, capacity_in, is_running}
+use Rattle.p2p_log_rules.specs.Connections.{half_at, is_running}
+use Rattle.p2p_log_rules.specs.Facts.{registers_at, channels, capacity_in}
 use Rattle.p2p_log_rules.specs.Effect.{only, row, effect, deliver_row, message_row, frame_row, receive_row, limit_at, other_side, recv_step_row}
 use Rattle.p2p_net_queues.specs.Rows.{taken_row}
 use Rattle.p2p_net_queues.specs.Tables as table
@@ -31,19 +32,19 @@ use Rattle.p2p_net_channels.specs.Channels.{capacity_at, is_full, message_put, d
 use Rattle.p2p_net_channels.specs.Stands.{ChannelsStand}
 use Rattle.p2p_net_queues.proofs.Holding.{holds_put}
 use Rattle.p2p_net_channels.proofs.Changes.{channels_moved, same_channel}
-use Rattle.p2p_net_connections.specs.Connections.{half_on, runs_on}
+use Rattle.p2p_net_connections.specs.Connections.{runs_on}
 use Rattle.p2p_net_connections.specs.Stands.{ConnectionsStand}
-use Rattle.p2p_net_connections.specs.declared.connections.Connection.{Connection}
-use Rattle.p2p_net_connections.specs.declared.connections.Connections.{Connections}
 use Rattle.p2p_net_links.specs.Links.{way_of, with_way}
 use Rattle.p2p_net_links.specs.Stands.{LinksStand}
 use Rattle.p2p_net_links.specs.declared.links.Links.{Links}
 use Rattle.p2p_net_links.proofs.Changes.{opens_none, openings_unmoved, links_taken}
+use Rattle.p2p_net.specs.Connecting.{half_by}
 use Rattle.p2p_net.specs.Places as place
 use Rattle.p2p_net.specs.Acts.{accepted_row, accepted_into, accepted_off, arrived_row, arrived_into, arrived_off, received_row, received_into, received_off, first_in, ReceivesBy, ReceivesOn, RecvSteps}
 use Rattle.p2p_net.specs.Stands.{NodeStands}
 use Rattle.p2p_net.specs.declared.node.Node.{Node}
 use Rattle.p2p_net.proofs.EachPart.{with_parts, each_part, not_among-links}
+use Rattle.p2p_net.proofs.Halves.{half_is}
 use Rattle.p2p_net.proofs.Performing.{asked, Performs, stays_performs}
 
 -- ---- the row, by what the channels are
@@ -89,11 +90,9 @@ stepped_row configs log conn n o runs = elim o [
   | Some half ↦ cond runs (receive_row configs log n half.peer (line log (queue.Link half.link (other_side half.writes)))) (only reply.Idle)
 ]
 
-stepped_as : (configs : List Config) (log : List Entry) (conn n : ℕ) (cs : Connections) (o : Option Connection) → ConnectionsStand configs log n cs → table.at cs.halves conn ≡ o
-    → recv_step_row configs log conn n ≡ stepped_row configs log conn n (half_on o) (runs_on o)
-stepped_as configs log conn n cs o s has =
-    ap (λ h. stepped_row configs log conn n h (is_running log n conn)) (sym (s.halves conn) ∙ ap half_on has)
-    ∙ ap (stepped_row configs log conn n (half_on o)) (sym (s.running conn) ∙ ap runs_on has)
+stepped_as : (configs : List Config) (log : List Entry) (conn n : ℕ) (o : Option Half) (runs : Bool) → half_at log n conn ≡ o → is_running log n conn ≡ runs
+    → recv_step_row configs log conn n ≡ stepped_row configs log conn n o runs
+stepped_as configs log conn n o runs has is = ap (λ h. stepped_row configs log conn n h (is_running log n conn)) has ∙ ap (stepped_row configs log conn n o) is
 
 -- ---- a message that is taken off its link
 
@@ -222,37 +221,36 @@ receive_on configs log at seed conn link n limit u from (f ∷ fs) x y l links r
 
 -- ---- a step
 
-step_by : (configs : List Config) (log : List Entry) (at seed conn n : ℕ) (k : Connection) (b : Bool) (x y : Node) (l links : Links) (r : Row) → NodeStands configs log n x → LinksStand log l
-    → table.at x.connections.halves conn ≡ Some k → k.running ≡ b → ReceivesBy b (length log) n k.half.link (other_side k.half.writes) k.half.peer x y l links r → Performs configs log (asked at seed (act.RecvStep conn n)) n y links r
+step_by : (configs : List Config) (log : List Entry) (at seed conn n : ℕ) (half : Half) (b : Bool) (x y : Node) (l links : Links) (r : Row) → NodeStands configs log n x → LinksStand log l
+    → half_at log n conn ≡ Some half → is_running log n conn ≡ b → ReceivesBy b (length log) n half.link (other_side half.writes) half.peer x y l links r → Performs configs log (asked at seed (act.RecvStep conn n)) n y links r
 unfolding row
-step_by configs log at seed conn n k false x y l links r s t there runs d =
-    let cs : ConnectionsStand configs log n x.connections = s.each place.connections in
-    idle_performs configs log at seed conn n x y l links r s t (stepped_as configs log conn n x.connections (Some k) cs there ∙ ap (λ b. stepped_row configs log conn n (Some k.half) b) runs) d.0.0 d.0.1 d.1
-step_by configs log at seed conn n k true x y l links r s t there runs d =
-    let cs : ConnectionsStand configs log n x.connections = s.each place.connections in
-    let u = other_side k.half.writes in
-    let from = k.half.peer in
+step_by configs log at seed conn n half false x y l links r s t has runs d =
+    idle_performs configs log at seed conn n x y l links r s t (stepped_as configs log conn n (Some half) false has runs) d.0.0 d.0.1 d.1
+step_by configs log at seed conn n half true x y l links r s t has runs d =
+    let u = other_side half.writes in
+    let from = half.peer in
     let limit = x.config.max_message_size in
     let limit_is : limit ≡ limit_at configs n = sym (ap (λ (o : Option Config). elim o [ None ↦ 0 | Some c ↦ c.max_message_size ]) s.own.config) in
-    let fs = line log (queue.Link k.half.link u) in
-    let first : first_in l k.half.link u ≡ slice_get fs 0 = ap (λ (w : List Envelope). slice_get w 0) (t.waits u k.half.link) in
+    let fs = line log (queue.Link half.link u) in
+    let first : first_in l half.link u ≡ slice_get fs 0 = ap (λ (w : List Envelope). slice_get w 0) (t.waits u half.link) in
     let is : recv_step_row configs log conn n ≡ received_row limit (slice_get fs 0) n from x.channels =
-    stepped_as configs log conn n x.connections (Some k) cs there
-    ∙ (ap (λ b. stepped_row configs log conn n (Some k.half) b) runs ∙ sym (received_is configs log n limit from fs x.channels (s.each place.channels) limit_is))
+    stepped_as configs log conn n (Some half) true has runs ∙ sym (received_is configs log n limit from fs x.channels (s.each place.channels) limit_is)
     in
-    receive_on configs log at seed conn k.half.link n limit u from fs x y l links r s t refl is
+    receive_on configs log at seed conn half.link n limit u from fs x y l links r s t refl is
     (d.0 ∙ ap (λ o. received_row limit o n from x.channels) first)
     (d.1.0 ∙ ap (λ o. record x { channels = received_into limit o (length log) n from x.channels }) first)
-    (d.1.1 ∙ ap (λ o. received_off limit o k.half.link u x.channels l) first)
+    (d.1.1 ∙ ap (λ o. received_off limit o half.link u x.channels l) first)
 
-step_on : (configs : List Config) (log : List Entry) (at seed conn n : ℕ) (o : Option Connection) (x y : Node) (l links : Links) (r : Row) → NodeStands configs log n x → LinksStand log l
-    → table.at x.connections.halves conn ≡ o → ReceivesOn o (length log) n conn x y l links r → Performs configs log (asked at seed (act.RecvStep conn n)) n y links r
+step_on : (configs : List Config) (log : List Entry) (at seed conn n : ℕ) (o : Option Half) (x y : Node) (l links : Links) (r : Row) → NodeStands configs log n x → LinksStand log l
+    → half_at log n conn ≡ o → ReceivesOn o (length log) n conn x y l links r → Performs configs log (asked at seed (act.RecvStep conn n)) n y links r
 unfolding row
-step_on configs log at seed conn n None x y l links r s t there d =
-    let cs : ConnectionsStand configs log n x.connections = s.each place.connections in
-    stays_performs configs log (asked at seed (act.RecvStep conn n)) n x y l links r reply.Gone s t (stepped_as configs log conn n x.connections None cs there) refl d.0.0 d.0.1 d.1
-step_on configs log at seed conn n (Some k) x y l links r s t there d = step_by configs log at seed conn n k k.running x y l links r s t there refl d
+step_on configs log at seed conn n None x y l links r s t has d =
+    stays_performs configs log (asked at seed (act.RecvStep conn n)) n x y l links r reply.Gone s t (stepped_as configs log conn n None (is_running log n conn) has refl) refl d.0.0 d.0.1 d.1
+step_on configs log at seed conn n (Some half) x y l links r s t has d =
+    let cs : ConnectionsStand log n x.connections = s.each place.connections in
+    step_by configs log at seed conn n half (runs_on (table.at x.connections.stages conn)) x y l links r s t has (sym (cs.running conn)) d
 
 pub recv_step_performs : (configs : List Config) (log : List Entry) (at seed conn n : ℕ) (x y : Node) (l links : Links) (r : Row) → NodeStands configs log n x → LinksStand log l
     → RecvSteps (length log) n conn x y l links r → Performs configs log (asked at seed (act.RecvStep conn n)) n y links r
-recv_step_performs configs log at seed conn n x y l links r s t d = step_on configs log at seed conn n (table.at x.connections.halves conn) x y l links r s t refl d
+recv_step_performs configs log at seed conn n x y l links r s t d =
+    step_on configs log at seed conn n (half_by n x.connections l conn) x y l links r s t (sym (half_is log n conn x.connections l (s.each place.connections) t)) d

@@ -22,7 +22,7 @@ use Rattle.p2p_net.specs.declared.error.RunError.{RunError}
 use Rattle.p2p_net.specs.declared.error.RunError.TheVariants as error
 use Rattle.p2p_net_links.specs.Links.{no_links}
 use Rattle.p2p_net.specs.Places.{node_of}
-use Rattle.p2p_net.specs.Joining.{WorldDoes, WorldRecords}
+use Rattle.p2p_net.specs.Events.{WorldDoes, WorldRecords}
 use Rattle.p2p_net.proofs.Acting.{simulates}
 use Rattle.p2p_net.proofs.Performing.{Simulates}
 use Rattle.p2p_net.proofs.Readying.{may_act-nodes}

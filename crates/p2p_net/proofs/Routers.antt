@@ -1,17 +1,21 @@
 -- What acts make of the router of a node.
-use Rattle.std.proofs.Common.{◌≡◌, ℕ, ◌+◌, ◌<◌, Bool, true, false, cond, List, [], ◌∷◌, ◌++◌, length, length-append, refl, ap, sym, subst, ◌∙◌, arith, Option, Some, None}
+use Rattle.std.proofs.Common.{◌≡◌, ℕ, Bool, true, false, cond, List, [], ◌∷◌, ◌++◌, inl, refl, ap, sym, subst, ◌∙◌, arith, Option, Some, None}
 use Rattle.std.specs.Prelude.{◌||◌, IsTrue}
 use Rattle.std.specs.BTreeMap as tree
 use Rattle.std.specs.BTreeMap.{BTreeMap}
 use Rattle.std.specs.Ordering.{nat_cmp, is_eq}
 use Rattle.std.proofs.lemmas.Bool.{false≢true}
 use Rattle.std.proofs.lemmas.Bool.Decides.{nat_tests}
+use Rattle.std.proofs.lemmas.Option.{same_Some}
 use Rattle.p2p_base.specs.declared.key.Key.{Key}
 use Rattle.p2p_log.specs.declared.config.Config.{Config}
 use Rattle.p2p_log.specs.declared.entry.Entry.{Entry}
-use Rattle.p2p_log_rules.specs.Facts.{key_at, joins, is_joined, is_up}
-use Rattle.p2p_log_rules.specs.Valid.{config_fault}
-use Rattle.p2p_log_rules.proofs.Facts.{is_joined-append}
+use Rattle.p2p_log_rules.specs.Connections.{begins, is_begun}
+use Rattle.p2p_log_rules.specs.Facts.{is_up}
+use Rattle.p2p_log_rules.specs.Spawning.{Spawned, connections_of}
+use Rattle.p2p_log_rules.proofs.Connections.{is_begun-append}
+use Rattle.p2p_log_rules.proofs.Spawning.{connections_of-next}
+use Rattle.p2p_log_laws.specs.Leading.{ConnectionsAreOne}
 use Rattle.p2p_router.specs.Messenger.{is_bound, is_unbound}
 use Rattle.p2p_router.specs.declared.messenger.Binding.{Binding}
 use Rattle.p2p_router.specs.declared.messenger.Binding.TheVariants.{Unbound, Bound, Closed}
@@ -19,69 +23,57 @@ use Rattle.p2p_net_router.specs.Holds.{IsStranger}
 use Rattle.p2p_net_router.specs.Stands.{StandsFor, HasPlaces, IsBeside}
 use Rattle.p2p_net_router.specs.declared.router.Router.{Router}
 use Rattle.p2p_net_router.proofs.Aside.{stands_idle}
-use Rattle.p2p_net.specs.Stands.{HearsOfJoins, RouterStands}
-use Rattle.p2p_net.proofs.Keys.{key_at-distinct}
+use Rattle.p2p_net.specs.Stands.{HearsOfBegun, RouterStands}
 
 -- ---- what a router was told of
 
-first_false : (a b : Bool) → (a || b) ≡ false → a ≡ false
-first_false false b h = refl
-first_false true b h = h
+-- what has begun stays so
+begun_next : (log : List Entry) (e : Entry) (n conn : ℕ) → is_begun log n conn ≡ true → is_begun (log ++ e ∷ []) n conn ≡ true
+begun_next log e n conn h = is_begun-append log e n conn ∙ ap (λ b. b || begins n conn e) h
 
-was_apart : (log : List Entry) (e : Entry) (n m : ℕ) → is_joined (log ++ e ∷ []) n m ≡ false → is_joined log n m ≡ false
-was_apart log e n m h = first_false (is_joined log n m) (joins n m e.event.act e.reply) (sym (is_joined-append log e n m) ∙ h)
+-- an entry tells it of no connection
+pub HearsOfBegun-more : (log : List Entry) (e : Entry) (n : ℕ) (peers : BTreeMap ℕ Key) → HearsOfBegun log n peers → HearsOfBegun (log ++ e ∷ []) n peers
+HearsOfBegun-more log e n peers h conn key told =
+    let old = h conn key told in
+    (old.0, connections_of-next log e n conn old.0 old.1, old.2, begun_next log e n conn old.3)
 
-length-more : (log : List Entry) (e : Entry) → length (log ++ e ∷ []) ≡ length log + 1
-length-more log e = length-append log (e ∷ [])
+-- one of its connections begins
+pub HearsOfBegun-told : (log : List Entry) (e : Entry) (n conn : ℕ) (c : Spawned) (old new : BTreeMap ℕ Key) → HearsOfBegun log n old
+    → ((k : ℕ) → tree.get nat_cmp new k ≡ cond (is_eq (nat_cmp conn k)) (Some c.key) (tree.get nat_cmp old k))
+    → connections_of log n conn ≡ Some c → begins n conn e ≡ true → HearsOfBegun (log ++ e ∷ []) n new
+HearsOfBegun-told log e n conn c old new h step made starts k key told = by (is_eq (nat_cmp conn k)) refl (sym (step k) ∙ told)
+  where
+    or_true : (b : Bool) → (b || true) ≡ true
+    or_true true = refl
+    or_true false = refl
 
--- an entry tells of no connection
-pub HearsOfJoins-more : (configs : List Config) (log : List Entry) (e : Entry) (n : ℕ) (peers : BTreeMap ℕ Key) → HearsOfJoins configs log n peers → HearsOfJoins configs (log ++ e ∷ []) n peers
-HearsOfJoins-more configs log e n peers h = record {
-  no_conn = λ conn past. h.no_conn conn (let l = length-more log e in omega (arith, l, past));
-  no_key = λ m lt apart. h.no_key m lt (was_apart log e n m apart);
-}
+    here : (k : ℕ) → is_eq (nat_cmp conn k) ≡ true → conn ≡ k
+    here k is = grind (arith, nat_tests)
 
-told_conn : (o : Option Key) (c conn : ℕ) (key : Key) (b : Bool) → b ≡ is_eq (nat_cmp conn c) → conn < c → o ≡ None → cond b (Some key) o ≡ None
-told_conn o c conn key true p lt none = let f : is_eq (nat_cmp conn c) ≡ false = grind (arith, nat_tests) in absurd (false≢true (sym f ∙ sym p))
-told_conn o c conn key false p lt none = none
+    by : (b : Bool) → is_eq (nat_cmp conn k) ≡ b → cond b (Some c.key) (tree.get nat_cmp old k) ≡ Some key
+        → (d : Spawned) × (connections_of (log ++ e ∷ []) n k ≡ Some d) × (d.key ≡ key) × (is_begun (log ++ e ∷ []) n k ≡ true)
+    by true is same = (
+      c,
+      ap (connections_of (log ++ e ∷ []) n) (sym (here k is)) ∙ connections_of-next log e n conn c made,
+      same_Some c.key key same,
+      ap (is_begun (log ++ e ∷ []) n) (sym (here k is)) ∙ (is_begun-append log e n conn ∙ (ap (λ b. is_begun log n conn || b) starts ∙ or_true (is_begun log n conn))),
+    )
+    by false is same = HearsOfBegun-more log e n old h k key same
 
-told_key : (o : Option Key) (key other : Key) (b : Bool) → (key ≡ other → ⊥) → (o ≡ Some other → ⊥) → cond b (Some key) o ≡ Some other → ⊥
-told_key o key other true apart old h = apart cc
-told_key o key other false apart old h = old h
-
--- an entry that joins the node to another tells of the connection of its number
-pub HearsOfJoins-told :
-    (configs : List Config) (log : List Entry) (e : Entry) (n m conn : ℕ) (key : Key) (old new : BTreeMap ℕ Key) → config_fault configs ≡ None → HearsOfJoins configs log n old
-    → ((c : ℕ) → tree.get nat_cmp new c ≡ cond (is_eq (nat_cmp conn c)) (Some key) (tree.get nat_cmp old c))
-    → length log ≡ conn → key ≡ key_at configs m → m < length configs → joins n m e.event.act e.reply ≡ true
-    → HearsOfJoins configs (log ++ e ∷ []) n new
-HearsOfJoins-told configs log e n m conn key old new valid h step at is lt joined = record {
-  no_conn = λ c past.
-      let l = length-more log e in
-      step c ∙ told_conn (tree.get nat_cmp old c) c conn key (is_eq (nat_cmp conn c)) refl (omega (arith, l, past, at)) (h.no_conn c (omega (arith, l, past)));
-  no_key = λ k klt apart c same.
-      told_key (tree.get nat_cmp old c) key (key_at configs k) (is_eq (nat_cmp conn c))
-      (λ alike. never log e n m k joined (key_at-distinct configs m k valid lt klt (sym is ∙ alike)) apart)
-      (h.no_key k klt (was_apart log e n k apart) c) (sym (step c) ∙ same);
+-- one that has not begun is a stranger to it, where a node has one connection with a key
+pub IsStranger-unbegun : (log : List Entry) (n conn : ℕ) (c : Spawned) (router : Router) → HearsOfBegun log n router.peers → ConnectionsAreOne log
+    → connections_of log n conn ≡ Some c → is_begun log n conn ≡ false → IsStranger router conn c.key
+IsStranger-unbegun log n conn c router hears one made idle = record {
+  no_conn = unheard (tree.get nat_cmp router.peers conn) refl;
+  no_key = λ k same.
+      let told = hears k c.key same in
+      let alike : k ≡ conn = one n k conn told.0 c told.1 made (inl told.2) in
+      false≢true (sym idle ∙ (ap (is_begun log n) (sym alike) ∙ told.3));
 }
   where
-    second_false : (a b : Bool) → (a || b) ≡ false → b ≡ false
-    second_false true b h = absurd (false≢true (sym h))
-    second_false false b h = h
-
-    never : (log : List Entry) (e : Entry) (n m k : ℕ) → joins n m e.event.act e.reply ≡ true → m ≡ k → is_joined (log ++ e ∷ []) n k ≡ false → ⊥
-    never log e n m k joined same apart =
-        false≢true
-        (sym (second_false (is_joined log n k) (joins n k e.event.act e.reply) (sym (is_joined-append log e n k) ∙ apart))
-        ∙ (ap (λ i. joins n i e.event.act e.reply) (sym same) ∙ joined))
-
-pub IsStranger-apart :
-    (configs : List Config) (log : List Entry) (n m conn : ℕ) (key : Key) (router : Router) → RouterStands configs log n router
-    → length log ≡ conn → key ≡ key_at configs m → m < length configs → is_joined log n m ≡ false → IsStranger router conn key
-IsStranger-apart configs log n m conn key router h at is lt apart = record {
-  no_conn = h.hears.no_conn conn (let a = at in omega (arith, a));
-  no_key = λ c same. h.hears.no_key m lt apart c (same ∙ ap Some is);
-}
+    unheard : (o : Option Key) → tree.get nat_cmp router.peers conn ≡ o → tree.get nat_cmp router.peers conn ≡ None
+    unheard None is = is
+    unheard (Some key) is = absurd (false≢true (sym idle ∙ (hears conn key is).3))
 
 -- ---- the router of a node
 
@@ -91,7 +83,7 @@ pub RouterStands-moved :
 RouterStands-moved configs log e n old new h stands number peers = record {
   number = number ∙ h.number;
   stands = stands;
-  hears = subst (HearsOfJoins configs (log ++ e ∷ []) n) (sym peers) (HearsOfJoins-more configs log e n old.peers h.hears);
+  hears = subst (HearsOfBegun (log ++ e ∷ []) n) (sym peers) (HearsOfBegun-more log e n old.peers h.hears);
 }
 
 -- an entry that moves nothing

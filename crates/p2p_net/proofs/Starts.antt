@@ -10,7 +10,8 @@ use Rattle.p2p_log.specs.declared.config.Config.{Config}
 use Rattle.p2p_log.specs.declared.queue.Queue.TheVariants as queue
 use Rattle.p2p_log.specs.declared.queue.Side.TheVariants as side
 use Rattle.p2p_log_rules.specs.Attempting.{dial_rules_in}
-use Rattle.p2p_log_rules.specs.Facts.{registered, history_from, state_from, half_at, is_running, is_joined}
+use Rattle.p2p_log_rules.specs.Connections.{is_begun, is_running}
+use Rattle.p2p_log_rules.specs.Facts.{registered, history_from, state_from}
 use Rattle.p2p_log_rules.specs.Spawning.{connections_of}
 use Rattle.p2p_log_rules.specs.Effect.{mailbox_size_at}
 use Rattle.p2p_log_rules.specs.Listening.{no_gates, gate_rules_of}
@@ -33,7 +34,7 @@ use Rattle.p2p_net_queues.proofs.Holding.{holds_none}
 use Rattle.p2p_net_spawner.specs.Spawning.{no_spawning}
 use Rattle.p2p_net_spawner.specs.Stands.{SpawnerStands}
 use Rattle.p2p_net_spawner.proofs.Changes.{spawner_new}
-use Rattle.p2p_net_links.proofs.Changes.{openings_new}
+use Rattle.p2p_net_links.proofs.Changes.{dialers_new, openings_new}
 use Rattle.p2p_net_links.specs.Links.{no_links, way_of}
 use Rattle.p2p_net_links.specs.Stands.{LinksStand}
 use Rattle.p2p_net.specs.Places as place
@@ -81,9 +82,9 @@ channels_new : (configs : List Config) (n : ℕ) → mailbox_size_at configs n <
 unfolding registered
 channels_new configs n h = record { capacities = λ c. refl; total = refl; room = omega (arith, h); waits = holds_none (queue.Channel n) }
 
-connections_new : (configs : List Config) (n : ℕ) → ConnectionsStand configs [] n no_connections
-unfolding half_at is_running is_joined history_from state_from connections_of
-connections_new configs n = record { halves = λ c. refl; running = λ c. refl; partners = λ m. refl; spawned = λ c. refl; waits = holds_none (queue.Ready n) }
+connections_new : (n : ℕ) → ConnectionsStand [] n no_connections
+unfolding is_begun is_running history_from state_from connections_of
+connections_new n = record { spawned = λ c. refl; begun = λ c. refl; running = λ c. refl; waits = holds_none (queue.Ready n) }
 
 pub links_new : LinksStand [] no_links
 links_new = record {
@@ -91,6 +92,7 @@ links_new = record {
     | side.Out ↦ holds_none (λ link. queue.Link link side.Out)
     | side.In ↦ holds_none (λ link. queue.Link link side.In)
   ];
+  dialers = dialers_new;
   openings = openings_new;
 }
 
@@ -106,15 +108,12 @@ node_new configs n x config retained works small number stands none ch cs tr di 
         (record {
           number = number;
           stands = stands;
-          hears = record {
-            no_conn = λ conn past. none conn;
-            no_key = λ m lt apart conn same. let h = none conn in cc;
-          };
+          hears = λ conn key told. let h = none conn in cc;
         })
     | place.channels ↦
         subst (ChannelsStand configs [] n) (sym ch)
         (channels_new configs n (subst (λ k. k < 2 ^ 64) (sym (ap (λ (o : Option Config). elim o [ None ↦ 0 | Some c ↦ c.mailbox_size ]) config)) small))
-    | place.connections ↦ subst (ConnectionsStand configs [] n) (sym cs) (connections_new configs n)
+    | place.connections ↦ subst (ConnectionsStand [] n) (sym cs) (connections_new n)
     | place.tracker ↦ tracker_new configs n x.config x.tracker config tr
     | place.dialer ↦ subst (DialerStands configs [] n) (sym di) (dialer_new configs n)
     | place.listener ↦

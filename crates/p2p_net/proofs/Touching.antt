@@ -18,8 +18,8 @@ use Rattle.p2p_log_rules.specs.declared.row.Opening.{Opening}
 use Rattle.p2p_log_rules.specs.Effect.{effect}
 use Rattle.p2p_log_rules.specs.Links.{openings_of}
 use Rattle.p2p_log_rules.specs.declared.row.Half.{Half}
-use Rattle.p2p_log_rules.specs.Facts.{half_at}
-use Rattle.p2p_log_rules.proofs.Touches.{in_router, in_half, in_link, in_channels, in_tracker, in_handshakes, in_ends, is_told_to, reads, writes, away}
+use Rattle.p2p_log_rules.specs.Connections.{half_at}
+use Rattle.p2p_log_rules.proofs.Touches.{in_router, in_mailboxes, in_half, in_link, in_channels, in_tracker, in_handshakes, in_ends, is_told_to, reads, writes, away}
 use Rattle.p2p_log_rules.specs.Tracking.{asked_by}
 use Rattle.p2p_log_laws.proofs.Untouched.{line-untouched}
 use Rattle.p2p_net.specs.Places.{home, names, at, router, channels, connections, tracker, dialer, listener, spawner, links, same_place, ends_named, asked_node, or_first, node_asked}
@@ -50,6 +50,11 @@ half_kinds o n conn (queue.High m c) h k l = grind (arith, nat_tests)
 half_kinds o n conn (queue.Low m c) h k l = grind (arith, nat_tests)
 half_kinds o n conn (queue.Link e s) h k l = cc
 half_kinds o n conn q h k l = link_kinds o q l
+
+mailbox_kinds : (n : ℕ) (q : Queue) → same_place (at router n) (home q) ≡ false → same_place (at tracker n) (home q) ≡ false → in_mailboxes n q ≡ false
+mailbox_kinds n (queue.Router m) h k = grind (arith, nat_tests)
+mailbox_kinds n (queue.Tracker m) h k = grind (arith, nat_tests)
+mailbox_kinds n _ h k = refl
 
 channel_kinds : (n : ℕ) (q : Queue) → same_place (at channels n) (home q) ≡ false → in_channels n q ≡ false
 channel_kinds n (queue.Channel m c) h = grind (arith, nat_tests)
@@ -146,13 +151,13 @@ ends_queue (Some o) q h =
 reads-named : (configs : List Config) (log : List Entry) (a : Act) (q : Queue) → names log a (home q) ≡ false → reads configs log a q ≡ false
 reads-named configs log (act.Router n) q h = router_queue n q (first_false (same_place (at router n) (home q)) (same_place (at connections n) (home q) || false) h)
 reads-named configs log (act.SendStep conn n) q h =
-    let rest = second_false (same_place links (home q)) (same_place (at connections n) (home q) || (same_place (at router n) (home q) || false)) h in
-    half_kinds (half_at configs log n conn) n conn q
-    (first_false (same_place (at router n) (home q)) false (second_false (same_place (at connections n) (home q)) (same_place (at router n) (home q) || false) rest))
-    (first_false (same_place (at connections n) (home q)) (same_place (at router n) (home q) || false) rest)
-    (first_false (same_place links (home q)) (same_place (at connections n) (home q) || (same_place (at router n) (home q) || false)) h)
+    let rest = second_false (same_place links (home q)) (same_place (at connections n) (home q) || (same_place (at router n) (home q) || (same_place (at tracker n) (home q) || false))) h in
+    half_kinds (half_at log n conn) n conn q
+    (second_of_three (same_place (at connections n) (home q)) (same_place (at router n) (home q)) (same_place (at tracker n) (home q)) rest)
+    (first_false (same_place (at connections n) (home q)) (same_place (at router n) (home q) || (same_place (at tracker n) (home q) || false)) rest)
+    (first_false (same_place links (home q)) (same_place (at connections n) (home q) || (same_place (at router n) (home q) || (same_place (at tracker n) (home q) || false))) h)
 reads-named configs log (act.RecvStep conn n) q h =
-    link_kinds (half_at configs log n conn) q (first_false (same_place links (home q)) (same_place (at channels n) (home q) || false) h)
+    link_kinds (half_at log n conn) q (first_false (same_place links (home q)) (same_place (at channels n) (home q) || false) h)
 reads-named configs log (act.Recv c n) q h = channel_queue n c q (first_false (same_place (at channels n) (home q)) false h)
 reads-named configs log (act.Answer e) q h = told_queue log e q (first_false (same_place (at tracker (node_asked (slice_get log e))) (home q)) false h)
 reads-named configs log (act.Next e) q h = told_queue log e q (first_false (same_place (at tracker (node_asked (slice_get log e))) (home q)) false h)
@@ -170,17 +175,16 @@ reads-named configs log _ q h = refl
 
 writes-named : (configs : List Config) (log : List Entry) (a : Act) (q : Queue) → names log a (home q) ≡ false → writes configs log a q ≡ false
 writes-named configs log (act.Start n) q h = router_queue n q (first_false (same_place (at router n) (home q)) (same_place (at dialer n) (home q) || false) h)
-writes-named configs log (act.Join a b) q h =
-    let rest = second_false (same_place (at router a) (home q)) (same_place (at connections a) (home q) || (same_place (at router b) (home q) || (same_place (at connections b) (home q) || false))) h in
-    let more = second_false (same_place (at connections a) (home q)) (same_place (at router b) (home q) || (same_place (at connections b) (home q) || false)) rest in
-    both_false (same_queue (queue.Router a) q) (same_queue (queue.Router b) q)
-    (router_queue a q (first_false (same_place (at router a) (home q)) (same_place (at connections a) (home q) || (same_place (at router b) (home q) || (same_place (at connections b) (home q) || false))) h))
-    (router_queue b q (first_false (same_place (at router b) (home q)) (same_place (at connections b) (home q) || false) more))
 writes-named configs log (act.Send bytes c n priority to) q h = router_queue n q (first_false (same_place (at router n) (home q)) false h)
 writes-named configs log (act.Router n) q h =
     router_kinds n q (first_false (same_place (at router n) (home q)) (same_place (at connections n) (home q) || false) h)
     (first_false (same_place (at connections n) (home q)) false (second_false (same_place (at router n) (home q)) (same_place (at connections n) (home q) || false) h))
-writes-named configs log (act.SendStep conn n) q h = reads-named configs log (act.SendStep conn n) q h
+writes-named configs log (act.SendStep conn n) q h =
+    let rest = second_false (same_place links (home q)) (same_place (at connections n) (home q) || (same_place (at router n) (home q) || (same_place (at tracker n) (home q) || false))) h in
+    both_false (in_mailboxes n q) (in_half (half_at log n conn) n conn q)
+    (mailbox_kinds n q (second_of_three (same_place (at connections n) (home q)) (same_place (at router n) (home q)) (same_place (at tracker n) (home q)) rest)
+    (third_of_three (same_place (at connections n) (home q)) (same_place (at router n) (home q)) (same_place (at tracker n) (home q)) rest))
+    (reads-named configs log (act.SendStep conn n) q h)
 writes-named configs log (act.RecvStep conn n) q h = channel_kinds n q (first_false (same_place (at channels n) (home q)) false (second_false (same_place links (home q)) (same_place (at channels n) (home q) || false) h))
 writes-named configs log (act.Ask what n) q h = tracker_queue n q (first_false (same_place (at tracker n) (home q)) false h)
 writes-named configs log (act.Tracker n) q h = tracker_kinds n q (first_false (same_place (at tracker n) (home q)) false h)

@@ -1,8 +1,8 @@
--- A step of the sending half of a connection: its router's answer, or a batch.
-use Rattle.std.proofs.Common.{◌≡◌, ℕ, ◌+◌, Bool, true, false, cond, List, [], ◌∷◌, ◌++◌, length, refl, ap, sym, subst, ◌∙◌, arith, append-nil, Option, Some, None}
+-- A step of the sending half of a connection that has begun: its router's answer, or a batch.
+use Rattle.std.proofs.Common.{◌≡◌, ℕ, ◌+◌, Bool, true, false, cond, List, [], ◌∷◌, ◌++◌, length, refl, ap, sym, subst, ◌∙◌, arith, append-nil, eq-eqb, eqb-true, Option, Some, None}
 use Rattle.std.specs.Prelude.{map, filter, flat_map, slice_get, ◌==◌, ◌&&◌, ◌||◌}
 use Rattle.std.specs.List.{list_any}
-use Rattle.std.specs.BTreeMap.{is_at}
+use Rattle.std.specs.BTreeMap.{insert_entry}
 use Rattle.std.specs.Ordering.{nat_cmp}
 use Rattle.std.proofs.lemmas.Bool.Decides.{nat_tests}
 use Rattle.p2p_log.specs.declared.config.Config.{Config}
@@ -21,79 +21,58 @@ use Rattle.p2p_log.proofs.Names.{AreApart-live_from}
 use Rattle.p2p_log.proofs.Queues.{same_queue-sym}
 use Rattle.p2p_log_rules.specs.declared.row.Half.{Half}
 use Rattle.p2p_log_rules.specs.declared.row.Row.{Row}
-use Rattle.p2p_log_rules.specs.Facts.{starts, registers_at, steps_router, is_running, is_answer, taken, item_named, steps_sender, answers_by}
+use Rattle.p2p_log_rules.specs.Connections.{half_at, steps_sender, is_done, begins, is_begun, is_answer, answers_by, is_running}
+use Rattle.p2p_log_rules.specs.Effect.{only, row, effect, takes_oldest, write_row, batch_size_at, batch, half_row, sender_row, send_step_row, mailbox_size_at}
+use Rattle.p2p_log_rules.specs.Facts.{is_up, starts, registers_at, steps_router, taken, item_named}
 use Rattle.p2p_log_rules.specs.Spawning.{steps_spawner}
-use Rattle.p2p_log_rules.proofs.Spawning.{connections_of-unmade}
-use Rattle.p2p_log_rules.specs.Effect.{only, row, effect, takes_oldest, write_row, batch_size_at, batch, send_step_row, mailbox_size_at}
-use Rattle.p2p_log_rules.proofs.Facts.{is_running-append}
+use Rattle.p2p_log_rules.specs.Tracking.{steps_tracker}
+use Rattle.p2p_log_rules.specs.TrackerRows.{answers}
+use Rattle.p2p_log_rules.proofs.Connections.{is_running-append}
 use Rattle.p2p_log_rules.proofs.Recorded.{item_named-first}
-use Rattle.p2p_net_queues.specs.Tables as table
+use Rattle.p2p_log_rules.proofs.Spawning.{connections_of-unmade}
+use Rattle.p2p_log_rules.proofs.Touches.{away}
+use Rattle.p2p_net_queues.specs.Lines.{HoldsLines}
 use Rattle.p2p_net_queues.specs.Tables.{waiting, popped_at}
 use Rattle.p2p_net_queues.proofs.Going.{put_in, line-append, line-taken}
+use Rattle.p2p_net_queues.proofs.Holding.{waits_taken, waits_none}
 use Rattle.p2p_net_router.specs.Batches.{batch_of}
 use Rattle.p2p_net_router.specs.Stands.{IsBeside, AreAway}
 use Rattle.p2p_net_router.proofs.Aside.{stands_begun, same_queue-other}
 use Rattle.p2p_net_router.proofs.Batches.{batch_beside}
-use Rattle.p2p_net_connections.specs.Connections.{half_on, runs_on, ran, begun_on}
-use Rattle.p2p_net_connections.specs.Stands.{ConnectionsStand}
-use Rattle.p2p_net_connections.specs.declared.connections.Connection.{Connection}
+use Rattle.p2p_net_connections.specs.Connections.{stages_with}
+use Rattle.p2p_net_connections.specs.Stands.{ConnectionsStand, SpawnsNone}
 use Rattle.p2p_net_connections.specs.declared.connections.Connections.{Connections}
-use Rattle.p2p_net_queues.proofs.Holding.{waits_taken, waits_none}
-use Rattle.p2p_net_connections.proofs.Changes.{connections_moved, half_on-ran, runs_on-ran, same_ready}
+use Rattle.p2p_net_connections.specs.declared.connections.Stage.TheVariants as stage
+use Rattle.p2p_net_connections.proofs.Beginning.{connections_ran, connections_stepped}
+use Rattle.p2p_net_connections.proofs.Changes.{running-kept, same_ready}
 use Rattle.p2p_net_links.specs.Links.{write_frames_row}
 use Rattle.p2p_net_links.specs.Stands.{LinksStand}
 use Rattle.p2p_net_links.specs.declared.links.Links.{Links}
 use Rattle.p2p_net_links.proofs.Changes.{openings_unmoved, frames_put, links_frame, links_written}
+use Rattle.p2p_net_listener.specs.Stands.{is_of_listener}
+use Rattle.p2p_net_listener.proofs.Changes.{handshakes_unmoved}
+use Rattle.p2p_net_tracker.specs.Stands.{is_told, asks_of, TrackerStands, LeavesTracker}
+use Rattle.p2p_net_tracker.proofs.Changes.{tracker_frame}
+use Rattle.p2p_net.specs.Connecting.{Runs, Writes}
 use Rattle.p2p_net.specs.Places as place
-use Rattle.p2p_net.specs.Acts.{Writes, Begins, WritesBy, WritesOn, SendSteps}
 use Rattle.p2p_net.specs.Stands.{RouterStands, NodeStands}
 use Rattle.p2p_net.specs.declared.node.Node.{Node}
 use Rattle.p2p_net.proofs.EachPart.{with_parts, each_part, not_among-links}
-use Rattle.p2p_net.proofs.Frames.{joins_none}
 use Rattle.p2p_net.proofs.Routers.{RouterStands-moved}
-use Rattle.p2p_net.proofs.Performing.{asked, Performs, part_still, links_still, stays_performs, IsStill}
+use Rattle.p2p_net.proofs.Performing.{asked, Performs, IsStill, part_still, links_still}
 
--- what a half's step comes to, by what stands of it
-abbrev stepped_row : List Config → List Entry → ℕ → ℕ → Option Half → Bool → Row
-stepped_row configs log conn n o runs = elim o [
-  | None ↦ only reply.Gone
-  | Some half ↦ cond runs (write_row (queue.Link half.link half.writes) (batch configs log n conn)) (takes_oldest (line log (queue.Ready n conn)))
-]
-
-stepped_as : (configs : List Config) (log : List Entry) (conn n : ℕ) (cs : Connections) (o : Option Connection) → ConnectionsStand configs log n cs → table.at cs.halves conn ≡ o
-    → send_step_row configs log conn n ≡ stepped_row configs log conn n (half_on o) (runs_on o)
-stepped_as configs log conn n cs o s has =
-    ap (λ h. stepped_row configs log conn n h (is_running log n conn)) (sym (s.halves conn) ∙ ap half_on has)
-    ∙ ap (stepped_row configs log conn n (half_on o)) (sym (s.running conn) ∙ ap runs_on has)
+-- the row of a step, where the node runs, by the half and how far it is
+pub half_steps : (configs : List Config) (log : List Entry) (conn n : ℕ) (half : Half) (begun running : Bool) → is_up log n ≡ true → half_at log n conn ≡ Some half → is_begun log n conn ≡ begun → is_running log n conn ≡ running
+    → send_step_row configs log conn n ≡ half_row configs log n conn half begun running
+half_steps configs log conn n half begun running up at starts runs =
+    ap (λ b. cond b (sender_row configs log n conn (half_at log n conn)) (only reply.Gone)) up
+    ∙ (ap (sender_row configs log n conn) at
+    ∙ (ap (λ b. half_row configs log n conn half b (is_running log n conn)) starts ∙ ap (half_row configs log n conn half begun) runs))
 
 -- ---- the router's answer
 
-same_conn : (n conn c : ℕ) → ((n == n) && (conn == c)) ≡ is_at (nat_cmp c) conn
+same_conn : (n conn c : ℕ) → ((n == n) && (conn == c)) ≡ (c == conn)
 same_conn n conn c = grind (arith, nat_tests)
-
-any_of : (b a : Bool) → list_any (λ t. t) (cond b (a ∷ []) []) ≡ (b && a)
-any_of true true = refl
-any_of true false = refl
-any_of false a = refl
-
--- a connection that took an item runs where that was an answer
-runs_begun : (b at a : Bool) → (b || (at && a)) ≡ cond a (b || at) b
-runs_begun true true true = refl
-runs_begun true true false = refl
-runs_begun true false true = refl
-runs_begun true false false = refl
-runs_begun false true true = refl
-runs_begun false true false = refl
-runs_begun false false true = refl
-runs_begun false false false = refl
-
-ran_where : (a : Bool) (conn c : ℕ) (hs : List (ℕ × Connection)) (k : Connection) → table.at hs conn ≡ Some k → runs_on (table.at (cond a (ran conn hs) hs) c) ≡ cond a (runs_on (table.at hs c) || is_at (nat_cmp c) conn) (runs_on (table.at hs c))
-ran_where true conn c hs k there = runs_on-ran conn c hs k there
-ran_where false conn c hs k there = refl
-
-half_where : (a : Bool) (conn c : ℕ) (hs : List (ℕ × Connection)) → half_on (table.at (cond a (ran conn hs) hs) c) ≡ half_on (table.at hs c)
-half_where true conn c hs = half_on-ran conn c hs
-half_where false conn c hs = refl
 
 taken-first : (log : List Entry) (e : Entry) (q : Queue) (x : Envelope) (rest : List Envelope) → line log q ≡ x ∷ rest → e.takes ≡ name_of x ∷ [] → taken log e ≡ x.item ∷ []
 unfolding taken
@@ -116,42 +95,95 @@ line_begun log e n conn x rest q h =
     ∙ (ap (λ p. cond (same_queue (queue.Ready n conn) q) rest (line log q) ++ filter (stands_in q) (placed (length log) 0 p)) h.puts ∙ append-nil (cond (same_queue (queue.Ready n conn) q) rest (line log q)))
 
 -- a step of a sending half is none of a router's
-step_beside : (configs : List Config) (log : List Entry) (e : Entry) (m conn n : ℕ) → e.event.act ≡ act.SendStep conn n → IsBeside configs log e m
+pub step_beside : (configs : List Config) (log : List Entry) (e : Entry) (m conn n : ℕ) → e.event.act ≡ act.SendStep conn n → IsBeside configs log e m
 step_beside configs log e m conn n acts = record {
   no_step = ap (λ b. cond (steps_router m b) (taken log e) []) acts;
   no_channel = ap (registers_at configs m) acts;
   no_start = ap (starts m) acts;
 }
 
-begun_stands : (configs : List Config) (log : List Entry) (e : Entry) (n conn : ℕ) (cs : Connections) (k : Connection) (x : Envelope) (rest : List Envelope) → ConnectionsStand configs log n cs → table.at cs.halves conn ≡ Some k
-    → e.event.act ≡ act.SendStep conn n → Takes log e n conn x rest → ConnectionsStand configs (log ++ e ∷ []) n (begun_on (Some x) conn cs)
-begun_stands configs log e n conn cs k x rest s there acts h =
-    let answer = is_answer x.item in
-    let took : taken log e ≡ x.item ∷ [] = taken-first log e (queue.Ready n conn) x rest h.first h.takes in
-    let answers : (c : ℕ) → answers_by n c log e ≡ cond (is_at (nat_cmp c) conn) (answer ∷ []) [] =
-    λ c.
-    ap (λ b. cond (steps_sender n c b) (map is_answer (taken log e)) []) acts
-    ∙ (ap (λ b. cond b (map is_answer (taken log e)) []) (same_conn n conn c) ∙ ap (λ t. cond (is_at (nat_cmp c) conn) (map is_answer t) []) took)
-    in
-    connections_moved configs log e n cs (cond answer (ran conn cs.halves) cs.halves) (popped_at cs.answers conn) s (joins_none configs log e n (act.SendStep conn n) acts refl) (connections_of-unmade log e n (ap (steps_spawner n) acts))
-    (λ c. half_where answer conn c cs.halves)
-    (λ c.
-    ran_where answer conn c cs.halves k there
-    ∙ (ap (λ b. cond answer (b || is_at (nat_cmp c) conn) b) (s.running c)
-    ∙ (sym (runs_begun (is_running log n c) (is_at (nat_cmp c) conn) answer)
-    ∙ (ap (λ b. is_running log n c || b) (sym (ap (list_any (λ (t : Bool). t)) (answers c) ∙ any_of (is_at (nat_cmp c) conn) answer)) ∙ sym (is_running-append log e n c)))))
-    (λ c. waits_taken (queue.Ready n) (same_ready n) log conn x rest cs.answers s.waits h.first c ∙ sym (line_begun log e n conn x rest (queue.Ready n c) h))
+-- a step of a connection, of whose connections this is the one that did it
+pub step_begins : (n conn c : ℕ) (e : Entry) → e.event.act ≡ act.SendStep conn n → e.reply ≡ reply.Ok → begins n c e ≡ (c == conn)
+step_begins n conn c e acts ok =
+    ap (λ a. steps_sender n c a && is_done e.reply) acts
+    ∙ (ap (λ r. ((n == n) && (conn == c)) && is_done r) ok ∙ (and_true ((n == n) && (conn == c)) ∙ same_conn n conn c))
+  where
+    and_true : (b : Bool) → (b && true) ≡ b
+    and_true true = refl
+    and_true false = refl
 
-begin_on : (configs : List Config) (log : List Entry) (at seed conn n : ℕ) (k : Connection) (xs : List Envelope) (x y : Node) (l links : Links) (r : Row) → NodeStands configs log n x → LinksStand log l
-    → table.at x.connections.halves conn ≡ Some k → k.running ≡ false → waiting x.connections.answers conn ≡ xs → Begins conn x y l links r → Performs configs log (asked at seed (act.SendStep conn n)) n y links r
+other_begins : (n conn c : ℕ) (e : Entry) → e.event.act ≡ act.SendStep conn n → (c == conn) ≡ false → begins n c e ≡ false
+other_begins n conn c e acts other =
+    ap (λ a. steps_sender n c a && is_done e.reply) acts ∙ (ap (λ b. b && is_done e.reply) (same_conn n conn c) ∙ ap (λ b. b && is_done e.reply) other)
+
+-- what a connection takes of it
+pub step_answers : (log : List Entry) (e : Entry) (n conn c : ℕ) → e.event.act ≡ act.SendStep conn n → answers_by n c log e ≡ cond (c == conn) (map is_answer (taken log e)) []
+step_answers log e n conn c acts =
+    ap (λ a. cond (steps_sender n c a) (map is_answer (taken log e)) []) acts ∙ ap (λ b. cond b (map is_answer (taken log e)) []) (same_conn n conn c)
+
+any_of : (b a : Bool) → list_any (λ t. t) (cond b (a ∷ []) []) ≡ (b && a)
+any_of true true = refl
+any_of true false = refl
+any_of false a = refl
+
+took_stands : (log : List Entry) (e : Entry) (n conn : ℕ) (cs : Connections) (x : Envelope) (rest : List Envelope) → ConnectionsStand log n cs → is_begun log n conn ≡ true
+    → e.event.act ≡ act.SendStep conn n → e.reply ≡ reply.Ok → Takes log e n conn x rest
+    → ConnectionsStand (log ++ e ∷ []) n (record cs { stages = stages_with (Some x) conn cs.stages; answers = popped_at cs.answers conn })
+took_stands log e n conn cs x rest s begun acts ok h = by (is_answer x.item) refl
+  where
+    answers : (c : ℕ) → list_any (λ t. t) (answers_by n c log e) ≡ ((c == conn) && is_answer x.item)
+    answers c =
+        ap (list_any (λ (t : Bool). t)) (step_answers log e n conn c acts ∙ ap (λ t. cond (c == conn) (map is_answer t) []) (taken-first log e (queue.Ready n conn) x rest h.first h.takes))
+        ∙ any_of (c == conn) (is_answer x.item)
+
+    waits : HoldsLines (queue.Ready n) (log ++ e ∷ []) (popped_at cs.answers conn)
+    waits c = waits_taken (queue.Ready n) (same_ready n) log conn x rest cs.answers s.waits h.first c ∙ sym (line_begun log e n conn x rest (queue.Ready n c) h)
+
+    spawns : SpawnsNone log e n
+    spawns = connections_of-unmade log e n (ap (steps_spawner n) acts)
+
+    and_true : (b : Bool) → (b && true) ≡ b
+    and_true true = refl
+    and_true false = refl
+
+    and_false : (b : Bool) → (b && false) ≡ false
+    and_false true = refl
+    and_false false = refl
+
+    by : (b : Bool) → is_answer x.item ≡ b
+        → ConnectionsStand (log ++ e ∷ []) n (record cs { stages = cond b (insert_entry nat_cmp cs.stages conn stage.Running) cs.stages; answers = popped_at cs.answers conn })
+    by true is = connections_ran log e n conn cs (popped_at cs.answers conn) s spawns begun (λ c. step_begins n conn c e acts ok) (λ c. answers c ∙ (ap (λ b. (c == conn) && b) is ∙ and_true (c == conn))) waits
+    by false is =
+        connections_stepped log e n conn cs (popped_at cs.answers conn) s spawns begun (λ c other. other_begins n conn c e acts other)
+        (λ c. running-kept log e n c (answers c ∙ (ap (λ b. (c == conn) && b) is ∙ and_false (c == conn)))) waits
+
+abbrev pub named_parts : List place.Part
+named_parts = place.connections ∷ place.router ∷ place.tracker ∷ []
+
+-- a step of a sending half that leaves the queues of a tracker alone
+pub step_untold : (log : List Entry) (e : Entry) (n conn : ℕ) → e.event.act ≡ act.SendStep conn n → line (log ++ e ∷ []) (queue.Tracker n) ≡ line log (queue.Tracker n)
+    → ((q : Queue) → is_told n q ≡ true → line (log ++ e ∷ []) q ≡ line log q) → LeavesTracker log e n
+step_untold log e n conn acts mailbox told = record {
+  no_step = ap (steps_tracker n) acts;
+  no_question = ap (asks_of n) acts;
+  no_answer = λ d h. ap (λ a. answers d a e.reply) acts;
+  no_late_answer = λ d h. ap (λ a. answers d a e.reply) acts;
+  handshakes = handshakes_unmoved log e n (ap (is_of_listener n) acts);
+  mailbox = mailbox;
+  told = told;
+}
+
+-- it takes what its router answered, where there is something
+pub run_performs : (configs : List Config) (log : List Entry) (at seed conn n : ℕ) (half : Half) (xs : List Envelope) (x y : Node) (l links : Links) (r : Row) → NodeStands configs log n x → LinksStand log l
+    → is_up log n ≡ true → half_at log n conn ≡ Some half → is_begun log n conn ≡ true → is_running log n conn ≡ false → waiting x.connections.answers conn ≡ xs → Runs conn x y r → links ≡ l
+    → Performs configs log (asked at seed (act.SendStep conn n)) n y links r
 unfolding effect row
-begin_on configs log at seed conn n k [] x y l links r s t there idle is d =
+run_performs configs log at seed conn n half [] x y l links r s t up has begun idle is d kept =
     let ev = asked at seed (act.SendStep conn n) in
     let e = effect configs log ev in
-    let cs : ConnectionsStand configs log n x.connections = s.each place.connections in
+    let cs : ConnectionsStand log n x.connections = s.each place.connections in
     let row_is : send_step_row configs log conn n ≡ only reply.Idle =
-    stepped_as configs log conn n x.connections (Some k) cs there
-    ∙ (ap (λ b. stepped_row configs log conn n (Some k.half) b) idle ∙ ap takes_oldest (sym (cs.waits conn) ∙ is))
+    half_steps configs log conn n half true false up has begun idle ∙ ap takes_oldest (sym (cs.waits conn) ∙ is)
     in
     let still : IsStill e reply.Idle = record {
       reply = ap (λ (z : Row). z.reply) row_is;
@@ -159,48 +191,63 @@ begin_on configs log at seed conn n k [] x y l links r s t there idle is d =
       puts = ap (λ (z : Row). z.puts) row_is;
       ends = ap (λ (z : Row). z.ends) row_is;
     } in
-    let parts : y ≡ record x { connections = record x.connections { answers = popped_at x.connections.answers conn } } = d.1.0 ∙ ap (λ ws. record x { connections = begun_on (slice_get ws 0) conn x.connections }) is in
+    let parts : y ≡ record x { connections = record x.connections { answers = popped_at x.connections.answers conn } } =
+    d.1 ∙ ap (λ ws. record x { connections = record x.connections { stages = stages_with (slice_get ws 0) conn x.connections.stages; answers = popped_at x.connections.answers conn } }) is
+    in
     record {
       row_is = d.0 ∙ (ap takes_oldest is ∙ sym row_is);
       node =
-          each_part configs log ev n x y (place.connections ∷ place.router ∷ []) s (subst (λ z. z ≡ with_parts (place.connections ∷ place.router ∷ []) x z) (sym parts) refl)
-          (λ p out. not_among-links (place.connections ∷ place.router ∷ []) p n out) (
-            let kept : ConnectionsStand configs (log ++ e ∷ []) n x.connections = part_still place.connections configs log e n x (act.SendStep conn n) reply.Idle cs refl refl still in
-                subst (ConnectionsStand configs (log ++ e ∷ []) n) (sym (ap (λ (z : Node). z.connections) parts))
-                (record { halves = kept.halves; running = kept.running; partners = kept.partners; spawned = kept.spawned; waits = λ c. waits_none (queue.Ready n) (same_ready n) log conn x.connections.answers cs.waits (sym (cs.waits conn) ∙ is) c ∙ (sym (cs.waits c) ∙ kept.waits c) }),
+          each_part configs log ev n x y named_parts s (subst (λ z. z ≡ with_parts named_parts x z) (sym parts) refl)
+          (λ p out. not_among-links named_parts p n out) (
+            let old : ConnectionsStand (log ++ e ∷ []) n x.connections = part_still place.connections configs log e n x (act.SendStep conn n) reply.Idle cs refl refl still in
+                subst (ConnectionsStand (log ++ e ∷ []) n) (sym (ap (λ (z : Node). z.connections) parts))
+                (record {
+                  spawned = old.spawned;
+                  begun = old.begun;
+                  running = old.running;
+                  waits = λ c. waits_none (queue.Ready n) (same_ready n) log conn x.connections.answers cs.waits (sym (cs.waits conn) ∙ is) c ∙ (sym (cs.waits c) ∙ old.waits c);
+                }),
             (
               subst (RouterStands configs (log ++ e ∷ []) n) (sym (ap (λ (z : Node). z.router) parts)) (part_still place.router configs log e n x (act.SendStep conn n) reply.Idle (s.each place.router) refl refl still),
-              tt,
+              (
+                subst (TrackerStands configs (log ++ e ∷ []) n) (sym (ap (λ (z : Node). z.tracker) parts)) (part_still place.tracker configs log e n x (act.SendStep conn n) reply.Idle (s.each place.tracker) refl refl still),
+                tt,
+              ),
             ),
           );
-      linked = subst (LinksStand (log ++ e ∷ [])) (sym d.1.1) (links_still log e (act.SendStep conn n) reply.Idle l t refl refl still);
+      linked = subst (LinksStand (log ++ e ∷ [])) (sym kept) (links_still log e (act.SendStep conn n) reply.Idle l t refl refl still);
     }
-begin_on configs log at seed conn n k (w ∷ ws) x y l links r s t there idle is d =
+run_performs configs log at seed conn n half (w ∷ ws) x y l links r s t up has begun idle is d kept =
     let ev = asked at seed (act.SendStep conn n) in
     let e = effect configs log ev in
-    let cs : ConnectionsStand configs log n x.connections = s.each place.connections in
+    let cs : ConnectionsStand log n x.connections = s.each place.connections in
     let rout : RouterStands configs log n x.router = s.each place.router in
     let first : line log (queue.Ready n conn) ≡ w ∷ ws = sym (cs.waits conn) ∙ is in
-    let row_is : send_step_row configs log conn n ≡ takes_oldest (w ∷ ws) =
-    stepped_as configs log conn n x.connections (Some k) cs there
-    ∙ (ap (λ b. stepped_row configs log conn n (Some k.half) b) idle ∙ ap takes_oldest first)
-    in
+    let row_is : send_step_row configs log conn n ≡ takes_oldest (w ∷ ws) = half_steps configs log conn n half true false up has begun idle ∙ ap takes_oldest first in
     let takes : Takes log e n conn w ws = record { first = first; takes = ap (λ (z : Row). z.takes) row_is; puts = ap (λ (z : Row). z.puts) row_is; ends = ap (λ (z : Row). z.ends) row_is } in
-    let parts : y ≡ record x { connections = begun_on (Some w) conn x.connections } = d.1.0 ∙ ap (λ vs. record x { connections = begun_on (slice_get vs 0) conn x.connections }) is in
+    let parts : y ≡ record x { connections = record x.connections { stages = stages_with (Some w) conn x.connections.stages; answers = popped_at x.connections.answers conn } } =
+    d.1 ∙ ap (λ vs. record x { connections = record x.connections { stages = stages_with (slice_get vs 0) conn x.connections.stages; answers = popped_at x.connections.answers conn } }) is
+    in
     record {
       row_is = d.0 ∙ (ap takes_oldest is ∙ sym row_is);
       node =
-          each_part configs log ev n x y (place.connections ∷ place.router ∷ []) s (subst (λ z. z ≡ with_parts (place.connections ∷ place.router ∷ []) x z) (sym parts) refl)
-          (λ p out. not_among-links (place.connections ∷ place.router ∷ []) p n out) (
-            subst (ConnectionsStand configs (log ++ e ∷ []) n) (sym (ap (λ (z : Node). z.connections) parts)) (begun_stands configs log e n conn x.connections k w ws cs there refl takes),
+          each_part configs log ev n x y named_parts s (subst (λ z. z ≡ with_parts named_parts x z) (sym parts) refl)
+          (λ p out. not_among-links named_parts p n out) (
+            subst (ConnectionsStand (log ++ e ∷ []) n) (sym (ap (λ (z : Node). z.connections) parts)) (took_stands log e n conn x.connections w ws cs begun refl (ap (λ (z : Row). z.reply) row_is) takes),
             (
               subst (RouterStands configs (log ++ e ∷ []) n) (sym (ap (λ (z : Node). z.router) parts))
                   (RouterStands-moved configs log e n x.router x.router rout
                   (stands_begun configs log e x.router conn n rout.stands (step_beside configs log e x.router.number conn n refl) (takes.takes ∙ sym (ap (λ vs. (takes_oldest vs).takes) first)) takes.puts takes.ends) refl refl),
-              tt,
+              (
+                subst (TrackerStands configs (log ++ e ∷ []) n) (sym (ap (λ (z : Node). z.tracker) parts))
+                    (tracker_frame configs log e n x.tracker (s.each place.tracker)
+                    (step_untold log e n conn refl (line_begun log e n conn w ws (queue.Tracker n) takes)
+                    (λ q own. line_begun log e n conn w ws q takes ∙ ap (λ b. cond b ws (line log q)) (away (is_told n) (queue.Ready n conn) q refl own)))),
+                tt,
+              ),
             ),
           );
-      linked = subst (LinksStand (log ++ e ∷ [])) (sym d.1.1)
+      linked = subst (LinksStand (log ++ e ∷ [])) (sym kept)
           (links_frame log e l t (λ u link. line_begun log e n conn w ws (queue.Link link u) takes ∙ ap (λ b. cond b ws (line log (queue.Link link u))) (link_other n conn link u)) (openings_unmoved log e refl));
     }
 
@@ -268,6 +315,10 @@ batch_is : (configs : List Config) (log : List Entry) (n conn size : ℕ) → si
 unfolding line
 batch_is configs log n conn size h = ap (λ k. batch_of n conn k (live log)) h
 
+abbrev is_tracker : ℕ → Queue → Bool
+is_tracker n (queue.Tracker m) = m == n
+is_tracker n _ = false
+
 ready_apart : (n conn c : ℕ) (s : Side) → same_queue (queue.Ready n c) (queue.Link conn s) ≡ false
 ready_apart n conn c side.Out = refl
 ready_apart n conn c side.In = refl
@@ -283,9 +334,7 @@ low_link n conn j side.In = refl
 -- a connection that runs goes on to run
 still_runs : (log : List Entry) (e : Entry) (n conn c : ℕ) → e.event.act ≡ act.SendStep conn n → is_running log n conn ≡ true → is_running (log ++ e ∷ []) n c ≡ is_running log n c
 still_runs log e n conn c acts runs =
-    is_running-append log e n c
-    ∙ (ap (λ b. is_running log n c || list_any (λ t. t) b) (ap (λ b. cond (steps_sender n c b) (map is_answer (taken log e)) []) acts ∙ ap (λ b. cond b (map is_answer (taken log e)) []) (same_conn n conn c))
-    ∙ by_conn (is_at (nat_cmp c) conn) refl)
+    is_running-append log e n c ∙ (ap (λ b. is_running log n c || list_any (λ t. t) b) (step_answers log e n conn c acts) ∙ by_conn (c == conn) refl)
   where
     or_nothing : (b : Bool) → (b || false) ≡ b
     or_nothing true = refl
@@ -295,20 +344,21 @@ still_runs log e n conn c acts runs =
     already true t h = refl
     already false t h = cc
 
-    by_conn : (b : Bool) → is_at (nat_cmp c) conn ≡ b → (is_running log n c || list_any (λ t. t) (cond b (map is_answer (taken log e)) [])) ≡ is_running log n c
-    by_conn true h = already (is_running log n c) (list_any (λ t. t) (map is_answer (taken log e))) (ap (is_running log n) (let f : c ≡ conn = grind (arith, nat_tests) in f) ∙ runs)
+    by_conn : (b : Bool) → (c == conn) ≡ b → (is_running log n c || list_any (λ t. t) (cond b (map is_answer (taken log e)) [])) ≡ is_running log n c
+    by_conn true h = already (is_running log n c) (list_any (λ t. t) (map is_answer (taken log e))) (ap (is_running log n) (eqb-true c conn h) ∙ runs)
     by_conn false h = or_nothing (is_running log n c)
 
-write_on : (configs : List Config) (log : List Entry) (at seed conn n : ℕ) (k : Connection) (x y : Node) (l links : Links) (r : Row) → NodeStands configs log n x → LinksStand log l
-    → table.at x.connections.halves conn ≡ Some k → k.running ≡ true → Writes (length log) conn k.half x y l links r → Performs configs log (asked at seed (act.SendStep conn n)) n y links r
+pub write_performs : (configs : List Config) (log : List Entry) (at seed conn n : ℕ) (half : Half) (x y : Node) (l links : Links) (r : Row) → NodeStands configs log n x → LinksStand log l
+    → is_up log n ≡ true → half_at log n conn ≡ Some half → is_begun log n conn ≡ true → is_running log n conn ≡ true → Writes (length log) conn half x y l links r
+    → Performs configs log (asked at seed (act.SendStep conn n)) n y links r
 unfolding effect row
-write_on configs log at seed conn n k x y l links r s t there runs d =
+write_performs configs log at seed conn n half x y l links r s t up has begun running d =
     let ev = asked at seed (act.SendStep conn n) in
     let e = effect configs log ev in
-    let cs : ConnectionsStand configs log n x.connections = s.each place.connections in
+    let cs : ConnectionsStand log n x.connections = s.each place.connections in
     let rout : RouterStands configs log n x.router = s.each place.router in
-    let side_of = k.half.writes in
-    let link = k.half.link in
+    let side_of = half.writes in
+    let link = half.link in
     let frames : List ((ℕ × ℕ) × Item) = d.0 in
     let calls = d.1.0 in
     let parts : y ≡ record x { router = y.router } = d.1.1.0 in
@@ -318,9 +368,7 @@ write_on configs log at seed conn n k x y l links r s t there runs d =
     calls.taken (mailbox_size_at configs x.router.number) (live log) rout.stands.holds (AreApart-live_from 0 log)
     ∙ ap (λ m. map named (batch_of m conn size (live log))) rout.number
     in
-    let stepped : send_step_row configs log conn n ≡ write_row (queue.Link link side_of) (batch configs log n conn) =
-    stepped_as configs log conn n x.connections (Some k) cs there ∙ ap (λ b. stepped_row configs log conn n (Some k.half) b) runs
-    in
+    let stepped : send_step_row configs log conn n ≡ write_row (queue.Link link side_of) (batch configs log n conn) = half_steps configs log conn n half true true up has begun running in
     let framed : write_frames_row link side_of frames ≡ send_step_row configs log conn n =
     ap (write_frames_row link side_of) took
     ∙ (frames_row link side_of (batch_of n conn size (live log))
@@ -329,47 +377,35 @@ write_on configs log at seed conn n k x y l links r s t there runs d =
     let takes : e.takes ≡ map (λ (f : (ℕ × ℕ) × Item). f.0) frames = ap (λ (z : Row). z.takes) (sym framed) ∙ write_takes link side_of frames in
     let puts : e.puts ≡ frames_put link side_of frames = ap (λ (z : Row). z.puts) (sym framed) ∙ write_puts link side_of frames in
     let ends : e.ends ≡ [] = ap (λ (z : Row). z.ends) (sym framed) ∙ write_ends link side_of frames in
-    let running : is_running log n conn ≡ true = sym (cs.running conn) ∙ (ap runs_on there ∙ runs) in
+    let beside : (q : Queue) → same_queue (queue.High n conn) q ≡ false → same_queue (queue.Low n conn) q ≡ false → same_queue q (queue.Link link side_of) ≡ false → line (log ++ e ∷ []) q ≡ line log q =
+    λ q high low away_from.
+    line_written log e n conn link size side_of frames q high low took takes ends puts
+    ∙ (ap (λ w. line log q ++ w) (filter-away q (length log) 0 (frames_put link side_of frames) (frames_away link side_of q frames away_from)) ∙ append-nil (line log q))
+    in
     record {
       row_is = d.1.1.1.0 ∙ framed;
       node =
-          each_part configs log ev n x y (place.connections ∷ place.router ∷ []) s (subst (λ z. z ≡ with_parts (place.connections ∷ place.router ∷ []) x z) (sym parts) refl)
-          (λ p out. not_among-links (place.connections ∷ place.router ∷ []) p n out) (
-            subst (ConnectionsStand configs (log ++ e ∷ []) n) (sym (ap (λ (z : Node). z.connections) parts))
-                (connections_moved configs log e n x.connections x.connections.halves x.connections.answers cs (joins_none configs log e n (act.SendStep conn n) refl refl) (connections_of-unmade log e n refl) (λ c. refl)
-                (λ c. cs.running c ∙ sym (still_runs log e n conn c refl running))
-                (λ c.
-                cs.waits c
-                ∙ sym
-                (line_written log e n conn link size side_of frames (queue.Ready n c) refl refl took takes ends puts
-                ∙ (ap (λ w. line log (queue.Ready n c) ++ w) (filter-away (queue.Ready n c) (length log) 0 (frames_put link side_of frames) (frames_away link side_of (queue.Ready n c) frames (ready_apart n link c side_of))) ∙ append-nil (line log (queue.Ready n c)))))),
+          each_part configs log ev n x y named_parts s (subst (λ z. z ≡ with_parts named_parts x z) (sym parts) refl)
+          (λ p out. not_among-links named_parts p n out) (
+            subst (ConnectionsStand (log ++ e ∷ []) n) (sym (ap (λ (z : Node). z.connections) parts))
+                (connections_stepped log e n conn x.connections x.connections.answers cs (connections_of-unmade log e n refl) begun (λ c other. other_begins n conn c e refl other)
+                (λ c. still_runs log e n conn c refl running) (λ c. cs.waits c ∙ sym (beside (queue.Ready n c) refl refl (ready_apart n link c side_of)))),
             (
               RouterStands-moved configs log e n x.router y.router rout
                   (calls.stands configs log e rout.stands (step_beside configs log e x.router.number conn n refl) takes ends
                   (λ q own. subst (AreAway q) (sym puts) (frames_away link side_of q frames (same_queue-sym q (queue.Link link side_of) ∙ same_queue-other x.router.number (queue.Link link side_of) q refl own))))
                   calls.kept.number calls.kept.peers,
-              tt,
+              (
+                subst (TrackerStands configs (log ++ e ∷ []) n) (sym (ap (λ (z : Node). z.tracker) parts))
+                    (tracker_frame configs log e n x.tracker (s.each place.tracker)
+                    (step_untold log e n conn refl (beside (queue.Tracker n) refl refl (same_queue-sym (queue.Tracker n) (queue.Link link side_of) ∙ away (is_tracker n) (queue.Link link side_of) (queue.Tracker n) refl (eq-eqb n n refl)))
+                    (λ q own.
+                    beside q (away (is_told n) (queue.High n conn) q refl own) (away (is_told n) (queue.Low n conn) q refl own)
+                    (same_queue-sym q (queue.Link link side_of) ∙ away (is_told n) (queue.Link link side_of) q refl own)))),
+                tt,
+              ),
             ),
           );
       linked = subst (LinksStand (log ++ e ∷ [])) (sym d.1.1.1.1)
           (links_written log e l side_of link (length log) frames t (λ u j. line_written log e n conn link size side_of frames (queue.Link j u) (high_link n conn j u) (low_link n conn j u) took takes ends puts) (openings_unmoved log e refl));
     }
-
--- ---- a step
-
-step_by : (configs : List Config) (log : List Entry) (at seed conn n : ℕ) (k : Connection) (b : Bool) (x y : Node) (l links : Links) (r : Row) → NodeStands configs log n x → LinksStand log l
-    → table.at x.connections.halves conn ≡ Some k → k.running ≡ b → WritesBy b (length log) conn k.half x y l links r → Performs configs log (asked at seed (act.SendStep conn n)) n y links r
-step_by configs log at seed conn n k true x y l links r s t there runs d = write_on configs log at seed conn n k x y l links r s t there runs d
-step_by configs log at seed conn n k false x y l links r s t there runs d = begin_on configs log at seed conn n k (waiting x.connections.answers conn) x y l links r s t there runs refl d
-
-step_on : (configs : List Config) (log : List Entry) (at seed conn n : ℕ) (o : Option Connection) (x y : Node) (l links : Links) (r : Row) → NodeStands configs log n x → LinksStand log l
-    → table.at x.connections.halves conn ≡ o → WritesOn o (length log) conn x y l links r → Performs configs log (asked at seed (act.SendStep conn n)) n y links r
-unfolding row
-step_on configs log at seed conn n None x y l links r s t there d =
-    let cs : ConnectionsStand configs log n x.connections = s.each place.connections in
-    stays_performs configs log (asked at seed (act.SendStep conn n)) n x y l links r reply.Gone s t (stepped_as configs log conn n x.connections None cs there) refl d.0.0 d.0.1 d.1
-step_on configs log at seed conn n (Some k) x y l links r s t there d = step_by configs log at seed conn n k k.running x y l links r s t there refl d
-
-pub send_step_performs : (configs : List Config) (log : List Entry) (at seed conn n : ℕ) (x y : Node) (l links : Links) (r : Row) → NodeStands configs log n x → LinksStand log l
-    → SendSteps (length log) conn x y l links r → Performs configs log (asked at seed (act.SendStep conn n)) n y links r
-send_step_performs configs log at seed conn n x y l links r s t d = step_on configs log at seed conn n (table.at x.connections.halves conn) x y l links r s t refl d

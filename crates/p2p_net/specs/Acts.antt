@@ -16,7 +16,7 @@ use Rattle.p2p_log.specs.QueueCode.{same_queue}
 use Rattle.p2p_log.specs.Lines.{name_of}
 use Rattle.p2p_log_rules.specs.declared.row.Half.{Half}
 use Rattle.p2p_log_rules.specs.declared.row.Row.{Row}
-use Rattle.p2p_log_rules.specs.Effect.{only, oldest_read, takes_oldest, other_side}
+use Rattle.p2p_log_rules.specs.Effect.{only, oldest_read, other_side}
 use Rattle.p2p_net_queues.specs.Board.{held}
 use Rattle.p2p_net_queues.specs.Rows.{taken_row}
 use Rattle.p2p_net_queues.specs.Tables as table
@@ -25,10 +25,9 @@ use Rattle.p2p_net_channels.specs.declared.arrival.Arrived.{Arrived}
 use Rattle.p2p_net_channels.specs.declared.channels.Channels.{Channels}
 use Rattle.p2p_net_channels.specs.Arrivals.{arrival_in, delivered}
 use Rattle.p2p_net_channels.specs.Channels.{capacity_at, registered_with, is_full, delivered_to, read_from}
-use Rattle.p2p_net_connections.specs.declared.connections.Connection.{Connection}
-use Rattle.p2p_net_connections.specs.Connections.{answered, begun, spawned_with}
+use Rattle.p2p_net_connections.specs.Connections.{answered, runs_on, spawned_with}
 use Rattle.p2p_net_links.specs.declared.links.Links.{Links}
-use Rattle.p2p_net_links.specs.Links.{way_of, with_way, written_way, write_frames_row}
+use Rattle.p2p_net_links.specs.Links.{way_of, with_way}
 use Rattle.p2p_net_dialer.specs.Attempts.{Tries, Resolves, AnswersDial}
 use Rattle.p2p_net_dialer.specs.Dialing as dialing
 use Rattle.p2p_net_dialer.specs.Dialing.{started}
@@ -49,16 +48,13 @@ use Rattle.p2p_net_tracker.specs.declared.tracker.Tracker.{Tracker}
 use Rattle.p2p_base.specs.Queue.{oldest}
 use Rattle.p2p_net_spawner.specs.Spawning.{taken_by, without_first}
 use Rattle.p2p_net_spawner.specs.declared.spawning.Taken.{Taken}
+use Rattle.p2p_net.specs.Connecting.{Stays, half_by, SendSteps}
 use Rattle.p2p_net.specs.Ready.{is_started, capacity_by}
 use Rattle.p2p_tracker_directory.specs.declared.metadata.Metadata.{Metadata}
 use Rattle.p2p_net.specs.Routing as routing
 use Rattle.p2p_net.specs.Spawning.{release_item, Spawns}
 use Rattle.p2p_net.specs.declared.node.Node.{Node}
 use Rattle.p2p_net.specs.declared.steps.Arrival.{Arrival}
-
--- the node is as it was
-abbrev pub Stays : Node → Node → Row → Row → Type 0
-Stays old new r s = (r ≡ s) × (new ≡ old)
 
 -- ---- calls
 
@@ -101,32 +97,6 @@ RoutesBy true k n old new r =
 
 abbrev pub Routes : ℕ → ℕ → Node → Node → Row → Type 0
 Routes k n old new r = RoutesBy (is_started old) k n old new r
-
--- ---- a connection's sending half
-
--- a batch is written to the link
-abbrev pub Writes : ℕ → ℕ → Half → Node → Node → Links → Links → Row → Type 0
-Writes k conn half old new l links r =
-    (frames : List ((ℕ × ℕ) × Item))
-    × (routing.Batches conn old.config.send_batch_size old.router new.router frames
-    × ((new ≡ record old { router = new.router })
-    × ((r ≡ write_frames_row half.link half.writes frames)
-    × (links ≡ with_way l half.writes (written_way k half.link half.writes 0 frames (way_of l half.writes))))))
-
-abbrev pub Begins : ℕ → Node → Node → Links → Links → Row → Type 0
-Begins conn old new l links r =
-    (r ≡ takes_oldest (waiting old.connections.answers conn)) × ((new ≡ record old { connections = begun conn old.connections }) × (links ≡ l))
-
-abbrev pub WritesBy : Bool → ℕ → ℕ → Half → Node → Node → Links → Links → Row → Type 0
-WritesBy true k conn half old new l links r = Writes k conn half old new l links r
-WritesBy false k conn half old new l links r = Begins conn old new l links r
-
-abbrev pub WritesOn : Option Connection → ℕ → ℕ → Node → Node → Links → Links → Row → Type 0
-WritesOn None k conn old new l links r = Stays old new r (only reply.Gone) × (links ≡ l)
-WritesOn (Some c) k conn old new l links r = WritesBy c.running k conn c.half old new l links r
-
-abbrev pub SendSteps : ℕ → ℕ → Node → Node → Links → Links → Row → Type 0
-SendSteps k conn old new l links r = WritesOn (table.at old.connections.halves conn) k conn old new l links r
 
 -- ---- a connection's receiving half
 
@@ -188,12 +158,13 @@ abbrev pub ReceivesBy : Bool → ℕ → ℕ → ℕ → Side → Key → Node �
 ReceivesBy true k n link s from old new l links r = Receives k n link s from old new l links r
 ReceivesBy false k n link s from old new l links r = Stays old new r (only reply.Idle) × (links ≡ l)
 
-abbrev pub ReceivesOn : Option Connection → ℕ → ℕ → ℕ → Node → Node → Links → Links → Row → Type 0
+abbrev pub ReceivesOn : Option Half → ℕ → ℕ → ℕ → Node → Node → Links → Links → Row → Type 0
 ReceivesOn None k n conn old new l links r = Stays old new r (only reply.Gone) × (links ≡ l)
-ReceivesOn (Some c) k n conn old new l links r = ReceivesBy c.running k n c.half.link (other_side c.half.writes) c.half.peer old new l links r
+ReceivesOn (Some half) k n conn old new l links r =
+    ReceivesBy (runs_on (table.at old.connections.stages conn)) k n half.link (other_side half.writes) half.peer old new l links r
 
 abbrev pub RecvSteps : ℕ → ℕ → ℕ → Node → Node → Links → Links → Row → Type 0
-RecvSteps k n conn old new l links r = ReceivesOn (table.at old.connections.halves conn) k n conn old new l links r
+RecvSteps k n conn old new l links r = ReceivesOn (half_by n old.connections l conn) k n conn old new l links r
 
 -- ---- the tracker
 
@@ -327,10 +298,9 @@ NodeDoes k n at seed (act.Register c m rate) old new l links r = Registers c rat
 NodeDoes k n at seed (act.Start m) old new l links r = Starts k at old new r × (links ≡ l)
 NodeDoes k n at seed (act.Send bytes c m priority to) old new l links r = Sends k c priority bytes to old new r × (links ≡ l)
 NodeDoes k n at seed (act.Router m) old new l links r = Routes k n old new r × (links ≡ l)
-NodeDoes k n at seed (act.SendStep conn m) old new l links r = SendSteps k conn old new l links r
+NodeDoes k n at seed (act.SendStep conn m) old new l links r = SendSteps k n conn old new l links r
 NodeDoes k n at seed (act.RecvStep conn m) old new l links r = RecvSteps k n conn old new l links r
 NodeDoes k n at seed (act.Recv c m) old new l links r = Reads c old new r × (links ≡ l)
-NodeDoes k n at seed (act.Join a b) old new l links r = Stays old new r (only reply.Idle) × (links ≡ l)
 NodeDoes k n at seed (act.Connect e from m to) old new l links r = Stays old new r (only reply.Idle) × (links ≡ l)
 NodeDoes k n at seed (act.Finish link ok) old new l links r = Stays old new r (only reply.Idle) × (links ≡ l)
 NodeDoes k n at seed (act.Ask what m) old new l links r = ((r ≡ ask_answer old.tracker n k what) × Tracks (after_asking old.tracker k what) old new) × (links ≡ l)

@@ -1,7 +1,8 @@
 pub mod Acts
 pub mod Applying
+pub mod Connecting
+pub mod Events
 pub mod Finishing
-pub mod Joining
 pub mod Linking
 pub mod Meetings
 pub mod Places

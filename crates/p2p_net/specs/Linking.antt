@@ -1,7 +1,5 @@
 -- What linking an attempt of one node to the listener of another comes to.
 use Rattle.std.specs.Prelude.{◌≡◌, ℕ, Bool, true, false, List, [], ◌∷◌, ◌++◌, length, Some, slice_get, slice_set}
-use Rattle.std.specs.BTreeMap.{insert_entry}
-use Rattle.std.specs.Ordering.{nat_cmp}
 use Rattle.p2p_base.specs.declared.key.Key.{Key}
 use Rattle.p2p_address.specs.declared.ip.SocketAddr.{SocketAddr}
 use Rattle.p2p_log.specs.declared.queue.Queue.TheVariants as queue
@@ -11,6 +9,7 @@ use Rattle.p2p_log.specs.declared.entry.Reply.{Reply}
 use Rattle.p2p_log.specs.declared.entry.Reply.TheVariants as reply
 use Rattle.p2p_log_rules.specs.declared.row.Opening.{Opening}
 use Rattle.p2p_log_rules.specs.declared.row.Row.{Row}
+use Rattle.p2p_net_links.specs.Links.{opened_with}
 use Rattle.p2p_net_links.specs.declared.links.Links.{Links}
 use Rattle.p2p_net_queues.specs.Tables as table
 use Rattle.p2p_net_dialer.specs.Attempts.{AnswersDial}
@@ -39,10 +38,10 @@ Arrives false m k place from key old new = (new ≡ old)
 Arrives true m k place from key old new =
     (y : Node) × ((slice_get old m ≡ Some y) × (new ≡ slice_set old m (record y { listening = arrived k place from key y.listening })))
 
--- a link over which keys are exchanged has this name, where the peer arrives
+-- a link of this name is made, over which keys are exchanged, where the peer arrives
 abbrev pub opened : Bool → ℕ → Opening → Links → Links
 opened false k o l = l
-opened true k o l = record l { openings = insert_entry nat_cmp l.openings k o }
+opened true k o l = opened_with k o l
 
 -- the entry k links this attempt of the node n to the listener of the node m, where that has started
 pub record IsLinked (k name n m : ℕ) (from : SocketAddr) (old new : List Node) (l links : Links) (r : Row) : Type 0 where

@@ -12,7 +12,6 @@ use Rattle.p2p_net.specs.declared.node.Node.{Node}
 
 -- where it does, with the node that dials first
 abbrev pub meeting_of : Act → Option Meeting
-meeting_of (act.Join a b) = Some (meeting.Join (record { dials = a; listens = b }))
 meeting_of (act.Connect e from n to) = Some (meeting.Link e from (record { dials = n; listens = to }))
 meeting_of (act.Finish link ok) = Some (meeting.Finish link ok)
 meeting_of _ = None
@@ -23,6 +22,5 @@ EndsThere ends nodes = (ends.dials < length nodes) × (ends.listens < length nod
 
 -- the nodes that it brings together are there
 abbrev pub MeetsThere : Meeting → List Node → Links → Type 0
-MeetsThere (meeting.Join ends) nodes l = EndsThere ends nodes
 MeetsThere (meeting.Link e from ends) nodes l = EndsThere ends nodes
 MeetsThere (meeting.Finish link ok) nodes l = (o : Opening) → table.at l.openings link ≡ Some o → (o.node < length nodes) × (o.to < length nodes)

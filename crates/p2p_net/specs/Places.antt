@@ -70,10 +70,9 @@ and_links ps = links ∷ ps
 abbrev pub parts_named : Act → List Part
 parts_named (act.Register c n rate) = channels ∷ router ∷ []
 parts_named (act.Start n) = router ∷ dialer ∷ []
-parts_named (act.Join a b) = router ∷ connections ∷ []
 parts_named (act.Send bytes c n priority to) = router ∷ []
 parts_named (act.Router n) = router ∷ connections ∷ []
-parts_named (act.SendStep conn n) = connections ∷ router ∷ []
+parts_named (act.SendStep conn n) = connections ∷ router ∷ tracker ∷ []
 parts_named (act.RecvStep conn n) = channels ∷ []
 parts_named (act.Recv c n) = channels ∷ []
 parts_named (act.Dialer n) = tracker ∷ dialer ∷ []
@@ -130,7 +129,6 @@ nodes_linked (Some e) = linked_by e.event.act
 abbrev pub node_of : List Entry → Act → ℕ
 node_of log (act.Register c n rate) = n
 node_of log (act.Start n) = n
-node_of log (act.Join a b) = a
 node_of log (act.Send bytes c n priority to) = n
 node_of log (act.Router n) = n
 node_of log (act.SendStep conn n) = n
@@ -152,7 +150,6 @@ node_of log (act.Finish link ok) = (nodes_linked (slice_get log link)).dials
 
 -- and the other one that it names
 abbrev pub other_of : List Entry → ℕ → Act → ℕ
-other_of log n (act.Join a b) = b
 other_of log n (act.Connect e from m to) = to
 other_of log n (act.Finish link ok) = (nodes_linked (slice_get log link)).listens
 other_of log n a = n
@@ -164,7 +161,6 @@ ends_named (Some o) = at dialer o.node ∷ at tracker o.to ∷ []
 
 -- the places that an act names
 abbrev pub places : List Entry → Act → List Place
-places log (act.Join a b) = parts_of a (parts_named (act.Join a b)) ++ parts_of b (parts_named (act.Join a b))
 places log (act.Connect e from n to) = links ∷ at dialer n ∷ at listener to ∷ []
 places log (act.Finish link ok) = links ∷ ends_named (openings_of log link)
 places log a = places_at (names_links a) (node_of log a) (parts_named a)

@@ -31,13 +31,13 @@ may_register x c rate =
     (not (is_started x) && not (is_some (capacity_at x.channels c)))
     && (fits_usize (capacity_by x rate) && fits_usize (x.config.mailbox_size + (x.channels.total + capacity_by x rate)))
 
-abbrev pub is_join_of : ℕ → Act → Bool
-is_join_of n a = elim a [ act.Join m k ↦ (m == n) || (k == n) | _ ↦ false ]
+abbrev pub is_spawn_of : ℕ → Act → Bool
+is_spawn_of n a = elim a [ act.Spawner m ↦ m == n | _ ↦ false ]
 
--- whether this entry is of a join of the node
-abbrev pub names_node : ℕ → Option Entry → Bool
-names_node n None = false
-names_node n (Some e) = is_join_of n e.event.act
+-- whether this entry is of a step of the node's spawner
+abbrev pub names_spawner : ℕ → Option Entry → Bool
+names_spawner n None = false
+names_spawner n (Some e) = is_spawn_of n e.event.act
 
 abbrev pub is_dial_of : ℕ → Act → Bool
 is_dial_of n a = elim a [ act.Dialer m ↦ m == n | _ ↦ false ]
@@ -77,8 +77,8 @@ subscribes (Some e) = is_some (subscribed_by e.event.act)
 abbrev pub may_ask : List Entry → Node → Act → Bool
 may_ask log x (act.Register c n rate) = may_register x c rate
 may_ask log x (act.Start n) = not (is_started x)
-may_ask log x (act.SendStep conn n) = names_node n (slice_get log conn)
-may_ask log x (act.RecvStep conn n) = names_node n (slice_get log conn)
+may_ask log x (act.SendStep conn n) = names_spawner n (slice_get log conn)
+may_ask log x (act.RecvStep conn n) = names_spawner n (slice_get log conn)
 may_ask log x (act.Answer e) = asks_set (slice_get log e)
 may_ask log x (act.Next e) = subscribes (slice_get log e)
 may_ask log x (act.Handshake e n) = names_listener (slice_get log e)
@@ -97,6 +97,7 @@ IsReady (act.Start n) x =
     × ((1 ≤ x.config.mailbox_size)
     × ((x.config.mailbox_size + x.channels.total < 2 ^ 64)
     × ((is_quota x.config.allowed_handshake_rate_per_ip ≡ true) × (is_quota x.config.allowed_handshake_rate_per_subnet ≡ true))))
+IsReady (act.SendStep conn n) x = 1 ≤ x.config.mailbox_size
 IsReady (act.Tracker n) x = (now : ℕ) → IfSome (next_message x.tracker.mailbox.desk) (λ m. MayTake key_cmp x.tracker.actor.directory m now)
 IsReady (act.Handshake e n) x = is_some (table.at x.listening.handshakes e) ≡ true → 0 < x.listening.actor.places.held
 IsReady _ x = Unit {0}

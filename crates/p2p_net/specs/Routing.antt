@@ -38,12 +38,12 @@ pub record Starts (entry places : ℕ) (old new : Router) (r : Row) : Type 0 whe
   pub stands : (configs : List Config) (log : List Entry) (event : Event) → StandsFor configs log old → length log ≡ entry
       → event.act ≡ act.Start old.number → places ≡ router_capacity configs log old.number → StandsFor configs (log ++ entry_of event r ∷ []) new
 
--- a connection with this key is told of, as the put of this place
-pub record Readies (entry place size : ℕ) (key : Key) (old new : Router) : Type 0 where
+-- this connection, with this key, is told of, as the put of this place
+pub record Readies (entry place conn size : ℕ) (key : Key) (old new : Router) : Type 0 where
   pub rest : new ≡ record old { messenger = new.messenger; peers = new.peers; names = new.names }
-  pub peers : (c : ℕ) → get nat_cmp new.peers c ≡ (if is_eq (nat_cmp entry c) then Some key else get nat_cmp old.peers c)
+  pub peers : (c : ℕ) → get nat_cmp new.peers c ≡ (if is_eq (nat_cmp conn c) then Some key else get nat_cmp old.peers c)
   pub stands : (configs : List Config) (log : List Entry) (e : Entry) → StandsFor configs log old → length log ≡ entry → size ≡ mailbox_size_at configs old.number
-      → IsStranger old entry key → IsBeside configs log e old.number → IsReadied e old.number place entry key → StandsFor configs (log ++ e ∷ []) new
+      → IsStranger old conn key → IsBeside configs log e old.number → IsReadied e old.number place conn key → StandsFor configs (log ++ e ∷ []) new
 
 -- a message for these keys is handed to it
 pub record Sends (entry c : ℕ) (priority : Bool) (bytes : List ℕ) (to : List Key) (old new : Router) (r : Row) : Type 0 where

@@ -1,12 +1,13 @@
 -- When the nodes and the links of a world stand for a log.
-use Rattle.std.specs.Prelude.{◌≡◌, ℕ, ◌*◌, ◌<◌, ◌≤◌, false, List, length, Some, None, slice_get}
+use Rattle.std.specs.Prelude.{◌≡◌, ℕ, ◌*◌, true, false, List, length, Some, None, slice_get}
 use Rattle.std.specs.Ordering.{nat_cmp}
 use Rattle.std.specs.BTreeMap as tree
 use Rattle.std.specs.BTreeMap.{BTreeMap}
 use Rattle.p2p_base.specs.declared.key.Key.{Key}
 use Rattle.p2p_log.specs.declared.config.Config.{Config}
 use Rattle.p2p_log.specs.declared.entry.Entry.{Entry}
-use Rattle.p2p_log_rules.specs.Facts.{key_at, is_joined}
+use Rattle.p2p_log_rules.specs.Connections.{is_begun}
+use Rattle.p2p_log_rules.specs.Spawning.{Spawned, connections_of}
 use Rattle.p2p_log_rules.specs.Valid.{config_fault}
 use Rattle.p2p_net_router.specs.Stands.{StandsFor}
 use Rattle.p2p_net_router.specs.declared.router.Router.{Router}
@@ -21,22 +22,22 @@ use Rattle.p2p_net_links.specs.declared.links.Links.{Links}
 use Rattle.p2p_net.specs.Places.{Part, router, channels, connections, tracker, dialer, listener, spawner}
 use Rattle.p2p_net.specs.declared.node.Node.{Node}
 
--- a node's router was told of no connection to come, and of none with a node that its own was not joined to
-pub record HearsOfJoins (configs : List Config) (log : List Entry) (n : ℕ) (peers : BTreeMap ℕ Key) : Type 0 where
-  pub no_conn : (conn : ℕ) → length log ≤ conn → tree.get nat_cmp peers conn ≡ None
-  pub no_key : (m : ℕ) → m < length configs → is_joined log n m ≡ false → (conn : ℕ) → tree.get nat_cmp peers conn ≡ Some (key_at configs m) → ⊥
+-- a node's router was told of the connections that have begun, each with its key
+abbrev pub HearsOfBegun : List Entry → ℕ → BTreeMap ℕ Key → Type 0
+HearsOfBegun log n peers = (conn : ℕ) (key : Key) → tree.get nat_cmp peers conn ≡ Some key
+    → (c : Spawned) × (connections_of log n conn ≡ Some c) × (c.key ≡ key) × (is_begun log n conn ≡ true)
 
 -- the router of a node, against the log
 pub record RouterStands (configs : List Config) (log : List Entry) (n : ℕ) (r : Router) : Type 0 where
   pub number : r.number ≡ n
   pub stands : StandsFor configs log r
-  pub hears : HearsOfJoins configs log n r.peers
+  pub hears : HearsOfBegun log n r.peers
 
 -- a part of a node, against the log
 abbrev pub PartStands : Part → List Config → List Entry → ℕ → Node → Type 0
 PartStands router configs log n x = RouterStands configs log n x.router
 PartStands channels configs log n x = ChannelsStand configs log n x.channels
-PartStands connections configs log n x = ConnectionsStand configs log n x.connections
+PartStands connections configs log n x = ConnectionsStand log n x.connections
 PartStands tracker configs log n x = TrackerStands configs log n x.tracker
 PartStands dialer configs log n x = DialerStands configs log n x.dialing
 PartStands listener configs log n x = ListenerStands configs log n x.listening

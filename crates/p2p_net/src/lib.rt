@@ -4,9 +4,10 @@
 
 mod calls;
 mod configs;
+mod connecting;
 mod error;
+mod events;
 mod finishing;
-mod joins;
 mod linking;
 mod meeting;
 mod node;

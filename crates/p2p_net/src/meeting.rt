@@ -15,8 +15,6 @@ pub struct Ends {
 /// How an act brings two nodes together.
 #[derive(Clone, Copy)]
 pub enum Meeting {
-    /// By a connection.
-    Join(Ends),
     /// By a link of an attempt, which comes from this address.
     Link {
         attempt: u64,
@@ -35,10 +33,6 @@ pub fn meeting_of(act: &Act) -> Option<Meeting>
     ensures { result ≡ meeting_of_act act.now }
 {
     match act {
-        Act::Join { a, b } => Some(Meeting::Join(Ends {
-            dials: *a,
-            listens: *b,
-        })),
         Act::Connect {
             attempt,
             from,

@@ -140,7 +140,6 @@ pub fn node_of(log: &[Entry], act: &Act) -> u64
     match act {
         Act::Register { node, .. } => *node,
         Act::Start { node } => *node,
-        Act::Join { a, .. } => *a,
         Act::Send { node, .. } => *node,
         Act::Router { node } => *node,
         Act::SendStep { node, .. } => *node,
@@ -167,7 +166,6 @@ pub fn other_of(log: &[Entry], first: u64, act: &Act) -> u64
     ensures { result ≡ other_of_act log.now first act.now }
 {
     match act {
-        Act::Join { b, .. } => *b,
         Act::Connect { to, .. } => *to,
         Act::Finish { link, .. } => nodes_linked(log, *link).listens,
         _ => first,
@@ -283,7 +281,6 @@ impl Node {
             Act::SendStep { conn, .. } => Ok(self.send_step(turn, links, *conn)?),
             Act::RecvStep { conn, .. } => Ok(self.recv_step(turn, links, *conn)?),
             Act::Recv { channel, .. } => Ok(self.read(turn, *channel)?),
-            Act::Join { .. } => Ok(only(turn.alloc, Reply::Idle)),
             Act::Connect { .. } => Ok(only(turn.alloc, Reply::Idle)),
             Act::Finish { .. } => Ok(only(turn.alloc, Reply::Idle)),
             Act::Ask { asked, .. } => Ok(self.tracker.ask(turn, asked)?),

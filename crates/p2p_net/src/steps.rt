@@ -9,7 +9,8 @@ ghost use Rattle.p2p_log_rules.specs.Tracking.{key_cmp};
 ghost use Rattle.p2p_tracker_mailbox.specs.Desk.{next_message};
 ghost use Rattle.p2p_tracker.specs.Serving.{MayTake};
 ghost use Rattle.p2p_net.specs.Ready.{is_started as is_started_test};
-ghost use Rattle.p2p_net.specs.Acts.{TrackerStepsBy, DialerStepsBy, ListenerStepsBy, HandshakeSteps, AttemptSteps, HandsOn, Routes, Writes, Begins, SendSteps, Receives, RecvSteps, arrived_row, arrived_into, arrived_off, accepted_row, accepted_into, accepted_off, first_in, frame_in};
+ghost use Rattle.p2p_net.specs.Connecting.{Writes};
+ghost use Rattle.p2p_net.specs.Acts.{TrackerStepsBy, DialerStepsBy, ListenerStepsBy, HandshakeSteps, AttemptSteps, HandsOn, Routes, Receives, RecvSteps, arrived_row, arrived_into, arrived_off, accepted_row, accepted_into, accepted_off, first_in, frame_in};
 
 use crate::node::Node;
 use crate::spawning::release_of;
@@ -17,6 +18,7 @@ use p2p_base::Key;
 use p2p_log::{Item, Reply, Side};
 use p2p_log_rules::{Half, Row};
 use p2p_net_channels::{Arrived, open};
+use p2p_net_connections::Stage;
 use p2p_net_dialer::{Dialed, Tried};
 use p2p_net_links::Links;
 use p2p_net_listener::{HandshakeStep, Took};
@@ -187,7 +189,7 @@ impl Node {
     }
 
     /// Writes a batch of a connection to its link.
-    fn write(
+    pub(crate) fn write(
         &mut self,
         turn: Turn,
         links: &mut Links,
@@ -200,27 +202,6 @@ impl Node {
         let size = self.config.send_batch_size;
         let frames = self.router.batch(turn.alloc, conn, size)?;
         let row = links.write(turn, half.link, half.writes, frames)?;
-        Ok(row)
-    }
-
-    /// One step of the sending half of a connection: it takes its router's answer, and from then on writes batches.
-    pub(crate) fn send_step(
-        &mut self,
-        turn: Turn,
-        links: &mut Links,
-        conn: u64,
-    ) -> Result<Row, AllocError>
-        ensures does { IfOk result (λ r. SendSteps turn.entry conn self.old self.new links.old links.new r) }
-        ensures failed { OnOk result (self.new.failed ≡ self.old.failed) }
-    {
-        let Some(connection) = self.connections.get(conn) else {
-            return Ok(only(turn.alloc, Reply::Gone));
-        };
-        if connection.running {
-            let row = self.write(turn, links, conn, connection.half)?;
-            return Ok(row);
-        }
-        let row = self.connections.begin(turn.alloc, conn)?;
         Ok(row)
     }
 
@@ -288,20 +269,14 @@ impl Node {
         ensures does { IfOk result (λ r. RecvSteps turn.entry turn.node conn self.old self.new links.old links.new r) }
         ensures failed { OnOk result (self.new.failed ≡ self.old.failed) }
     {
-        let Some(connection) = self.connections.get(conn) else {
+        let Some(half) = self.half(turn.node, links, conn) else {
             return Ok(only(turn.alloc, Reply::Gone));
         };
-        if !connection.running {
+        if self.connections.stage(conn) != Some(Stage::Running) {
             return Ok(only(turn.alloc, Reply::Idle));
         }
-        let side = other_side(connection.half.writes);
-        let row = self.receive(
-            turn,
-            links,
-            connection.half.link,
-            side,
-            connection.half.peer,
-        )?;
+        let side = other_side(half.writes);
+        let row = self.receive(turn, links, half.link, side, half.peer)?;
         Ok(row)
     }
 }

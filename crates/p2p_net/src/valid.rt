@@ -1,6 +1,6 @@
 //! Whether an event may be asked for, after those before it.
 ghost use Rattle.std.specs.Prelude.{◌≡◌, ◌<◌, ◌^◌, ◌&&◌, Some, slice_get, length, nat_le};
-ghost use Rattle.p2p_net.specs.Ready.{capacity_by, is_join_of as is_join_of_test, names_node, names_dialer, names_listener, links_attempt, asks_set as asks_set_test, subscribes as subscribes_test, may_register as may_register_test, may_ask as may_ask_test, may_at as may_at_test, may_act as may_act_test};
+ghost use Rattle.p2p_net.specs.Ready.{capacity_by, names_spawner, names_dialer, names_listener, links_attempt, asks_set as asks_set_test, subscribes as subscribes_test, may_register as may_register_test, may_ask as may_ask_test, may_at as may_at_test, may_act as may_act_test};
 
 use crate::node::{Node, node_of, other_of};
 use p2p_log::{Act, Asked, Entry, Event, Rate};
@@ -17,22 +17,15 @@ fn may_register(node: &Node, channel: u64, quota: Rate) -> bool
             && node.config.mailbox_size as u128 + (node.channels.total as u128 + capacity) <= most)
 }
 
-/// Whether an act is a join of a node.
-fn is_join_of(act: &Act, number: u64) -> bool
-    ensures { result ≡ is_join_of_test number act.now }
-{
-    match act {
-        Act::Join { a, b } => *a == number || *b == number,
-        _ => false,
-    }
-}
-
-/// Whether the entry of this number is of a join of a node.
-fn is_named(log: &[Entry], conn: u64, number: u64) -> bool
-    ensures { result ≡ names_node number (slice_get log.now conn) }
+/// Whether the entry of this number is of a step of a node's spawner.
+fn is_spawned(log: &[Entry], conn: u64, number: u64) -> bool
+    ensures { result ≡ names_spawner number (slice_get log.now conn) }
 {
     match log.get(conn as usize) {
-        Some(entry) => is_join_of(&entry.event.act, number),
+        Some(entry) => match &entry.event.act {
+            Act::Spawner { node } => *node == number,
+            _ => false,
+        },
         None => false,
     }
 }
@@ -103,8 +96,8 @@ fn may_ask(log: &[Entry], node: &Node, act: &Act) -> bool
     match act {
         Act::Register { channel, quota, .. } => may_register(node, *channel, *quota),
         Act::Start { .. } => !node.is_started(),
-        Act::SendStep { conn, node } => is_named(log, *conn, *node),
-        Act::RecvStep { conn, node } => is_named(log, *conn, *node),
+        Act::SendStep { conn, node } => is_spawned(log, *conn, *node),
+        Act::RecvStep { conn, node } => is_spawned(log, *conn, *node),
         Act::Answer { question } => asks_set(log, *question),
         Act::Next { question } => subscribes(log, *question),
         Act::Handshake { handshake, .. } => is_listened(log, *handshake),

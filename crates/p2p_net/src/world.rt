@@ -20,7 +20,7 @@ ghost use Rattle.p2p_net.specs.declared.error.RunError.TheVariants as error;
 
 use crate::configs::config_fault;
 use crate::error::RunError;
-use crate::joins::perform;
+use crate::events::perform;
 use crate::node::{Node, node_of};
 use crate::valid::is_valid;
 use p2p_base::List;

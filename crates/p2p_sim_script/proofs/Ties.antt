@@ -1,4 +1,4 @@
--- Pairs compare as equal exactly where their parts are the same.
+-- Pairs, and nodes, compare as equal exactly where they are the same.
 use Rattle.std.proofs.Common.{◌≡◌, ℕ, Bool, true, false, ◌&&◌, ◌||◌, cond, sym, refl, arith, eqb}
 use Rattle.std.specs.BTreeMap.{is_at}
 use Rattle.std.specs.Ordering.{is_eq, nat_cmp}
@@ -10,6 +10,9 @@ tied m n = grind arith
 
 pub pair-is_at : (a b : ℕ × ℕ) → is_at (pair_cmp a) b ≡ (eqb a.0 b.0 && eqb a.1 b.1)
 pair-is_at a b = sym (both_tied (eqb a.0 b.0) (eqb a.1 b.1) (nat_cmp a.0 b.0) (nat_cmp a.1 b.1) (tied a.0 b.0) (tied a.1 b.1))
+
+pub node-is_at : (a b : ℕ) → is_at (nat_cmp a) b ≡ eqb a b
+node-is_at a b = sym (tied a b)
 
 pub cond-or : (b c : Bool) → cond b true c ≡ (b || c)
 cond-or true c = refl

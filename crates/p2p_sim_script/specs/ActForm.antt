@@ -21,13 +21,6 @@ start_of d = do
   node ← node_of d
   Some (act.Start node)
 
-abbrev pub join_of : Data → Option Act
-join_of d = do
-  has ("a" ∷ "b" ∷ []) d
-  a ← field "a" whole d
-  b ← field "b" whole d
-  Some (act.Join a b)
-
 abbrev pub send_of : Data → Option Act
 send_of d = do
   has ("bytes" ∷ "channel" ∷ "node" ∷ "priority" ∷ "to" ∷ []) d
@@ -69,7 +62,6 @@ abbrev pub act_named : List ℕ → Data → Option Act
 act_named word d =
     if bytes_eq word (codes "register") then register_of d
     else if bytes_eq word (codes "start") then start_of d
-    else if bytes_eq word (codes "join") then join_of d
     else if bytes_eq word (codes "send") then send_of d
     else if bytes_eq word (codes "router") then router_of d
     else if bytes_eq word (codes "send_step") then send_step_of d

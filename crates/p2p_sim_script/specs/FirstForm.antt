@@ -1,6 +1,6 @@
 -- The scripts of the first form: no more messages than the least burst, each to one key, without priority, on a channel that
--- each node registers, and no longer than any node takes, unless it is too long for its own; no connection that a spawner made
--- takes a step; and where nodes are joined, every event is earlier than five seconds.
+-- each node registers, and no longer than any node takes, unless it is too long for its own. Where a connection's sending half
+-- takes a step, every event is earlier than five seconds, and no node is asked to change its peers once it has met some.
 use Rattle.std.specs.Prelude.{ℕ, Bool, true, false, not, ◌==◌, ◌&&◌, ◌||◌, nat_lt, nat_le, List, length, count_by, Some, None, slice_get}
 use Rattle.std.specs.List.{list_any, list_all, range_with_len}
 use Rattle.p2p_log.specs.declared.config.Config.{Config}
@@ -9,6 +9,7 @@ use Rattle.p2p_log.specs.declared.event.Act.{Act}
 use Rattle.p2p_log.specs.declared.event.Act.TheVariants as act
 use Rattle.p2p_log.specs.declared.event.Recipients.{Recipients}
 use Rattle.p2p_log.specs.declared.event.Recipients.TheVariants as recipients
+use Rattle.p2p_sim_script.specs.KeptPeers.{keeps_peers}
 
 -- ---- the script
 
@@ -28,23 +29,16 @@ registers channel node _ = false
 abbrev pub is_registered : List Event → ℕ → ℕ → Bool
 is_registered script channel node = list_any (λ e. registers channel node e.act) script
 
-abbrev pub spawns : Act → Bool
-spawns (act.Spawner node) = true
-spawns _ = false
+-- whether it is a step of the sending half of a connection, without which the connection does not begin
+abbrev pub steps : Act → Bool
+steps (act.SendStep conn node) = true
+steps _ = false
 
-abbrev pub joins : Act → Bool
-joins (act.Join a b) = true
-joins _ = false
+-- whether a connection may begin in the script
+abbrev pub has_steps : List Event → Bool
+has_steps script = list_any (λ e. steps e.act) script
 
--- whether the script joins nodes
-abbrev pub has_joins : List Event → Bool
-has_joins script = list_any (λ e. joins e.act) script
-
--- whether the event of this number is a step of a spawner
-abbrev pub is_spawned : List Event → ℕ → Bool
-is_spawned script conn = elim (slice_get script conn) [ None ↦ false | Some e ↦ spawns e.act ]
-
--- ---- an act, of a script with this count of messages, these channels registered at nodes, and these steps of spawners
+-- ---- an act, of a script with this count of messages and these channels registered at nodes
 
 abbrev pub is_one : Recipients → Bool
 is_one (recipients.One key) = true
@@ -62,22 +56,21 @@ is_too_long configs node bytes = elim (slice_get configs node) [ None ↦ false 
 abbrev pub is_on_each : (ℕ → ℕ → Bool) → ℕ → ℕ → Bool
 is_on_each registered n channel = list_all (registered channel) (range_with_len 0 n)
 
-abbrev pub act_fits : List Config → ℕ → (ℕ → ℕ → Bool) → (ℕ → Bool) → Act → Bool
-act_fits configs count registered spawned (act.Register channel node quota) = nat_le count quota.burst
-act_fits configs count registered spawned (act.Send bytes channel node priority to) =
+abbrev pub act_fits : List Config → ℕ → (ℕ → ℕ → Bool) → Act → Bool
+act_fits configs count registered (act.Register channel node quota) = nat_le count quota.burst
+act_fits configs count registered (act.Send bytes channel node priority to) =
     is_one to && not priority && (is_too_long configs node bytes || is_short configs bytes) && is_on_each registered (length configs) channel
-act_fits configs count registered spawned (act.SendStep conn node) = not (spawned conn)
-act_fits configs count registered spawned (act.RecvStep conn node) = not (spawned conn)
-act_fits configs count registered spawned _ = true
+act_fits configs count registered _ = true
 
 -- ---- all of it
 
 -- before a connection could send a ping, where there may be one
 abbrev pub is_early : Bool → ℕ → Bool
-is_early joined at = not joined || nat_lt at 5000000000
+is_early stepped at = not stepped || nat_lt at 5000000000
 
-abbrev pub event_fits : List Config → Bool → ℕ → (ℕ → ℕ → Bool) → (ℕ → Bool) → Event → Bool
-event_fits configs joined count registered spawned e = is_early joined e.at && act_fits configs count registered spawned e.act
+abbrev pub event_fits : List Config → Bool → ℕ → (ℕ → ℕ → Bool) → Event → Bool
+event_fits configs stepped count registered e = is_early stepped e.at && act_fits configs count registered e.act
 
 abbrev pub is_first_form : List Config → List Event → Bool
-is_first_form configs script = list_all (event_fits configs (has_joins script) (send_count script) (is_registered script) (is_spawned script)) script
+is_first_form configs script =
+    list_all (event_fits configs (has_steps script) (send_count script) (is_registered script)) script && (not (has_steps script) || keeps_peers script)

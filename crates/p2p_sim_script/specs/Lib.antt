@@ -5,6 +5,8 @@ pub mod DialerActForm
 pub mod FirstForm
 pub mod Form
 pub mod Gives
+pub mod KeptPeers
+pub mod Nodes
 pub mod Pairs
 pub mod Parts
 pub mod Presets

@@ -2,7 +2,7 @@
 ghost use Rattle.std.specs.Prelude.{◌≡◌};
 ghost use Rattle.serde_json.specs.View.{view};
 ghost use Rattle.p2p_sim_script.specs.Gives.{Gives};
-ghost use Rattle.p2p_sim_script.specs.ActForm.{act_named, act_of, join_of, recv_of, recv_step_of, register_of, router_of, send_of, send_step_of, start_of};
+ghost use Rattle.p2p_sim_script.specs.ActForm.{act_named, act_of, recv_of, recv_step_of, register_of, router_of, send_of, send_step_of, start_of};
 
 use crate::error::ScriptError;
 use crate::parts::{read_node, read_rate};
@@ -33,17 +33,6 @@ fn read_start(tree: &Value) -> Option<Act>
 {
     let node = read_node(tree)?;
     Some(Act::Start { node })
-}
-
-fn read_join(tree: &Value) -> Option<Act>
-    ensures { result ≡ join_of (view tree.now) }
-{
-    if !only(tree, &["at", "seed", "do", "a", "b"]) {
-        return None;
-    }
-    let a = whole(tree, "a")?;
-    let b = whole(tree, "b")?;
-    Some(Act::Join { a, b })
 }
 
 fn read_router(tree: &Value) -> Option<Act>
@@ -112,7 +101,6 @@ fn read_named(alloc: Global, word: &str, tree: &Value) -> Result<Act, ScriptErro
     let act = match word {
         "register" => read_register(tree),
         "start" => read_start(tree),
-        "join" => read_join(tree),
         "send" => return read_send(alloc, tree),
         "router" => read_router(tree),
         "send_step" => read_send_step(tree),

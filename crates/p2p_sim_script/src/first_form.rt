@@ -4,6 +4,7 @@ ghost use Rattle.std.specs.List.{list_all};
 ghost use Rattle.p2p_sim_script.specs.FirstForm as form;
 ghost use Rattle.p2p_sim_script.specs.Pairs.{has};
 
+use crate::kept_peers::keeps_peers;
 use crate::pairs::{add, is_in};
 use bytes::Bytes;
 use p2p_log::{Act, Config, Event, Recipients};
@@ -12,11 +13,12 @@ use std::collections::BTreeSet;
 
 /// Whether the script is one of the first form: it sends no more messages than the least burst that it registers, each
 /// to one key, without priority, on a channel that each node registers, before or after, and no longer than any node takes,
-/// unless it is too long for its own; no connection that a spawner made takes a step; and where it joins nodes, every event
-/// is earlier than five seconds, so that no connection sends a ping.
+/// unless it is too long for its own. Where the sending half of a connection takes a step, every event is earlier than five
+/// seconds, so that no connection sends a ping, and no node is asked to track, to overwrite or to block peers after the first
+/// step of its dialer or its listener, so that no connection is killed.
 ///
 /// Takes time in proportion to the length of the script, and for each message to the count of nodes, but for the
-/// logarithm of the count of registered channels. `AllocError` comes where there was no memory for those.
+/// logarithm of the count of registered channels and of nodes. `AllocError` comes where there was no memory for those.
 pub fn is_first_form(
     alloc: Global,
     configs: &[Config],
@@ -25,9 +27,12 @@ pub fn is_first_form(
     ensures { IfOk result (λ b. b ≡ form.is_first_form configs.now script.now) }
 {
     let registered = registered_pairs(alloc, script)?;
-    let joined = has_joins(script);
+    let stepped = has_steps(script);
     let count = send_count(script);
-    Ok(all_fit(configs, joined, count, &registered, script))
+    Ok(
+        all_fit(configs, stepped, count, &registered, script)
+            && (!stepped || keeps_peers(alloc, script)?),
+    )
 }
 
 fn send_count(script: &[Event]) -> usize
@@ -42,16 +47,16 @@ fn sends(act: &Act) -> bool
     matches!(act, Act::Send { .. })
 }
 
-fn has_joins(script: &[Event]) -> bool
-    ensures { result ≡ form.has_joins script.now }
+fn has_steps(script: &[Event]) -> bool
+    ensures { result ≡ form.has_steps script.now }
 {
-    script.iter().any(|event| joins(&event.act))
+    script.iter().any(|event| steps(&event.act))
 }
 
-fn joins(act: &Act) -> bool
-    ensures { result ≡ form.joins act.now }
+fn steps(act: &Act) -> bool
+    ensures { result ≡ form.steps act.now }
 {
-    matches!(act, Act::Join { .. })
+    matches!(act, Act::SendStep { .. })
 }
 
 // Each channel with each node at which the script registers it.
@@ -76,53 +81,36 @@ fn note_register(pairs: &mut BTreeSet<(u64, u64)>, act: &Act) -> Result<(), Allo
 
 fn all_fit(
     configs: &[Config],
-    joined: bool,
+    stepped: bool,
     count: usize,
     registered: &BTreeSet<(u64, u64)>,
     script: &[Event],
 ) -> bool
-    ensures { result ≡ list_all (form.event_fits configs.now joined count (has registered.now) (form.is_spawned script.now)) script.now }
+    ensures { result ≡ list_all (form.event_fits configs.now stepped count (has registered.now)) script.now }
 {
-    script.iter().all(|event| event_fits(configs, joined, count, registered, script, event))
+    script.iter().all(|event| event_fits(configs, stepped, count, registered, event))
 }
 
-// Whether the event of this number is a step of a spawner.
-fn is_spawned(script: &[Event], conn: u64) -> bool
-    ensures { result ≡ form.is_spawned script.now conn }
+fn is_early(stepped: bool, at: u64) -> bool
+    ensures { result ≡ form.is_early stepped at }
 {
-    match script.get(conn as usize) {
-        Some(event) => matches!(event.act, Act::Spawner { .. }),
-        None => false,
-    }
-}
-
-fn is_early(joined: bool, at: u64) -> bool
-    ensures { result ≡ form.is_early joined at }
-{
-    !joined || at < 5_000_000_000
+    !stepped || at < 5_000_000_000
 }
 
 fn event_fits(
     configs: &[Config],
-    joined: bool,
+    stepped: bool,
     count: usize,
     registered: &BTreeSet<(u64, u64)>,
-    script: &[Event],
     event: &Event,
 ) -> bool
-    ensures { result ≡ form.event_fits configs.now joined count (has registered.now) (form.is_spawned script.now) event.now }
+    ensures { result ≡ form.event_fits configs.now stepped count (has registered.now) event.now }
 {
-    is_early(joined, event.at) && act_fits(configs, count, registered, script, &event.act)
+    is_early(stepped, event.at) && act_fits(configs, count, registered, &event.act)
 }
 
-fn act_fits(
-    configs: &[Config],
-    count: usize,
-    registered: &BTreeSet<(u64, u64)>,
-    script: &[Event],
-    act: &Act,
-) -> bool
-    ensures { result ≡ form.act_fits configs.now count (has registered.now) (form.is_spawned script.now) act.now }
+fn act_fits(configs: &[Config], count: usize, registered: &BTreeSet<(u64, u64)>, act: &Act) -> bool
+    ensures { result ≡ form.act_fits configs.now count (has registered.now) act.now }
 {
     match act {
         Act::Register { quota, .. } => count <= quota.burst as usize,
@@ -138,8 +126,6 @@ fn act_fits(
                 && (is_too_long(configs, *node, bytes) || is_short(configs, bytes))
                 && is_on_each(registered, configs.len() as u64, *channel)
         }
-        Act::SendStep { conn, .. } => !is_spawned(script, *conn),
-        Act::RecvStep { conn, .. } => !is_spawned(script, *conn),
         _ => true,
     }
 }

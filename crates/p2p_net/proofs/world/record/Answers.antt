@@ -1,6 +1,6 @@
 use Rattle.std.proofs.Common.{subst, ap, ◌∙◌}
 use Rattle.p2p_net.specs.Places.{node_of}
-use Rattle.p2p_net.specs.Joining.{WorldRecords}
+use Rattle.p2p_net.specs.Events.{WorldRecords}
 use Rattle.p2p_net.proofs.Records.{recorded}
 use Rattle.p2p_net.proofs.world.record.Goals as goal
 

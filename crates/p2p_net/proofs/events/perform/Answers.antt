@@ -1,7 +1,7 @@
 use Rattle.std.proofs.Common.{sym, ◌∙◌}
 use Rattle.p2p_net.specs.Meetings.{meeting_of}
-use Rattle.p2p_net.proofs.Joined.{meeting_records}
-use Rattle.p2p_net.proofs.joins.perform.Goals as goal
+use Rattle.p2p_net.proofs.Meetings.{meeting_records}
+use Rattle.p2p_net.proofs.events.perform.Goals as goal
 
 pub meet_at-requires-clause-in_range : goal.meet_at-requires-clause-in_range
 meet_at-requires-clause-in_range c = c.requires.ends c.in-Some.meeting (sym c.meeting_of.ensures ∙ c.in-Some.is)

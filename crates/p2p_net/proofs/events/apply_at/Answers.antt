@@ -2,7 +2,7 @@ use Rattle.std.proofs.Common.{◌≡◌, refl, subst, Some}
 use Rattle.std.specs.Prelude.{slice_get}
 use Rattle.p2p_net.specs.Acts.{NodeDoes}
 use Rattle.p2p_net.proofs.Nodes.{found}
-use Rattle.p2p_net.proofs.joins.apply_at.Goals as goal
+use Rattle.p2p_net.proofs.events.apply_at.Goals as goal
 
 pub returns-in-Ok : goal.returns-in-Ok
 returns-in-Ok c =

@@ -1,0 +1,170 @@
+-- A connection begins: its node's tracker and router are told whom it is with.
+use Rattle.std.proofs.Common.{◌≡◌, ℕ, Bool, true, false, cond, List, [], ◌∷◌, ◌++◌, length, refl, ap, sym, subst, ◌∙◌, append-nil, eq-eqb, Option, Some, None}
+use Rattle.std.specs.Prelude.{map, ◌==◌, is_some}
+use Rattle.std.specs.BTreeMap as tree
+use Rattle.std.specs.Ordering.{nat_cmp, is_eq}
+use Rattle.p2p_base.specs.declared.key.Key.{Key}
+use Rattle.p2p_log.specs.declared.config.Config.{Config}
+use Rattle.p2p_log.specs.declared.queue.Queue.{Queue}
+use Rattle.p2p_log.specs.declared.queue.Queue.TheVariants as queue
+use Rattle.p2p_log.specs.declared.queue.Side.{Side}
+use Rattle.p2p_log.specs.declared.queue.Side.TheVariants as side
+use Rattle.p2p_log.specs.declared.item.Item.{Item}
+use Rattle.p2p_log.specs.declared.item.Item.TheVariants as item
+use Rattle.p2p_log.specs.declared.item.Envelope.{Envelope}
+use Rattle.p2p_log.specs.declared.entry.Entry.{Entry}
+use Rattle.p2p_log.specs.declared.event.Event.{Event}
+use Rattle.p2p_log.specs.declared.event.Act.TheVariants as act
+use Rattle.p2p_log.specs.QueueCode.{same_queue}
+use Rattle.p2p_log.specs.Lines.{line}
+use Rattle.p2p_log.proofs.Queues.{same_queue-sym}
+use Rattle.p2p_log_rules.specs.declared.row.Half.{Half}
+use Rattle.p2p_log_rules.specs.declared.row.Row.{Row}
+use Rattle.p2p_log_rules.specs.Connections.{half_at, is_begun, is_answer, is_running}
+use Rattle.p2p_log_rules.specs.Effect.{row, effect, entry_of, begin_row, mailbox_size_at}
+use Rattle.p2p_log_rules.specs.Facts.{is_up, taken}
+use Rattle.p2p_log_rules.specs.Spawning.{Spawned, connections_of}
+use Rattle.p2p_log_rules.proofs.Connections.{HalfParts, half_parts}
+use Rattle.p2p_log_rules.proofs.Spawning.{connections_of-unmade}
+use Rattle.p2p_log_laws.specs.Leading.{ConnectionsAreOne}
+use Rattle.p2p_net_queues.specs.Tables as table
+use Rattle.p2p_net_queues.proofs.Going.{line-kept}
+use Rattle.p2p_net_router.specs.Holds.{IsStranger}
+use Rattle.p2p_net_router.specs.Stands.{IsReadied}
+use Rattle.p2p_net_router.specs.declared.router.Router.{Router}
+use Rattle.p2p_net_router.proofs.Aside.{same_queue-other}
+use Rattle.p2p_net_connections.specs.Connections.{runs_on, begun_with}
+use Rattle.p2p_net_connections.specs.Stands.{ConnectionsStand}
+use Rattle.p2p_net_connections.specs.declared.connections.Stage.{Stage}
+use Rattle.p2p_net_connections.proofs.Beginning.{connections_begun}
+use Rattle.p2p_net_links.specs.Stands.{LinksStand}
+use Rattle.p2p_net_links.specs.declared.links.Links.{Links}
+use Rattle.p2p_net_links.proofs.Changes.{openings_unmoved, links_frame}
+use Rattle.p2p_net_tracker.specs.Connecting.{connected_by}
+use Rattle.p2p_net_tracker.specs.Stands.{TrackerStands}
+use Rattle.p2p_net_tracker.proofs.ConnectSteps.{tracker_begun}
+use Rattle.p2p_net.specs.Connecting.{Begins}
+use Rattle.p2p_net.specs.Places as place
+use Rattle.p2p_net.specs.Stands.{RouterStands, NodeStands}
+use Rattle.p2p_net.specs.declared.node.Node.{Node}
+use Rattle.p2p_net.proofs.EachPart.{with_parts, each_part, not_among-links}
+use Rattle.p2p_net.proofs.Performing.{asked, Performs, taken-none}
+use Rattle.p2p_net.proofs.Routers.{HearsOfBegun-told, IsStranger-unbegun}
+use Rattle.p2p_net.proofs.Writing.{half_steps, step_begins, step_answers, step_beside, named_parts}
+
+-- one that has not begun does not run
+idle_stage : (o : Option Stage) → is_some o ≡ false → runs_on o ≡ false
+idle_stage None h = refl
+idle_stage (Some s) h = absurd (cc)
+
+module _ (configs : List Config) (log : List Entry) (at seed conn n : ℕ) (half : Half) (x y : Node) (l links : Links) (r : Row) (s : NodeStands configs log n x) (t : LinksStand log l) (one : ConnectionsAreOne log)
+    (up : is_up log n ≡ true) (has : half_at log n conn ≡ Some half) (idle : is_begun log n conn ≡ false) (d : Begins (length log) n conn half.peer x y r) (kept : links ≡ l) where
+  abbrev ev : Event
+  ev = asked at seed (act.SendStep conn n)
+
+  abbrev due : Row
+  due = begin_row n conn half.peer
+
+  abbrev e : Entry
+  e = entry_of ev due
+
+  parts : HalfParts log n conn half
+  parts = half_parts log n conn half has
+
+  key_is : parts.connection.key ≡ half.peer
+  key_is = sym (ap (λ (h : Half). h.peer) parts.is)
+
+  connects : ConnectionsStand log n x.connections
+  connects = s.each place.connections
+
+  routes : RouterStands configs log n x.router
+  routes = s.each place.router
+
+  not_running : is_running log n conn ≡ false
+  not_running = sym (connects.running conn) ∙ idle_stage (table.at x.connections.stages conn) (connects.begun conn ∙ idle)
+
+  row_is : row configs log at seed (act.SendStep conn n) ≡ due
+  unfolding row
+  row_is = half_steps configs log conn n half false false up has idle not_running
+
+  effect_is : e ≡ effect configs log ev
+  unfolding effect
+  effect_is = ap (entry_of ev) (sym row_is)
+
+  off_tracker : (u : Side) (link : ℕ) → same_queue (queue.Link link u) (queue.Tracker n) ≡ false
+  off_tracker side.Out link = refl
+  off_tracker side.In link = refl
+
+  off_router : (u : Side) (link : ℕ) → same_queue (queue.Link link u) (queue.Router n) ≡ false
+  off_router side.Out link = refl
+  off_router side.In link = refl
+
+  -- of the queues it reaches the mailboxes of the tracker and of the router alone
+  beside : (q : Queue) → same_queue q (queue.Tracker n) ≡ false → same_queue q (queue.Router n) ≡ false → line (log ++ e ∷ []) q ≡ line log q
+  beside q tracker router =
+      line-kept log e q refl ∙ (ap (λ w. line log q ++ w) (none (same_queue q (queue.Tracker n)) (same_queue q (queue.Router n)) tracker router) ∙ append-nil (line log q))
+    where
+      connect : Envelope
+      connect = record { entry = length log; place = 0; queue = queue.Tracker n; item = item.Connect conn half.peer }
+
+      ready : Envelope
+      ready = record { entry = length log; place = 1; queue = queue.Router n; item = item.Ready conn half.peer }
+
+      none : (b c : Bool) → b ≡ false → c ≡ false → cond b (connect ∷ cond c (ready ∷ []) []) (cond c (ready ∷ []) []) ≡ []
+      none false false h k = refl
+      none true c h k = absurd (cc)
+      none false true h k = absurd (cc)
+
+  connections_now : ConnectionsStand (log ++ e ∷ []) n (begun_with conn x.connections)
+  connections_now =
+      connections_begun log e n conn x.connections connects (connections_of-unmade log e n refl) not_running (λ c. step_begins n conn c e refl refl)
+      (λ c. step_answers log e n conn c refl ∙ nothing (c == conn) (taken log e) (taken-none log e refl)) (λ c. beside (queue.Ready n c) refl refl)
+    where
+      nothing : (b : Bool) (items : List Item) → items ≡ [] → cond b (map is_answer items) [] ≡ []
+      nothing true items none = ap (map is_answer) none
+      nothing false items none = refl
+
+  size_is : x.config.mailbox_size ≡ mailbox_size_at configs x.router.number
+  size_is = sym (ap (λ (o : Option Config). elim o [ None ↦ 0 | Some c ↦ c.mailbox_size ]) s.own.config) ∙ ap (mailbox_size_at configs) (sym routes.number)
+
+  readied : IsReadied e n 1 conn half.peer
+  readied = record {
+    takes = refl;
+    ends = refl;
+    before = (queue.Tracker n, item.Connect conn half.peer) ∷ [];
+    after = [];
+    puts = refl;
+    long = refl;
+    away = λ q own. ((same_queue-sym q (queue.Tracker n) ∙ same_queue-other n (queue.Tracker n) q refl own, tt), tt);
+  }
+
+  router_now : RouterStands configs (log ++ e ∷ []) n y.router
+  router_now =
+      let calls = d.1.1 in
+      record {
+        number = ap (λ (z : Router). z.number) calls.rest ∙ routes.number;
+        stands = calls.stands configs log e routes.stands refl size_is
+            (subst (IsStranger x.router conn) key_is (IsStranger-unbegun log n conn parts.connection x.router routes.hears one parts.made idle))
+            (step_beside configs log e x.router.number conn n refl) (subst (λ k. IsReadied e k 1 conn half.peer) (sym routes.number) readied);
+        hears = HearsOfBegun-told log e n conn parts.connection x.router.peers y.router.peers routes.hears (λ k. subst (λ p. tree.get nat_cmp y.router.peers k ≡ cond (is_eq (nat_cmp conn k)) (Some p) (tree.get nat_cmp x.router.peers k)) (sym key_is) (calls.peers k)) parts.made (step_begins n conn conn e refl refl ∙ eq-eqb conn conn refl);
+      }
+
+  pub begin_performs : Performs configs log ev n y links r
+  begin_performs = record {
+    row_is = d.0 ∙ sym row_is;
+    node =
+        each_part configs log ev n x y named_parts s (subst (λ z. z ≡ with_parts named_parts x z) (sym d.1.0) refl)
+        (λ p out. not_among-links named_parts p n out) (
+          subst (λ (z : Entry). ConnectionsStand (log ++ z ∷ []) n y.connections) effect_is (subst (ConnectionsStand (log ++ e ∷ []) n) (sym (ap (λ (z : Node). z.connections) d.1.0)) connections_now),
+          (
+            subst (λ (z : Entry). RouterStands configs (log ++ z ∷ []) n y.router) effect_is router_now,
+            (
+              subst (λ (z : Entry). TrackerStands configs (log ++ z ∷ []) n y.tracker) effect_is
+                  (subst (TrackerStands configs (log ++ e ∷ []) n) (sym (ap (λ (z : Node). z.tracker) d.1.0)) (tracker_begun configs log at seed n conn half.peer x.tracker (s.each place.tracker))),
+              tt,
+            ),
+          ),
+        );
+    linked = subst (LinksStand (log ++ effect configs log ev ∷ [])) (sym kept)
+        (subst (λ (z : Entry). LinksStand (log ++ z ∷ []) l) effect_is (links_frame log e l t (λ u link. beside (queue.Link link u) (off_tracker u link) (off_router u link)) (openings_unmoved log e refl)));
+  }

@@ -1,0 +1,76 @@
+-- What a step of the sending half of a connection comes to at its node. No log: of the router's calls the log is a matter of its own.
+use Rattle.std.specs.Prelude.{◌≡◌, ℕ, Bool, true, false, List, Option, Some, None}
+use Rattle.std.specs.Option.{option_map}
+use Rattle.p2p_base.specs.declared.key.Key.{Key}
+use Rattle.p2p_log.specs.declared.item.Item.{Item}
+use Rattle.p2p_log.specs.declared.entry.Reply.TheVariants as reply
+use Rattle.p2p_log_rules.specs.declared.row.Half.{Half}
+use Rattle.p2p_log_rules.specs.declared.row.Row.{Row}
+use Rattle.p2p_log_rules.specs.Connections.{half_over}
+use Rattle.p2p_log_rules.specs.Effect.{only, takes_oldest, begin_row}
+use Rattle.p2p_log_rules.specs.Spawning.{Spawned}
+use Rattle.p2p_net_queues.specs.Tables as table
+use Rattle.p2p_net_queues.specs.Tables.{waiting}
+use Rattle.p2p_net_connections.specs.Connections.{spawned_on, begun_with, without_answer}
+use Rattle.p2p_net_connections.specs.declared.connections.Connections.{Connections}
+use Rattle.p2p_net_connections.specs.declared.connections.Stage.{Stage}
+use Rattle.p2p_net_connections.specs.declared.connections.Stage.TheVariants as stage
+use Rattle.p2p_net_links.specs.declared.links.Links.{Links}
+use Rattle.p2p_net_links.specs.Links.{way_of, with_way, written_way, write_frames_row}
+use Rattle.p2p_net_tracker.specs.Connecting.{connected_by}
+use Rattle.p2p_net.specs.Ready.{is_started}
+use Rattle.p2p_net.specs.Routing as routing
+use Rattle.p2p_net.specs.declared.node.Node.{Node}
+
+-- the node is as it was
+abbrev pub Stays : Node → Node → Row → Row → Type 0
+Stays old new r s = (r ≡ s) × (new ≡ old)
+
+-- ---- halves
+
+abbrev pub half_in : ℕ → Links → Option Spawned → Option Half
+half_in n l None = None
+half_in n l (Some c) = option_map (half_over n c) (table.at l.dialers c.link)
+
+-- the half of a connection of the node n
+abbrev pub half_by : ℕ → Connections → Links → ℕ → Option Half
+half_by n cs l conn = half_in n l (spawned_on (table.at cs.spawned conn))
+
+-- ---- the steps
+
+-- it begins: the tracker and the router are told whom it is with
+abbrev pub Begins : ℕ → ℕ → ℕ → Key → Node → Node → Row → Type 0
+Begins k n conn peer old new r =
+    (r ≡ begin_row n conn peer)
+    × ((new ≡ record old { tracker = connected_by k conn peer old.tracker; router = new.router; connections = begun_with conn old.connections })
+    × routing.Readies k 1 conn old.config.mailbox_size peer old.router new.router)
+
+-- it takes its router's answer, and runs
+abbrev pub Runs : ℕ → Node → Node → Row → Type 0
+Runs conn old new r = (r ≡ takes_oldest (waiting old.connections.answers conn)) × (new ≡ record old { connections = without_answer conn old.connections })
+
+-- a batch is written to the link
+abbrev pub Writes : ℕ → ℕ → Half → Node → Node → Links → Links → Row → Type 0
+Writes k conn half old new l links r =
+    (frames : List ((ℕ × ℕ) × Item))
+    × (routing.Batches conn old.config.send_batch_size old.router new.router frames
+    × ((new ≡ record old { router = new.router })
+    × ((r ≡ write_frames_row half.link half.writes frames)
+    × (links ≡ with_way l half.writes (written_way k half.link half.writes 0 frames (way_of l half.writes))))))
+
+-- by how far it is
+abbrev pub StepsAt : Option Stage → ℕ → ℕ → ℕ → Half → Node → Node → Links → Links → Row → Type 0
+StepsAt None k n conn half old new l links r = Begins k n conn half.peer old new r × (links ≡ l)
+StepsAt (Some stage.Begun) k n conn half old new l links r = Runs conn old new r × (links ≡ l)
+StepsAt (Some stage.Running) k n conn half old new l links r = Writes k conn half old new l links r
+
+abbrev pub StepsHalf : Option Half → ℕ → ℕ → ℕ → Node → Node → Links → Links → Row → Type 0
+StepsHalf None k n conn old new l links r = Stays old new r (only reply.Gone) × (links ≡ l)
+StepsHalf (Some half) k n conn old new l links r = StepsAt (table.at old.connections.stages conn) k n conn half old new l links r
+
+abbrev pub SendStepsBy : Bool → ℕ → ℕ → ℕ → Node → Node → Links → Links → Row → Type 0
+SendStepsBy false k n conn old new l links r = Stays old new r (only reply.Gone) × (links ≡ l)
+SendStepsBy true k n conn old new l links r = StepsHalf (half_by n old.connections l conn) k n conn old new l links r
+
+abbrev pub SendSteps : ℕ → ℕ → ℕ → Node → Node → Links → Links → Row → Type 0
+SendSteps k n conn old new l links r = SendStepsBy (is_started old) k n conn old new l links r
