@@ -3,12 +3,14 @@
 //!
 //! Of `p2p_router` are `router` and `lists`, over the stand of `routing`; of `p2p_net_queues` is `queues`, of `p2p_net_router`
 //! `routers`, of `p2p_net_channels` and `p2p_net_links` `parts`. Of `p2p_net` are `world` and, with the parts of these names,
-//! `tracker`, `dialer`, `attempts`, `listener`, `handshakes`, `finishing` and `spawning`: they are scripts, which `scripts`
-//! runs, and `seen` has what an event shows.
+//! `tracker`, `dialer`, `attempts`, `listener`, `handshakes`, `finishing`, `spawning` and `connecting`: they are scripts, which
+//! `scripts` runs, `paths` has the events by which two nodes get a connection, and `seen` has what an event shows.
 #![tactic(auto)]
 
 #[cfg(test)]
 mod attempts;
+#[cfg(test)]
+mod connecting;
 #[cfg(test)]
 mod dialer;
 #[cfg(test)]
@@ -21,6 +23,8 @@ mod listener;
 mod lists;
 #[cfg(test)]
 mod parts;
+#[cfg(test)]
+mod paths;
 #[cfg(test)]
 mod queues;
 #[cfg(test)]

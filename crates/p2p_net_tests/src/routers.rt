@@ -53,7 +53,7 @@ fn start(alloc: Global, router: &mut Router) -> Result<(), AllocError>
 {
     router.subscribe(alloc, 7)?;
     router.start(turn(alloc, 1), 4)?;
-    router.ready(turn(alloc, 2), 0, Key(5), 1)
+    router.ready(turn(alloc, 2), 0, 2, Key(5), 1)
 }
 
 fn step(alloc: Global, router: &mut Router, entry: u64) -> Result<Seen, AllocError> {

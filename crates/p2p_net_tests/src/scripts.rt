@@ -1,10 +1,11 @@
 //! Scripts of a world of one node, of one and another that dials it, or of three: what is asked of it, event by event, and what
 //! each event shows.
 use crate::seen::{Seen, newest, newest_take};
+use bytes::Bytes;
 use p2p_address::{Address, IpAddr, SocketAddr};
 use p2p_base::{Key, Map};
 use p2p_flow::AddressableTrackedPeers;
-use p2p_net::{Act, Asked, Config, Event, Rate, RunError, World};
+use p2p_net::{Act, Asked, Config, Event, Rate, Recipients, RunError, World};
 use std::alloc::{AllocError, Global};
 
 // A node of key 1, in whose sets three keys may be, and whose mailboxes hold one message.
@@ -55,6 +56,16 @@ pub enum Do {
     Answer(u64),
     // or what comes next for the subscription that it made.
     Next(u64),
+    // Its one channel is registered,
+    Register,
+    // it sends the peer of this key a message of this byte on it,
+    Send(u64, u8),
+    // or takes a message from it.
+    Recv,
+    // A step of its router, or of the sending or the receiving half of the connection that this event made.
+    Router,
+    SendStep(u64),
+    RecvStep(u64),
     // A step of its tracker, of its dialer, of its listener, of its spawner, or of the attempt or the handshake that this event
     // began.
     Tracker,
@@ -125,6 +136,29 @@ fn of_tracker(node: u64, asked: Asked) -> Act {
     Act::Ask { asked, node }
 }
 
+// A node registers the channel 7.
+fn register(node: u64) -> Act {
+    Act::Register {
+        channel: 7,
+        node,
+        quota: Rate {
+            burst: 8,
+            period: 1_000_000_000,
+        },
+    }
+}
+
+// It sends the peer of this key a message of this byte there, without priority.
+fn send(alloc: Global, node: u64, key: u64, byte: u8) -> Result<Act, AllocError> {
+    Ok(Act::Send {
+        bytes: Bytes::copy_from_slice(alloc, &[byte])?,
+        channel: 7,
+        node,
+        priority: false,
+        to: Recipients::One(Key(key)),
+    })
+}
+
 // What a node is asked.
 fn act(alloc: Global, node: u64, what: Do) -> Result<Act, AllocError> {
     match what {
@@ -137,6 +171,12 @@ fn act(alloc: Global, node: u64, what: Do) -> Result<Act, AllocError> {
         Do::Block(key) => Ok(of_tracker(node, Asked::Block { key: Key(key) })),
         Do::Answer(question) => Ok(Act::Answer { question }),
         Do::Next(question) => Ok(Act::Next { question }),
+        Do::Register => Ok(register(node)),
+        Do::Send(key, byte) => Ok(send(alloc, node, key, byte)?),
+        Do::Recv => Ok(Act::Recv { channel: 7, node }),
+        Do::Router => Ok(Act::Router { node }),
+        Do::SendStep(conn) => Ok(Act::SendStep { conn, node }),
+        Do::RecvStep(conn) => Ok(Act::RecvStep { conn, node }),
         Do::Tracker => Ok(Act::Tracker { node }),
         Do::Dialer => Ok(Act::Dialer { node }),
         Do::Listener => Ok(Act::Listener { node }),
@@ -166,6 +206,11 @@ fn ask_all(alloc: Global, world: &mut World, node: u64, before: &[Do]) -> Result
     Ok(())
 }
 
+// Whether the newest event of a world shows this.
+fn shows(world: &World, seen: Seen) -> bool {
+    newest(world.report().log.as_slice()) == seen
+}
+
 // The place of the first event of a script that shows another thing. `None` where each shows what is written.
 fn first_other_of(
     alloc: Global,
@@ -174,7 +219,7 @@ fn first_other_of(
 ) -> Result<Option<usize>, RunError> {
     for (i, step) in script.iter().enumerate() {
         ask(alloc, world, step.0, 0, step.1)?;
-        if newest(world.report().log.as_slice()) != step.2 {
+        if !shows(world, step.2) {
             return Ok(Some(i));
         }
     }
@@ -252,6 +297,16 @@ fn dialing_with_room(key: u64) -> Config {
     }
 }
 
+// A new world of three such nodes, of the keys 1, 2 and 3.
+fn three_with_room(alloc: Global) -> Result<World, RunError> {
+    let configs = [
+        dialing_with_room(1),
+        dialing_with_room(2),
+        dialing_with_room(3),
+    ];
+    World::new(alloc, &configs)
+}
+
 // The one item that the last of these events took, each of the first node, in a new world of three such nodes, where this was
 // asked of them before. `None` where it took none.
 pub fn last_take_of_three(
@@ -259,13 +314,35 @@ pub fn last_take_of_three(
     before: &[(u64, Do)],
     events: &[Do],
 ) -> Result<Option<(u64, u64)>, RunError> {
-    let configs = [
-        dialing_with_room(1),
-        dialing_with_room(2),
-        dialing_with_room(3),
-    ];
-    let mut world = World::new(alloc, &configs)?;
+    let mut world = three_with_room(alloc)?;
     ask_each(alloc, &mut world, before)?;
     ask_all(alloc, &mut world, 0, events)?;
     Ok(newest_take(world.report().log.as_slice()))
+}
+
+// The place of the first event of a script, each of this node at the moment 0, that shows another thing. `None` where each shows
+// what is written.
+fn first_other_at_nodes(
+    alloc: Global,
+    world: &mut World,
+    script: &[(u64, Do, Seen)],
+) -> Result<Option<usize>, RunError> {
+    for (i, step) in script.iter().enumerate() {
+        ask(alloc, world, 0, step.0, step.1)?;
+        if !shows(world, step.2) {
+            return Ok(Some(i));
+        }
+    }
+    Ok(None)
+}
+
+// The same in a new world of three such nodes, where this was asked of them before.
+pub fn first_other_of_nodes(
+    alloc: Global,
+    before: &[(u64, Do)],
+    script: &[(u64, Do, Seen)],
+) -> Result<Option<usize>, RunError> {
+    let mut world = three_with_room(alloc)?;
+    ask_each(alloc, &mut world, before)?;
+    first_other_at_nodes(alloc, &mut world, script)
 }

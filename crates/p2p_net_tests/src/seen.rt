@@ -1,7 +1,7 @@
 //! What the entries of a world show, in plain data.
-use p2p_base::Feedback;
+use p2p_base::{Feedback, Key};
 use p2p_gates_rules::Reply as GatesReply;
-use p2p_net::{Entry, Item, Queue, Reply};
+use p2p_net::{Entry, Item, Queue, Reply, Side};
 
 // What an entry shows: its reply, how many items it took, and what it put.
 #[derive(Clone, Copy, PartialEq)]
@@ -14,6 +14,10 @@ pub enum Said {
     Idle,
     Pending,
     Gone,
+    // For how many peers a message was accepted.
+    Sent(usize),
+    // The key of a sender, and the one byte of its message.
+    Message(u64, u8),
     Told(Feedback),
     // How many keys the set has, and how many it may have.
     TooLarge(usize, usize),
@@ -62,10 +66,30 @@ pub enum Put {
     Reserved(bool),
     // With whom a connection is to be made, and over which link.
     Spawn(u64, u64),
+    // The tracker or the router of this node is told of this connection and of the key of its peer,
+    Connect(u64, u64, u64),
+    Ready(u64, u64, u64),
+    // its router answers it, and lists so many peers.
+    Answer(u64, u64),
+    Peers(u64, usize),
+    // A message waits for its router, at this node for this connection, at this link in this direction, or in the channel of this
+    // node, under the key of its sender.
+    Content,
+    Waiting(u64, u64),
+    Written(u64, Side),
+    Arrived(u64, u64),
     PeerSet,
     Update,
     Blocked,
     Other,
+}
+
+// The key of a sender, and its message where that is of one byte.
+fn message_of(from: Key, bytes: &[u8]) -> Said {
+    match bytes {
+        [byte] => Said::Message(from.0, *byte),
+        _ => Said::Other,
+    }
 }
 
 fn said_by(reply: &Reply) -> Said {
@@ -74,6 +98,8 @@ fn said_by(reply: &Reply) -> Said {
         Reply::Idle => Said::Idle,
         Reply::Pending => Said::Pending,
         Reply::Gone => Said::Gone,
+        Reply::Sent(keys) => Said::Sent(keys.len()),
+        Reply::Message { bytes, from } => message_of(*from, bytes.as_slice()),
         Reply::Feedback(told) => Said::Told(*told),
         Reply::PeerSetTooLarge { count, limit } => Said::TooLarge(*count, *limit),
         Reply::PeerSet(None) => Said::NoSet,
@@ -90,6 +116,21 @@ fn finished(queue: &Queue, ok: bool) -> Put {
     match queue {
         Queue::Attempt { .. } => Put::AttemptFinished(ok),
         Queue::Handshake { .. } => Put::HandshakeFinished(ok),
+        _ => Put::Other,
+    }
+}
+
+// What was put for a connection, by its queue.
+fn put_for_connection(put: &(Queue, Item)) -> Put {
+    match put {
+        (Queue::Tracker(node), Item::Connect { conn, key }) => Put::Connect(*node, *conn, key.0),
+        (Queue::Router(node), Item::Ready { conn, key }) => Put::Ready(*node, *conn, key.0),
+        (Queue::Ready { node, conn }, Item::Answer) => Put::Answer(*node, *conn),
+        (Queue::Peers { node, .. }, Item::Peers(keys)) => Put::Peers(*node, keys.len()),
+        (Queue::Router(_), Item::Content { .. }) => Put::Content,
+        (Queue::Low { node, conn }, Item::Frame { .. }) => Put::Waiting(*node, *conn),
+        (Queue::Link { link, side }, Item::Frame { .. }) => Put::Written(*link, *side),
+        (Queue::Channel { node, .. }, Item::Message { from, .. }) => Put::Arrived(*node, from.0),
         _ => Put::Other,
     }
 }
@@ -116,7 +157,7 @@ fn put_of(put: &(Queue, Item)) -> Put {
         Item::PeerSet(_) => Put::PeerSet,
         Item::Update(_) => Put::Update,
         Item::Blocked(_) => Put::Blocked,
-        _ => Put::Other,
+        _ => put_for_connection(put),
     }
 }
 

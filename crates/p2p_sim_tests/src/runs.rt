@@ -2,40 +2,48 @@
 use crate::command::{ended, sink, source};
 use crate::entries::is_text;
 use crate::rows::{
-    HELLO, HELLO_REPORT, NO_LINK, NO_LINK_REPORT, RELAY, RELAY_REPORT, SUBSCRIPTION,
-    SUBSCRIPTION_REPORT, UNBOUND, UNBOUND_REPORT,
+    HELLO, HELLO_REPORT, NO_CONNECTION, NO_CONNECTION_REPORT, NO_LINK, NO_LINK_REPORT, RELAY,
+    RELAY_REPORT, SUBSCRIPTION, SUBSCRIPTION_REPORT, UNBOUND, UNBOUND_REPORT,
 };
 use p2p_sim_command::Status;
 use std::alloc::{AllocError, Global};
 
 // Whether the command ends so with a script, of which nothing fails, leaves a world where that is `Ok` alone, and writes these lines.
+// Both are in pieces.
 fn has_outcome(
     alloc: Global,
-    script: &str,
+    script: &[&str],
     status: Status,
-    lines: &[&str],
+    report: &[&[&str]],
 ) -> Result<bool, AllocError> {
+    let script = script.concat(alloc)?;
     let mut source = source(alloc, script.as_bytes(), &[], 1000)?;
     let mut sink = sink(alloc, &[], 1000)?;
     if ended(alloc, &["run"], &mut source, &mut sink)? != (status, status == Status::Ok) {
         return Ok(false);
     }
-    is_text(alloc, sink.inner.inner.as_slice(), lines)
+    let lines = report.concat(alloc)?;
+    is_text(alloc, sink.inner.inner.as_slice(), lines.as_slice())
 }
 
-const SCRIPTS: &[(&str, Status, &[&str])] = &[
+// A script, how the command ends with it, and the report.
+type Outcome = (
+    &'static [&'static str],
+    Status,
+    &'static [&'static [&'static str]],
+);
+
+const SCRIPTS: &[Outcome] = &[
     (HELLO, Status::Ok, HELLO_REPORT),
     (UNBOUND, Status::Ok, UNBOUND_REPORT),
     (SUBSCRIPTION, Status::Ok, SUBSCRIPTION_REPORT),
     (RELAY, Status::Ok, RELAY_REPORT),
     (NO_LINK, Status::Ok, NO_LINK_REPORT),
+    (NO_CONNECTION, Status::Ok, NO_CONNECTION_REPORT),
 ];
 
 // The place of the first script with another outcome. `None` where each has what is written.
-fn first_other(
-    alloc: Global,
-    scripts: &[(&str, Status, &[&str])],
-) -> Result<Option<usize>, AllocError> {
+fn first_other(alloc: Global, scripts: &[Outcome]) -> Result<Option<usize>, AllocError> {
     for (i, script) in scripts.iter().enumerate() {
         if !has_outcome(alloc, script.0, script.1, script.2)? {
             return Ok(Some(i));
@@ -71,14 +79,7 @@ const LINK_OF_A_DIALER: &str = r#"{"configs":[
     {"node":0,"at":0,"do":"dialer"},
     {"link":1,"ok":true,"at":0,"do":"finish"}]}"#;
 
-// A connection that a spawner may make takes a step, which isn't built; and one that a start is to have made.
-const STEP_OF_A_SPAWNED_CONNECTION: &str = r#"{"configs":[
-    {"key":1,"preset":"local","max_peers_per_set":2,"max_message_size":1024,"mailbox_size":4}],
-    "script":[
-    {"node":0,"at":0,"do":"start"},
-    {"node":0,"at":0,"do":"spawner"},
-    {"conn":1,"node":0,"at":0,"do":"send_step"}]}"#;
-
+// The connection that takes a step is one that a start is to have made, and one of the other node.
 const STEP_OF_A_START: &str = r#"{"configs":[
     {"key":1,"preset":"local","max_peers_per_set":2,"max_message_size":1024,"mailbox_size":4}],
     "script":[
@@ -86,34 +87,51 @@ const STEP_OF_A_START: &str = r#"{"configs":[
     {"node":0,"at":0,"do":"spawner"},
     {"conn":0,"node":0,"at":0,"do":"send_step"}]}"#;
 
-const REFUSED: &[(&str, Status, &[&str])] = &[
+const STEP_OF_THE_OTHER_NODE: &str = r#"{"configs":[
+    {"key":1,"preset":"local","max_peers_per_set":2,"max_message_size":1024,"mailbox_size":4},
+    {"key":2,"preset":"local","max_peers_per_set":2,"max_message_size":1024,"mailbox_size":4}],
+    "script":[
+    {"node":0,"at":0,"do":"start"},
+    {"node":1,"at":0,"do":"start"},
+    {"node":0,"at":0,"do":"spawner"},
+    {"node":1,"at":0,"do":"spawner"},
+    {"conn":3,"node":0,"at":0,"do":"recv_step"}]}"#;
+
+// A node is to block a peer once it may have a connection with it, which isn't built.
+const LATE_BLOCK: &str = r#"{"configs":[
+    {"key":1,"preset":"local","max_peers_per_set":2,"max_message_size":1024,"mailbox_size":4}],
+    "script":[
+    {"node":0,"at":0,"do":"start"},
+    {"node":0,"at":0,"do":"dialer"},
+    {"node":0,"at":0,"do":"spawner"},
+    {"conn":2,"node":0,"at":0,"do":"send_step"},
+    {"key":2,"node":0,"at":0,"do":"block"}]}"#;
+
+const REFUSED: &[Outcome] = &[
+    (&[NO_WHOLE_MOMENT], Status::NotScript, NO_SCRIPT),
     (
-        NO_WHOLE_MOMENT,
-        Status::NotScript,
-        &[r#"{"error":"script"}"#],
-    ),
-    (
-        EQUAL_KEYS,
+        &[EQUAL_KEYS],
         Status::Config,
-        &[r#"{"config":1,"error":"config"}"#],
+        &[&[r#"{"config":1,"error":"config"}"#]],
     ),
-    (MOMENTS, Status::Event, &[r#"{"error":"event","event":1}"#]),
     (
-        LINK_OF_A_DIALER,
+        &[MOMENTS],
         Status::Event,
-        &[r#"{"error":"event","event":2}"#],
+        &[&[r#"{"error":"event","event":1}"#]],
     ),
+    (&[LINK_OF_A_DIALER], Status::Event, NO_THIRD_EVENT),
+    (&[STEP_OF_A_START], Status::Event, NO_THIRD_EVENT),
     (
-        STEP_OF_A_SPAWNED_CONNECTION,
-        Status::NotScript,
-        &[r#"{"error":"script"}"#],
-    ),
-    (
-        STEP_OF_A_START,
+        &[STEP_OF_THE_OTHER_NODE],
         Status::Event,
-        &[r#"{"error":"event","event":2}"#],
+        &[&[r#"{"error":"event","event":4}"#]],
     ),
+    (&[LATE_BLOCK], Status::NotScript, NO_SCRIPT),
 ];
+
+const NO_SCRIPT: &[&[&str]] = &[&[r#"{"error":"script"}"#]];
+
+const NO_THIRD_EVENT: &[&[&str]] = &[&[r#"{"error":"event","event":2}"#]];
 
 #[test]
 fn what_is_not_run_is_refused_with_its_place(rt: HostRuntime) {
@@ -138,6 +156,6 @@ const TOO_LONG_REPORT: &[&str] = &[
 
 #[test]
 fn a_message_that_is_too_long_is_told_so(rt: HostRuntime) {
-    let found = has_outcome(rt.alloc(), TOO_LONG, Status::Ok, TOO_LONG_REPORT);
+    let found = has_outcome(rt.alloc(), &[TOO_LONG], Status::Ok, &[TOO_LONG_REPORT]);
     assert_eq!(rt; found, Ok(true));
 }

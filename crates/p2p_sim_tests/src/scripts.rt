@@ -13,7 +13,7 @@ const HELLO: &str = r#"{"configs":[
     {"at":0,"channel":7,"do":"register","node":0,"quota":{"burst":1,"period":1000000000}},
     {"at":0,"do":"start","node":0},
     {"at":0,"do":"start","node":1},
-    {"a":0,"at":0,"b":1,"do":"join"},
+    {"at":0,"do":"spawner","node":0},
     {"at":0,"bytes":"68656c6C6f","channel":7,"do":"send","node":0,"priority":false,"seed":9,"to":{"one":2}},
     {"at":0,"do":"router","node":0},
     {"at":0,"conn":3,"do":"send_step","node":0},
@@ -23,7 +23,12 @@ const HELLO: &str = r#"{"configs":[
 
 // Changes of the text above in one place, and whether it is a script then.
 const CHANGES_OF_KIND: &[(&str, &str, bool)] = &[
-    (r#""a":0"#, r#""a":0"#, true),
+    ("", "", true),
+    (
+        r#"{"at":0,"do":"router","node":0}"#,
+        r#"{"at":0,"do":"route","node":0}"#,
+        false,
+    ),
     (r#"{"one":2}"#, r#"{"some":[2]}"#, true),
     (
         r#""max_message_size":1024"#,
@@ -96,6 +101,32 @@ const SEND: &str =
 
 const OTHER: &str = r#""channel":7,"do":"register","node":1"#;
 
+const SPAWNER: &str = r#"{"at":0,"do":"spawner","node":0},"#;
+
+const SEND_STEP: &str = r#"{"at":0,"conn":3,"do":"send_step","node":0},"#;
+
+const LATEST: &str = r#""at":4999999999"#;
+
+const LATER: &str = r#""at":5000000000"#;
+
+const DIALER_AND_BLOCK: &str =
+    r#"{"at":0,"do":"dialer","node":1},{"at":0,"do":"block","key":2,"node":1}"#;
+
+const DIALER_AND_BLOCK_THERE: &str =
+    r#"{"at":0,"do":"dialer","node":1},{"at":0,"do":"block","key":2,"node":0}"#;
+
+const DIALER_AND_QUESTION: &str =
+    r#"{"at":0,"do":"dialer","node":1},{"at":0,"do":"peer_set","index":2,"node":1}"#;
+
+const BLOCK_AND_DIALER: &str =
+    r#"{"at":0,"do":"block","key":2,"node":1},{"at":0,"do":"dialer","node":1}"#;
+
+const LISTENER_AND_TRACK: &str =
+    r#"{"at":0,"do":"listener","node":1},{"at":0,"do":"track","index":2,"node":1,"primary":[]}"#;
+
+const LISTENER_AND_OVERWRITE: &str =
+    r#"{"at":0,"do":"listener","node":1},{"at":0,"do":"overwrite","node":1,"peers":[]}"#;
+
 // Changes of the text above in one or two places, and of which form it is then.
 const CHANGES_OF_FORM: &[(&str, &str, &str, &str, Form)] = &[
     ("", "", "", "", Form::First),
@@ -167,35 +198,19 @@ const CHANGES_OF_FORM: &[(&str, &str, &str, &str, Form)] = &[
         "",
         Form::Another,
     ),
-    // The connection that takes steps is one that a spawner made.
-    (
-        r#"{"a":0,"at":0,"b":1,"do":"join"},"#,
-        r#"{"at":0,"do":"spawner","node":0},"#,
-        "",
-        "",
-        Form::Another,
-    ),
-    (
-        r#""at":4999999999"#,
-        r#""at":5000000000"#,
-        "",
-        "",
-        Form::Another,
-    ),
-    (
-        r#""at":4999999999"#,
-        r#""at":5000000000"#,
-        r#"{"a":0,"at":0,"b":1,"do":"join"},"#,
-        "",
-        Form::First,
-    ),
-    (
-        r#"{"a":0,"at":0,"b":1,"do":"join"},"#,
-        "",
-        "",
-        "",
-        Form::First,
-    ),
+    // No connection begins without a step of its sending half, nor sends a ping before five seconds.
+    (SPAWNER, "", "", "", Form::First),
+    (LATEST, LATER, "", "", Form::Another),
+    (LATEST, LATER, SEND_STEP, "", Form::First),
+    (SEND_STEP, "", "", "", Form::First),
+    // The node that is to change its peers met some before.
+    (ROUTER, DIALER_AND_BLOCK, "", "", Form::Another),
+    (ROUTER, LISTENER_AND_TRACK, "", "", Form::Another),
+    (ROUTER, LISTENER_AND_OVERWRITE, "", "", Form::Another),
+    (ROUTER, DIALER_AND_QUESTION, "", "", Form::First),
+    (ROUTER, BLOCK_AND_DIALER, "", "", Form::First),
+    (ROUTER, DIALER_AND_BLOCK_THERE, "", "", Form::First),
+    (ROUTER, DIALER_AND_BLOCK, SEND_STEP, "", Form::First),
 ];
 
 // The form of what was read.
