@@ -1,5 +1,5 @@
 #!/usr/bin/env python3
-"""Writes a script of so many events: pairs of joined nodes that move one message after another.
+"""Writes a script of so many events: pairs of connected nodes that move one message after another.
 
     bench/script.py EVENTS [NODES]     NODES is even; without it, 2
 """
@@ -13,37 +13,78 @@ def config(key):
     return {'key': key, 'preset': 'local', 'max_peers_per_set': 2, 'max_message_size': 1024, 'mailbox_size': 64}
 
 
+def socket(node, port):
+    return {'ip': [10, 0, node // 256, node % 256], 'port': port}
+
+
+def track(node, peer):
+    return {'do': 'track', 'index': 0, 'node': node, 'primary': [[peer + 1, {'symmetric': socket(peer, 3000)}]]}
+
+
+def meet(events, a):
+    """A node dials its partner, they exchange keys, and each makes its connection: the numbers of the two events that do."""
+    b = a + 1
+
+    def act(do, node, **names):
+        events.append({'do': do, 'node': node, **names})
+        return len(events) - 1
+
+    act('tracker', a)
+    act('tracker', b)
+    act('listener', b)
+    act('dialer', a)
+    act('tracker', a)
+    act('dialer', a)
+    act('tracker', a)
+    attempt = act('dialer', a)
+    link = act('connect', a, attempt=attempt, to=b, **{'from': socket(a, 40000)})
+    act('attempt', a, attempt=attempt)
+    handshake = act('listener', b)
+    act('tracker', b)
+    act('handshake', b, handshake=handshake)
+    events.append({'do': 'finish', 'link': link, 'ok': True})
+    act('attempt', a, attempt=attempt)
+    act('handshake', b, handshake=handshake)
+    act('tracker', b)
+    act('handshake', b, handshake=handshake)
+    return act('spawner', a), act('spawner', b)
+
+
+def begin(events, node, conn):
+    """The connection begins, the router takes the subscription and the connection, and the half takes its answer."""
+    step = {'do': 'send_step', 'node': node, 'conn': conn}
+    router = {'do': 'router', 'node': node}
+    events.extend([step, router, router, step, {'do': 'tracker', 'node': node}])
+
+
 def setup(nodes, burst):
-    """The events that register the channel everywhere, start all nodes and join them two by two."""
+    """The events that register the channel everywhere, start all nodes and connect them two by two, and the connections."""
     quota = {'burst': burst, 'period': 1000000000}
-    for node in range(nodes):
-        yield {'do': 'register', 'node': node, 'channel': CHANNEL, 'quota': quota}
-    for node in range(nodes):
-        yield {'do': 'start', 'node': node}
-    for node in range(0, nodes, 2):
-        yield {'do': 'join', 'a': node, 'b': node + 1}
-    for node in range(nodes):
-        # The subscription, and the connection; then the half takes its router's answer.
-        yield {'do': 'router', 'node': node}
-        yield {'do': 'router', 'node': node}
-        yield {'do': 'send_step', 'node': node, 'conn': 2 * nodes + node // 2}
+    events = [{'do': 'register', 'node': node, 'channel': CHANNEL, 'quota': quota} for node in range(nodes)]
+    events.extend({'do': 'start', 'node': node} for node in range(nodes))
+    events.extend(track(node, node ^ 1) for node in range(nodes))
+    conns = []
+    for a in range(0, nodes, 2):
+        conns.extend(meet(events, a))
+    for node, conn in enumerate(conns):
+        begin(events, node, conn)
+    return events, conns
 
 
-def message(a, conn):
+def message(a, conns):
     """The five events that carry one message from a node to its partner."""
     yield {'do': 'send', 'node': a, 'channel': CHANNEL, 'bytes': '68656c6c6f', 'priority': False, 'to': {'one': a + 2}}
     yield {'do': 'router', 'node': a}
-    yield {'do': 'send_step', 'node': a, 'conn': conn}
-    yield {'do': 'recv_step', 'node': a + 1, 'conn': conn}
+    yield {'do': 'send_step', 'node': a, 'conn': conns[a]}
+    yield {'do': 'recv_step', 'node': a + 1, 'conn': conns[a + 1]}
     yield {'do': 'recv', 'node': a + 1, 'channel': CHANNEL}
 
 
 def script(count, nodes):
-    events = list(setup(nodes, count))
+    events, conns = setup(nodes, count)
     turn = 0
     while len(events) < count:
-        a = 2 * (turn % (nodes // 2))
-        events.extend(message(a, 2 * nodes + a // 2))
+        events.extend(message(2 * (turn % (nodes // 2)), conns))
         turn += 1
     return [dict(event, at=0) for event in events[:count]]
 

@@ -2,6 +2,10 @@
 
 END_OF_TIME = 5_000_000_000
 
+# The steps by which a node meets peers, and what its tracker may be asked that could end a connection.
+MEETINGS = ('dialer', 'listener')
+CHANGES = ('track', 'overwrite', 'block')
+
 
 def register_faults(event, sends):
     if event.said['quota'] < sends:
@@ -15,10 +19,31 @@ def is_too_long(event, configurations):
     return node < len(configurations) and event.said['bytes'] > configurations[node].said['max_message_size']
 
 
-def step_faults(event, events):
-    conn = event.said['conn']
-    if conn < len(events) and events[conn].act == 'spawner':
-        yield event.fault('conn', 'steps of a connection that a spawner made, as event %d may, are not built yet' % conn)
+def time_faults(events):
+    for event in events:
+        if event.said['at'] >= END_OF_TIME:
+            yield event.fault('at', 'moments of %d nanoseconds and later are not built yet in a script with a send_step'
+                              % END_OF_TIME)
+
+
+def change_faults(events):
+    """What changes the peers of a node that has met some."""
+    met = {}
+    for event in events:
+        node = event.said.get('node')
+        if event.act in CHANGES and node in met:
+            first = met[node]
+            yield event.fault('node', 'node %d took a step of its %s, event %d; to change its peers after that is not built yet '
+                              'in a script with a send_step' % (node, first.act, first.number))
+        if event.act in MEETINGS:
+            met.setdefault(node, event)
+
+
+def connection_faults(script):
+    """What a script may not have where a connection may begin."""
+    if any(event.act == 'send_step' for event in script.events):
+        yield from time_faults(script.events)
+        yield from change_faults(script.events)
 
 
 def send_faults(event, configurations, registered):
@@ -40,17 +65,11 @@ def send_faults(event, configurations, registered):
 def built_faults(script):
     """What of a script goes beyond the form that is built."""
     sends = sum(event.act == 'send' for event in script.events)
-    joins = any(event.act == 'join' for event in script.events)
     registered = {(event.said['channel'], event.said['node']) for event in script.events if event.act == 'register'}
-    faults = []
+    faults = list(connection_faults(script))
     for event in script.events:
-        if joins and event.said['at'] >= END_OF_TIME:
-            faults.append(event.fault('at', 'moments of %d nanoseconds and later are not built yet in a script with a join'
-                                      % END_OF_TIME))
         if event.act == 'register':
             faults.extend(register_faults(event, sends))
         if event.act == 'send':
             faults.extend(send_faults(event, script.configurations, registered))
-        if event.act in ('send_step', 'recv_step'):
-            faults.extend(step_faults(event, script.events))
-    return faults
+    return sorted(faults, key=lambda fault: fault.at)

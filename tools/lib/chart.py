@@ -1,6 +1,6 @@
 """The sequence chart of a report: nodes as lines, time downward, copies as arrows through their connections."""
 from journey import node_of
-from places import all_nodes, joins_of, keys_of_nodes, link_ends, nodes_at
+from places import all_nodes, keys_of_nodes, link_ends, links_of, nodes_at
 from svg import Picture
 
 ROW = 24
@@ -49,10 +49,9 @@ def event_text(event):
     asked = [event[name] for name in ('question', 'link') if name in event]
     if asked:
         return '%s of event %s: ' % (event['do'], asked[0])
-    names = [str(event[name]) for name in ('node', 'a', 'b') if name in event]
     begun = [event[name] for name in ('attempt', 'handshake') if name in event]
     act = '%s of event %s' % (event['do'], begun[0]) if begun else event['do']
-    return '%s%s %s: ' % ('node ' if len(names) == 1 else 'nodes ' if names else '', ', '.join(names), act)
+    return 'node %s %s: ' % (event['node'], act) if 'node' in event else '%s: ' % act
 
 
 def end_text(queue, item):
@@ -107,7 +106,9 @@ class Chart:
     def draw(self):
         self.draw_rows()
         self.draw_nodes()
-        self.draw_connections()
+        self.draw_links()
+        for entry in self.report.entries[self.first:self.last + 1]:
+            self.draw_ends(entry)
         for place, journey in enumerate(self.journeys):
             self.draw_journey(journey, COLOURS[place % len(COLOURS)], LANES[place % len(LANES)])
         return self.picture.write()
@@ -130,14 +131,12 @@ class Chart:
             for node in nodes_at(self.report, entry):
                 self.picture.dot(self.x(node), self.y(entry.number), 2.2, QUIET)
 
-    def draw_connections(self):
-        for entry, connection, first, second in joins_of(self.report):
-            if self.shows(entry):
-                y = self.y(entry)
-                self.picture.line(self.x(first), y, self.x(second), y, '#777', 1.4, '5,4')
-                self.picture.text((self.x(first) + self.x(second)) / 2, y - 4, 'connection %s' % connection, anchor='middle')
-        for entry in self.report.entries[self.first:self.last + 1]:
-            self.draw_ends(entry)
+    def draw_links(self):
+        for link, (dialing, listening) in links_of(self.report).items():
+            if self.shows(link):
+                y = self.y(link)
+                self.picture.line(self.x(dialing), y, self.x(listening), y, '#777', 1.4, '5,4')
+                self.picture.text((self.x(dialing) + self.x(listening)) / 2, y - 4, 'link %d' % link, anchor='middle')
 
     def draw_ends(self, entry):
         """What ends connections, attempts and handshakes: what is put for that, and an answer that tells of an end."""

@@ -1,5 +1,6 @@
-"""Where a report's nodes and connections are: which nodes it shows, which keys they have, and what a link joins."""
+"""Where a report's nodes and links are: which nodes it shows, which keys they have, and between whom a link is."""
 from journey import node_of
+from report_form import is_number
 
 
 def nodes_of(entry):
@@ -19,41 +20,43 @@ def all_nodes(report, journeys):
     return sorted(found)
 
 
-def ready_of(put):
-    """The node, the connection and the peer's key of a put that tells a router of a connection."""
-    queue, item = put
-    ready = item.get('ready') if isinstance(item, dict) else None
-    if not isinstance(ready, dict) or node_of(queue) is None:
-        return None
-    return node_of(queue), ready.get('conn'), ready.get('key')
-
-
-def joins_of(report):
-    """The connections that one entry made between two nodes: (entry, connection, node, node)."""
-    found = []
+def links_of(report):
+    """The links that were made: for each, by the number of its entry, the node that dialed, and the node at which it arrived."""
+    found = {}
     for entry in report.entries:
-        ready = [one for one in map(ready_of, entry.puts) if one]
-        if len(ready) == 2 and ready[0][1] == ready[1][1]:
-            found.append((entry.number, ready[0][1], ready[0][0], ready[1][0]))
+        kinds = [queue.partition(':')[0] for queue, _ in entry.puts]
+        if kinds == ['attempt', 'arrivals'] and entry.puts[0][1] == 'linked':
+            found[entry.number] = tuple(nodes_of(entry))
     return found
+
+
+def named_at_link(put):
+    """What a put says of the other end of a link: the queue's node, the link and the key; nothing, if it says none."""
+    queue, item = put
+    said = item.get('spawn', item) if isinstance(item, dict) else None
+    if not isinstance(said, dict) or not is_number(said.get('link')) or not is_number(said.get('key')):
+        return None
+    return node_of(queue), said['link'], said['key']
 
 
 def keys_of_nodes(report, journeys):
     """The keys of nodes, as far as the report tells them."""
     keys = {journey.sender: journey.sender_key for journey in journeys if journey.sender_key is not None}
+    links = links_of(report)
     for entry in report.entries:
-        ready = [one for one in map(ready_of, entry.puts) if one]
-        if len(ready) == 2 and ready[0][1] == ready[1][1]:
-            keys[ready[0][0]], keys[ready[1][0]] = ready[1][2], ready[0][2]
+        for node, link, key in filter(None, map(named_at_link, entry.puts)):
+            ends = links.get(link, ())
+            if node in ends:
+                keys[ends[1 - ends.index(node)]] = key
     return keys
 
 
 def link_ends(report, journeys):
     """For each direction of a link the node that reads it, as far as the report tells."""
     reads = {}
-    for _, connection, first, second in joins_of(report):
-        reads['link:%s:out' % connection] = second
-        reads['link:%s:in' % connection] = first
+    for link, (dialing, listening) in links_of(report).items():
+        reads['link:%d:out' % link] = listening
+        reads['link:%d:in' % link] = dialing
     for journey in journeys:
         for (_, queue), (_, following) in zip(journey.steps, journey.steps[1:]):
             if queue.startswith('link:') and node_of(following) is not None:

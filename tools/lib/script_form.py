@@ -62,7 +62,6 @@ def recipients(field):
 ACT_FORMS = {
     'register': {'channel': whole, 'node': whole, 'quota': a_rate},
     'start': {'node': whole},
-    'join': {'a': whole, 'b': whole},
     'send': {'bytes': some_bytes, 'channel': whole, 'node': whole, 'priority': a_flag, 'to': recipients},
     'router': {'node': whole},
     'send_step': {'conn': whole, 'node': whole},

@@ -7,7 +7,7 @@ MOST_BYTES = 16_777_200
 ASKED_BY = {'answer': ('peer_set',), 'next': ('subscribe', 'blocked')}
 
 # How acts of two nodes name them.
-TWO_NODES = {'join': ('a', 'b'), 'connect': ('node', 'to')}
+TWO_NODES = {'connect': ('node', 'to')}
 
 
 def with_article(word):
@@ -79,25 +79,22 @@ class Past:
             return event.fault(name, 'event %d is %s, not %s' % (number, with_article(act), ' or '.join(map(with_article, due))))
         return None
 
-    def connection_fault(self, event):
-        fault = self.naming_fault(event, 'conn', ['join'])
+    def own_fault(self, event, name, actor):
+        """Why the event that this one names may not be named: it is no step before of this actor of the same node."""
+        fault = self.naming_fault(event, name, [actor])
         if fault:
             return fault
-        node, number = event.said['node'], event.said['conn']
-        joined = self.events[number].said
-        if node not in (joined['a'], joined['b']):
-            return event.fault('conn', 'event %d joins nodes %d and %d, not node %d' % (number, joined['a'], joined['b'], node))
+        node, number = event.said['node'], event.said[name]
+        owner = self.events[number].said['node']
+        if node != owner:
+            return event.fault(name, 'event %d is a step of the %s of node %d, not node %d' % (number, actor, owner, node))
         return None
 
+    def connection_fault(self, event):
+        return self.own_fault(event, 'conn', 'spawner')
+
     def attempt_fault(self, event):
-        fault = self.naming_fault(event, 'attempt', ['dialer'])
-        if fault:
-            return fault
-        node, number = event.said['node'], event.said['attempt']
-        dials = self.events[number].said['node']
-        if node != dials:
-            return event.fault('attempt', 'event %d is a step of the dialer of node %d, not node %d' % (number, dials, node))
-        return None
+        return self.own_fault(event, 'attempt', 'dialer')
 
     def handshake_fault(self, event):
         return self.naming_fault(event, 'handshake', ['listener'])

@@ -5,6 +5,7 @@ import unittest
 import xml.dom.minidom
 
 from files import TOP, beside, read_text, reports, run_tool
+from places import keys_of_nodes, link_ends, links_of
 from report_form import BadReport, read_report
 
 HELLO = os.path.join(TOP, 'examples', 'hello.report')
@@ -164,6 +165,16 @@ class Show(unittest.TestCase):
             '6  node 0 listener: limited by address', '7  node 0 listener: limited by subnet',
             '8  node 0 listener: limited by both'))
 
+    def test_a_link_is_drawn_with_the_key_that_dialed(self):
+        drawn = self.assert_drawn(LISTENER, LISTENER_SCRIPT, ('>link 2<', '>node 1, key 2<', '>node 0<'))
+        self.assertEqual(drawn.count('>link '), 1)
+
+    def test_both_ends_of_a_link_have_their_keys_and_read_what_the_other_wrote(self):
+        report = read_report(read_text(HELLO))
+        self.assertEqual(links_of(report), {13: (0, 1)})
+        self.assertEqual(keys_of_nodes(report, []), {0: 1, 1: 2})
+        self.assertEqual(link_ends(report, []), {'link:13:out': 1, 'link:13:in': 0})
+
     def test_a_report_of_a_handshake_is_drawn_with_the_word_that_ends_it(self):
         drawn = self.assert_drawn(LISTENER, LISTENER_SCRIPT, (
             '9  node 0 handshake of event 4: ok', 'not acceptable: handshake:0:4'))
@@ -180,10 +191,10 @@ class Show(unittest.TestCase):
     def test_a_part_of_a_report_can_be_drawn(self):
         with tempfile.TemporaryDirectory() as folder:
             picture = os.path.join(folder, 'picture.svg')
-            self.assertEqual(run_tool('show', HELLO, '--svg', picture, '--from', '10', '--to', '12').returncode, 0)
-            self.assertIn('link:4:out', read_text(picture))
+            self.assertEqual(run_tool('show', HELLO, '--svg', picture, '--from', '37', '--to', '39').returncode, 0)
+            self.assertIn('link:13:out', read_text(picture))
             self.assertNotIn('delivered', read_text(picture))
-            self.assertEqual(run_tool('show', HELLO, '--svg', picture, '--from', '16').returncode, 1)
+            self.assertEqual(run_tool('show', HELLO, '--svg', picture, '--from', '41').returncode, 1)
 
     def test_a_bad_report_is_told_by_its_line(self):
         for text, reason in BAD.items():
