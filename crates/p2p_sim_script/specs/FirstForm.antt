@@ -1,25 +1,26 @@
--- The scripts of the first form: no more messages than the least burst, each to one key, without priority, on a channel that
--- each node registers, and no longer than any node takes, unless it is too long for its own. Where a connection's sending half
--- takes a step, every event is earlier than five seconds, and no node is asked to change its peers once it has met some.
-use Rattle.std.specs.Prelude.{ℕ, Bool, true, false, not, ◌==◌, ◌&&◌, ◌||◌, nat_lt, nat_le, List, length, count_by, Some, None, slice_get}
+-- The scripts of the first form: no more copies than the least burst. Where a connection's sending half takes a step, each
+-- message is on a channel that each node registers, and no longer than any node takes, unless it is too long for its own; every
+-- event is earlier than five seconds, and no node is asked to change its peers once it has met some.
+use Rattle.std.specs.Prelude.{ℕ, Bool, true, false, not, ◌==◌, ◌&&◌, ◌||◌, nat_lt, nat_le, List, [], flat_map, length, Some, None, slice_get}
 use Rattle.std.specs.List.{list_any, list_all, range_with_len}
+use Rattle.p2p_base.specs.declared.key.Key.{Key}
 use Rattle.p2p_log.specs.declared.config.Config.{Config}
 use Rattle.p2p_log.specs.declared.event.Event.{Event}
 use Rattle.p2p_log.specs.declared.event.Act.{Act}
 use Rattle.p2p_log.specs.declared.event.Act.TheVariants as act
-use Rattle.p2p_log.specs.declared.event.Recipients.{Recipients}
-use Rattle.p2p_log.specs.declared.event.Recipients.TheVariants as recipients
+use Rattle.p2p_log.specs.Copies.{keys_of_recipients}
 use Rattle.p2p_sim_script.specs.KeptPeers.{keeps_peers}
 
 -- ---- the script
 
-abbrev pub sends : Act → Bool
-sends (act.Send bytes channel node priority to) = true
-sends _ = false
+-- whom an act sends to, a key for each copy
+abbrev pub keys_asked : Act → List Key
+keys_asked (act.Send bytes channel node priority to) = keys_of_recipients to
+keys_asked _ = []
 
--- how many messages the script sends
-abbrev pub send_count : List Event → ℕ
-send_count script = count_by (λ e. sends e.act) script
+-- whom the script sends to, a key for each copy
+abbrev pub copies_asked : List Event → List Key
+copies_asked script = flat_map (λ e. keys_asked e.act) script
 
 abbrev pub registers : ℕ → ℕ → Act → Bool
 registers channel node (act.Register c n quota) = (c == channel) && (n == node)
@@ -38,11 +39,7 @@ steps _ = false
 abbrev pub has_steps : List Event → Bool
 has_steps script = list_any (λ e. steps e.act) script
 
--- ---- an act, of a script with this count of messages and these channels registered at nodes
-
-abbrev pub is_one : Recipients → Bool
-is_one (recipients.One key) = true
-is_one (recipients.Some keys) = false
+-- ---- an act, of a script in which a connection may begin, with this count of copies and these channels registered at nodes
 
 -- no longer than the least that a node takes
 abbrev pub is_short : List Config → List ℕ → Bool
@@ -56,11 +53,16 @@ is_too_long configs node bytes = elim (slice_get configs node) [ None ↦ false 
 abbrev pub is_on_each : (ℕ → ℕ → Bool) → ℕ → ℕ → Bool
 is_on_each registered n channel = list_all (registered channel) (range_with_len 0 n)
 
-abbrev pub act_fits : List Config → ℕ → (ℕ → ℕ → Bool) → Act → Bool
-act_fits configs count registered (act.Register channel node quota) = nat_le count quota.burst
-act_fits configs count registered (act.Send bytes channel node priority to) =
-    is_one to && not priority && (is_too_long configs node bytes || is_short configs bytes) && is_on_each registered (length configs) channel
-act_fits configs count registered _ = true
+-- a message that each node takes from a connection, or that is refused where it is sent
+abbrev pub message_fits : List Config → (ℕ → ℕ → Bool) → ℕ → ℕ → List ℕ → Bool
+message_fits configs registered channel node bytes =
+    (is_too_long configs node bytes || is_short configs bytes) && is_on_each registered (length configs) channel
+
+abbrev pub act_fits : List Config → Bool → ℕ → (ℕ → ℕ → Bool) → Act → Bool
+act_fits configs stepped count registered (act.Register channel node quota) = nat_le count quota.burst
+act_fits configs stepped count registered (act.Send bytes channel node priority to) =
+    not stepped || message_fits configs registered channel node bytes
+act_fits configs stepped count registered _ = true
 
 -- ---- all of it
 
@@ -69,8 +71,8 @@ abbrev pub is_early : Bool → ℕ → Bool
 is_early stepped at = not stepped || nat_lt at 5000000000
 
 abbrev pub event_fits : List Config → Bool → ℕ → (ℕ → ℕ → Bool) → Event → Bool
-event_fits configs stepped count registered e = is_early stepped e.at && act_fits configs count registered e.act
+event_fits configs stepped count registered e = is_early stepped e.at && act_fits configs stepped count registered e.act
 
 abbrev pub is_first_form : List Config → List Event → Bool
 is_first_form configs script =
-    list_all (event_fits configs (has_steps script) (send_count script) (is_registered script)) script && (not (has_steps script) || keeps_peers script)
+    list_all (event_fits configs (has_steps script) (length (copies_asked script)) (is_registered script)) script && (not (has_steps script) || keeps_peers script)

@@ -7,17 +7,19 @@ ghost use Rattle.p2p_sim_script.specs.Pairs.{has};
 use crate::kept_peers::keeps_peers;
 use crate::pairs::{add, is_in};
 use bytes::Bytes;
+use p2p_base::Key;
 use p2p_log::{Act, Config, Event, Recipients};
 use std::alloc::{AllocError, Global};
 use std::collections::BTreeSet;
+use std::slice::from_ref;
 
-/// Whether the script is one of the first form: it sends no more messages than the least burst that it registers, each
-/// to one key, without priority, on a channel that each node registers, before or after, and no longer than any node takes,
-/// unless it is too long for its own. Where the sending half of a connection takes a step, every event is earlier than five
-/// seconds, so that no connection sends a ping, and no node is asked to track, to overwrite or to block peers after the first
-/// step of its dialer or its listener, so that no connection is killed.
+/// Whether the script is one of the first form: it asks for no more copies than the least burst that it registers, a message
+/// to a list of keys for as many as the list has. Where the sending half of a connection takes a step, each message is on a
+/// channel that each node registers, before or after, and no longer than any node takes, unless it is too long for its own;
+/// every event is earlier than five seconds, so that no connection sends a ping, and no node is asked to track, to overwrite or
+/// to block peers after the first step of its dialer or its listener, so that no connection is killed.
 ///
-/// Takes time in proportion to the length of the script, and for each message to the count of nodes, but for the
+/// Takes time in proportion to the length of the script with its lists, and for each message to the count of nodes, but for the
 /// logarithm of the count of registered channels and of nodes. `AllocError` comes where there was no memory for those.
 pub fn is_first_form(
     alloc: Global,
@@ -28,23 +30,34 @@ pub fn is_first_form(
 {
     let registered = registered_pairs(alloc, script)?;
     let stepped = has_steps(script);
-    let count = send_count(script);
+    let count = copies_asked(alloc, script)?.len();
     Ok(
         all_fit(configs, stepped, count, &registered, script)
             && (!stepped || keeps_peers(alloc, script)?),
     )
 }
 
-fn send_count(script: &[Event]) -> usize
-    ensures { result ≡ form.send_count script.now }
+// A key for each copy that the script asks for.
+fn copies_asked(alloc: Global, script: &[Event]) -> Result<Vec<Key>, AllocError>
+    ensures { IfOk result (λ keys. keys.items ≡ form.copies_asked script.now) }
 {
-    script.iter().filter(|event| sends(&event.act)).count()
+    let mut keys = Vec::new(alloc);
+    for event in script {
+        keys.extend_from_slice(keys_asked(&event.act))?;
+    }
+    Ok(keys)
 }
 
-fn sends(act: &Act) -> bool
-    ensures { result ≡ form.sends act.now }
+fn keys_asked(act: &Act) -> &[Key]
+    ensures { result.now ≡ form.keys_asked act.now }
 {
-    matches!(act, Act::Send { .. })
+    match act {
+        Act::Send { to, .. } => match to {
+            Recipients::One(key) => from_ref(key),
+            Recipients::Some(keys) => keys.as_slice(),
+        },
+        _ => &[],
+    }
 }
 
 fn has_steps(script: &[Event]) -> bool
@@ -106,11 +119,17 @@ fn event_fits(
 ) -> bool
     ensures { result ≡ form.event_fits configs.now stepped count (has registered.now) event.now }
 {
-    is_early(stepped, event.at) && act_fits(configs, count, registered, &event.act)
+    is_early(stepped, event.at) && act_fits(configs, stepped, count, registered, &event.act)
 }
 
-fn act_fits(configs: &[Config], count: usize, registered: &BTreeSet<(u64, u64)>, act: &Act) -> bool
-    ensures { result ≡ form.act_fits configs.now count (has registered.now) act.now }
+fn act_fits(
+    configs: &[Config],
+    stepped: bool,
+    count: usize,
+    registered: &BTreeSet<(u64, u64)>,
+    act: &Act,
+) -> bool
+    ensures { result ≡ form.act_fits configs.now stepped count (has registered.now) act.now }
 {
     match act {
         Act::Register { quota, .. } => count <= quota.burst as usize,
@@ -118,22 +137,23 @@ fn act_fits(configs: &[Config], count: usize, registered: &BTreeSet<(u64, u64)>,
             bytes,
             channel,
             node,
-            priority,
-            to,
-        } => {
-            is_one(to)
-                && !*priority
-                && (is_too_long(configs, *node, bytes) || is_short(configs, bytes))
-                && is_on_each(registered, configs.len() as u64, *channel)
-        }
+            ..
+        } => !stepped || message_fits(configs, registered, *channel, *node, bytes),
         _ => true,
     }
 }
 
-fn is_one(to: &Recipients) -> bool
-    ensures { result ≡ form.is_one to.now }
+fn message_fits(
+    configs: &[Config],
+    registered: &BTreeSet<(u64, u64)>,
+    channel: u64,
+    node: u64,
+    bytes: &Bytes,
+) -> bool
+    ensures { result ≡ form.message_fits configs.now (has registered.now) channel node bytes.now }
 {
-    matches!(to, Recipients::One(_))
+    (is_too_long(configs, node, bytes) || is_short(configs, bytes))
+        && is_on_each(registered, configs.len() as u64, channel)
 }
 
 fn is_too_long(configs: &[Config], node: u64, bytes: &Bytes) -> bool

@@ -99,6 +99,8 @@ const ROUTER: &str = r#"{"at":0,"do":"router","node":0}"#;
 const SEND: &str =
     r#"{"at":1,"bytes":"00","channel":7,"do":"send","node":1,"priority":false,"to":{"one":1}}"#;
 
+const ONE: &str = r#"{"one":2}"#;
+
 const OTHER: &str = r#""channel":7,"do":"register","node":1"#;
 
 const SPAWNER: &str = r#"{"at":0,"do":"spawner","node":0},"#;
@@ -135,9 +137,21 @@ const CHANGES_OF_FORM: &[(&str, &str, &str, &str, Form)] = &[
         r#""priority":true"#,
         "",
         "",
-        Form::Another,
+        Form::First,
     ),
-    (r#"{"one":2}"#, r#"{"some":[2]}"#, "", "", Form::Another),
+    // A list asks for a copy for each of its keys, also for one that it has already.
+    (ONE, r#"{"some":[2]}"#, "", "", Form::First),
+    (ONE, r#"{"some":[]}"#, "", "", Form::First),
+    (ONE, r#"{"some":[2,2]}"#, "", "", Form::Another),
+    (
+        ONE,
+        r#"{"some":[2,2]}"#,
+        r#""burst":1"#,
+        r#""burst":2"#,
+        Form::First,
+    ),
+    (ONE, r#"{"some":[2,2]}"#, SEND_STEP, "", Form::Another),
+    (ONE, r#"{"some":[]}"#, ROUTER, SEND, Form::First),
     (ROUTER, SEND, "", "", Form::Another),
     (ROUTER, SEND, r#""burst":1"#, r#""burst":2"#, Form::First),
     (
@@ -182,6 +196,28 @@ const CHANGES_OF_FORM: &[(&str, &str, &str, &str, Form)] = &[
         "",
         "",
         Form::Another,
+    ),
+    // A message that goes over no connection may be of any channel and size.
+    (
+        OTHER,
+        r#""channel":8,"do":"register","node":1"#,
+        SEND_STEP,
+        "",
+        Form::First,
+    ),
+    (
+        r#""channel":7,"do":"send""#,
+        r#""channel":8,"do":"send""#,
+        SEND_STEP,
+        "",
+        Form::First,
+    ),
+    (
+        r#""bytes":"68656c6C6f""#,
+        r#""bytes":"68656c6C6f00""#,
+        SEND_STEP,
+        "",
+        Form::First,
     ),
     // The message is too long for its own node, and then for the other alone.
     (
