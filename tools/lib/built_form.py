@@ -7,10 +7,17 @@ MEETINGS = ('dialer', 'listener')
 CHANGES = ('track', 'overwrite', 'block')
 
 
-def register_faults(event, sends):
-    if event.said['quota'] < sends:
-        yield event.fault('quota', 'the script sends %d messages, more than this burst of %d; '
-                          'the quotas of channels do not act yet' % (sends, event.said['quota']))
+def copy_count(events):
+    """How many copies a script asks for: each of its messages one for each key that it is for."""
+    return sum(len(event.said['to']) for event in events if event.act == 'send')
+
+
+def register_faults(events):
+    copies = copy_count(events)
+    for event in events:
+        if event.act == 'register' and event.said['quota'] < copies:
+            yield event.fault('quota', 'the script asks for %d copies, more than this burst of %d; '
+                              'the quotas of channels do not act yet' % (copies, event.said['quota']))
 
 
 def is_too_long(event, configurations):
@@ -39,37 +46,33 @@ def change_faults(events):
             met.setdefault(node, event)
 
 
+def send_faults(event, configurations, registered):
+    limits = [one.said['max_message_size'] for one in configurations]
+    if any(event.said['bytes'] > limit for limit in limits) and not is_too_long(event, configurations):
+        yield event.fault('bytes', 'a message of %d bytes is longer than the least `max_message_size`, %d; '
+                          'that is not built yet in a script with a send_step' % (event.said['bytes'], min(limits)))
+    for node in range(len(configurations)):
+        if (event.said['channel'], node) not in registered:
+            yield event.fault('channel', 'channel %d is not registered at node %d; '
+                              'in a script with a send_step each node has to register it' % (event.said['channel'], node))
+
+
+def message_faults(script):
+    """What of the messages a connection could not carry, or its other end not take."""
+    registered = {(event.said['channel'], event.said['node']) for event in script.events if event.act == 'register'}
+    for event in script.events:
+        if event.act == 'send':
+            yield from send_faults(event, script.configurations, registered)
+
+
 def connection_faults(script):
     """What a script may not have where a connection may begin."""
     if any(event.act == 'send_step' for event in script.events):
         yield from time_faults(script.events)
         yield from change_faults(script.events)
-
-
-def send_faults(event, configurations, registered):
-    to = event.field.value.get('to')
-    if to.get('one') is None:
-        yield event.fault('to', 'a list of keys is not built yet; one key is: {"one":KEY}')
-    if event.said['priority']:
-        yield event.fault('priority', 'messages with priority are not built yet')
-    limits = [one.said['max_message_size'] for one in configurations]
-    if any(event.said['bytes'] > limit for limit in limits) and not is_too_long(event, configurations):
-        yield event.fault('bytes', 'a message of %d bytes is longer than the least `max_message_size`, %d'
-                          % (event.said['bytes'], min(limits)))
-    for node in range(len(configurations)):
-        if (event.said['channel'], node) not in registered:
-            yield event.fault('channel', 'channel %d is not registered at node %d; each node has to register it'
-                              % (event.said['channel'], node))
+        yield from message_faults(script)
 
 
 def built_faults(script):
     """What of a script goes beyond the form that is built."""
-    sends = sum(event.act == 'send' for event in script.events)
-    registered = {(event.said['channel'], event.said['node']) for event in script.events if event.act == 'register'}
-    faults = list(connection_faults(script))
-    for event in script.events:
-        if event.act == 'register':
-            faults.extend(register_faults(event, sends))
-        if event.act == 'send':
-            faults.extend(send_faults(event, script.configurations, registered))
-    return sorted(faults, key=lambda fault: fault.at)
+    return sorted([*register_faults(script.events), *connection_faults(script)], key=lambda fault: fault.at)

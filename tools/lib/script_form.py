@@ -48,9 +48,10 @@ class NotBuilt(Fault):
 
 
 def recipients(field):
-    """Whom a message is for: one key, or else what is not built yet."""
+    """Whom a message is for: a key for each copy. That it is for all is not built yet."""
     if field.value.kind == 'text' and field.value.held == 'all':
-        raise NotBuilt(field.value.at, field.what, 'a message to all is not built yet; one key is: {"one":KEY}')
+        raise NotBuilt(field.value.at, field.what, 'a message to all is not built yet; '
+                       'one to a key is, {"one":KEY}, and one to a list of keys, {"some":[KEY,KEY]}')
     an_object(field, ['one', 'some'])
     if field.has('one') and not field.has('some'):
         return [whole(field.at_name('one'))]

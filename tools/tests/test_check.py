@@ -2,6 +2,7 @@
 import json
 import os
 import unittest
+from itertools import product
 
 import hello
 from files import TOP, beside, broken_scripts, examples, read_bytes, read_text, run_tool
@@ -13,9 +14,26 @@ CHANGES = [{'do': 'track', 'index': 9, 'primary': []}, {'do': 'overwrite', 'peer
 QUESTIONS = [{'do': 'peer_set', 'index': 0}, {'do': 'subscribe'}, {'do': 'blocked'}]
 
 
-def judged(events):
-    script = {'configs': hello.configurations(), 'script': [{'at': 0, **event} for event in events]}
+def judged(events, limits=()):
+    """The verdict on these events at the nodes of the first example, with these limits of messages, where some are given."""
+    configurations = hello.configurations()
+    for configuration, limit in zip(configurations, limits):
+        configuration['max_message_size'] = limit
+    script = {'configs': configurations, 'script': [{'at': 0, **event} for event in events]}
     return judge(json.dumps(script).encode())[1]
+
+
+def register(node, burst):
+    return {'do': 'register', 'node': node, 'channel': 7, 'quota': {'burst': burst, 'period': 1}}
+
+
+def send(to, priority=False, channel=7, bytes_sent='00'):
+    return {'do': 'send', 'node': 0, 'channel': channel, 'bytes': bytes_sent, 'priority': priority, 'to': to}
+
+
+def with_a_step(events):
+    """These events, and then a step of a connection."""
+    return [{'do': 'spawner', 'node': 0}, *events, {'do': 'send_step', 'node': 0, 'conn': 0}]
 
 
 def asked_after(count, event, node):
@@ -44,6 +62,26 @@ class Check(unittest.TestCase):
                 for event in CHANGES:
                     with self.subTest((count, node, event)):
                         self.assertEqual(status_now(asked_after(count, event, node)), 0 if count <= first else 6)
+
+    def test_a_script_asks_for_no_more_copies_than_its_least_burst(self):
+        for keys, bursts, priority in product(([], [2], [2, 2], [2, 9, 2]), ((1, 4), (3, 2), (3, 3), (4, 4)), (False, True)):
+            events = [register(0, bursts[0]), register(1, bursts[1]), send({'some': keys}, priority), send({'one': 2})]
+            due = 0 if len(keys) + 1 <= min(bursts) else 6
+            with self.subTest((keys, bursts, priority)):
+                self.assertEqual([status_now(judged(each)) for each in (events, with_a_step(events))], [due, due])
+
+    def test_each_node_takes_a_message_where_a_connection_may_begin(self):
+        for channel, size, limits in product((7, 8), (0, 1, 2, 3), ((3, 3), (2, 1), (1, 2), (0, 0))):
+            events = [register(0, 1), register(1, 1), send({'some': [2]}, True, channel, '00' * size)]
+            due = 0 if channel == 7 and (size > limits[0] or size <= min(limits)) else 6
+            with self.subTest((channel, size, limits)):
+                self.assertEqual([status_now(judged(each, limits)) for each in (events, with_a_step(events))], [0, due])
+
+    def test_a_channel_may_be_registered_after_a_message(self):
+        for count in range(3):
+            events = [send({'one': 2}), register(1, 1), register(0, 1)][:count + 1]
+            with self.subTest(count):
+                self.assertEqual(status_now(judged(with_a_step(events))), 0 if count == 2 else 6)
 
     def test_a_tracker_is_asked_what_it_knows_at_any_time(self):
         for event in QUESTIONS:
