@@ -1,6 +1,6 @@
 -- The scripts of the first form: no more copies than the least burst. Where a connection's sending half takes a step, each
 -- message is on a channel that each node registers, and no longer than any node takes, unless it is too long for its own; every
--- event is earlier than five seconds, and no node is asked to change its peers once it has met some.
+-- event is earlier than five seconds, no node is asked to change its peers once it has met some, and no link loses an end.
 use Rattle.std.specs.Prelude.{ℕ, Bool, true, false, not, ◌==◌, ◌&&◌, ◌||◌, nat_lt, nat_le, List, [], flat_map, length, Some, None, slice_get}
 use Rattle.std.specs.List.{list_any, list_all, range_with_len}
 use Rattle.p2p_base.specs.declared.key.Key.{Key}
@@ -9,6 +9,7 @@ use Rattle.p2p_log.specs.declared.event.Event.{Event}
 use Rattle.p2p_log.specs.declared.event.Act.{Act}
 use Rattle.p2p_log.specs.declared.event.Act.TheVariants as act
 use Rattle.p2p_log.specs.Copies.{keys_of_recipients}
+use Rattle.p2p_sim_script.specs.KeptLinks.{keeps_links}
 use Rattle.p2p_sim_script.specs.KeptPeers.{keeps_peers}
 
 -- ---- the script
@@ -73,6 +74,11 @@ is_early stepped at = not stepped || nat_lt at 5000000000
 abbrev pub event_fits : List Config → Bool → ℕ → (ℕ → ℕ → Bool) → Event → Bool
 event_fits configs stepped count registered e = is_early stepped e.at && act_fits configs stepped count registered e.act
 
+-- what a script keeps to in which a connection may begin
+abbrev pub keeps_connections : List Config → List Event → Bool
+keeps_connections configs script = keeps_peers script && keeps_links configs script
+
 abbrev pub is_first_form : List Config → List Event → Bool
 is_first_form configs script =
-    list_all (event_fits configs (has_steps script) (length (copies_asked script)) (is_registered script)) script && (not (has_steps script) || keeps_peers script)
+    list_all (event_fits configs (has_steps script) (length (copies_asked script)) (is_registered script)) script
+    && (not (has_steps script) || keeps_connections configs script)

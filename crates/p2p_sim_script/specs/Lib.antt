@@ -5,6 +5,7 @@ pub mod DialerActForm
 pub mod FirstForm
 pub mod Form
 pub mod Gives
+pub mod KeptLinks
 pub mod KeptPeers
 pub mod Nodes
 pub mod Pairs

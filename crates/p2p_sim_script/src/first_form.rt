@@ -4,6 +4,7 @@ ghost use Rattle.std.specs.List.{list_all};
 ghost use Rattle.p2p_sim_script.specs.FirstForm as form;
 ghost use Rattle.p2p_sim_script.specs.Pairs.{has};
 
+use crate::kept_links::keeps_links;
 use crate::kept_peers::keeps_peers;
 use crate::pairs::{add, is_in};
 use bytes::Bytes;
@@ -16,11 +17,13 @@ use std::slice::from_ref;
 /// Whether the script is one of the first form: it asks for no more copies than the least burst that it registers, a message
 /// to a list of keys for as many as the list has. Where the sending half of a connection takes a step, each message is on a
 /// channel that each node registers, before or after, and no longer than any node takes, unless it is too long for its own;
-/// every event is earlier than five seconds, so that no connection sends a ping, and no node is asked to track, to overwrite or
-/// to block peers after the first step of its dialer or its listener, so that no connection is killed.
+/// every event is earlier than five seconds, so that no connection sends a ping; no node is asked to track, to overwrite or
+/// to block peers after the first step of its dialer or its listener, so that no connection is killed; and no link loses an end
+/// once keys were exchanged over it, since a node dials or listens, no deadline comes, and the spawners' mailboxes hold all.
 ///
 /// Takes time in proportion to the length of the script with its lists, and for each message to the count of nodes, but for the
-/// logarithm of the count of registered channels and of nodes. `AllocError` comes where there was no memory for those.
+/// logarithm of the count of registered channels and of nodes; and for each event to the count of nodes where a connection may
+/// begin. `AllocError` comes where there was no memory for those.
 pub fn is_first_form(
     alloc: Global,
     configs: &[Config],
@@ -33,8 +36,18 @@ pub fn is_first_form(
     let count = copies_asked(alloc, script)?.len();
     Ok(
         all_fit(configs, stepped, count, &registered, script)
-            && (!stepped || keeps_peers(alloc, script)?),
+            && (!stepped || keeps_connections(alloc, configs, script)?),
     )
+}
+
+fn keeps_connections(
+    alloc: Global,
+    configs: &[Config],
+    script: &[Event],
+) -> Result<bool, AllocError>
+    ensures { IfOk result (λ b. b ≡ form.keeps_connections configs.now script.now) }
+{
+    Ok(keeps_peers(alloc, script)? && keeps_links(alloc, configs, script)?)
 }
 
 // A key for each copy that the script asks for.

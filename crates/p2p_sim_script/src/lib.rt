@@ -8,6 +8,7 @@ mod dialer_act;
 mod error;
 mod event;
 mod first_form;
+mod kept_links;
 mod kept_peers;
 mod list;
 mod nodes;

@@ -129,6 +129,20 @@ const LISTENER_AND_TRACK: &str =
 const LISTENER_AND_OVERWRITE: &str =
     r#"{"at":0,"do":"listener","node":1},{"at":0,"do":"overwrite","node":1,"peers":[]}"#;
 
+const DIALER_AND_LISTENER: &str =
+    r#"{"at":0,"do":"dialer","node":1},{"at":0,"do":"listener","node":1}"#;
+
+const LISTENER_AND_DIALER_THERE: &str =
+    r#"{"at":0,"do":"listener","node":1},{"at":0,"do":"dialer","node":0}"#;
+
+const LINK: &str =
+    r#"{"at":0,"attempt":0,"do":"connect","from":{"ip":[10,0,0,1],"port":1},"node":0,"to":1}"#;
+
+const TWO_LINKS: &str =
+    r#"{"at":0,"attempt":0,"do":"connect","from":{"ip":[10,0,0,1],"port":1},"node":0,"to":1},{"at":0,"attempt":0,"do":"connect","from":{"ip":[10,0,0,1],"port":1},"node":0,"to":1}"#;
+
+const SIZE: &str = r#""mailbox_size":4"#;
+
 // Changes of the text above in one or two places, and of which form it is then.
 const CHANGES_OF_FORM: &[(&str, &str, &str, &str, Form)] = &[
     ("", "", "", "", Form::First),
@@ -247,6 +261,49 @@ const CHANGES_OF_FORM: &[(&str, &str, &str, &str, Form)] = &[
     (ROUTER, BLOCK_AND_DIALER, "", "", Form::First),
     (ROUTER, DIALER_AND_BLOCK_THERE, "", "", Form::First),
     (ROUTER, DIALER_AND_BLOCK, SEND_STEP, "", Form::First),
+    // A node could refuse the peer that it dials.
+    (ROUTER, DIALER_AND_LISTENER, "", "", Form::Another),
+    (ROUTER, DIALER_AND_LISTENER, SEND_STEP, "", Form::First),
+    (ROUTER, LISTENER_AND_DIALER_THERE, "", "", Form::First),
+    // A handshake, or an attempt, could come to its deadline.
+    (
+        SIZE,
+        r#""mailbox_size":4,"handshake_timeout":4999999999"#,
+        "",
+        "",
+        Form::Another,
+    ),
+    (
+        SIZE,
+        r#""mailbox_size":4,"handshake_timeout":5000000000"#,
+        "",
+        "",
+        Form::First,
+    ),
+    (
+        SIZE,
+        r#""mailbox_size":4,"dial_timeout":4999999999"#,
+        "",
+        "",
+        Form::Another,
+    ),
+    (
+        SIZE,
+        r#""mailbox_size":4,"dial_timeout":4999999999"#,
+        SEND_STEP,
+        "",
+        Form::First,
+    ),
+    // There could be more connections than a spawner's mailbox holds.
+    (ROUTER, LINK, SIZE, r#""mailbox_size":1"#, Form::First),
+    (
+        ROUTER,
+        TWO_LINKS,
+        SIZE,
+        r#""mailbox_size":1"#,
+        Form::Another,
+    ),
+    (ROUTER, TWO_LINKS, SIZE, r#""mailbox_size":2"#, Form::First),
 ];
 
 // The form of what was read.
