@@ -2,6 +2,8 @@
 """Writes a script of so many events: pairs of connected nodes that move one message after another.
 
     bench/script.py EVENTS [NODES]     NODES is even; without it, 2
+
+Of each pair one node dials and the other listens, and no node does both.
 """
 import json
 import sys
@@ -9,8 +11,9 @@ import sys
 CHANNEL = 7
 
 
-def config(key):
-    return {'key': key, 'preset': 'local', 'max_peers_per_set': 2, 'max_message_size': 1024, 'mailbox_size': 64}
+def config(key, links):
+    """A node of a script with so many links, all of which its mailboxes hold."""
+    return {'key': key, 'preset': 'local', 'max_peers_per_set': 2, 'max_message_size': 1024, 'mailbox_size': max(64, links)}
 
 
 def socket(node, port):
@@ -91,7 +94,8 @@ def script(count, nodes):
 
 def main():
     count, nodes = int(sys.argv[1]), int(sys.argv[2]) if len(sys.argv) > 2 else 2
-    json.dump({'configs': [config(key + 1) for key in range(nodes)], 'script': script(count, nodes)}, sys.stdout)
+    configs = [config(key + 1, nodes // 2) for key in range(nodes)]
+    json.dump({'configs': configs, 'script': script(count, nodes)}, sys.stdout)
 
 
 if __name__ == '__main__':

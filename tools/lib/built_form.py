@@ -6,6 +6,9 @@ END_OF_TIME = 5_000_000_000
 MEETINGS = ('dialer', 'listener')
 CHANGES = ('track', 'overwrite', 'block')
 
+# How long an attempt and a handshake have.
+TIMEOUTS = ('dial_timeout', 'handshake_timeout')
+
 
 def copy_count(events):
     """How many copies a script asks for: each of its messages one for each key that it is for."""
@@ -26,11 +29,15 @@ def is_too_long(event, configurations):
     return node < len(configurations) and event.said['bytes'] > configurations[node].said['max_message_size']
 
 
-def time_faults(events):
-    for event in events:
+def time_faults(script):
+    timeout = min((one.said[name] for one in script.configurations for name in TIMEOUTS), default=END_OF_TIME)
+    for event in script.events:
         if event.said['at'] >= END_OF_TIME:
             yield event.fault('at', 'moments of %d nanoseconds and later are not built yet in a script with a send_step'
                               % END_OF_TIME)
+        elif event.said['at'] >= timeout:
+            yield event.fault('at', 'the least `dial_timeout` or `handshake_timeout` is %d; moments of that and later '
+                              'are not built yet in a script with a send_step' % timeout)
 
 
 def change_faults(events):
@@ -44,6 +51,28 @@ def change_faults(events):
                               'in a script with a send_step' % (node, first.act, first.number))
         if event.act in MEETINGS:
             met.setdefault(node, event)
+
+
+def both_faults(events):
+    """The steps of the dialer of a node that listens too, before or after."""
+    listeners = {}
+    for event in events:
+        if event.act == 'listener':
+            listeners.setdefault(event.said['node'], event)
+    for event in events:
+        if event.act == 'dialer' and event.said['node'] in listeners:
+            node = event.said['node']
+            yield event.fault('node', 'node %d takes a step of its listener, event %d; that it dials too is not built yet '
+                              'in a script with a send_step' % (node, listeners[node].number))
+
+
+def link_faults(script):
+    """The first link that is more than a spawner's mailbox holds."""
+    connects = [event for event in script.events if event.act == 'connect']
+    room = min((one.said['mailbox_size'] for one in script.configurations), default=len(connects))
+    if len(connects) > room:
+        yield connects[room].fault('do', 'the script has %d of these, more than the least `mailbox_size`, %d; '
+                                   'that is not built yet in a script with a send_step' % (len(connects), room))
 
 
 def send_faults(event, configurations, registered):
@@ -68,8 +97,10 @@ def message_faults(script):
 def connection_faults(script):
     """What a script may not have where a connection may begin."""
     if any(event.act == 'send_step' for event in script.events):
-        yield from time_faults(script.events)
+        yield from time_faults(script)
         yield from change_faults(script.events)
+        yield from both_faults(script.events)
+        yield from link_faults(script)
         yield from message_faults(script)
 
 

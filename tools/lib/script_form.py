@@ -39,8 +39,8 @@ GIVEN_FORMS = {
     'dial_frequency': whole,
 }
 
-# That of both presets.
-TRACKED_PEER_SETS = 4
+# What both presets give.
+OF_BOTH_PRESETS = {'tracked_peer_sets': 4, 'handshake_timeout': 5_000_000_000, 'dial_timeout': 15_000_000_000}
 
 
 class NotBuilt(Fault):
@@ -140,7 +140,7 @@ def read_configuration(number, field):
     preset = a_text(field.at_name('preset'))
     if preset not in PRESETS:
         raise field.at_name('preset').fault('"%s" is no preset%s' % (preset, perhaps(preset, PRESETS)))
-    said = {'tracked_peer_sets': TRACKED_PEER_SETS, **read_names(field, CONFIGURATION_FORMS, GIVEN_FORMS)}
+    said = {**OF_BOTH_PRESETS, **read_names(field, CONFIGURATION_FORMS, GIVEN_FORMS)}
     for name, at, _ in field.value.held:
         if name in later.CONFIGURATION_NAMES:
             raise NotBuilt(at, field.what, '`%s` is not built yet: the preset gives it' % name)

@@ -14,11 +14,14 @@ CHANGES = [{'do': 'track', 'index': 9, 'primary': []}, {'do': 'overwrite', 'peer
 QUESTIONS = [{'do': 'peer_set', 'index': 0}, {'do': 'subscribe'}, {'do': 'blocked'}]
 
 
-def judged(events, limits=()):
-    """The verdict on these events at the nodes of the first example, with these limits of messages, where some are given."""
+def judged(events, limits=(), said=()):
+    """The verdict on these events at the nodes of the first example, with these limits of messages, and with what else is said
+    of each node, where some are given."""
     configurations = hello.configurations()
     for configuration, limit in zip(configurations, limits):
         configuration['max_message_size'] = limit
+    for configuration, more in zip(configurations, said):
+        configuration.update(more)
     script = {'configs': configurations, 'script': [{'at': 0, **event} for event in events]}
     return judge(json.dumps(script).encode())[1]
 
@@ -82,6 +85,41 @@ class Check(unittest.TestCase):
             events = [send({'one': 2}), register(1, 1), register(0, 1)][:count + 1]
             with self.subTest(count):
                 self.assertEqual(status_now(judged(with_a_step(events))), 0 if count == 2 else 6)
+
+    def test_a_node_dials_or_listens_where_a_connection_may_begin(self):
+        for acts in product(('dialer', 'listener'), repeat=2):
+            for nodes in product((0, 1), repeat=2):
+                events = [{'do': act, 'node': node} for act, node in zip(acts, nodes)]
+                due = 6 if acts[0] != acts[1] and nodes[0] == nodes[1] else 0
+                with self.subTest((acts, nodes)):
+                    self.assertEqual([status_now(judged(each)) for each in (events, with_a_step(events))], [0, due])
+                    self.assertEqual(status_now(judged(with_a_step(events[:1]) + events[1:])), due)
+
+    def test_no_deadline_comes_where_a_connection_may_begin(self):
+        for name, node, timeout in product(('dial_timeout', 'handshake_timeout'), (0, 1), (0, 1, 1000)):
+            said = [{}, {}]
+            said[node] = {name: timeout}
+            for at in (0, 1, 999, 1000):
+                after = [{'at': at, 'do': 'tracker', 'node': 0}]
+                with self.subTest((name, node, timeout, at)):
+                    self.assertEqual(status_now(judged(after, said=said)), 0)
+                    self.assertEqual(status_now(judged(with_a_step([]) + after, said=said)), 0 if at < timeout else 6)
+
+    def test_a_long_timeout_does_not_let_a_script_go_beyond_the_first_ping(self):
+        long_times = dict.fromkeys(('dial_timeout', 'handshake_timeout'), 10 ** 12)
+        for at, due in ((4_999_999_999, 0), (5_000_000_000, 6)):
+            after = with_a_step([]) + [{'at': at, 'do': 'tracker', 'node': 0}]
+            self.assertEqual(status_now(judged(after, said=[long_times, long_times])), due)
+
+    def test_each_mailbox_holds_all_links_where_a_connection_may_begin(self):
+        begin = [{'do': 'dialer', 'node': 0}]
+        for count, sizes in product(range(4), ((1, 3), (3, 1), (2, 2), (3, 3))):
+            connect = {'do': 'connect', 'node': 0, 'attempt': 1, 'from': {'ip': [10, 0, 0, 1], 'port': 40000}, 'to': 1}
+            said = [{'mailbox_size': size} for size in sizes]
+            events = with_a_step(begin + [connect] * count)
+            due = 0 if count <= min(sizes) else 6
+            with self.subTest((count, sizes)):
+                self.assertEqual([status_now(judged(each, said=said)) for each in (events[:-1], events)], [0, due])
 
     def test_a_tracker_is_asked_what_it_knows_at_any_time(self):
         for event in QUESTIONS:
