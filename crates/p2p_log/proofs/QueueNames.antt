@@ -31,7 +31,8 @@ queue_of (suc (suc (suc (suc (suc (suc (suc (suc (suc (suc (suc (suc (suc (suc z
 queue_of (suc (suc (suc (suc (suc (suc (suc (suc (suc (suc (suc (suc (suc (suc (suc zero))))))))))))))) n d = queue.Attempt n d
 queue_of (suc (suc (suc (suc (suc (suc (suc (suc (suc (suc (suc (suc (suc (suc (suc (suc zero)))))))))))))))) n d = queue.Arrivals n
 queue_of (suc (suc (suc (suc (suc (suc (suc (suc (suc (suc (suc (suc (suc (suc (suc (suc (suc zero))))))))))))))))) n d = queue.Handshake n d
-queue_of k n d = queue.Spawner n
+queue_of (suc (suc (suc (suc (suc (suc (suc (suc (suc (suc (suc (suc (suc (suc (suc (suc (suc (suc zero)))))))))))))))))) n d = queue.Spawner n
+queue_of k n d = queue.Held n d
 
 queue_of-code : (q : Queue) → queue_of (kind_of q) (owner_of q) (detail_of q) ≡ q
 unfolding queue_of
@@ -54,6 +55,7 @@ queue_of-code (queue.Attempt n e) = refl
 queue_of-code (queue.Arrivals n) = refl
 queue_of-code (queue.Handshake n e) = refl
 queue_of-code (queue.Spawner n) = refl
+queue_of-code (queue.Held n e) = refl
 
 pub queue_from_same : (p q : Queue) → same_queue p q ≡ true → q ≡ p
 queue_from_same p q h =

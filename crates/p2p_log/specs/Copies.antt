@@ -36,6 +36,7 @@ copies_from send p (k ∷ ks) = (send, p) ∷ copies_from send (p + 1) ks
 abbrev pub copies_of : Item → List (ℕ × ℕ)
 copies_of (item.Content c frame priority send to) = copies_from send 0 to
 copies_of (item.Frame (Some copy) frame) = copy ∷ []
+copies_of (item.Held channel bytes copy) = copy ∷ []
 copies_of (item.Message bytes copy from) = copy ∷ []
 copies_of _ = []
 
@@ -43,6 +44,7 @@ copies_of _ = []
 abbrev pub carries_copy : ℕ × ℕ → Item → Bool
 carries_copy copy (item.Content c frame priority send to) = (send == copy.0) && nat_lt copy.1 (length to)
 carries_copy copy (item.Frame (Some other) frame) = same_name copy other
+carries_copy copy (item.Held channel bytes other) = same_name copy other
 carries_copy copy (item.Message bytes other from) = same_name copy other
 carries_copy copy _ = false
 

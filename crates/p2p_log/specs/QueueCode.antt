@@ -25,6 +25,7 @@ kind_of (queue.Attempt n e) = 15
 kind_of (queue.Arrivals n) = 16
 kind_of (queue.Handshake n e) = 17
 kind_of (queue.Spawner n) = 18
+kind_of (queue.Held n e) = 19
 
 -- the node, or the link, that it belongs to
 abbrev pub owner_of : Queue → ℕ
@@ -46,6 +47,7 @@ owner_of (queue.Attempt n e) = n
 owner_of (queue.Arrivals n) = n
 owner_of (queue.Handshake n e) = n
 owner_of (queue.Spawner n) = n
+owner_of (queue.Held n e) = n
 
 -- its channel, connection, question, attempt or handshake, or 0 where it has none
 abbrev pub detail_of : Queue → ℕ
@@ -67,6 +69,7 @@ detail_of (queue.Attempt n e) = e
 detail_of (queue.Arrivals n) = 0
 detail_of (queue.Handshake n e) = e
 detail_of (queue.Spawner n) = 0
+detail_of (queue.Held n e) = e
 
 -- whether two names are of one queue
 abbrev pub same_queue : Queue → Queue → Bool

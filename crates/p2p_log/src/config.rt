@@ -22,8 +22,11 @@ pub struct Config {
     /// How many peer sets are retained.
     pub tracked_peer_sets: usize,
 
-    /// How many messages are written at once.
+    /// How many frames are written at once, a ping among them.
     pub send_batch_size: usize,
+
+    /// How long a connection that runs waits until it pings, and from one ping to the next, in nanoseconds.
+    pub ping_frequency: u64,
 
     /// Whether addresses that are not global may be dialed, and listened to.
     pub allow_private_ips: bool,

@@ -139,6 +139,7 @@ fn carries(item: &Item, copy: (u64, u64)) -> bool
             copy: Some(other),
             ..
         } => is_same(copy, *other),
+        Item::Held { copy: other, .. } => is_same(copy, *other),
         Item::Message { copy: other, .. } => is_same(copy, *other),
         _ => false,
     }

@@ -35,6 +35,14 @@ pub enum Item {
         copy: Option<(u64, u64)>,
         frame: Bytes,
     },
+    /// A message that came over a connection, until its channel's quota admits it.
+    Held {
+        channel: u64,
+        bytes: Bytes,
+        copy: (u64, u64),
+    },
+    /// A ping that came over a connection, until its quota admits it.
+    Ping,
     /// A message that waits for its reader.
     Message {
         bytes: Bytes,
@@ -145,6 +153,16 @@ impl Item {
                 copy: *copy,
                 frame: frame.clone()?,
             }),
+            Item::Held {
+                channel,
+                bytes,
+                copy,
+            } => Ok(Item::Held {
+                channel: *channel,
+                bytes: bytes.clone()?,
+                copy: *copy,
+            }),
+            Item::Ping => Ok(Item::Ping),
             Item::Message { bytes, copy, from } => Ok(Item::Message {
                 bytes: bytes.clone()?,
                 copy: *copy,

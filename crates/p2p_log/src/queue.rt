@@ -28,6 +28,8 @@ pub enum Queue {
     Low { node: u64, conn: u64 },
     /// The frames in flight over a link, in one direction.
     Link { link: u64, side: Side },
+    /// What came over a connection and waits until its quota admits it.
+    Held { node: u64, conn: u64 },
     /// The messages of a channel that wait for their reader.
     Channel { node: u64, channel: u64 },
     /// The mailbox of a node's tracker.
@@ -82,6 +84,7 @@ impl Queue {
             Queue::Arrivals(_) => 16,
             Queue::Handshake { .. } => 17,
             Queue::Spawner(_) => 18,
+            Queue::Held { .. } => 19,
         }
     }
 
@@ -108,6 +111,7 @@ impl Queue {
             Queue::Arrivals(node) => node,
             Queue::Handshake { node, .. } => node,
             Queue::Spawner(node) => node,
+            Queue::Held { node, .. } => node,
         }
     }
 
@@ -134,6 +138,7 @@ impl Queue {
             Queue::Arrivals(_) => 0,
             Queue::Handshake { handshake, .. } => handshake,
             Queue::Spawner(_) => 0,
+            Queue::Held { conn, .. } => conn,
         }
     }
 }
