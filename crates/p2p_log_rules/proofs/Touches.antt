@@ -41,6 +41,11 @@ abbrev pub in_link : Option Half → Queue → Bool
 in_link o (queue.Link e s) = elim o [ None ↦ false | Some half ↦ e == half.link ]
 in_link o _ = false
 
+-- what waits for the quotas of a connection
+abbrev pub in_held : ℕ → ℕ → Queue → Bool
+in_held n conn (queue.Held m e) = (m == n) && (e == conn)
+in_held n conn _ = false
+
 -- what a half of a connection has: what it is to write, its router's answer, and its link
 abbrev pub in_half : Option Half → ℕ → ℕ → Queue → Bool
 in_half o n conn (queue.Ready m e) = (m == n) && (e == conn)
@@ -94,7 +99,7 @@ is_among qs q = list_any (λ p. same_queue p q) qs
 abbrev pub reads : List Config → List Entry → Act → Queue → Bool
 reads configs log (act.Router n) q = same_queue (queue.Router n) q
 reads configs log (act.SendStep conn n) q = in_half (half_at log n conn) n conn q
-reads configs log (act.RecvStep conn n) q = in_link (half_at log n conn) q
+reads configs log (act.RecvStep conn n) q = in_held n conn q || in_link (half_at log n conn) q
 reads configs log (act.Answer e) q = is_told_to (asked_by log e) e q
 reads configs log (act.Next e) q = is_told_to (asked_by log e) e q
 reads configs log (act.Tracker n) q = same_queue (queue.Tracker n) q
@@ -111,7 +116,7 @@ writes configs log (act.Start n) q = same_queue (queue.Router n) q
 writes configs log (act.Send bytes c n priority to) q = same_queue (queue.Router n) q
 writes configs log (act.Router n) q = in_router n q
 writes configs log (act.SendStep conn n) q = in_mailboxes n q || in_half (half_at log n conn) n conn q
-writes configs log (act.RecvStep conn n) q = in_channels n q
+writes configs log (act.RecvStep conn n) q = in_held n conn q || in_channels n q
 writes configs log (act.Ask what n) q = same_queue (queue.Tracker n) q
 writes configs log (act.Tracker n) q = in_tracker n q
 writes configs log (act.Dialer n) q = same_queue (queue.Tracker n) q

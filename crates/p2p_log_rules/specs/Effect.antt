@@ -1,5 +1,5 @@
 -- The effect of an event: the one entry that it makes, given the configurations and the entries before it.
-use Rattle.std.specs.Prelude.{ℕ, ◌+◌, Bool, true, false, cond, nat_le, nat_lt, List, [], ◌∷◌, ◌++◌, map, filter, length, take, count_by, Option, Some, None, slice_get}
+use Rattle.std.specs.Prelude.{ℕ, ◌+◌, ◌-◌, Bool, true, false, cond, nat_le, nat_lt, List, [], ◌∷◌, ◌++◌, map, filter, length, take, count_by, Option, Some, None, slice_get}
 use Rattle.p2p_base.specs.declared.key.Key.{Key}
 use Rattle.p2p_log.specs.declared.config.Config.{Config}
 use Rattle.p2p_log.specs.declared.queue.Queue.{Queue}
@@ -28,7 +28,10 @@ use Rattle.p2p_log.specs.Lines.{line, live, name_of, stands_in, stays}
 use Rattle.p2p_log.specs.Copies.{keys_of_recipients}
 use Rattle.p2p_log_rules.specs.Facts.{is_up, channels, capacity_in, capacity_for, sum_capacities, subscribers, routes, with_route, keys_in, route_to}
 use Rattle.p2p_log_rules.specs.Connections.{half_at, is_begun, is_running}
-use Rattle.p2p_log_rules.specs.Frames.{frame_of, message_in}
+use Rattle.p2p_log_rules.specs.Frames.{frame_of, message_in, is_ping_in}
+pub use Rattle.p2p_log_rules.specs.Metering.{limit_at}
+use Rattle.p2p_log_rules.specs.Metering.{Metered, pings, messages, may_pass}
+use Rattle.p2p_log_rules.specs.Pings.{ping_frame, ping_is_due}
 pub use Rattle.p2p_log_rules.specs.Rows.{only, takes_oldest, mailbox_size_at, overwritten, ring_ends}
 use Rattle.p2p_log_rules.specs.Attempting.{attempt_row, resolve_row, refuse_row, connect_row}
 use Rattle.p2p_log_rules.specs.Dialing.{dialer_row}
@@ -65,9 +68,6 @@ sent_row false full n send c priority frame to =
 sent_row true true n send c priority frame to = only (reply.Sent [])
 sent_row true false n send c priority frame to =
     record { reply = reply.Sent to; takes = []; puts = (queue.Router n, item.Content c frame priority send to) ∷ []; ends = [] }
-
-abbrev pub limit_at : List Config → ℕ → ℕ
-limit_at configs n = elim (slice_get configs n) [ None ↦ 0 | Some c ↦ c.max_message_size ]
 
 -- and by whether the message is longer than the node lets it be
 abbrev pub fitting_row : Bool → ℕ → ℕ → Row → Row
@@ -177,18 +177,32 @@ router_row configs log n =
 
 -- ---- the steps of a connection
 
--- a batch, written to the link in order
-abbrev pub write_row : Queue → List Envelope → Row
-write_row q [] = only reply.Idle
-write_row q (x ∷ xs) =
-    record { reply = reply.Ok; takes = map name_of (x ∷ xs); puts = map (λ y. (q, y.item)) (x ∷ xs); ends = [] }
+-- a ping, where one is due
+abbrev pub ping_puts : Bool → Queue → List (Queue × Item)
+ping_puts true q = (q, item.Frame None ping_frame) ∷ []
+ping_puts false q = []
+
+-- a batch, written to the link in order, with a ping before it where one is due
+abbrev pub write_row : Queue → Bool → List Envelope → Row
+write_row q false [] = only reply.Idle
+write_row q due xs = record { reply = reply.Ok; takes = map name_of xs; puts = ping_puts due q ++ map (λ y. (q, y.item)) xs; ends = [] }
 
 abbrev pub batch_size_at : List Config → ℕ → ℕ
 batch_size_at configs n = elim (slice_get configs n) [ None ↦ 0 | Some c ↦ c.send_batch_size ]
 
--- high before low, as many as a batch has
-abbrev pub batch : List Config → List Entry → ℕ → ℕ → List Envelope
-batch configs log n conn = take (batch_size_at configs n) (line log (queue.High n conn) ++ line log (queue.Low n conn))
+-- how many messages a batch of this size has beside its ping
+abbrev pub beside_ping : Bool → ℕ → ℕ
+beside_ping true size = size - 1
+beside_ping false size = size
+
+-- high before low, as many as these
+abbrev pub batch : List Entry → ℕ → ℕ → ℕ → List Envelope
+batch log n conn most = take most (line log (queue.High n conn) ++ line log (queue.Low n conn))
+
+-- a step of a half that runs, by whether its ping is due
+abbrev pub running_row : List Config → List Entry → ℕ → ℕ → Half → Bool → Row
+running_row configs log n conn half due =
+    write_row (queue.Link half.link half.writes) due (batch log n conn (beside_ping due (batch_size_at configs n)))
 
 -- it begins: the tracker and the router are told whom it is with
 abbrev pub begin_row : ℕ → ℕ → Key → Row
@@ -200,17 +214,17 @@ begin_row n conn peer = record {
 }
 
 -- its half, by whether it has begun and whether it runs: its router's answer comes before what it writes
-abbrev pub half_row : List Config → List Entry → ℕ → ℕ → Half → Bool → Bool → Row
-half_row configs log n conn half false running = begin_row n conn half.peer
-half_row configs log n conn half true false = takes_oldest (line log (queue.Ready n conn))
-half_row configs log n conn half true true = write_row (queue.Link half.link half.writes) (batch configs log n conn)
+abbrev pub half_row : List Config → List Entry → ℕ → ℕ → ℕ → Half → Bool → Bool → Row
+half_row configs log n conn at half false running = begin_row n conn half.peer
+half_row configs log n conn at half true false = takes_oldest (line log (queue.Ready n conn))
+half_row configs log n conn at half true true = running_row configs log n conn half (ping_is_due configs log n conn at)
 
-abbrev pub sender_row : List Config → List Entry → ℕ → ℕ → Option Half → Row
-sender_row configs log n conn None = only reply.Gone
-sender_row configs log n conn (Some half) = half_row configs log n conn half (is_begun log n conn) (is_running log n conn)
+abbrev pub sender_row : List Config → List Entry → ℕ → ℕ → ℕ → Option Half → Row
+sender_row configs log n conn at None = only reply.Gone
+sender_row configs log n conn at (Some half) = half_row configs log n conn at half (is_begun log n conn) (is_running log n conn)
 
-abbrev pub send_step_row : List Config → List Entry → ℕ → ℕ → Row
-send_step_row configs log conn n = cond (is_up log n) (sender_row configs log n conn (half_at log n conn)) (only reply.Gone)
+abbrev pub send_step_row : List Config → List Entry → ℕ → ℕ → ℕ → Row
+send_step_row configs log conn n at = cond (is_up log n) (sender_row configs log n conn at (half_at log n conn)) (only reply.Gone)
 
 abbrev pub other_side : Side → Side
 other_side side.Out = side.In
@@ -233,31 +247,65 @@ deliver_row log n name from copy message capacity =
       ends = [];
     })
 
-abbrev pub message_row : List Config → List Entry → ℕ → ℕ × ℕ → Key → ℕ × ℕ → Option (ℕ × List ℕ) → Row
-message_row configs log n name from copy None = only reply.Idle
-message_row configs log n name from copy (Some message) =
-    elim (capacity_in (channels configs log n) message.0) [
-      | None ↦ only reply.Idle
-      | Some capacity ↦ deliver_row log n name from copy message capacity
-    ]
+-- what came waits until its quota admits it
+abbrev pub hold_row : ℕ → ℕ → ℕ × ℕ → Item → Row
+hold_row n conn name i = record { reply = reply.Ok; takes = name ∷ []; puts = (queue.Held n conn, i) ∷ []; ends = [] }
 
-abbrev pub frame_row : List Config → List Entry → ℕ → Key → ℕ × ℕ → Item → Row
-frame_row configs log n from name (item.Frame (Some copy) frame) =
-    message_row configs log n name from copy (message_in frame (limit_at configs n))
-frame_row configs log n from name _ = only reply.Idle
+-- a ping leaves no trace
+abbrev pub pass_row : ℕ × ℕ → Row
+pass_row name = record { reply = reply.Ok; takes = name ∷ []; puts = []; ends = [] }
 
-abbrev pub receive_row : List Config → List Entry → ℕ → Key → List Envelope → Row
-receive_row configs log n from [] = only reply.Idle
-receive_row configs log n from (x ∷ _) = frame_row configs log n from (name_of x) x.item
+module _ (configs : List Config) (log : List Entry) (n conn at : ℕ) where
+  -- the first frame in flight: a message by its channel's quota, where that is registered
+  abbrev pub message_row : ℕ × ℕ → Key → ℕ × ℕ → Option (ℕ × List ℕ) → Row
+  message_row name from copy None = only reply.Idle
+  message_row name from copy (Some message) =
+      elim (capacity_in (channels configs log n) message.0) [
+        | None ↦ only reply.Idle
+        | Some capacity ↦
+            cond (may_pass configs log n conn at (messages message.0))
+            (deliver_row log n name from copy message capacity)
+            (hold_row n conn name (item.Held message.0 message.1 copy))
+      ]
 
-abbrev pub recv_step_row : List Config → List Entry → ℕ → ℕ → Row
-recv_step_row configs log conn n =
+  -- a ping by the quota of pings
+  abbrev pub ping_row : ℕ × ℕ → Bool → Row
+  ping_row name false = only reply.Idle
+  ping_row name true = cond (may_pass configs log n conn at pings) (pass_row name) (hold_row n conn name item.Ping)
+
+  abbrev pub frame_row : Key → ℕ × ℕ → Item → Row
+  frame_row from name (item.Frame (Some copy) frame) = message_row name from copy (message_in frame (limit_at configs n))
+  frame_row from name (item.Frame None frame) = ping_row name (is_ping_in frame (limit_at configs n))
+  frame_row from name _ = only reply.Idle
+
+  abbrev pub receive_row : Key → List Envelope → Row
+  receive_row from [] = only reply.Idle
+  receive_row from (x ∷ _) = frame_row from (name_of x) x.item
+
+  -- what is held: it is delivered once its quota admits it
+  abbrev pub retry_row : Key → ℕ × ℕ → Item → Row
+  retry_row from name (item.Held c bytes copy) =
+      elim (capacity_in (channels configs log n) c) [
+        | None ↦ only reply.Idle
+        | Some capacity ↦
+            cond (may_pass configs log n conn at (messages c)) (deliver_row log n name from copy (c, bytes) capacity) (only reply.Idle)
+      ]
+  retry_row from name item.Ping = cond (may_pass configs log n conn at pings) (pass_row name) (only reply.Idle)
+  retry_row from name _ = only reply.Idle
+
+  -- what is held comes first, and while it is held no frame is taken
+  abbrev pub held_row : Key → List Envelope → List Envelope → Row
+  held_row from [] frames = receive_row from frames
+  held_row from (x ∷ _) frames = retry_row from (name_of x) x.item
+
+  abbrev pub receiver_row : Half → Row
+  receiver_row half = held_row half.peer (line log (queue.Held n conn)) (line log (queue.Link half.link (other_side half.writes)))
+
+abbrev pub recv_step_row : List Config → List Entry → ℕ → ℕ → ℕ → Row
+recv_step_row configs log conn n at =
     elim (half_at log n conn) [
       | None ↦ only reply.Gone
-      | Some half ↦
-          cond (is_running log n conn)
-          (receive_row configs log n half.peer (line log (queue.Link half.link (other_side half.writes))))
-          (only reply.Idle)
+      | Some half ↦ cond (is_running log n conn) (receiver_row configs log n conn at half) (only reply.Idle)
     ]
 
 -- ---- all acts
@@ -268,8 +316,8 @@ row configs log at seed (act.Register c n rate) = register_row configs n rate
 row configs log at seed (act.Start n) = start_row configs log n
 row configs log at seed (act.Send bytes c n priority to) = send_row configs log bytes c n priority to
 row configs log at seed (act.Router n) = router_row configs log n
-row configs log at seed (act.SendStep conn n) = send_step_row configs log conn n
-row configs log at seed (act.RecvStep conn n) = recv_step_row configs log conn n
+row configs log at seed (act.SendStep conn n) = send_step_row configs log conn n at
+row configs log at seed (act.RecvStep conn n) = recv_step_row configs log conn n at
 row configs log at seed (act.Recv c n) = recv_row configs log c n
 row configs log at seed (act.Ask what n) = ask_row configs log n what
 row configs log at seed (act.Answer question) = answer_row log question

@@ -1,5 +1,5 @@
 -- What stands of nodes, channels and routers, by the log.
-use Rattle.std.specs.Prelude.{ℕ, ◌+◌, ◌*◌, Bool, true, false, ◌==◌, ◌&&◌, ◌||◌, cond, List, [], ◌∷◌, ◌++◌, map, flat_map, take, Option, Some, None, slice_get}
+use Rattle.std.specs.Prelude.{ℕ, ◌+◌, ◌*◌, max, Bool, true, false, ◌==◌, ◌&&◌, ◌||◌, cond, List, [], ◌∷◌, ◌++◌, map, flat_map, take, Option, Some, None, slice_get}
 use Rattle.std.specs.List.{list_any}
 use Rattle.std.specs.BTreeMap.{insert_entry}
 use Rattle.std.specs.Map.{lookup}
@@ -33,6 +33,11 @@ has_started events n = list_any (λ v. starts n v.act) events
 abbrev pub is_up : List Entry → ℕ → Bool
 is_up log n = has_started (events_of log) n
 
+-- the latest of the moments of these
+abbrev pub latest_moment : List Event → ℕ
+latest_moment [] = 0
+latest_moment (v ∷ vs) = max v.at (latest_moment vs)
+
 abbrev pub moment_of : Option Entry → ℕ
 moment_of None = 0
 moment_of (Some e) = e.event.at
@@ -62,6 +67,18 @@ channels configs log n = registered configs (events_of log) n
 -- the capacity of a channel, where it is registered
 abbrev pub capacity_in : List (ℕ × ℕ) → ℕ → Option ℕ
 capacity_in channels c = lookup (λ k. c == k) channels
+
+abbrev pub rates_by : ℕ → Act → List (ℕ × Rate)
+rates_by n (act.Register c m rate) = cond (m == n) ((c, rate) ∷ []) []
+rates_by n _ = []
+
+-- the channels that were registered at a node, in order, each with its rate
+unfoldable pub rates : List Event → ℕ → List (ℕ × Rate)
+rates events n = flat_map (λ v. rates_by n v.act) events
+
+-- the rate of a channel, where it is registered
+abbrev pub rate_in : List (ℕ × Rate) → ℕ → Option Rate
+rate_in rates c = lookup (λ k. c == k) rates
 
 abbrev pub sum_capacities : List (ℕ × ℕ) → ℕ
 sum_capacities [] = 0

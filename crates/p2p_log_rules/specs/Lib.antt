@@ -9,7 +9,9 @@ pub mod Handshaking
 pub mod Lawful
 pub mod Links
 pub mod Listening
+pub mod Metering
 pub mod Moves
+pub mod Pings
 pub mod Reading
 pub mod Rows
 pub mod Spawning

@@ -97,12 +97,12 @@ is_listened (Some v) = elim v.act [ act.Listener m ↦ true | _ ↦ false ]
 abbrev pub names_listener : List Event → ℕ → Bool
 names_listener events e = is_listened (slice_get events e)
 
--- a channel is registered once, before the start, and its capacity and their sum can be counted
+-- a channel is registered once, before the start, with a quota, and its capacity and their sum can be counted
 abbrev pub may_register : List Config → List Event → ℕ → ℕ → Rate → Bool
 may_register configs events c n rate =
     let channels = registered configs events n in
     let capacity = capacity_for (slice_get configs n) rate in
-    (not (has_started events n) && not (is_some (capacity_in channels c)))
+    ((not (has_started events n) && not (is_some (capacity_in channels c))) && is_quota rate)
     && (fits_usize capacity && fits_usize (mailbox_size_at configs n + (sum_capacities channels + capacity)))
 
 -- the node that an act asks for a peer set
