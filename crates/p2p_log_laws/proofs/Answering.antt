@@ -156,9 +156,9 @@ module _ (w : Words) (n name : ℕ) where
     link_silent e side.Out i = silent_away (queue.Link e side.Out) i refl refl
     link_silent e side.In i = silent_away (queue.Link e side.In) i refl refl
 
-    pub sender_silent : (conn m : ℕ) → Each Silent (send_step_row configs log conn m).puts
+    pub sender_silent : (conn m : ℕ) → Each Silent (send_step_row configs log conn m at).puts
     sender_silent conn m =
-        each_sent configs log conn m Silent (λ key. silent_item (queue.Tracker m) (item.Connect conn key) refl refl) (λ key. silent_away (queue.Router m) (item.Ready conn key) refl refl) link_silent
+        each_sent configs log conn m at Silent (λ key. silent_item (queue.Tracker m) (item.Connect conn key) refl refl) (λ key. silent_away (queue.Router m) (item.Ready conn key) refl refl) link_silent
 
     -- ---- questions of an oracle, of a dialer and of an attempt
 

@@ -152,5 +152,5 @@ module _ (n name : ℕ) where
     each_unasked (act.Handshake k m) other = all_unasked (handshake_row configs log k m at).puts (row_silent exchanges n name configs log at seed k m other)
     each_unasked (act.Finish link ok) other = out_of_reach (act.Finish link ok) (row configs log at seed (act.Finish link ok)) (row_shape configs log at seed (act.Finish link ok)) (ends_aside (openings_of log link))
     each_unasked (act.SendStep conn m) other =
-        each_sent configs log conn m Unasked (λ key. unasked_item (queue.Tracker m) (item.Connect conn key) refl) (λ key. refl) link_unasked
+        each_sent configs log conn m at Unasked (λ key. unasked_item (queue.Tracker m) (item.Connect conn key) refl) (λ key. refl) link_unasked
     each_unasked a other = out_of_reach a (row configs log at seed a) (row_shape configs log at seed a) refl

@@ -21,7 +21,8 @@ use Rattle.p2p_log.proofs.Each.{Each-weaker, count_by-none}
 use Rattle.p2p_log_rules.specs.declared.row.Half.{Half}
 use Rattle.p2p_log_rules.specs.declared.row.Row.{Row}
 use Rattle.p2p_log_rules.specs.Connections.{half_at, steps_sender, is_done, is_begun, is_running}
-use Rattle.p2p_log_rules.specs.Effect.{row, only, takes_oldest, write_row, batch, begin_row, half_row, sender_row, send_step_row}
+use Rattle.p2p_log_rules.specs.Effect.{row, only, takes_oldest, write_row, batch_size_at, beside_ping, batch, running_row, begin_row, half_row, sender_row, send_step_row}
+use Rattle.p2p_log_rules.specs.Pings.{ping_frame, ping_is_due}
 use Rattle.p2p_log_rules.specs.Facts.{is_up}
 use Rattle.p2p_log_laws.specs.Grants.{one}
 use Rattle.p2p_log_laws.proofs.Fitting.{StandsFit, is_idle}
@@ -75,7 +76,10 @@ module _ (n conn : ℕ) (log : List Entry) where
         | inl idle ↦ ap (λ b. at_tracker n x.0 && b) (idle_silent x.1 idle) ∙ and_false (at_tracker n x.0)
         | inr h ↦ own_silent x.0 x.1 h
       ]
-      | inr item ↦ item_silent item.0 x.0 x.1 item.2
+      | inr item ↦ elim item.2 [
+        | inl idle ↦ ap (λ b. at_tracker n x.0 && b) (idle_silent x.1 idle) ∙ and_false (at_tracker n x.0)
+        | inr h ↦ item_silent item.0 x.0 x.1 h
+      ]
     ]
 
   other_begins : (configs : List Config) (a : Act) (r : Row) (shape : Shape configs log a r) → Each StandsFit (live log) → steps_sender n conn a ≡ false → BeginsOnce a r
@@ -87,14 +91,20 @@ module _ (n conn : ℕ) (log : List Entry) where
 
   -- ---- a step of its sending half
 
-  written_silent : (a : Act) (link : Queue) (ys : List Envelope) → at_tracker n link ≡ false → BeginsOnce a (write_row link ys)
-  written_silent a link [] away = silent_begins a (write_row link []) refl
-  written_silent a link (y ∷ ys) away =
-      silent_begins a (write_row link (y ∷ ys)) (count_by-none (tells_begun n conn) (map (λ (z : Envelope). (link, z.item)) (y ∷ ys)) (each (y ∷ ys)))
+  written_silent : (a : Act) (link : Queue) (due : Bool) (ys : List Envelope) → at_tracker n link ≡ false → BeginsOnce a (write_row link due ys)
+  written_silent a link due ys away = by due ys
     where
+      silent : (i : Item) → tells_begun n conn (link, i) ≡ false
+      silent i = ap (λ b. b && is_connect conn i) away
+
       each : (zs : List Envelope) → Each (λ x. tells_begun n conn x ≡ false) (map (λ (z : Envelope). (link, z.item)) zs)
       each [] = tt
-      each (z ∷ zs) = (ap (λ b. b && is_connect conn z.item) away, each zs)
+      each (z ∷ zs) = (silent z.item, each zs)
+
+      by : (d : Bool) (zs : List Envelope) → BeginsOnce a (write_row link d zs)
+      by false [] = silent_begins a (write_row link false []) refl
+      by false (z ∷ zs) = silent_begins a (write_row link false (z ∷ zs)) (count_by-none (tells_begun n conn) (write_row link false (z ∷ zs)).puts (each (z ∷ zs)))
+      by true zs = silent_begins a (write_row link true zs) (count_by-none (tells_begun n conn) (write_row link true zs).puts (silent (item.Frame None ping_frame), each zs))
 
   oldest_begins : (a : Act) (xs : List Envelope) → BeginsOnce a (takes_oldest xs)
   oldest_begins a [] = silent_begins a (takes_oldest []) refl
@@ -114,36 +124,40 @@ module _ (n conn : ℕ) (log : List Entry) where
       counted false true all rest none sum zero = omega (arith, sum, zero)
       counted false false all rest none sum zero = omega (arith, sum, zero)
 
-  half_begins : (configs : List Config) (half : Half) (begun running : Bool) → is_begun log n conn ≡ begun → (n == n) ≡ true → (conn == conn) ≡ true
-      → BeginsOnce (act.SendStep conn n) (half_row configs log n conn half begun running)
-  half_begins configs half false running is self same = begin_begins half.peer is self same
-  half_begins configs half true false is self same = oldest_begins (act.SendStep conn n) (line log (queue.Ready n conn))
-  half_begins configs half true true is self same = written_silent (act.SendStep conn n) (queue.Link half.link half.writes) (batch configs log n conn) refl
+  running_begins : (configs : List Config) (half : Half) (due : Bool) → BeginsOnce (act.SendStep conn n) (running_row configs log n conn half due)
+  running_begins configs half due =
+      written_silent (act.SendStep conn n) (queue.Link half.link half.writes) due (batch log n conn (beside_ping due (batch_size_at configs n))) refl
 
-  sender_begins : (configs : List Config) (o : Option Half) → (n == n) ≡ true → (conn == conn) ≡ true → BeginsOnce (act.SendStep conn n) (sender_row configs log n conn o)
-  sender_begins configs None self same = silent_begins (act.SendStep conn n) (only reply.Gone) refl
-  sender_begins configs (Some half) self same = half_begins configs half (is_begun log n conn) (is_running log n conn) refl self same
+  half_begins : (configs : List Config) (at : ℕ) (half : Half) (begun running : Bool) → is_begun log n conn ≡ begun → (n == n) ≡ true → (conn == conn) ≡ true
+      → BeginsOnce (act.SendStep conn n) (half_row configs log n conn at half begun running)
+  half_begins configs at half false running is self same = begin_begins half.peer is self same
+  half_begins configs at half true false is self same = oldest_begins (act.SendStep conn n) (line log (queue.Ready n conn))
+  half_begins configs at half true true is self same = running_begins configs half (ping_is_due configs log n conn at)
 
-  send_begins : (configs : List Config) → (n == n) ≡ true → (conn == conn) ≡ true → BeginsOnce (act.SendStep conn n) (send_step_row configs log conn n)
-  send_begins configs self same = by_up (is_up log n)
+  sender_begins : (configs : List Config) (at : ℕ) (o : Option Half) → (n == n) ≡ true → (conn == conn) ≡ true → BeginsOnce (act.SendStep conn n) (sender_row configs log n conn at o)
+  sender_begins configs at None self same = silent_begins (act.SendStep conn n) (only reply.Gone) refl
+  sender_begins configs at (Some half) self same = half_begins configs at half (is_begun log n conn) (is_running log n conn) refl self same
+
+  send_begins : (configs : List Config) (at : ℕ) → (n == n) ≡ true → (conn == conn) ≡ true → BeginsOnce (act.SendStep conn n) (send_step_row configs log conn n at)
+  send_begins configs at self same = by_up (is_up log n)
     where
-      by_up : (b : Bool) → BeginsOnce (act.SendStep conn n) (cond b (sender_row configs log n conn (half_at log n conn)) (only reply.Gone))
-      by_up true = sender_begins configs (half_at log n conn) self same
+      by_up : (b : Bool) → BeginsOnce (act.SendStep conn n) (cond b (sender_row configs log n conn at (half_at log n conn)) (only reply.Gone))
+      by_up true = sender_begins configs at (half_at log n conn) self same
       by_up false = silent_begins (act.SendStep conn n) (only reply.Gone) refl
 
   -- ---- each act
 
-  step_begins : (configs : List Config) (m e : ℕ) → (m == n) ≡ true → (e == conn) ≡ true → BeginsOnce (act.SendStep e m) (send_step_row configs log e m)
-  step_begins configs m e node half =
+  step_begins : (configs : List Config) (at m e : ℕ) → (m == n) ≡ true → (e == conn) ≡ true → BeginsOnce (act.SendStep e m) (send_step_row configs log e m at)
+  step_begins configs at m e node half =
       let same_node : m ≡ n = eqb-true m n node in
       let same_half : e ≡ conn = eqb-true e conn half in
-      subst (λ k. BeginsOnce (act.SendStep e k) (send_step_row configs log e k)) (sym same_node)
-      (subst (λ k. BeginsOnce (act.SendStep k n) (send_step_row configs log k n)) (sym same_half)
-      (send_begins configs (subst (λ k. (k == n) ≡ true) same_node node) (subst (λ k. (k == conn) ≡ true) same_half half)))
+      subst (λ k. BeginsOnce (act.SendStep e k) (send_step_row configs log e k at)) (sym same_node)
+      (subst (λ k. BeginsOnce (act.SendStep k n) (send_step_row configs log k n at)) (sym same_half)
+      (send_begins configs at (subst (λ k. (k == n) ≡ true) same_node node) (subst (λ k. (k == conn) ≡ true) same_half half)))
 
   stepped_begins : (configs : List Config) (at seed : ℕ) (a : Act) → steps_sender n conn a ≡ true → BeginsOnce a (row configs log at seed a)
   unfolding row
-  stepped_begins configs at seed (act.SendStep e m) steps = let both = and_parts (m == n) (e == conn) steps in step_begins configs m e both.0 both.1
+  stepped_begins configs at seed (act.SendStep e m) steps = let both = and_parts (m == n) (e == conn) steps in step_begins configs at m e both.0 both.1
   stepped_begins configs at seed _ steps = absurd (cc)
 
   pub each_begins : (configs : List Config) (at seed : ℕ) (a : Act) → Each StandsFit (live log) → BeginsOnce a (row configs log at seed a)

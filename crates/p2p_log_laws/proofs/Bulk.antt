@@ -55,6 +55,7 @@ item_counted copy o (item.Content c frame priority send to) =
     ap (λ (l : List End). count_by (ends_copy copy) l) (ends_from o send 0 to)
     ∙ (count_by-copies_end copy send 0 to o ∙ from_first copy.0 copy.1 send (length to))
 item_counted copy o (item.Frame (Some other) frame) = one_more (same_name copy other)
+item_counted copy o (item.Held c bytes other) = one_more (same_name copy other)
 item_counted copy o (item.Message bytes other from) = one_more (same_name copy other)
 item_counted copy o _ = refl
 
@@ -88,6 +89,7 @@ copies_carried (item.Content c frame priority send to) = from_carried send 0 (le
     none : (n : ℕ) → 0 + n ≡ n
     none n = omega arith
 copies_carried (item.Frame (Some other) frame) = (same_name-refl other, tt)
+copies_carried (item.Held c bytes other) = (same_name-refl other, tt)
 copies_carried (item.Message bytes other from) = (same_name-refl other, tt)
 copies_carried _ = tt
 

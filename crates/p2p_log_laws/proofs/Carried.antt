@@ -15,6 +15,7 @@ use Rattle.p2p_log_laws.specs.Flow.{IsSublist, put_copies}
 pub copies_of-bare : (i : Item) → is_bare i ≡ true → copies_of i ≡ []
 copies_of-bare (item.Content c frame priority send to) h = absurd (cc)
 copies_of-bare (item.Frame (Some other) frame) h = absurd (cc)
+copies_of-bare (item.Held c bytes copy) h = absurd (cc)
 copies_of-bare (item.Message bytes copy from) h = absurd (cc)
 copies_of-bare _ h = refl
 
@@ -29,6 +30,15 @@ put_none p (x ∷ puts) h =
 
 pub IsSublist-bare : (p : Queue × Item → Bool) (puts : List (Queue × Item)) (ys : List (ℕ × ℕ)) → Each (λ x. is_bare x.1 ≡ true) puts → IsSublist (put_copies (filter p puts)) ys
 IsSublist-bare p puts ys h = subst (λ l. IsSublist l ys) (sym (put_none p puts h)) (IsSublist-nil ys)
+
+-- one put that carries no copy, beside others
+pub IsSublist-beside : (p : Queue × Item → Bool) (x : Queue × Item) (puts : List (Queue × Item)) (ys : List (ℕ × ℕ)) → is_bare x.1 ≡ true → IsSublist (put_copies (filter p puts)) ys
+    → IsSublist (put_copies (filter p (x ∷ puts))) ys
+IsSublist-beside p x puts ys bare h =
+    elim (p x) as (λ b. IsSublist (put_copies (cond b (x ∷ filter p puts) (filter p puts))) ys) [
+      | true ↦ subst (λ l. IsSublist (l ++ put_copies (filter p puts)) ys) (sym (copies_of-bare x.1 bare)) h
+      | false ↦ h
+    ]
 
 -- one put
 pub IsSublist-put : (p : Queue × Item → Bool) (x : Queue × Item) → IsSublist (put_copies (filter p (x ∷ []))) (copies_of x.1)

@@ -22,7 +22,7 @@ module _ (w : Words) (sound : (w.acceptance && w.refusal) ≡ false) (n name : �
 
   pub each_answers : (a : Act) → Answers w n name log (event a) (row configs log at seed a)
   unfolding row
-  each_answers (act.SendStep conn m) = puts_none w n name configs log at seed (act.SendStep conn m) (send_step_row configs log conn m) (row_shape configs log at seed (act.SendStep conn m)) (sender_silent w n name configs log at seed conn m) refl
+  each_answers (act.SendStep conn m) = puts_none w n name configs log at seed (act.SendStep conn m) (send_step_row configs log conn m at) (row_shape configs log at seed (act.SendStep conn m)) (sender_silent w n name configs log at seed conn m) refl
   each_answers (act.Ask what m) = puts_none w n name configs log at seed (act.Ask what m) (rows.ask_row configs log m what) (row_shape configs log at seed (act.Ask what m)) (ask_silent w n name configs log at seed what m) refl
   each_answers (act.Tracker m) = tracker_at w n name configs log at seed m (m == n) refl
   each_answers (act.Dialer m) = puts_none w n name configs log at seed (act.Dialer m) (dialer_row configs log m at seed) (row_shape configs log at seed (act.Dialer m)) (dialer_silent w n name configs log at seed m) refl

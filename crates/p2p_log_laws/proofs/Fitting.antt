@@ -24,6 +24,8 @@ fits (queue.Ready n conn) item.Answer = true
 fits (queue.High n conn) (item.Frame copy frame) = true
 fits (queue.Low n conn) (item.Frame copy frame) = true
 fits (queue.Link link side) (item.Frame copy frame) = true
+fits (queue.Held n conn) (item.Held c bytes copy) = true
+fits (queue.Held n conn) item.Ping = true
 fits (queue.Channel n c) (item.Message bytes copy from) = true
 fits (queue.Tracker n) (item.Call e) = true
 fits (queue.Tracker n) (item.Connect conn key) = true
@@ -59,7 +61,8 @@ StandsFit x = fits x.queue x.item ≡ true
 -- whether an item carries no copy
 abbrev pub is_bare : Item → Bool
 is_bare (item.Content c frame priority send to) = false
-is_bare (item.Frame copy frame) = false
+is_bare (item.Frame (Some copy) frame) = false
+is_bare (item.Held c bytes copy) = false
 is_bare (item.Message bytes copy from) = false
 is_bare _ = true
 
@@ -67,7 +70,8 @@ is_bare _ = true
 abbrev pub is_idle : Item → Bool
 is_idle (item.Ready conn key) = false
 is_idle (item.Content c frame priority send to) = false
-is_idle (item.Frame copy frame) = false
+is_idle (item.Frame (Some copy) frame) = false
+is_idle (item.Held c bytes copy) = false
 is_idle (item.Message bytes copy from) = false
 is_idle (item.Connect conn key) = false
 is_idle _ = true
@@ -78,6 +82,7 @@ holds_bare (queue.Router n) = false
 holds_bare (queue.High n conn) = false
 holds_bare (queue.Low n conn) = false
 holds_bare (queue.Link link side) = false
+holds_bare (queue.Held n conn) = false
 holds_bare (queue.Channel n c) = false
 holds_bare _ = true
 
@@ -91,9 +96,11 @@ holds_bare-none (queue.Router n) i = refl
 holds_bare-none (queue.High n conn) i = refl
 holds_bare-none (queue.Low n conn) i = refl
 holds_bare-none (queue.Link link side) i = refl
+holds_bare-none (queue.Held n conn) i = refl
 holds_bare-none (queue.Channel n c) i = refl
 holds_bare-none _ (item.Content c frame priority send to) = refl
 holds_bare-none _ (item.Frame copy frame) = refl
+holds_bare-none _ (item.Held c bytes copy) = refl
 holds_bare-none _ (item.Message bytes copy from) = refl
 holds_bare-none _ _ = refl
 
@@ -107,6 +114,7 @@ bare_there q i holds fit = go (is_bare i) refl
 pub bare_carries_none : (copy : ℕ × ℕ) (i : Item) → is_bare i ≡ true → carries_copy copy i ≡ false
 bare_carries_none copy (item.Content c frame priority send to) h = absurd (cc)
 bare_carries_none copy (item.Frame (Some other) frame) h = absurd (cc)
+bare_carries_none copy (item.Held c bytes other) h = absurd (cc)
 bare_carries_none copy (item.Message bytes other from) h = absurd (cc)
 bare_carries_none copy _ h = refl
 

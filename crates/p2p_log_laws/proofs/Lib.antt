@@ -45,6 +45,7 @@ pub mod HandshakeLaws
 pub mod HandshakeShape
 pub mod HeldCalls
 pub mod HeldPeers
+pub mod Holding
 pub mod Leads
 pub mod Leaving
 pub mod Ledger
@@ -69,6 +70,7 @@ pub mod Path
 pub mod Plain
 pub mod Prefixes
 pub mod Puts
+pub mod ReceiverShape
 pub mod RouterShape
 pub mod Routing
 pub mod Saying

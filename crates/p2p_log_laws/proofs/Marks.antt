@@ -38,8 +38,8 @@ Marks all (item.Frame (Some copy) frame) (queue.High n conn) = IsSentBy all copy
 Marks all (item.Frame (Some copy) frame) (queue.Low n conn) = IsSentBy all copy.0 (Node n) false
 -- what has gone over a link is told by the link
 Marks all (item.Frame (Some copy) frame) (queue.Link link side) = Unit {0}
+Marks all (item.Held c bytes copy) (queue.Held n conn) = Unit {0}
 Marks all (item.Message bytes copy from) q = Unit {0}
-Marks all (item.Frame None frame) q = Unit {0}
 -- what carries no copy has no mark, and the others stand in no other queue
 Marks all i q = elim (is_bare i) [ true ↦ Unit {0} | false ↦ ⊥ ]
 
@@ -52,7 +52,8 @@ PutMarks all x = Marks all x.1 x.0
 idle_marks : (all : List Entry) (i : Item) (q : Queue) → is_idle i ≡ true → Marks all i q
 idle_marks all (item.Ready conn key) q h = absurd (cc)
 idle_marks all (item.Content c frame priority send to) q h = absurd (cc)
-idle_marks all (item.Frame copy frame) q h = absurd (cc)
+idle_marks all (item.Frame (Some copy) frame) q h = absurd (cc)
+idle_marks all (item.Held c bytes copy) q h = absurd (cc)
 idle_marks all (item.Message bytes copy from) q h = absurd (cc)
 idle_marks all (item.Connect conn key) q h = absurd (cc)
 idle_marks all _ q h = tt
@@ -98,13 +99,19 @@ module _ (configs : List Config) (log : List Entry) (ev : Event) (r : Row) (m : 
   item_marks y (queue.Link link s) i marked h =
       subst (λ j. Marks all j (queue.Link link s)) (sym h.put)
       (link_marks all h.priority h.node h.conn y.item link s (subst (λ p. Marks all y.item p) h.stood marked))
-  item_marks y (queue.Channel n c) i marked h = subst (λ j. Marks all j (queue.Channel n c)) (sym h.put) tt
+  item_marks y (queue.Held n conn) i marked h = subst (λ j. Marks all j (queue.Held n conn)) (sym h.put) tt
+  item_marks y (queue.Channel n c) i marked h = elim h [
+    | inl received ↦ subst (λ j. Marks all j (queue.Channel n c)) (sym received.put) tt
+    | inr retried ↦ subst (λ j. Marks all j (queue.Channel n c)) (sym retried.put) tt
+  ]
   item_marks y _ i marked h = absurd h
 
   marks : (x : Queue × Item) → Origin configs log ev.act r.reply m.taken x → PutMarks all x
   marks x o = elim o [
     | inl own ↦ elim own [ inl h ↦ idle_marks all x.1 x.0 h | inr h ↦ own_marks x.0 x.1 h ]
-    | inr item ↦ item_marks item.0 x.0 x.1 (Each-has (StandMarks all) m.taken item.0 (Each-taken (StandMarks all) (live log) m.taken mark (taken_stood log ev r m)) item.1) item.2
+    | inr item ↦
+        let marked : StandMarks all item.0 = Each-has (StandMarks all) m.taken item.0 (Each-taken (StandMarks all) (live log) m.taken mark (taken_stood log ev r m)) item.1 in
+        elim item.2 [ inl h ↦ idle_marks all x.1 x.0 h | inr h ↦ item_marks item.0 x.0 x.1 marked h ]
   ]
 
   pub marks_kept : Each (StandMarks all) (live (log ++ entry_of ev r ∷ []))

@@ -162,18 +162,18 @@ module _ (configs : List Config) (n : ℕ) (key : Key) (log : List Entry) where
 
     -- ---- what a sending half tells
 
-    sender_weighs : (conn m : ℕ) → Weighs (event at seed (act.SendStep conn m)) (send_step_row configs log conn m)
+    sender_weighs : (conn m : ℕ) → Weighs (event at seed (act.SendStep conn m)) (send_step_row configs log conn m at)
     sender_weighs conn m =
         let a : Act = act.SendStep conn m in
-        let r : Row = send_step_row configs log conn m in
-        let shape : Shape configs log a r = send_step_shape configs log conn m in
+        let r : Row = send_step_row configs log conn m at in
+        let shape : Shape configs log a r = send_step_shape configs log conn m at in
         plain_weighs (event at seed a) r refl refl shape.moves
         (record {
           taken = stand_aside n key shape.moves.taken
               (Each-weaker (λ x. reads configs log a x.queue ≡ true) (λ x. IsAside n x.queue)
               (λ x k. away_aside n (reads configs log a) (record { dialer = refl; handshakes = λ h. refl; spawner = refl; tracker = refl }) x.queue k) shape.moves.taken shape.reach.taken);
-          ended = subst (Each (StandsPlain n key)) (sym (none_ended log r shape.moves (sent_ends configs log conn m))) tt;
-          puts = each_sent configs log conn m (Plain n key) (λ k. plain_item n key (queue.Tracker m) (item.Connect conn k) refl refl)
+          ended = subst (Each (StandsPlain n key)) (sym (none_ended log r shape.moves (sent_ends configs log conn m at))) tt;
+          puts = each_sent configs log conn m at (Plain n key) (λ k. plain_item n key (queue.Tracker m) (item.Connect conn k) refl refl)
               (λ k. plain_aside n key (queue.Router m) (item.Ready conn k) (refl, refl)) link_plain;
         }) (λ k. refl)
       where

@@ -1,5 +1,5 @@
 -- A copy is put in the queue of one link, once.
-use Rattle.std.proofs.Common.{◌≡◌, ℕ, suc, ◌+◌, ◌≤◌, Bool, true, false, cond, List, [], ◌∷◌, ◌++◌, map, length, Some, None, inl, inr, refl, ap, sym, subst, ◌∙◌, arith, append-nil}
+use Rattle.std.proofs.Common.{◌≡◌, ℕ, suc, ◌+◌, ◌≤◌, Bool, true, false, cond, List, [], ◌∷◌, ◌++◌, map, length, Some, inl, inr, refl, ap, sym, subst, ◌∙◌, arith, append-nil}
 use Rattle.std.specs.Prelude.{filter, flat_map, ◌==◌, ◌&&◌, ◌||◌, nat_lt, nat_le, count_by, sum_by}
 use Rattle.std.specs.List.{AllByRecursion as Each}
 use Rattle.std.proofs.lemmas.Bool.{false≢true}
@@ -27,8 +27,9 @@ use Rattle.p2p_log.proofs.Lines.{live-append, filter_stays-append}
 use Rattle.p2p_log.proofs.Names.{AreApart-live_from}
 use Rattle.p2p_log_laws.proofs.Balance.{live-none, accepted_more}
 use Rattle.p2p_log.proofs.Each.{Has, Has-first, Has-after, Each-append, Each-filter, Each-weaker}
-use Rattle.p2p_log_laws.proofs.Fitting.{Each-placed}
-use Rattle.p2p_log_laws.proofs.Shape.{Laws, OfItem, ComesOf, Moved, accepts}
+use Rattle.p2p_log_laws.proofs.Fitting.{Each-placed, is_idle, bare_carries_none}
+use Rattle.p2p_log_laws.proofs.Plain.{and_false}
+use Rattle.p2p_log_laws.proofs.Shape.{Laws, OfItem, ComesOf, Moved, accepts, idle_bare}
 use Rattle.p2p_log_laws.proofs.Spreading.{one}
 use Rattle.p2p_log_rules.specs.Moves.{Moves}
 use Rattle.p2p_log_rules.proofs.Moves.{taken_stood}
@@ -74,6 +75,9 @@ count_by-first p x xs = sum_by-cons (λ y. cond (p y) 1 0) x xs
 count_by-parts : {X : Type 0} (p : X → Bool) (xs ys : List X) → count_by p (xs ++ ys) ≡ count_by p xs + count_by p ys
 count_by-parts p xs ys = sum_by-append (λ y. cond (p y) 1 0) xs ys
 
+plus_zero : (b : Bool) → one b + 0 ≡ one b
+plus_zero b = omega arith
+
 module _ (copy : ℕ × ℕ) where
   from_place : (send p : ℕ) (ks : List Key) → count_by (same_name copy) (copies_from send p ks) ≡ one ((send == copy.0) && (nat_le p copy.1 && nat_lt copy.1 (p + length ks)))
   from_place send p [] = none send p copy.0 copy.1
@@ -95,14 +99,8 @@ module _ (copy : ℕ × ℕ) where
       zero_place : (s a b l : ℕ) → one ((s == a) && (nat_le 0 b && nat_lt b (0 + l))) ≡ one ((s == a) && nat_lt b l)
       zero_place s a b l = grind (arith, nat_tests)
   carried_count (item.Frame (Some other) frame) = count_by-first (same_name copy) other [] ∙ plus_zero (same_name copy other)
-    where
-      plus_zero : (b : Bool) → one b + 0 ≡ one b
-      plus_zero b = omega arith
-  carried_count (item.Frame None frame) = refl
+  carried_count (item.Held c bytes other) = count_by-first (same_name copy) other [] ∙ plus_zero (same_name copy other)
   carried_count (item.Message bytes other from) = count_by-first (same_name copy) other [] ∙ plus_zero (same_name copy other)
-    where
-      plus_zero : (b : Bool) → one b + 0 ≡ one b
-      plus_zero b = omega arith
   carried_count _ = refl
 
   sublist_count : (xs ys : List (ℕ × ℕ)) → IsSublist xs ys → count_by (same_name copy) xs ≤ count_by (same_name copy) ys
@@ -175,6 +173,13 @@ module _ (copy : ℕ × ℕ) where
     elsewhere_none y away (queue.Router n) i h = absurd h
     elsewhere_none y away _ i h = refl
 
+    idle_none : (q : Queue) (i : Item) → is_idle i ≡ true → early copy (q, i) ≡ false
+    idle_none q i idle = ap (λ b. is_early q && b) (bare_carries_none copy i (idle_bare i idle)) ∙ and_false (is_early q)
+
+    -- what comes of an item elsewhere enters none of these queues with the copy
+    from_elsewhere : (y : Envelope) → is_low y.queue ≡ false → (x : Queue × Item) → ComesOf configs log y x → early copy x ≡ false
+    from_elsewhere y away x o = elim o [ inl idle ↦ idle_none x.0 x.1 idle | inr h ↦ elsewhere_none y away x.0 x.1 h ]
+
     count_none : (xs : List (Queue × Item)) → Each (λ x. early copy x ≡ false) xs → count_by (early copy) xs ≡ 0
     count_none [] h = refl
     count_none (x ∷ xs) h =
@@ -195,7 +200,7 @@ module _ (copy : ℕ × ℕ) where
             let own : low copy y ≡ one (carries_copy copy y.item) = ap (λ b. one (b && carries_copy copy y.item)) e in
             omega (arith, count, fewer, carried, own)
         go false e =
-            let none = count_none front (Each-weaker (ComesOf configs log y) (λ x. early copy x ≡ false) (λ x o. elsewhere_none y e x.0 x.1 o) front origins) in
+            let none = count_none front (Each-weaker (ComesOf configs log y) (λ x. early copy x ≡ false) (λ x o. from_elsewhere y e x o) front origins) in
             omega (arith, none)
 
     pub moved_pays : (taken : List Envelope) (puts : List (Queue × Item)) → Moved configs log a r taken puts → count_by (early copy) puts ≤ sum_by (low copy) taken + accepts log a r copy

@@ -1,5 +1,5 @@
 -- The shape of an act that takes the oldest item of a queue: it hands it on, or the item's copy ends.
-use Rattle.std.proofs.Common.{◌≡◌, ℕ, true, false, List, [], ◌∷◌, refl, arith}
+use Rattle.std.proofs.Common.{◌≡◌, ℕ, true, false, List, [], ◌∷◌, inr, refl, arith}
 use Rattle.std.specs.Prelude.{count_by}
 use Rattle.p2p_log.specs.declared.config.Config.{Config}
 use Rattle.p2p_log.specs.declared.queue.Queue.{Queue}
@@ -33,7 +33,7 @@ module _ (configs : List Config) (log : List Entry) (a : Act) (said : Reply) (no
     reach = record { taken = (first_in (reads configs log a) log q x rest first read, tt); ended = tt; puts = (near, tt) };
     laws = λ fitting. record {
       fitting = (fit, tt);
-      moved = Moved-put configs log a said x [] (p, i) [] from same (Moved-nothing configs log a said);
+      moved = Moved-put configs log a said x [] (p, i) [] (inr from) same (Moved-nothing configs log a said);
       balanced = λ copy.
           let no_more = accepts-none log a said copy none in
           let taken : count_by (carries copy) (x ∷ []) ≡ one (carries_copy copy i) = count_by-single copy x (carries_copy copy i) (carried copy) in

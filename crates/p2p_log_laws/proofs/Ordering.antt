@@ -14,15 +14,17 @@ use Rattle.p2p_log.specs.declared.end.End.TheVariants as end
 use Rattle.p2p_log.specs.declared.end.Outcome.TheVariants as outcome
 use Rattle.p2p_log.specs.declared.entry.Entry.{Entry}
 use Rattle.p2p_log.specs.declared.event.Event.{Event}
+use Rattle.p2p_log_rules.specs.declared.row.Half.{Half}
 use Rattle.p2p_log_rules.specs.declared.row.Row.{Row}
-use Rattle.p2p_log.specs.QueueCode.{same_queue}
+use Rattle.p2p_log.specs.QueueCode.{owner_of, same_queue}
 use Rattle.p2p_log_rules.specs.Lawful.{IsLawful}
-use Rattle.p2p_log.specs.Lines.{live, same_name}
-use Rattle.p2p_log_rules.specs.Effect.{effect, row, entry_of, relay_queue}
+use Rattle.p2p_log.specs.Lines.{live, line, same_name}
+use Rattle.p2p_log_rules.specs.Connections.{half_at}
+use Rattle.p2p_log_rules.specs.Effect.{effect, row, entry_of, goes_to, relay_queue, other_side}
 use Rattle.p2p_log_rules.specs.Reading.{reading_of, is_read}
 use Rattle.p2p_log.specs.Sending.{Sender, Sending, sending_at, sending_of}
 use Rattle.p2p_log.specs.Sending.Sender.{Node, Raw}
-use Rattle.p2p_log.proofs.Each.{Has, Has-get, Has-kept, Has-flat_map, Each-has, Each-from_has}
+use Rattle.p2p_log.proofs.Each.{Has, Has-kept, Each-has, Each-from_has}
 use Rattle.p2p_log_rules.specs.Moves.{Moves}
 use Rattle.p2p_log_rules.proofs.Moves.{taken_stood}
 use Rattle.p2p_log.proofs.Names.{same_name-refl}
@@ -39,7 +41,9 @@ use Rattle.p2p_log_laws.proofs.Coming.{HasCome, can_read, reading_can}
 use Rattle.p2p_log_laws.proofs.Fitting.{StandsFit}
 use Rattle.p2p_log_laws.proofs.Flow.{AreLed}
 use Rattle.p2p_log_laws.proofs.Halves.{halves_meet}
-use Rattle.p2p_log_laws.proofs.Leads.{Known, is_copy_by, by_sent, sent_in_all, into_channel, own_link, into_link, raw_link, own_relay, into_relay}
+use Rattle.p2p_log_laws.proofs.Holding.{IsPutAlone, put_alone}
+use Rattle.p2p_log_laws.proofs.Stages.{copies_in-none}
+use Rattle.p2p_log_laws.proofs.Leads.{Known, is_copy_by, by_sent, sent_in_all, put_over, into_channel, into_channel_at_once, into_held, own_link, into_link, raw_link, own_relay, into_relay}
 use Rattle.p2p_log.specs.declared.item.Envelope.{Envelope}
 use Rattle.p2p_log_laws.proofs.Ledger.{Told, Told-none, Told-more}
 use Rattle.p2p_log_laws.proofs.Marks.{StandMarks, marks_kept}
@@ -109,24 +113,22 @@ module _ (configs : List Config) (all : List Entry) (sender : Sender) (channel :
       in
       ap (λ (x : Queue × Item). x.0) same ∙ queue_from_same (queue.Link link side) found.0.0 parts.0
 
-  -- a link that is read is this one
-  abbrev pub IsAtEnd : Queue → Type 0
-  IsAtEnd (queue.Link e s) = (e ≡ link) × (s ≡ side)
-  IsAtEnd _ = Unit {0}
-
   -- from the link back to where the sender put it: through the connection by which it writes there
   abbrev before_link : (s : Sender) → Writes configs all s link side → List Queue
   before_link (Node n) writes = relay_queue priority n writes.0 ∷ queue.Router n ∷ []
   before_link (Raw e) writes = []
 
-  -- from the queue that is read back to the link, and before it
-  abbrev stages_of : Writes configs all sender link side → Queue → List Queue
-  stages_of writes (queue.Link e s) = before_link sender writes
-  stages_of writes _ = queue.Link link side ∷ before_link sender writes
+  -- from the queue that is read back to the link, through what is held at the connection by which it is read, and before it
+  abbrev stages_of : Writes configs all sender link side → (p : Queue) → ComesTo configs all p link side → List Queue
+  stages_of writes (queue.Link e s) ends = before_link sender writes
+  stages_of writes p ends = queue.Held (owner_of p) ends.0 ∷ queue.Link link side ∷ before_link sender writes
 
-  module _ (begins : Writes configs all sender link side) where
+  module _ (begins : Writes configs all sender link side) (ends : ComesTo configs all q link side) where
+    abbrev pub stages : List Queue
+    stages = stages_of begins q ends
+
     abbrev pub on_way : List Entry → List (ℕ × ℕ)
-    on_way log = way configs test q (stages_of begins q) log
+    on_way log = way configs test q stages log
 
     record IsOrdered (log : List Entry) : Type 0 where
       put : Each (WasPut all) (live log)
@@ -136,7 +138,7 @@ module _ (configs : List Config) (all : List Entry) (sender : Sender) (channel :
 
     ordered_none : IsOrdered []
     ordered_none =
-        let none : on_way [] ≡ [] = way-none configs test q (stages_of begins q) in
+        let none : on_way [] ≡ [] = way-none configs test q stages in
         record {
           put = subst (Each (WasPut all)) (sym live-none) tt;
           marks = subst (Each (StandMarks all)) (sym live-none) tt;
@@ -145,59 +147,87 @@ module _ (configs : List Config) (all : List Entry) (sender : Sender) (channel :
         }
 
     -- the queue is one that is read
-    module _ (reads : can_read q ≡ true) (there : IsAtEnd q) (halves : HalvesMeet configs all) where
+    module _ (reads : can_read q ≡ true) (halves : HalvesMeet configs all) where
       module _ (log more : List Entry) (ev : Event) (r : Row) (m : Moves log r) (laws : Laws configs log ev.act r m) (whole : log ++ entry_of ev r ∷ more ≡ all) (told : Told configs log)
-          (ordered : IsOrdered log) where
+          (alone : (n conn : ℕ) → IsPutAlone (queue.Held n conn) r.puts) (ordered : IsOrdered log) where
         here : sending_at all (length log) ≡ sending_of ev.act r.reply
         here = subst (λ (l : List Entry). sending_at l (length log) ≡ sending_of ev.act r.reply) whole (sending_at-at log (entry_of ev r) more)
 
-        abbrev Before : Envelope → Type 0
-        Before y = StandsFit y × StandMarks all y × WasPut all y × StandTells configs log y
-
-        before : Each Before m.taken
-        before =
-            Each-taken Before (live log) m.taken
-            (Each-from_has Before (live log) (λ y has. (
+        known : Each (Known configs log all) m.taken
+        known =
+            Each-taken (Known configs log all) (live log) m.taken
+            (Each-from_has (Known configs log all) (live log) (λ y has. (
               Each-has StandsFit (live log) y told.standing.fitting has,
               Each-has (StandMarks all) (live log) y ordered.marks has,
               Each-has (WasPut all) (live log) y ordered.put has,
               Each-has (StandTells configs log) (live log) y told.standing.tells has,
+              has,
             )))
             (taken_stood log ev r m)
 
-        known : Each (Known configs log all m.taken) m.taken
-        known = Each-from_has (Known configs log all m.taken) m.taken (λ y has. let b = Each-has Before m.taken y before has in (b.0, b.1, b.2, b.3, has))
-
         abbrev Led : Queue → List Queue → Type 0
-        Led p qs = AreLed test configs log ev r m laws (Known configs log all m.taken) known p qs
+        Led p qs = AreLed test configs log ev r m laws (Known configs log all) known p qs
 
         link_led : (s : Sender) → sender ≡ s → (w : Writes configs all s link side) → Led (queue.Link link side) (before_link s w)
         link_led (Node n) is w = inl (
-          own_link configs log (entry_of ev r ∷ more) all whole sender channel priority link side test by_sender by_link ev.act r.reply here m.taken r.puts n is,
-          into_link configs log (entry_of ev r ∷ more) all whole sender channel priority link side test by_sender by_link ev.act r.reply here m.taken r.puts halves n w,
+          own_link configs log (entry_of ev r ∷ more) all whole sender channel priority link side test by_sender by_link ev.act r.reply here r.puts n is,
+          into_link configs log (entry_of ev r ∷ more) all whole sender channel priority link side test by_sender by_link ev.act r.reply here r.puts halves n w,
           inl (
-            own_relay configs log (entry_of ev r ∷ more) all whole sender channel priority link side test by_sender by_link ev.act r.reply here m.taken r.puts n w.0,
-            into_relay configs log (entry_of ev r ∷ more) all whole sender channel priority link side test by_sender by_link ev.act r.reply here m.taken r.puts n w.0,
+            own_relay configs log (entry_of ev r ∷ more) all whole sender channel priority link side test by_sender by_link ev.act r.reply here r.puts n w.0,
+            into_relay configs log (entry_of ev r ∷ more) all whole sender channel priority link side test by_sender by_link ev.act r.reply here r.puts n w.0,
             (λ y i k h. absurd h),
           ),
         )
-        link_led (Raw e) is w = raw_link configs log (entry_of ev r ∷ more) all whole sender channel priority link side test by_sender by_link ev.act r.reply here m.taken r.puts e is
+        link_led (Raw e) is w = raw_link configs log (entry_of ev r ∷ more) all whole sender channel priority link side test by_sender by_link ev.act r.reply here r.puts e is
 
-        led : (p : Queue) → can_read p ≡ true → IsAtEnd p → Led p (stages_of begins p)
-        led (queue.Channel n c) f at = inl (
-          (λ i h. absurd h),
-          into_channel configs log (entry_of ev r ∷ more) all whole sender channel priority link side test by_sender by_link ev.act r.reply here m.taken r.puts n c,
-          link_led sender refl begins,
-        )
-        led (queue.Link e s) f at = subst (λ c. Led (queue.Link c s) (before_link sender begins)) (sym at.0) (subst (λ d. Led (queue.Link link d) (before_link sender begins)) (sym at.1) (link_led sender refl begins))
-        led _ f at = absurd (cc)
+        -- into a channel from what is held, or at once from the link where nothing is
+        module _ (n c conn : ℕ) (far : Half) (at : half_at all n conn ≡ Some far) (over : far.link ≡ link) (to : side ≡ other_side far.writes) where
+          abbrev held : Queue
+          held = queue.Held n conn
+
+          abbrev ChannelIsLed : Type 0
+          ChannelIsLed = Led (queue.Channel n c) (held ∷ queue.Link link side ∷ before_link sender begins)
+
+          from_held : ((i : Item) → Has r.puts (queue.Channel n c, i) → line log held ≡ [] → ⊥) → ChannelIsLed
+          from_held busy = inl (
+            (λ i h. absurd h),
+            into_channel configs log (entry_of ev r ∷ more) all whole sender channel priority link side test by_sender by_link ev.act r.reply here r.puts halves n conn far at over to c busy,
+            inl (
+              (λ i h. absurd h),
+              into_held configs log (entry_of ev r ∷ more) all whole sender channel priority link side test by_sender by_link ev.act r.reply here r.puts n conn,
+              link_led sender refl begins,
+            ),
+          )
+
+          at_once : line log held ≡ [] → Each (λ x. goes_to held x ≡ false) r.puts → ChannelIsLed
+          at_once none puts = inr (
+            copies_in-none test held log (entry_of ev r) none puts,
+            inl (
+              (λ i h. absurd h),
+              into_channel_at_once configs log (entry_of ev r ∷ more) all whole sender channel priority link side test by_sender by_link ev.act r.reply here r.puts halves n conn far at over to c none,
+              link_led sender refl begins,
+            ),
+          )
+
+          channel_led : (xs : List Envelope) → line log held ≡ xs → IsPutAlone held r.puts → ChannelIsLed
+          channel_led [] none (inl puts) = at_once none puts
+          channel_led [] none (inr one) = from_held (λ i has e. only_held one.0 i (subst (λ (l : List (Queue × Item)). Has l (queue.Channel n c, i)) one.1 has))
+            where
+              only_held : (j i : Item) → Has {X = Queue × Item} ((held, j) ∷ []) (queue.Channel n c, i) → ⊥
+              only_held j i h = elim h [ inl e ↦ (let same : held ≡ queue.Channel n c = ap (λ (x : Queue × Item). x.0) e in absurd (cc)) | inr l ↦ l ]
+          channel_led (x ∷ xs) some puts = from_held (λ i has none. absurd (cc))
+
+        led : (p : Queue) → can_read p ≡ true → (to : ComesTo configs all p link side) → Led p (stages_of begins p to)
+        led (queue.Channel n c) f to = channel_led n c to.0 to.1 to.2 to.3 to.4 (line log (queue.Held n to.0)) refl (alone n to.0)
+        led (queue.Link e s) f to = subst (λ c. Led (queue.Link c s) (before_link sender begins)) (sym to.0) (subst (λ d. Led (queue.Link link d) (before_link sender begins)) (sym to.1) (link_led sender refl begins))
+        led _ f to = absurd (cc)
 
         ordered_more : IsOrdered (log ++ entry_of ev r ∷ [])
         ordered_more =
             let puts : (x : Queue × Item) → Has r.puts x → Has (all_puts all) x = λ x h.
             subst (λ (l : List Entry). Has (all_puts l) x) whole (has_seam log (entry_of ev r) more x h)
             in
-            let kept = order_kept configs test q (stages_of begins q) log ev r m laws (Known configs log all m.taken) known (led q reads there) ordered.order ordered.early in
+            let kept = order_kept configs test q stages log ev r m laws (Known configs log all) known (led q reads ends) ordered.order ordered.early in
             record { put = put_kept all log ev r puts ordered.put; marks = marks_kept configs log ev r m laws all here ordered.marks; order = kept.0; early = kept.1 }
 
       -- in each beginning of the log
@@ -213,7 +243,7 @@ module _ (configs : List Config) (all : List Entry) (sender : Sender) (channel :
             Told-more configs script before ev lawful h.0,
             λ more whole.
                 let parts : before ++ e ∷ more ≡ all = sym (append_assoc before (e ∷ []) more) ∙ whole in
-                ordered_more before more ev r shape.moves (shape.laws h.0.standing.fitting) parts h.0 (h.1 (e ∷ more) parts),
+                ordered_more before more ev r shape.moves (shape.laws h.0.standing.fitting) parts h.0 (λ n conn. put_alone configs before n conn ev.at ev.seed ev.act) (h.1 (e ∷ more) parts),
           )
 
       pub way_in_order : (script : List Event) → IsLawful configs script all → AreInOrder (on_way all)
@@ -280,17 +310,12 @@ module _ (configs : List Config) (script : List Event) (log : List Entry) (lawfu
 
   -- ---- the order of what is delivered
 
-  put_over : (copy : ℕ × ℕ) (link : ℕ) (side : Side) (over : WentOver log copy link side) → Has (all_puts log) (queue.Link link side, item.Frame (Some copy) over.frame)
-  put_over copy link side over =
-      let x : Queue × Item = (queue.Link link side, item.Frame (Some copy) over.frame) in
-      Has-flat_map (λ (e : Entry). e.puts) log over.entry x (Has-get log over.n over.entry over.at) (Has-get over.entry.puts over.place x over.put)
-
   -- a copy goes over one link, in one direction
   pub one_way : (copy : ℕ × ℕ) (l : ℕ) (d : Side) → WentOver log copy l d → (link : ℕ) (side : Side) → WentOver log copy link side → (l ≡ link) × (d ≡ side)
   one_way copy l d other link side over =
       let x : Queue × Item = (queue.Link l d, item.Frame (Some copy) other.frame) in
       let y : Queue × Item = (queue.Link link side, item.Frame (Some copy) over.frame) in
-      let same : x ≡ y = one_link configs copy log (linked_once copy) x y (put_over copy l d other) (put_over copy link side over) (same_name-refl copy) (same_name-refl copy) in
+      let same : x ≡ y = one_link configs copy log (linked_once copy) x y (put_over log copy l d other) (put_over log copy link side over) (same_name-refl copy) (same_name-refl copy) in
       let queues : queue.Link l d ≡ queue.Link link side = ap (λ (z : Queue × Item). z.0) same in
       (cc, cc)
 
@@ -304,15 +329,15 @@ module _ (configs : List Config) (script : List Event) (log : List Entry) (lawfu
           let put_it : Queue × Item → Bool = put_here configs log sender channel priority link side q linked_once copy in
           let x : Queue × Item = (queue.Link link side, item.Frame (Some copy) over.frame) in
           let found : list_any put_it (all_puts log) ≡ true =
-          has_any put_it (all_puts log) x (put_over copy link side over)
+          has_any put_it (all_puts log) x (put_over log copy link side over)
           (both (same_queue (queue.Link link side) (queue.Link link side)) (same_name copy copy) (same_queue-refl (queue.Link link side)) (same_name-refl copy))
           in
           both (is_copy_by log sender channel priority copy) (list_any put_it (all_puts log))
           (by_sent log sender channel priority copy d.bytes d.keys d.sends) found
 
-      gives : (stages : List Queue) (copy : ℕ × ℕ) (n : ℕ) → IsDelivered configs log copy sender channel priority q n → WentOver log copy link side
-          → Gives (delivers configs pass q stages) log copy n
-      gives stages copy n d over =
+      gives : (qs : List Queue) (copy : ℕ × ℕ) (n : ℕ) → IsDelivered configs log copy sender channel priority q n → WentOver log copy link side
+          → Gives (delivers configs pass q qs) log copy n
+      gives qs copy n d over =
           let r = (came sender channel priority q copy n d).reads in
           let reads : is_queue q (reading_of configs (take n log) d.read.event.act) ≡ true = ap (is_queue q) d.reads ∙ same_queue-refl q in
           let is : delivered_by configs q (take n log) d.read ≡ copy ∷ [] =
@@ -321,12 +346,6 @@ module _ (configs : List Config) (script : List Event) (log : List Entry) (lawfu
           in
           (d.read, d.read_at, Has-kept pass (delivered_by configs q (take n log) d.read) copy (passes copy n d over) (subst (λ (l : List (ℕ × ℕ)). Has l copy) (sym is) (inl refl)))
 
-    -- it went over one link
-    ends_there : (link : ℕ) (side : Side) (copy : ℕ × ℕ) → WentOver log copy link side → (p : Queue) (l : ℕ) (d : Side) → WentOver log copy l d → ComesTo configs log p l d
-        → IsAtEnd configs log sender channel priority link side q linked_once p
-    ends_there link side copy over (queue.Link e s) l d other ends = let same = one_way copy l d other link side over in (ends.0 ∙ same.0, ends.1 ∙ same.1)
-    ends_there link side copy over _ l d other ends = tt
-
     -- one that is delivered at an earlier entry was accepted earlier
     earlier : (link : ℕ) (side : Side) (first second : ℕ × ℕ) (m n : ℕ) → IsDelivered configs log first sender channel priority q m → IsDelivered configs log second sender channel priority q n
         → WentOver log first link side → WentOver log second link side → m < n → is_before first second ≡ true
@@ -334,12 +353,13 @@ module _ (configs : List Config) (script : List Event) (log : List Entry) (lawfu
         let c = came sender channel priority q first m a in
         let same = one_way first c.link c.side c.over link side over_first in
         let begins : Writes configs log sender link side = subst (λ d. Writes configs log sender link d) same.1 (subst (λ l. Writes configs log sender l c.side) same.0 c.begins) in
-        let stages = stages_of configs log sender channel priority link side q linked_once begins q in
-        let order : AreInOrder (delivered configs (pass link side) q stages log) =
-        delivered_in_order configs (pass link side) q stages log
-        (way_in_order configs log sender channel priority link side q linked_once begins c.can (ends_there link side first over_first q c.link c.side c.over c.ends) (halves_meet configs script log lawful) script lawful)
+        let ends : ComesTo configs log q link side = subst (λ d. ComesTo configs log q link d) same.1 (subst (λ l. ComesTo configs log q l c.side) same.0 c.ends) in
+        let qs = stages configs log sender channel priority link side q linked_once begins ends in
+        let order : AreInOrder (delivered configs (pass link side) q qs log) =
+        delivered_in_order configs (pass link side) q qs log
+        (way_in_order configs log sender channel priority link side q linked_once begins ends c.can (halves_meet configs script log lawful) script lawful)
         in
-        given_before (delivers configs (pass link side) q stages) IsBefore log first second m n order (gives link side stages first m a over_first) (gives link side stages second n b over_second) h
+        given_before (delivers configs (pass link side) q qs) IsBefore log first second m n order (gives link side qs first m a over_first) (gives link side qs second n b over_second) h
 
     -- one entry delivers one copy
     same_entry : (first second : ℕ × ℕ) (m n : ℕ) → IsDelivered configs log first sender channel priority q m → IsDelivered configs log second sender channel priority q n → m ≡ n

@@ -1,6 +1,6 @@
 -- The shape of a router's step.
 use Rattle.p2p_log.specs.Copies.{accepted}
-use Rattle.std.proofs.Common.{◌≡◌, ℕ, ◌+◌, Bool, true, false, cond, List, [], ◌∷◌, map, length, Option, Some, refl, ap, sym, subst, ◌∙◌, arith, eq-eqb, leb-true}
+use Rattle.std.proofs.Common.{◌≡◌, ℕ, ◌+◌, Bool, true, false, cond, List, [], ◌∷◌, map, length, Option, Some, inr, refl, ap, sym, subst, ◌∙◌, arith, eq-eqb, leb-true}
 use Rattle.std.specs.Prelude.{◌==◌, ◌&&◌, nat_le, nat_lt, count_by, filter, slice_get}
 use Rattle.std.specs.List.{AllByRecursion as Each}
 use Rattle.std.proofs.lemmas.Bool.{false≢true}
@@ -167,7 +167,7 @@ module _ (configs : List Config) (log : List Entry) (n : ℕ) (x : Envelope) (re
         spread_each (λ d. is_item_end d ≡ false) IsRelay size left n priority (routes log n) send frame to (λ p o. refl)
         (λ p k conn here route. (
           relay_fits priority n conn (Some (send, p)) frame,
-          relay_spread configs log x priority n conn (item.Frame (Some (send, p)) frame) (record {
+          inr (relay_spread configs log x priority n conn (item.Frame (Some (send, p)) frame) (record {
             channel = c;
             frame = frame;
             send = send;
@@ -179,7 +179,7 @@ module _ (configs : List Config) (log : List Entry) (n : ℕ) (x : Envelope) (re
             for_key = here;
             route = route;
             put = refl;
-          }),
+          })),
           relay_near priority n conn,
         ))
 

@@ -35,7 +35,7 @@ use Rattle.p2p_log.proofs.Each.{Has, Each-append, Each-weaker, count_by-none}
 use Rattle.p2p_log_rules.specs.Moves.{Moves}
 use Rattle.p2p_log_rules.proofs.Moves.{one_taken, stands_first}
 use Rattle.p2p_log_rules.proofs.Touches.{Reach}
-use Rattle.p2p_log_laws.proofs.Carried.{IsSublist-bare, IsSublist-put}
+use Rattle.p2p_log_laws.proofs.Carried.{IsSublist-bare, IsSublist-beside, IsSublist-put}
 use Rattle.p2p_log_laws.proofs.Fitting.{Fits, StandsFit, is_idle, is_bare, is_item_end, bare_carries_none, ends_copy-none}
 use Rattle.p2p_log_laws.proofs.Showing.{Standing, EndShows, item_shows}
 use Rattle.p2p_log_laws.proofs.Spreading.{borne_by, one}
@@ -102,18 +102,43 @@ pub record IsWritten (configs : List Config) (log : List Entry) (y : Envelope) (
   pub writes : half.writes ≡ s
   pub put : i ≡ y.item
 
--- the message in a frame that a half took to deliver it
-pub record IsReceived (configs : List Config) (log : List Entry) (y : Envelope) (n c : ℕ) (i : Item) : Type 0 where
-  pub conn : ℕ
-  pub half : Half
-  pub copy : ℕ × ℕ
+-- the half of this connection took the message in its frame from its link, when nothing was held at the connection
+pub record CameInFrame (log : List Entry) (y : Envelope) (n conn : ℕ) (half : Half) (c : ℕ) (bytes : List ℕ) (copy : ℕ × ℕ) : Type 0 where
+  pub at : half_at log n conn ≡ Some half
+  pub none_held : line log (queue.Held n conn) ≡ []
+  pub stood : y.queue ≡ queue.Link half.link (other_side half.writes)
   pub frame : List ℕ
   pub limit : ℕ
-  pub bytes : List ℕ
-  pub stood : y.queue ≡ queue.Link half.link (other_side half.writes)
-  pub at : half_at log n conn ≡ Some half
   pub is : y.item ≡ item.Frame (Some copy) frame
   pub read : message_in frame limit ≡ Some (c, bytes)
+
+-- the message in a frame that a half took to deliver it
+pub record IsReceived (log : List Entry) (y : Envelope) (n c : ℕ) (i : Item) : Type 0 where
+  pub conn : ℕ
+  pub half : Half
+  pub bytes : List ℕ
+  pub copy : ℕ × ℕ
+  pub came : CameInFrame log y n conn half c bytes copy
+  pub put : i ≡ item.Message bytes copy half.peer
+
+-- the message in a frame that the half of this connection took to hold it
+pub record IsHeldBack (log : List Entry) (y : Envelope) (n conn : ℕ) (i : Item) : Type 0 where
+  pub half : Half
+  pub channel : ℕ
+  pub bytes : List ℕ
+  pub copy : ℕ × ℕ
+  pub came : CameInFrame log y n conn half channel bytes copy
+  pub put : i ≡ item.Held channel bytes copy
+
+-- the message that was held at a connection
+pub record IsRetried (log : List Entry) (y : Envelope) (n c : ℕ) (i : Item) : Type 0 where
+  pub conn : ℕ
+  pub half : Half
+  pub bytes : List ℕ
+  pub copy : ℕ × ℕ
+  pub at : half_at log n conn ≡ Some half
+  pub stood : y.queue ≡ queue.Held n conn
+  pub is : y.item ≡ item.Held c bytes copy
   pub put : i ≡ item.Message bytes copy half.peer
 
 -- what an act puts there of itself
@@ -128,14 +153,16 @@ abbrev pub OfItem : List Config → List Entry → Envelope → Queue → Item �
 OfItem configs log y (queue.High n conn) i = IsSpread log y n true conn i
 OfItem configs log y (queue.Low n conn) i = IsSpread log y n false conn i
 OfItem configs log y (queue.Link link s) i = IsWritten configs log y link s i
-OfItem configs log y (queue.Channel n c) i = IsReceived configs log y n c i
+OfItem configs log y (queue.Held n conn) i = IsHeldBack log y n conn i
+OfItem configs log y (queue.Channel n c) i = IsReceived log y n c i ⊎ IsRetried log y n c i
 OfItem configs log y _ i = ⊥
 
 abbrev pub IsOwn : List Config → List Entry → Act → Reply → Queue × Item → Type 0
 IsOwn configs log a r x = (is_idle x.1 ≡ true) ⊎ OfAct configs log a r x.0 x.1
 
+-- what is put with an item that is taken comes of it, or tells of nothing
 abbrev pub ComesOf : List Config → List Entry → Envelope → Queue × Item → Type 0
-ComesOf configs log y x = OfItem configs log y x.0 x.1
+ComesOf configs log y x = (is_idle x.1 ≡ true) ⊎ OfItem configs log y x.0 x.1
 
 -- the act, or an item that is taken
 abbrev pub Origin : List Config → List Entry → Act → Reply → List Envelope → Queue × Item → Type 0
@@ -154,7 +181,8 @@ spread_relay configs log y false n conn i h = h
 pub idle_bare : (i : Item) → is_idle i ≡ true → is_bare i ≡ true
 idle_bare (item.Ready conn key) h = absurd (cc)
 idle_bare (item.Content c frame priority send to) h = absurd (cc)
-idle_bare (item.Frame copy frame) h = absurd (cc)
+idle_bare (item.Frame (Some copy) frame) h = absurd (cc)
+idle_bare (item.Held c bytes copy) h = absurd (cc)
 idle_bare (item.Message bytes copy from) h = absurd (cc)
 idle_bare _ h = refl
 
@@ -189,6 +217,14 @@ module _ (configs : List Config) (log : List Entry) (a : Act) (r : Reply) where
       → copies_of x.1 ≡ copies_of y.item → Moved taken rest → Moved (y ∷ taken) (x ∷ rest)
   Moved-put y taken x rest from same more =
       (x ∷ [], rest, refl, (from, tt), λ p. subst (IsSublist (put_copies (filter p (x ∷ [])))) same (IsSublist-put p x), more)
+
+  -- before it all what tells of nothing
+  pub Moved-idle : (taken : List Envelope) (x : Queue × Item) (puts : List (Queue × Item)) → is_idle x.1 ≡ true → Moved taken puts → Moved taken (x ∷ puts)
+  Moved-idle [] x puts idle m = ((inl idle, m.0), λ p. IsSublist-beside p x puts (copies_from (length log) 0 (keys_sent (sending_of a r))) (idle_bare x.1 idle) (m.1 p))
+  Moved-idle (y ∷ taken) x puts idle m =
+      let front : List (Queue × Item) = m.0 in
+      let rest : List (Queue × Item) = m.1 in
+      (x ∷ front, rest, ap (λ l. x ∷ l) m.2, (inl idle, m.3), λ p. IsSublist-beside p x front (copies_of y.item) (idle_bare x.1 idle) (m.4 p), m.5)
 
   -- all puts are of one item
   pub Moved-all : (y : Envelope) (puts : List (Queue × Item)) → Each (ComesOf configs log y) puts

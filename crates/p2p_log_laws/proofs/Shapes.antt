@@ -6,7 +6,8 @@ use Rattle.p2p_log.specs.declared.event.Act.{Act}
 use Rattle.p2p_log.specs.declared.event.Act.TheVariants as act
 use Rattle.p2p_log_rules.specs.Effect.{row}
 use Rattle.p2p_log_laws.proofs.CallShapes.{register_shape, start_shape, send_shape, recv_shape}
-use Rattle.p2p_log_laws.proofs.ConnShapes.{send_step_shape, recv_step_shape}
+use Rattle.p2p_log_laws.proofs.ConnShapes.{send_step_shape}
+use Rattle.p2p_log_laws.proofs.ReceiverShape.{recv_step_shape}
 use Rattle.p2p_log_laws.proofs.RouterShape.{router_shape}
 use Rattle.p2p_log_laws.proofs.Shape.{Shape}
 use Rattle.p2p_log_laws.proofs.AttemptShape.{attempt_shape, resolve_shape, refuse_shape, connect_shape}
@@ -24,8 +25,8 @@ row_shape configs log at seed (act.Register c n rate) = register_shape configs l
 row_shape configs log at seed (act.Start n) = start_shape configs log n
 row_shape configs log at seed (act.Send bytes c n priority to) = send_shape configs log bytes c n priority to
 row_shape configs log at seed (act.Router n) = router_shape configs log n
-row_shape configs log at seed (act.SendStep conn n) = send_step_shape configs log conn n
-row_shape configs log at seed (act.RecvStep conn n) = recv_step_shape configs log conn n
+row_shape configs log at seed (act.SendStep conn n) = send_step_shape configs log conn n at
+row_shape configs log at seed (act.RecvStep conn n) = recv_step_shape configs log conn n at
 row_shape configs log at seed (act.Recv c n) = recv_shape configs log c n
 row_shape configs log at seed (act.Ask what n) = ask_shape configs log n what
 row_shape configs log at seed (act.Answer question) = answer_shape configs log question

@@ -14,13 +14,14 @@ use Rattle.p2p_log.specs.declared.entry.Reply.{Reply}
 use Rattle.p2p_log.specs.declared.event.Event.{Event}
 use Rattle.p2p_log.specs.declared.event.Act.{Act}
 use Rattle.p2p_log_rules.specs.declared.row.Row.{Row}
-use Rattle.p2p_log.specs.Lines.{name_of, ended_item, goes, stays, stands_in, live, placed}
+use Rattle.p2p_log.specs.Lines.{name_of, ended_item, goes, stays, stands_in, live, line, placed}
 use Rattle.p2p_log.specs.Copies.{copies_of, copies_from}
 use Rattle.p2p_log_rules.specs.Effect.{entry_of, goes_to}
 use Rattle.p2p_log.proofs.Filters.{filter-swap, filter-none}
 use Rattle.p2p_log.proofs.Lines.{live-append, filter_stays-append}
 use Rattle.p2p_log.proofs.Names.{AreApart-live_from}
 use Rattle.p2p_log_laws.proofs.Carried.{copies_of-bare}
+use Rattle.p2p_log_laws.proofs.Fitting.{is_idle}
 use Rattle.p2p_log.proofs.Each.{Has, Has-first, Has-after, Each-has, Each-from_has, Each-append}
 use Rattle.p2p_log.proofs.QueueNames.{queue_from_same}
 use Rattle.p2p_log.proofs.Taken.{filter-taken}
@@ -55,6 +56,15 @@ module _ (test : ℕ × ℕ → Bool) (q : Queue) where
       ap (copies_in test q) (live-append log e)
       ∙ (copies_in-append (filter (stays (goes e)) (live log)) (placed (length log) 0 e.puts)
       ∙ ap (λ l. copies_in test q (filter (stays (goes e)) (live log)) ++ filter test l) (carried-placed q (length log) 0 e.puts))
+
+  -- where nothing stands and nothing is put, nothing stands afterwards
+  pub copies_in-none : (log : List Entry) (e : Entry) → line log q ≡ [] → Each (λ x. goes_to q x ≡ false) e.puts → copies_in test q (live (log ++ e ∷ [])) ≡ []
+  unfolding line
+  copies_in-none log e none puts =
+      let gone = stays (goes e) in
+      let kept : filter (stands_in q) (filter gone (live log)) ≡ [] = filter-swap (stands_in q) gone (live log) ∙ ap (filter gone) none in
+      copies_in-live log e
+      ∙ (ap (λ (l : List Envelope). filter test (carried l) ++ copies_put test q e.puts) kept ∙ ap (λ (l : List (Queue × Item)). filter test (put_copies l)) (filter-none (goes_to q) e.puts puts))
 
 module _ (log : List Entry) (ev : Event) (r : Row) (m : Moves log r) (test : ℕ × ℕ → Bool) where
   -- the copies that stay behind what is taken
@@ -91,6 +101,10 @@ module _ (test : ℕ × ℕ → Bool) where
   -- none of these copies passes the test
   abbrev pub Fail : List (ℕ × ℕ) → Type 0
   Fail copies = Each (λ c. test c ≡ false) copies
+
+  -- what is idle carries none
+  idle_fails : (i : Item) → is_idle i ≡ true → Fail (copies_of i)
+  idle_fails i idle = subst Fail (sym (copies_of-bare i (idle_bare i idle))) tt
 
   module _ (q : Queue) where
     fail_put : (P : Queue × Item → Type 0) → ((x : Queue × Item) → P x → x.0 ≡ q → Fail (copies_of x.1))
@@ -133,7 +147,7 @@ module _ (test : ℕ × ℕ → Bool) where
     module _ (q from : Queue) (own : OwnFails q) (others : OthersFail q from) where
       own_put : (x : Queue × Item) → IsOwn configs log a r x → x.0 ≡ q → Fail (copies_of x.1)
       own_put x o e = elim o [
-        | inl idle ↦ subst Fail (sym (copies_of-bare x.1 (idle_bare x.1 idle))) tt
+        | inl idle ↦ idle_fails x.1 idle
         | inr h ↦ own x.1 (subst (λ p. OfAct configs log a r p x.1) e h)
       ]
 
@@ -143,7 +157,10 @@ module _ (test : ℕ × ℕ → Bool) where
       part_from y front false e known within origins some =
           filter-none test (put_copies (filter (goes_to q) front))
           (fail_put q (λ x. Has all x × ComesOf configs log y x)
-          (λ x o here. others y x.1 known (subst (λ p. Has all (p, x.1)) here o.0) (subst (λ p. OfItem configs log y p x.1) here o.1) e) front
+          (λ x o here. elim o.1 [
+            | inl idle ↦ idle_fails x.1 idle
+            | inr h ↦ others y x.1 known (subst (λ p. Has all (p, x.1)) here o.0) (subst (λ p. OfItem configs log y p x.1) here h) e
+          ]) front
           (Each-from_has (λ x. Has all x × ComesOf configs log y x) front (λ x has. (within x has, Each-has (ComesOf configs log y) front x origins has))))
 
       enters_part : (taken : List Envelope) (puts : List (Queue × Item)) → ((x : Queue × Item) → Has puts x → Has all x) → Each Known taken → Moved configs log a r taken puts
@@ -175,7 +192,8 @@ module _ (test : ℕ × ℕ → Bool) where
         let rest : List (Queue × Item) = m.1 in
         let nothing : copies_put test q front ≡ [] =
         filter-none test (put_copies (filter (goes_to q) front))
-        (fail_put q (ComesOf configs log y) (λ x o here. none y x.1 known.0 (subst (λ p. OfItem configs log y p x.1) here o)) front m.3)
+        (fail_put q (ComesOf configs log y)
+        (λ x o here. elim o [ inl idle ↦ idle_fails x.1 idle | inr h ↦ none y x.1 known.0 (subst (λ p. OfItem configs log y p x.1) here h) ]) front m.3)
         in
         let parts : copies_put test q puts ≡ copies_put test q rest = ap (copies_put test q) m.2 ∙ (copies_put-append q front rest ∙ ap (λ l. l ++ copies_put test q rest) nothing) in
         subst (λ l. IsSublist l (filter test (copies_from (length log) 0 (keys_sent (sending_of a r))))) (sym parts) (enters_first q none taken rest known.1 m.5)

@@ -7,7 +7,7 @@ use Rattle.p2p_log_rules.specs.Effect.{other_side}
 use Rattle.p2p_log.specs.QueueCode.{owner_of}
 use Rattle.p2p_log_laws.proofs.Fitting.{fits, is_idle}
 use Rattle.std.specs.Prelude.{true}
-use Rattle.std.proofs.Common.{◌≡◌, ℕ, Bool, true, false, List, ◌++◌, Some, None, ◌⊎◌, inl, inr, refl}
+use Rattle.std.proofs.Common.{◌≡◌, ℕ, Bool, true, false, List, ◌++◌, Some, ◌⊎◌, inl, inr, refl}
 use Rattle.std.specs.Prelude.{slice_get}
 use Rattle.p2p_base.specs.declared.key.Key.{Key}
 use Rattle.p2p_log.specs.declared.config.Config.{Config}
@@ -141,6 +141,38 @@ IsArrived-longer configs log more bytes copy from node channel h = record {
   ends = h.ends;
 }
 
+-- the message is of what the one at the other end of the half's link sent to this node
+pub record Arrives (configs : List Config) (log : List Entry) (n : ℕ) (half : Half) (copy : ℕ × ℕ) (message : ℕ × List ℕ) : Type 0 where
+  pub sender : Sender
+  pub begins : Writes configs log sender half.link (other_side half.writes)
+  pub key : HasKey configs log sender half.peer
+  pub sent : IsCopyOf log copy sender message.0 message.1 (key_at configs n)
+
+pub Arrives-longer : (configs : List Config) (log more : List Entry) (n : ℕ) (half : Half) (copy : ℕ × ℕ) (message : ℕ × List ℕ)
+    → Arrives configs log n half copy message → Arrives configs (log ++ more) n half copy message
+Arrives-longer configs log more n half copy message h = record {
+  sender = h.sender;
+  begins = Writes-longer configs log more h.sender half.link (other_side half.writes) h.begins;
+  key = HasKey-longer configs log more h.sender half.peer h.key;
+  sent = IsCopyOf-longer log more copy h.sender message.0 message.1 (key_at configs n) h.sent;
+}
+
+-- the message is of a copy for this node, and came over the link of this connection, from its peer
+pub record IsHeld (configs : List Config) (log : List Entry) (node conn channel : ℕ) (bytes : List ℕ) (copy : ℕ × ℕ) : Type 0 where
+  pub half : Half
+  pub at : half_at log node conn ≡ Some half
+  pub over : WentOver log copy half.link (other_side half.writes)
+  pub arrives : Arrives configs log node half copy (channel, bytes)
+
+pub IsHeld-longer : (configs : List Config) (log more : List Entry) (node conn channel : ℕ) (bytes : List ℕ) (copy : ℕ × ℕ)
+    → IsHeld configs log node conn channel bytes copy → IsHeld configs (log ++ more) node conn channel bytes copy
+IsHeld-longer configs log more node conn channel bytes copy h = record {
+  half = h.half;
+  at = half_at-longer log more node conn h.half h.at;
+  over = WentOver-longer log more copy h.half.link (other_side h.half.writes) h.over;
+  arrives = Arrives-longer configs log more node h.half copy (channel, bytes) h.arrives;
+}
+
 -- the copy is for the peer of a half that writes here, or a raw peer's
 abbrev pub IsOnLink : List Config → List Entry → ℕ → Side → ℕ × ℕ → List ℕ → Type 0
 IsOnLink configs log link side copy frame =
@@ -170,9 +202,10 @@ Tells configs log (item.Content c frame priority send to) (queue.Router n) = (by
 Tells configs log (item.Frame (Some copy) frame) (queue.High n conn) = (half : Half) × IsAddressed configs log n conn half copy frame
 Tells configs log (item.Frame (Some copy) frame) (queue.Low n conn) = (half : Half) × IsAddressed configs log n conn half copy frame
 Tells configs log (item.Frame (Some copy) frame) (queue.Link link side) = IsOnLink configs log link side copy frame
+-- the copy came over this connection
+Tells configs log (item.Held c bytes copy) (queue.Held n conn) = IsHeld configs log n conn c bytes copy
 -- the copy arrived here
 Tells configs log (item.Message bytes copy from) (queue.Channel n c) = IsArrived configs log bytes copy from n c
-Tells configs log (item.Frame None frame) q = Unit {0}
 -- what is idle tells nothing, and the others stand in no other queue
 Tells configs log i q = elim (is_idle i) [ true ↦ Unit {0} | false ↦ ⊥ ]
 
@@ -184,6 +217,7 @@ Tells-longer configs log more (item.Content c frame priority send to) (queue.Rou
 Tells-longer configs log more (item.Frame (Some copy) frame) (queue.High n conn) h = (h.0, IsAddressed-longer configs log more n conn h.0 copy frame h.1)
 Tells-longer configs log more (item.Frame (Some copy) frame) (queue.Low n conn) h = (h.0, IsAddressed-longer configs log more n conn h.0 copy frame h.1)
 Tells-longer configs log more (item.Frame (Some copy) frame) (queue.Link link side) h = IsOnLink-longer configs log more link side copy frame h
+Tells-longer configs log more (item.Held c bytes copy) (queue.Held n conn) h = IsHeld-longer configs log more n conn c bytes copy h
 Tells-longer configs log more (item.Message bytes copy from) (queue.Channel n c) h = IsArrived-longer configs log more bytes copy from n c h
 Tells-longer configs log more _ _ h = h
 

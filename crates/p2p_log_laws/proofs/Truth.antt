@@ -25,7 +25,7 @@ use Rattle.p2p_log_rules.specs.Frames.{frame_of, message_in}
 use Rattle.p2p_log_rules.specs.Effect.{entry_of, relay_queue, other_side}
 use Rattle.p2p_log.proofs.Lines.{live-append}
 use Rattle.p2p_log_laws.specs.Delivered.{IsCopyOf, HasKey}
-use Rattle.p2p_log_laws.specs.Order.{WentOver, Writes}
+use Rattle.p2p_log_laws.specs.Order.{WentOver}
 use Rattle.p2p_log.proofs.Each.{Each-has, Each-append, Each-filter, Each-weaker}
 use Rattle.p2p_log_laws.proofs.Fitting.{Each-placed, is_idle}
 use Rattle.p2p_log_laws.proofs.Meeting.{other_side-twice, HalvesMeet}
@@ -34,8 +34,8 @@ use Rattle.p2p_log_laws.proofs.Routing.{RoutesHold, route_peer}
 use Rattle.p2p_log_rules.specs.Moves.{Moves}
 use Rattle.p2p_log_rules.proofs.Connections.{half_at-longer}
 use Rattle.p2p_log_rules.proofs.Moves.{taken_stood}
-use Rattle.p2p_log_laws.proofs.Shape.{Origin, OfAct, OfItem, IsSpread, IsReceived, Laws, Moved-origins}
-use Rattle.p2p_log_laws.proofs.Telling.{IsOnLink, IsArrived, IsConnection-longer, Tells, Tells-longer, PutTells, StandTells, IsAddressed, copy_of_send}
+use Rattle.p2p_log_laws.proofs.Shape.{Origin, OfAct, OfItem, IsSpread, CameInFrame, IsReceived, IsHeldBack, IsRetried, Laws, Moved-origins}
+use Rattle.p2p_log_laws.proofs.Telling.{Arrives, IsArrived, IsHeld, IsConnection-longer, Tells, Tells-longer, PutTells, StandTells, IsAddressed, copy_of_send}
 use Rattle.p2p_log.proofs.Taken.{Each-taken}
 
 -- what a frame gives is what it is of
@@ -48,7 +48,8 @@ FramesGive = (channel : ℕ) (bytes : List ℕ) (limit : ℕ) (message : ℕ × 
 idle_tells : (configs : List Config) (log : List Entry) (i : Item) (q : Queue) → is_idle i ≡ true → Tells configs log i q
 idle_tells configs log (item.Ready conn key) q h = absurd (cc)
 idle_tells configs log (item.Content c frame priority send to) q h = absurd (cc)
-idle_tells configs log (item.Frame copy frame) q h = absurd (cc)
+idle_tells configs log (item.Frame (Some copy) frame) q h = absurd (cc)
+idle_tells configs log (item.Held c bytes copy) q h = absurd (cc)
 idle_tells configs log (item.Message bytes copy from) q h = absurd (cc)
 idle_tells configs log (item.Connect conn key) q h = absurd (cc)
 idle_tells configs log _ q h = tt
@@ -74,13 +75,6 @@ link_tells configs log true n conn half _ at h = h
 link_tells configs log false n conn half _ at h = h
 
 -- ---- what a half takes from its link
-
--- the frame is of what the node at the other end sent to this one
-pub record Arrives (configs : List Config) (log : List Entry) (n : ℕ) (half : Half) (copy : ℕ × ℕ) (message : ℕ × List ℕ) : Type 0 where
-  pub sender : Sender
-  pub begins : Writes configs log sender half.link (other_side half.writes)
-  pub key : HasKey configs log sender half.peer
-  pub sent : IsCopyOf log copy sender message.0 message.1 (key_at configs n)
 
 pub arrives : (configs : List Config) → FramesGive → (log : List Entry) → HalvesMeet configs log → (n conn : ℕ) (half : Half) (copy : ℕ × ℕ) (frame : List ℕ) (limit : ℕ) (message : ℕ × List ℕ)
     → half_at log n conn ≡ Some half → Tells configs log (item.Frame (Some copy) frame) (queue.Link half.link (other_side half.writes))
@@ -189,31 +183,50 @@ module _ (configs : List Config) (frames : FramesGive) (log : List Entry) (ev : 
       put = was_put.put ∙ (ap (λ (q : Queue). Some (q, y.item)) stood ∙ ap (λ (i : Item). Some (queue.Link link side, i)) is);
     }
 
-    message_tells : (n c conn : ℕ) (half : Half) (copy : ℕ × ℕ) (frame : List ℕ) (limit : ℕ) (bytes : List ℕ) → half_at log n conn ≡ Some half
-        → message_in frame limit ≡ Some (c, bytes) → WentOver log copy half.link (other_side half.writes) → IsOnLink configs log half.link (other_side half.writes) copy frame
-        → IsArrived configs log bytes copy half.peer n c
-    message_tells n c conn half copy frame limit bytes at read over told_there =
-        let a : Arrives configs log n half copy (c, bytes) = arrives configs frames log halves n conn half copy frame limit (c, bytes) at told_there read in
+    -- what came in a frame may be held at its connection
+    frame_held : (n conn : ℕ) (half : Half) (c : ℕ) (bytes : List ℕ) (copy : ℕ × ℕ) → CameInFrame log y n conn half c bytes copy → IsHeld configs log n conn c bytes copy
+    frame_held n conn half c bytes copy h =
+        let q : Queue = queue.Link half.link (other_side half.writes) in
         record {
-          sender = a.sender;
-          key = a.key;
-          sent = a.sent;
-          link = half.link;
-          side = other_side half.writes;
-          over = over;
-          begins = a.begins;
+          half = half;
+          at = h.at;
+          over = went_over half.link (other_side half.writes) copy h.frame h.stood h.is;
+          arrives = arrives configs frames log halves n conn half copy h.frame h.limit (c, bytes) h.at (told_as (item.Frame (Some copy) h.frame) q h.is h.stood) h.read;
+        }
+
+    -- and what may be held there has arrived
+    held_arrived : (n conn : ℕ) (half : Half) (c : ℕ) (bytes : List ℕ) (copy : ℕ × ℕ) → half_at log n conn ≡ Some half → IsHeld configs log n conn c bytes copy
+        → IsArrived configs log bytes copy half.peer n c
+    held_arrived n conn half c bytes copy at h =
+        let same : h.half ≡ half = same_Some h.half half (sym h.at ∙ at) in
+        record {
+          sender = h.arrives.sender;
+          key = subst (λ (k : Half). HasKey configs log h.arrives.sender k.peer) same h.arrives.key;
+          sent = h.arrives.sent;
+          link = h.half.link;
+          side = other_side h.half.writes;
+          over = h.over;
+          begins = h.arrives.begins;
           conn = conn;
-          far = half;
-          far_at = at;
+          far = h.half;
+          far_at = h.at;
           far_over = refl;
           ends = refl;
         }
 
-    received_tells : (n c : ℕ) (i : Item) → IsReceived configs log y n c i → Tells configs log i (queue.Channel n c)
+    received_tells : (n c : ℕ) (i : Item) → IsReceived log y n c i → Tells configs log i (queue.Channel n c)
     received_tells n c i h =
         subst (λ j. Tells configs log j (queue.Channel n c)) (sym h.put)
-        (message_tells n c h.conn h.half h.copy h.frame h.limit h.bytes h.at h.read (went_over h.half.link (other_side h.half.writes) h.copy h.frame h.stood h.is)
-        (told_as (item.Frame (Some h.copy) h.frame) (queue.Link h.half.link (other_side h.half.writes)) h.is h.stood))
+        (held_arrived n h.conn h.half c h.bytes h.copy h.came.at (frame_held n h.conn h.half c h.bytes h.copy h.came))
+
+    held_tells : (n conn : ℕ) (i : Item) → IsHeldBack log y n conn i → Tells configs log i (queue.Held n conn)
+    held_tells n conn i h =
+        subst (λ j. Tells configs log j (queue.Held n conn)) (sym h.put) (frame_held n conn h.half h.channel h.bytes h.copy h.came)
+
+    retried_tells : (n c : ℕ) (i : Item) → IsRetried log y n c i → Tells configs log i (queue.Channel n c)
+    retried_tells n c i h =
+        subst (λ j. Tells configs log j (queue.Channel n c)) (sym h.put)
+        (held_arrived n h.conn h.half c h.bytes h.copy h.at (told_as (item.Held c h.bytes h.copy) (queue.Held n h.conn) h.is h.stood))
 
     item_tells : (q : Queue) (i : Item) → OfItem configs log y q i → Tells configs log i q
     item_tells (queue.High n conn) i h = spread_tells n true conn i h
@@ -223,7 +236,8 @@ module _ (configs : List Config) (frames : FramesGive) (log : List Entry) (ev : 
         (subst (λ w. Tells configs log i (queue.Link h.half.link w)) h.writes
         (subst (λ j. Tells configs log j (queue.Link h.half.link h.half.writes)) (sym h.put)
         (link_tells configs log h.priority h.node h.conn h.half y.item h.at (told_as y.item (relay_queue h.priority h.node h.conn) refl h.stood))))
-    item_tells (queue.Channel n c) i h = received_tells n c i h
+    item_tells (queue.Held n conn) i h = held_tells n conn i h
+    item_tells (queue.Channel n c) i h = elim h [ inl received ↦ received_tells n c i received | inr retried ↦ retried_tells n c i retried ]
     item_tells _ i h = absurd h
 
   tells : (x : Queue × Item) → Origin configs log ev.act r.reply m.taken x → PutTells configs longer x
@@ -232,9 +246,12 @@ module _ (configs : List Config) (frames : FramesGive) (log : List Entry) (ev : 
     | inr item ↦
         let y : Envelope = item.0 in
         let stood = taken_stood log ev r m in
-        Tells-longer configs log (entry_of ev r ∷ []) x.1 x.0
-        (item_tells y (Each-has (StandTells configs log) m.taken y (Each-taken (StandTells configs log) (live log) m.taken tell stood) item.1)
-        (Each-has (IsPut log) m.taken y (Each-taken (IsPut log) (live log) m.taken (each_put log) stood) item.1) x.0 x.1 item.2)
+        let told = Each-has (StandTells configs log) m.taken y (Each-taken (StandTells configs log) (live log) m.taken tell stood) item.1 in
+        let was_put = Each-has (IsPut log) m.taken y (Each-taken (IsPut log) (live log) m.taken (each_put log) stood) item.1 in
+        elim item.2 [
+          | inl h ↦ idle_tells configs longer x.1 x.0 h
+          | inr h ↦ Tells-longer configs log (entry_of ev r ∷ []) x.1 x.0 (item_tells y told was_put x.0 x.1 h)
+        ]
   ]
 
   pub tells_kept : Each (StandTells configs longer) (live longer)

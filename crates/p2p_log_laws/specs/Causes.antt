@@ -2,7 +2,7 @@
 use Rattle.p2p_log.specs.Sending.{Sender, Sending, sending_of}
 use Rattle.p2p_log.specs.Copies.{accepted}
 use Rattle.p2p_log.specs.Sending.Sender.{Node}
-use Rattle.std.specs.Prelude.{◌≡◌, ℕ, ◌+◌, ◌<◌, ◌≤◌, Bool, false, ◌==◌, ◌&&◌, nat_lt, List, [], ◌∷◌, length, take, count_by, Some, None, slice_get}
+use Rattle.std.specs.Prelude.{◌≡◌, ◌⊎◌, ℕ, ◌+◌, ◌<◌, ◌≤◌, Bool, false, ◌==◌, ◌&&◌, nat_lt, List, [], ◌∷◌, length, take, count_by, Some, None, slice_get}
 use Rattle.p2p_base.specs.declared.key.Key.{Key}
 use Rattle.p2p_log.specs.declared.config.Config.{Config}
 use Rattle.p2p_log.specs.declared.queue.Queue.{Queue}
@@ -87,23 +87,29 @@ pub record RelayIsFull (configs : List Config) (before : List Entry) (e : Entry)
 
 -- ---- mailbox full
 
--- the entry is a step of a receiving half, which takes the copy's frame, the oldest in its link; the copy is for this
--- node, and the queue of the channel on which it was sent holds its capacity
+-- of a copy a half takes its frame, from the link that it reads, or its message, where this waits for a quota of its connection
+abbrev pub BringsCopy : ℕ → ℕ → Half → ℕ × ℕ → ℕ → List ℕ → Queue → Item → Type 0
+BringsCopy node conn half copy channel bytes q i =
+    ((q ≡ queue.Link half.link (other_side half.writes)) × ((frame : List ℕ) × (i ≡ item.Frame (Some copy) frame)))
+    ⊎ ((q ≡ queue.Held node conn) × (i ≡ item.Held channel bytes copy))
+
+-- the entry is a step of a receiving half, which takes what brings it the copy, the oldest where it stands; the copy is for
+-- this node, and the queue of the channel on which it was sent holds its capacity
 pub record MailboxIsFull (configs : List Config) (before : List Entry) (e : Entry) (copy : ℕ × ℕ) : Type 0 where
   pub conn : ℕ
   pub node : ℕ
   pub steps : e.event.act ≡ act.RecvStep conn node
   pub half : Half
   pub at : half_at before node conn ≡ Some half
+  pub from : Queue
   pub oldest : Envelope
   pub later : List Envelope
-  pub stood : line before (queue.Link half.link (other_side half.writes)) ≡ oldest ∷ later
+  pub stood : line before from ≡ oldest ∷ later
   pub takes : e.takes ≡ name_of oldest ∷ []
-  pub frame : List ℕ
-  pub is : oldest.item ≡ item.Frame (Some copy) frame
   pub sender : Sender
   pub channel : ℕ
   pub bytes : List ℕ
+  pub brings : BringsCopy node conn half copy channel bytes from oldest.item
   pub sent : IsCopyOf before copy sender channel bytes (key_at configs node)
   pub capacity : ℕ
   pub registered : capacity_in (channels configs before node) channel ≡ Some capacity

@@ -30,6 +30,7 @@ node_of k = record {
   mailbox_size = 4;
   tracked_peer_sets = 4;
   send_batch_size = 8;
+  ping_frequency = 5000000000;
   allow_private_ips = true;
   allow_dns = true;
   bypass_ip_check = false;

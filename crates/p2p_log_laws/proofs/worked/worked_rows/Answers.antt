@@ -14,6 +14,8 @@ use Rattle.p2p_log_rules.specs.Facts.{has_started, registered, taken, taken_at, 
 use Rattle.p2p_log_rules.specs.Handshakes.{handshakes_of, has_taken}
 use Rattle.p2p_log_rules.specs.Links.{dialer_of, openings_of, listening_ends_of}
 use Rattle.p2p_log_rules.specs.Listening.{known_of}
+use Rattle.p2p_log_rules.specs.Metering.{admitted}
+use Rattle.p2p_log_rules.specs.Pings.{last_pinged}
 use Rattle.p2p_log_rules.specs.Spawning.{connections_of}
 use Rattle.p2p_log_rules.specs.Tracking.{calls_of, update_subscriptions, blocked_subscriptions}
 use Rattle.p2p_tracker_calls.specs.Blocks.{block_of}
@@ -37,7 +39,7 @@ unfolding effect row line live_from has_started registered taken taken_at histor
 overwritten = refl
 
 delivery_follows : Follow two_nodes [] delivery
-unfolding effect row line live_from has_started registered taken taken_at history_from state_from routed subscribers routes half_at is_begun is_running attempts_of dials_of handshakes_of has_taken dialer_of openings_of listening_ends_of known_of connections_of calls_of update_subscriptions blocked_subscriptions block_of is_held address_of last_grant is_stale is_connected all_names how_many accepted_sets kept_sets is_tracked is_primary primary_sets secondary_sets kept_of written_over frame decode_frame spelling varint_at exchanged admits
+unfolding effect row line live_from has_started registered taken taken_at history_from state_from routed subscribers routes half_at is_begun is_running attempts_of dials_of handshakes_of has_taken dialer_of openings_of listening_ends_of known_of connections_of calls_of update_subscriptions blocked_subscriptions block_of is_held address_of last_grant is_stale is_connected all_names how_many accepted_sets kept_sets is_tracked is_primary primary_sets secondary_sets kept_of written_over frame decode_frame spelling varint_at exchanged last_pinged admitted admits
 delivery_follows =
     (refl, (refl, (refl, (refl, (refl, (refl, (refl, (refl, (refl, (refl, (refl, (refl, (refl, (refl, (refl, (refl, (refl, (refl, (refl, (refl, (refl, (refl, (refl, (refl, (refl, (refl, (refl, (refl, (refl, (refl, (refl, (refl, (refl, (refl, (refl, (refl, (refl, (refl, (refl, (refl, (refl, tt)))))))))))))))))))))))))))))))))))))))))
 

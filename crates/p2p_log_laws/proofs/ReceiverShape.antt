@@ -1,0 +1,243 @@
+-- The shapes of the steps of a receiving half of a connection.
+use Rattle.std.proofs.Common.{◌≡◌, ℕ, Bool, true, false, cond, List, [], ◌∷◌, length, Option, Some, None, inl, inr, refl, ap, sym, subst, ◌∙◌, eq-eqb, leb-true}
+use Rattle.std.specs.Prelude.{nat_le}
+use Rattle.std.specs.List.{AllByRecursion as Each}
+use Rattle.std.proofs.lemmas.Option.{same_Some}
+use Rattle.p2p_log.specs.declared.config.Config.{Config}
+use Rattle.p2p_log.specs.declared.queue.Queue.{Queue}
+use Rattle.p2p_log.specs.declared.queue.Queue.TheVariants as queue
+use Rattle.p2p_log.specs.declared.item.Item.{Item}
+use Rattle.p2p_log.specs.declared.item.Item.TheVariants as item
+use Rattle.p2p_log.specs.declared.item.Envelope.{Envelope}
+use Rattle.p2p_log.specs.declared.end.End.TheVariants as end
+use Rattle.p2p_log.specs.declared.end.Outcome.TheVariants as outcome
+use Rattle.p2p_log.specs.declared.end.Cause.TheVariants as cause
+use Rattle.p2p_log.specs.declared.entry.Entry.{Entry}
+use Rattle.p2p_log.specs.declared.entry.Reply.TheVariants as reply
+use Rattle.p2p_log.specs.declared.event.Act.{Act}
+use Rattle.p2p_log.specs.declared.event.Act.TheVariants as act
+use Rattle.p2p_log.specs.Copies.{carries, carries_copy, copies_of}
+use Rattle.p2p_log.specs.Lines.{name_of, same_name, line}
+use Rattle.p2p_log_rules.specs.declared.row.Half.{Half}
+use Rattle.p2p_log_rules.specs.declared.row.Row.{Row}
+use Rattle.p2p_log_rules.specs.Connections.{half_at, is_running}
+use Rattle.p2p_log_rules.specs.Effect
+use Rattle.p2p_log_rules.specs.Facts.{channels, capacity_in}
+use Rattle.p2p_log_rules.specs.Frames.{message_in, is_ping_in}
+use Rattle.p2p_log_rules.specs.Metering.{pings, messages, may_pass}
+use Rattle.p2p_log_rules.proofs.Moves.{one_taken}
+use Rattle.p2p_log_rules.proofs.Touches.{reads, writes}
+use Rattle.p2p_log_laws.specs.Causes.{BringsCopy}
+use Rattle.p2p_log_laws.proofs.ConnShapes.{both, or_left, link_in_half}
+use Rattle.p2p_log_laws.proofs.Fitting.{is_bare}
+use Rattle.p2p_log_laws.proofs.FrameLaw.{frames_give}
+use Rattle.p2p_log_laws.proofs.OneShape.{handed_shape, spent_shape}
+use Rattle.p2p_log_laws.proofs.Shape.{Shape, CameInFrame, IsQuiet, OfItem, still, one_move, first_in, quiet_laws, no_delivery}
+use Rattle.p2p_log_laws.proofs.Showing.{Standing, first_tells}
+use Rattle.p2p_log_laws.proofs.Telling.{Arrives, IsHeld}
+use Rattle.p2p_log_laws.proofs.Truth.{arrives}
+
+-- what brings a copy carries it alone
+brings_carried : (node conn : ℕ) (half : Half) (copy : ℕ × ℕ) (channel : ℕ) (bytes : List ℕ) (q : Queue) (i : Item) → BringsCopy node conn half copy channel bytes q i
+    → (copies_of i ≡ copy ∷ []) × ((other : ℕ × ℕ) → carries_copy other i ≡ same_name other copy)
+brings_carried node conn half copy channel bytes q i h = elim h [
+  | inl frame ↦ (ap copies_of frame.1.1, λ other. ap (carries_copy other) frame.1.1)
+  | inr held ↦ (ap copies_of held.1, λ other. ap (carries_copy other) held.1)
+]
+
+module _ (configs : List Config) (log : List Entry) (conn n moment : ℕ) where
+  abbrev step : Act
+  step = act.RecvStep conn n
+
+  -- it reads what is held at its connection, and its link
+  reads_held : reads configs log step (queue.Held n conn) ≡ true
+  reads_held = or_left _ false (both n conn)
+
+  reads_link : (half : Half) → half_at log n conn ≡ Some half → reads configs log step (queue.Link half.link (Effect.other_side half.writes)) ≡ true
+  reads_link half at = link_in_half (half_at log n conn) half n conn (Effect.other_side half.writes) at
+
+  idle_shape : Shape configs log step (Effect.only reply.Idle)
+  idle_shape = still configs log step reply.Idle refl refl
+
+  module _ (half : Half) (at : half_at log n conn ≡ Some half) (q : Queue) (x : Envelope) (rest : List Envelope) (first : line log q ≡ x ∷ rest) (read : reads configs log step q ≡ true) where
+    -- ---- a ping passes, or is held
+
+    light_shape : (puts : List (Queue × Item)) → is_bare x.item ≡ true → Each IsQuiet puts → Each (λ y. writes configs log step y.0 ≡ true) puts
+        → Shape configs log step (record { reply = reply.Ok; takes = name_of x ∷ []; puts = puts; ends = [] })
+    light_shape puts light quiet near =
+        let r : Row = record { reply = reply.Ok; takes = name_of x ∷ []; puts = puts; ends = [] } in
+        record {
+          moves = one_move log q x rest first r refl refl;
+          reach = record { taken = (first_in (reads configs log step) log q x rest first read, tt); ended = tt; puts = near };
+          laws = λ fitting. quiet_laws configs log step r (one_move log q x rest first r refl refl) refl refl (light, tt) tt tt quiet;
+        }
+
+    passed_shape : is_bare x.item ≡ true → Shape configs log step (Effect.pass_row (name_of x))
+    passed_shape light = light_shape [] light tt tt
+
+    ping_held_shape : is_bare x.item ≡ true → Shape configs log step (Effect.hold_row n conn (name_of x) item.Ping)
+    ping_held_shape light = light_shape ((queue.Held n conn, item.Ping) ∷ []) light ((refl, refl), tt) (or_left _ false (both n conn), tt)
+
+    -- ---- a message is delivered, or held
+
+    module _ (copy : ℕ × ℕ) (message : ℕ × List ℕ) (brings : BringsCopy n conn half copy message.0 message.1 q x.item) where
+      held_shape : OfItem configs log x (queue.Held n conn) (item.Held message.0 message.1 copy) → Shape configs log step (Effect.hold_row n conn (name_of x) (item.Held message.0 message.1 copy))
+      held_shape from =
+          let carried = brings_carried n conn half copy message.0 message.1 q x.item brings in
+          handed_shape configs log step reply.Ok refl q x rest first read (queue.Held n conn) (item.Held message.0 message.1 copy) refl
+          (or_left _ false (both n conn)) refl (sym carried.0) carried.1 from
+
+      module _ (from : OfItem configs log x (queue.Channel n message.0) (item.Message message.1 copy half.peer))
+          (arrived : Standing configs log → Arrives configs log n half copy message) where
+        fitting_shape : (capacity : ℕ) (full : Bool) → capacity_in (channels configs log n) message.0 ≡ Some capacity → nat_le capacity (length (line log (queue.Channel n message.0))) ≡ full
+            → Shape configs log step (cond full
+            (record { reply = reply.Ok; takes = name_of x ∷ []; puts = []; ends = end.Copy copy.0 copy.1 (outcome.Dropped cause.MailboxFull) ∷ [] })
+            (record { reply = reply.Ok; takes = name_of x ∷ []; puts = (queue.Channel n message.0, item.Message message.1 copy half.peer) ∷ []; ends = [] }))
+        fitting_shape capacity true known size =
+            spent_shape configs log step reply.Ok refl q x rest first read copy (outcome.Dropped cause.MailboxFull)
+            (brings_carried n conn half copy message.0 message.1 q x.item brings).1
+            (λ stand ev steps.
+            let a : Arrives configs log n half copy message = arrived stand in
+            record {
+              conn = conn;
+              node = n;
+              steps = steps;
+              half = half;
+              at = at;
+              from = q;
+              oldest = x;
+              later = rest;
+              stood = first;
+              takes = refl;
+              sender = a.sender;
+              channel = message.0;
+              bytes = message.1;
+              brings = brings;
+              sent = a.sent;
+              capacity = capacity;
+              registered = known;
+              full = leb-true capacity _ size;
+            })
+            (no_delivery configs log step reply.Ok (x ∷ []) (end.Copy copy.0 copy.1 (outcome.Dropped cause.MailboxFull) ∷ []) refl)
+        fitting_shape capacity false known size =
+            let carried = brings_carried n conn half copy message.0 message.1 q x.item brings in
+            handed_shape configs log step reply.Ok refl q x rest first read (queue.Channel n message.0) (item.Message message.1 copy half.peer) refl
+            (eq-eqb n n refl) refl (sym carried.0) carried.1 from
+
+        deliver_shape : (capacity : ℕ) → capacity_in (channels configs log n) message.0 ≡ Some capacity → Shape configs log step (Effect.deliver_row log n (name_of x) half.peer copy message capacity)
+        deliver_shape capacity known = fitting_shape capacity _ known refl
+
+  -- ---- what is held
+
+  module _ (half : Half) (at : half_at log n conn ≡ Some half) (x : Envelope) (rest : List Envelope) (first : line log (queue.Held n conn) ≡ x ∷ rest) where
+    stood_held : x.queue ≡ queue.Held n conn
+    stood_held = one_taken log (queue.Held n conn) x rest first
+
+    held_arrives : (c : ℕ) (bytes : List ℕ) (copy : ℕ × ℕ) → x.item ≡ item.Held c bytes copy → Standing configs log → Arrives configs log n half copy (c, bytes)
+    held_arrives c bytes copy is stand =
+        let told : IsHeld configs log n conn c bytes copy = first_tells configs log (queue.Held n conn) x rest (item.Held c bytes copy) stand.tells first is in
+        subst (λ h. Arrives configs log n h copy (c, bytes)) (same_Some told.half half (sym told.at ∙ at)) told.arrives
+
+    again_shape : (c : ℕ) (bytes : List ℕ) (copy : ℕ × ℕ) (o : Option ℕ) (passes : Bool) → x.item ≡ item.Held c bytes copy → capacity_in (channels configs log n) c ≡ o
+        → Shape configs log step (elim o [
+          | None ↦ Effect.only reply.Idle
+          | Some capacity ↦ cond passes (Effect.deliver_row log n (name_of x) half.peer copy (c, bytes) capacity) (Effect.only reply.Idle)
+        ])
+    again_shape c bytes copy None passes is known = idle_shape
+    again_shape c bytes copy (Some capacity) true is known =
+        deliver_shape half at (queue.Held n conn) x rest first reads_held copy (c, bytes) (inr (refl, is))
+        (inr (record { conn = conn; half = half; bytes = bytes; copy = copy; at = at; stood = stood_held; is = is; put = refl }))
+        (held_arrives c bytes copy is) capacity known
+    again_shape c bytes copy (Some capacity) false is known = idle_shape
+
+    ping_again_shape : (passes : Bool) → x.item ≡ item.Ping → Shape configs log step (cond passes (Effect.pass_row (name_of x)) (Effect.only reply.Idle))
+    ping_again_shape true is = passed_shape half at (queue.Held n conn) x rest first reads_held (ap is_bare is)
+    ping_again_shape false is = idle_shape
+
+    retry_shape : (i : Item) → x.item ≡ i → Shape configs log step (Effect.retry_row configs log n conn moment half.peer (name_of x) i)
+    retry_shape (item.Held c bytes copy) is = again_shape c bytes copy (capacity_in (channels configs log n) c) (may_pass configs log n conn moment (messages c)) is refl
+    retry_shape item.Ping is = ping_again_shape (may_pass configs log n conn moment pings) is
+    retry_shape _ is = idle_shape
+
+  -- ---- a frame, where nothing is held
+
+  module _ (half : Half) (at : half_at log n conn ≡ Some half) (none_held : line log (queue.Held n conn) ≡ []) (x : Envelope) (rest : List Envelope)
+      (first : line log (queue.Link half.link (Effect.other_side half.writes)) ≡ x ∷ rest) where
+    abbrev link : Queue
+    link = queue.Link half.link (Effect.other_side half.writes)
+
+    abbrev limit : ℕ
+    limit = Effect.limit_at configs n
+
+    came : (copy : ℕ × ℕ) (frame : List ℕ) (message : ℕ × List ℕ) → x.item ≡ item.Frame (Some copy) frame → message_in frame limit ≡ Some message
+        → CameInFrame log x n conn half message.0 message.1 copy
+    came copy frame message is read =
+        record { at = at; none_held = none_held; stood = one_taken log link x rest first; frame = frame; limit = limit; is = is; read = read }
+
+    frame_arrives : (copy : ℕ × ℕ) (frame : List ℕ) (message : ℕ × List ℕ) → x.item ≡ item.Frame (Some copy) frame → message_in frame limit ≡ Some message
+        → Standing configs log → Arrives configs log n half copy message
+    frame_arrives copy frame message is read stand =
+        arrives configs frames_give log stand.halves n conn half copy frame limit message at (first_tells configs log link x rest (item.Frame (Some copy) frame) stand.tells first is) read
+
+    known_shape : (copy : ℕ × ℕ) (frame : List ℕ) (message : ℕ × List ℕ) (o : Option ℕ) (passes : Bool) → x.item ≡ item.Frame (Some copy) frame
+        → message_in frame limit ≡ Some message → capacity_in (channels configs log n) message.0 ≡ o
+        → Shape configs log step (elim o [
+          | None ↦ Effect.only reply.Idle
+          | Some capacity ↦
+              cond passes (Effect.deliver_row log n (name_of x) half.peer copy message capacity) (Effect.hold_row n conn (name_of x) (item.Held message.0 message.1 copy))
+        ])
+    known_shape copy frame message None passes is read known = idle_shape
+    known_shape copy frame message (Some capacity) true is read known =
+        deliver_shape half at link x rest first (reads_link half at) copy message (inl (refl, (frame, is)))
+        (inl (record { conn = conn; half = half; bytes = message.1; copy = copy; came = came copy frame message is read; put = refl }))
+        (frame_arrives copy frame message is read) capacity known
+    known_shape copy frame message (Some capacity) false is read known =
+        held_shape half at link x rest first (reads_link half at) copy message (inl (refl, (frame, is)))
+        (record { half = half; channel = message.0; bytes = message.1; copy = copy; came = came copy frame message is read; put = refl })
+
+    message_shape : (copy : ℕ × ℕ) (frame : List ℕ) (o : Option (ℕ × List ℕ)) → x.item ≡ item.Frame (Some copy) frame → message_in frame limit ≡ o
+        → Shape configs log step (Effect.message_row configs log n conn moment (name_of x) half.peer copy o)
+    message_shape copy frame None is read = idle_shape
+    message_shape copy frame (Some message) is read =
+        known_shape copy frame message (capacity_in (channels configs log n) message.0) (may_pass configs log n conn moment (messages message.0)) is read refl
+
+    quota_shape : (passes : Bool) → is_bare x.item ≡ true → Shape configs log step (cond passes (Effect.pass_row (name_of x)) (Effect.hold_row n conn (name_of x) item.Ping))
+    quota_shape true light = passed_shape half at link x rest first (reads_link half at) light
+    quota_shape false light = ping_held_shape half at link x rest first (reads_link half at) light
+
+    ping_shape : (is_ping : Bool) → is_bare x.item ≡ true → Shape configs log step (Effect.ping_row configs log n conn moment (name_of x) is_ping)
+    ping_shape false light = idle_shape
+    ping_shape true light = quota_shape (may_pass configs log n conn moment pings) light
+
+    frame_shape : (i : Item) → x.item ≡ i → Shape configs log step (Effect.frame_row configs log n conn moment half.peer (name_of x) i)
+    frame_shape (item.Frame (Some copy) frame) is = message_shape copy frame (message_in frame limit) is refl
+    frame_shape (item.Frame None frame) is = ping_shape (is_ping_in frame limit) (ap is_bare is)
+    frame_shape _ is = idle_shape
+
+  -- ---- the step
+
+  receive_shape : (half : Half) (xs : List Envelope) → half_at log n conn ≡ Some half → line log (queue.Held n conn) ≡ []
+      → line log (queue.Link half.link (Effect.other_side half.writes)) ≡ xs → Shape configs log step (Effect.receive_row configs log n conn moment half.peer xs)
+  receive_shape half [] at none e = idle_shape
+  receive_shape half (x ∷ rest) at none e = frame_shape half at none x rest e x.item refl
+
+  by_held_shape : (half : Half) (xs frames : List Envelope) → half_at log n conn ≡ Some half → line log (queue.Held n conn) ≡ xs
+      → line log (queue.Link half.link (Effect.other_side half.writes)) ≡ frames → Shape configs log step (Effect.held_row configs log n conn moment half.peer xs frames)
+  by_held_shape half [] frames at held e = receive_shape half frames at held e
+  by_held_shape half (x ∷ rest) frames at held e = retry_shape half at x rest held x.item refl
+
+  receiver_shape : (half : Half) (running : Bool) → half_at log n conn ≡ Some half
+      → Shape configs log step (cond running (Effect.receiver_row configs log n conn moment half) (Effect.only reply.Idle))
+  receiver_shape half true at = by_held_shape half (line log (queue.Held n conn)) (line log (queue.Link half.link (Effect.other_side half.writes))) at refl refl
+  receiver_shape half false at = idle_shape
+
+  step_shape : (o : Option Half) → half_at log n conn ≡ o
+      → Shape configs log step (elim o [
+        | None ↦ Effect.only reply.Gone
+        | Some half ↦ cond (is_running log n conn) (Effect.receiver_row configs log n conn moment half) (Effect.only reply.Idle)
+      ])
+  step_shape None at = still configs log step reply.Gone refl refl
+  step_shape (Some half) at = receiver_shape half (is_running log n conn) at
+
+  pub recv_step_shape : Shape configs log step (Effect.recv_step_row configs log conn n moment)
+  recv_step_shape = step_shape (half_at log n conn) refl
