@@ -1,2 +1,4 @@
 pub mod Changes
+pub mod Metering
+pub mod Quotas
 pub mod Registering

@@ -1,8 +1,8 @@
 -- The channels of a node with one channel more.
-use Rattle.std.proofs.Common.{◌≡◌, ℕ, ◌+◌, ◌^◌, ◌<◌, Bool, true, false, cond, List, [], ◌∷◌, ◌++◌, refl, ap, sym, ◌∙◌, arith, Option, Some, None}
-use Rattle.std.specs.Prelude.{slice_get, ◌==◌}
+use Rattle.std.proofs.Common.{◌≡◌, ℕ, ◌+◌, ◌^◌, ◌<◌, Bool, true, false, cond, List, [], ◌∷◌, ◌++◌, refl, ap, sym, subst, ◌∙◌, arith, eqb-true, Option, Some, None}
+use Rattle.std.specs.Prelude.{slice_get, ◌==◌, is_some}
 use Rattle.std.specs.Map.{lookup}
-use Rattle.std.specs.BTreeMap.{is_at}
+use Rattle.std.specs.BTreeMap.{is_at, insert_entry}
 use Rattle.std.specs.Ordering.{nat_cmp}
 use Rattle.std.proofs.lemmas.Bool.Decides.{nat_tests}
 use Rattle.p2p_log.specs.declared.config.Config.{Config}
@@ -11,17 +11,23 @@ use Rattle.p2p_log.specs.declared.event.Rate.{Rate}
 use Rattle.p2p_log.specs.declared.event.Act.TheVariants as act
 use Rattle.p2p_log.specs.declared.entry.Entry.{Entry}
 use Rattle.p2p_log.specs.Lines.{line}
-use Rattle.p2p_log_rules.specs.Facts.{registers_at, capacity_for, channels, capacity_in, sum_capacities}
+use Rattle.p2p_log_rules.specs.Facts.{events_of, registers_at, capacity_for, channels, capacity_in, rates_by, rates, rate_in, sum_capacities}
+use Rattle.p2p_log_rules.specs.Listening.{quota_of}
+use Rattle.p2p_log_rules.specs.Metering.{messages, admitted}
 use Rattle.p2p_log_rules.specs.Effect.{mailbox_size_at}
+use Rattle.p2p_runtime.specs.QuotaStep.{IsQuota}
+use Rattle.p2p_net_queues.specs.Meters.{fresh}
 use Rattle.p2p_net_queues.specs.Tables.{at}
-use Rattle.p2p_net_queues.proofs.Tables.{lookup-insert_entry}
+use Rattle.p2p_net_queues.proofs.Meters.{admitted-kept, meters_new}
+use Rattle.p2p_net_queues.proofs.Tables.{lookup-insert_entry, at-inserted}
 use Rattle.p2p_net_channels.specs.Channels.{capacity_at, registered_with}
-use Rattle.p2p_net_channels.specs.Stands.{ChannelsStand}
+use Rattle.p2p_net_channels.specs.Stands.{QuotaStands, AdmitsNone, ChannelsStand}
 use Rattle.p2p_net_channels.specs.declared.channels.Channels.{Channels}
 use Rattle.p2p_net_channels.proofs.Changes.{channels-append}
+use Rattle.p2p_net_channels.proofs.Quotas.{rates-append, same_known, admitted_none, quota_stays}
 
 lookup-last :
-    (xs : List (ℕ × ℕ)) (c k d : ℕ)
+    {V : Type 0} (xs : List (ℕ × V)) (c : ℕ) (k : V) (d : ℕ)
     → lookup (λ j. d == j) (xs ++ (c, k) ∷ []) ≡ elim (lookup (λ j. d == j) xs) [ None ↦ cond (d == c) (Some k) None | Some v ↦ Some v ]
 lookup-last [] c k d = refl
 lookup-last (x ∷ xs) c k d =
@@ -49,12 +55,36 @@ same_key c d = grind (arith, nat_tests)
 same_number : (n : ℕ) → (n == n) ≡ true
 same_number n = grind (arith, nat_tests)
 
+-- an act that registers a channel has its rate
+rates_registered : (log : List Entry) (e : Entry) (n c : ℕ) (rate : Rate) → e.event.act ≡ act.Register c n rate → rates (events_of (log ++ e ∷ [])) n ≡ rates (events_of log) n ++ (c, rate) ∷ []
+rates_registered log e n c rate is =
+    rates-append log e n ∙ ap (λ l. rates (events_of log) n ++ l) (ap (rates_by n) is ∙ ap (λ b. cond b ((c, rate) ∷ []) []) (same_number n))
+
+-- what is kept of the quota of each channel, once a channel is registered that was not
+module _ (configs : List Config) (log : List Entry) (e : Entry) (n c : ℕ) (rate : Rate) (ch : Channels) where
+  new_quota :
+      ((d : ℕ) → QuotaStands configs log n d (rate_in (rates (events_of log) n) d) (at ch.quotas d)) → rate_in (rates (events_of log) n) c ≡ None → IsQuota (quota_of rate)
+      → AdmitsNone configs log e n → (d : ℕ) (b : Bool) → (d == c) ≡ b → (r : Option Rate) → rate_in (rates (events_of log) n) d ≡ r
+      → QuotaStands configs (log ++ e ∷ []) n d (elim r [ None ↦ cond b (Some rate) None | Some v ↦ Some v ]) (cond b (Some (fresh (quota_of rate))) (at ch.quotas d))
+  new_quota stands absent is_quota admits d true here None is =
+      meters_new (log ++ e ∷ []) (quota_of rate) (λ conn. admitted configs (log ++ e ∷ []) n conn (messages d)) is_quota
+      (λ conn. admitted-kept configs log e n conn (messages d) (admits conn d) ∙ admitted_none configs log n d (rate_in (rates (events_of log) n) d) (at ch.quotas d) (stands d) is conn)
+  new_quota stands absent is_quota admits d true here (Some v) is =
+      let same : d ≡ c = eqb-true d c here in
+      let missing : rate_in (rates (events_of log) n) d ≡ None = ap (rate_in (rates (events_of log) n)) same ∙ absent in
+      absurd (cc)
+  new_quota stands absent is_quota admits d false there None is =
+      quota_stays configs log e n d None (at ch.quotas d) (subst (λ o. QuotaStands configs log n d o (at ch.quotas d)) is (stands d)) (λ conn. admits conn d)
+  new_quota stands absent is_quota admits d false there (Some v) is =
+      quota_stays configs log e n d (Some v) (at ch.quotas d) (subst (λ o. QuotaStands configs log n d o (at ch.quotas d)) is (stands d)) (λ conn. admits conn d)
+
 -- an entry that registers a channel
 pub channels_registered :
     (configs : List Config) (log : List Entry) (e : Entry) (n c k : ℕ) (rate : Rate) (ch : Channels) → ChannelsStand configs log n ch → e.event.act ≡ act.Register c n rate
     → k ≡ capacity_for (slice_get configs n) rate → capacity_at ch c ≡ None → mailbox_size_at configs n + (ch.total + k) < 2 ^ 64
-    → ((d : ℕ) → line (log ++ e ∷ []) (queue.Channel n d) ≡ line log (queue.Channel n d)) → ChannelsStand configs (log ++ e ∷ []) n (registered_with ch c k)
-channels_registered configs log e n c k rate ch s is amount absent room lines =
+    → ((d : ℕ) → line (log ++ e ∷ []) (queue.Channel n d) ≡ line log (queue.Channel n d)) → IsQuota (quota_of rate)
+    → AdmitsNone configs log e n → ChannelsStand configs (log ++ e ∷ []) n (registered_with ch c k (quota_of rate))
+channels_registered configs log e n c k rate ch s is amount absent room lines is_quota admits =
     let here : registers_at configs n e.event.act ≡ (c, k) ∷ [] =
     ap (registers_at configs n) is
     ∙ (ap (λ b. cond b ((c, capacity_for (slice_get configs n) rate) ∷ []) []) (same_number n) ∙ ap (λ j. (c, j) ∷ []) (sym amount))
@@ -70,4 +100,18 @@ channels_registered configs log e n c k rate ch s is amount absent room lines =
       total = ap (λ t. t + k) s.total ∙ (sym (sum_capacities-last (channels configs log n) c k) ∙ ap sum_capacities (sym more));
       room = room;
       waits = λ d. s.waits d ∙ sym (lines d);
+      quotas = λ d.
+          let known : rate_in (rates (events_of (log ++ e ∷ [])) n) d ≡ elim (rate_in (rates (events_of log) n) d) [ None ↦ cond (d == c) (Some rate) None | Some v ↦ Some v ] =
+          ap (λ l. rate_in l d) (rates_registered log e n c rate is) ∙ lookup-last (rates (events_of log) n) c rate d
+          in
+          subst (λ r. QuotaStands configs (log ++ e ∷ []) n d r (at (insert_entry nat_cmp ch.quotas c (fresh (quota_of rate))) d)) (sym known)
+          (subst (λ o. QuotaStands configs (log ++ e ∷ []) n d (elim (rate_in (rates (events_of log) n) d) [ None ↦ cond (d == c) (Some rate) None | Some v ↦ Some v ]) o) (sym (at-inserted c d (fresh (quota_of rate)) ch.quotas))
+          (new_quota configs log e n c rate ch s.quotas (no_rate_yet (s.capacities c)) is_quota admits d (d == c) refl (rate_in (rates (events_of log) n) d) refl));
     }
+  where
+    unknown : (o : Option Rate) → is_some o ≡ false → o ≡ None
+    unknown None h = refl
+    unknown (Some v) h = cc
+
+    no_rate_yet : capacity_at ch c ≡ capacity_in (channels configs log n) c → rate_in (rates (events_of log) n) c ≡ None
+    no_rate_yet same = unknown (rate_in (rates (events_of log) n) c) (sym (same_known configs log n c) ∙ ap (λ (o : Option ℕ). is_some o) (sym same ∙ absent))

@@ -1,31 +1,44 @@
 -- The message that arrived in a frame, and what becomes of it.
-use Rattle.std.specs.Prelude.{ℕ, Bool, true, false, List, [], ◌∷◌, ◌++◌, Option, Some, None}
+use Rattle.std.specs.Prelude.{ℕ, Bool, true, false, cond, List, [], ◌∷◌, ◌++◌, Option, Some, None}
 use Rattle.p2p_base.specs.declared.key.Key.{Key}
 use Rattle.p2p_log.specs.declared.queue.Queue.TheVariants as queue
 use Rattle.p2p_log.specs.declared.item.Item.{Item}
 use Rattle.p2p_log.specs.declared.item.Item.TheVariants as item
-use Rattle.p2p_log.specs.declared.item.Envelope.{Envelope}
 use Rattle.p2p_log.specs.declared.end.End.TheVariants as end
 use Rattle.p2p_log.specs.declared.end.Outcome.TheVariants as outcome
 use Rattle.p2p_log.specs.declared.end.Cause.TheVariants as cause
 use Rattle.p2p_log_rules.specs.declared.row.Row.{Row}
-use Rattle.p2p_log_rules.specs.Frames.{message_in}
+use Rattle.std.specs.Option.{option_map}
+use Rattle.p2p_log_rules.specs.Frames.{message_in, is_ping_in}
 use Rattle.p2p_net_channels.specs.declared.arrival.Arrived.{Arrived}
+use Rattle.p2p_net_channels.specs.declared.arrival.Arriving.{Arriving}
+use Rattle.p2p_net_channels.specs.declared.arrival.Arriving.TheVariants as arriving
 
 -- a copy with its channel and its message
 abbrev pub arrival_of : ℕ × ℕ → Option (ℕ × List ℕ) → Option Arrived
 arrival_of copy None = None
 arrival_of copy (Some message) = Some (record { copy = copy; channel = message.0; bytes = message.1 })
 
--- the message in a frame within the limit
-abbrev pub arrival_in : ℕ → Item → Option Arrived
-arrival_in limit (item.Frame (Some copy) frame) = arrival_of copy (message_in frame limit)
+-- the message in a frame within the limit, or that it is a ping
+abbrev pub arrival_in_frame : Option (ℕ × ℕ) → List ℕ → ℕ → Option Arriving
+arrival_in_frame (Some copy) bytes limit = option_map arriving.Message (arrival_of copy (message_in bytes limit))
+arrival_in_frame None bytes limit = cond (is_ping_in bytes limit) (Some arriving.Ping) None
+
+-- what came over a connection in a frame within the limit
+abbrev pub arrival_in : ℕ → Item → Option Arriving
+arrival_in limit (item.Frame copy bytes) = arrival_in_frame copy bytes limit
 arrival_in limit _ = None
 
--- the message in the first of these items
-abbrev pub first_arrival : ℕ → List Envelope → Option Arrived
-first_arrival limit [] = None
-first_arrival limit (x ∷ _) = arrival_in limit x.item
+-- what came over a connection and is held
+abbrev pub held_arrival : Item → Option Arriving
+held_arrival (item.Held c bytes copy) = Some (arriving.Message (record { copy = copy; channel = c; bytes = bytes }))
+held_arrival item.Ping = Some arriving.Ping
+held_arrival _ = None
+
+-- as it waits for its quota
+abbrev pub held_item : Arriving → Item
+held_item (arriving.Message m) = item.Held m.channel m.bytes m.copy
+held_item arriving.Ping = item.Ping
 
 -- the row once a message came to its channel, by whether that is full
 abbrev pub delivered : Bool → ℕ → Key → Arrived → Row → Row

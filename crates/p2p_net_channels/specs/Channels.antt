@@ -7,19 +7,34 @@ use Rattle.p2p_log.specs.declared.queue.Queue.TheVariants as queue
 use Rattle.p2p_log.specs.declared.item.Item.{Item}
 use Rattle.p2p_log.specs.declared.item.Item.TheVariants as item
 use Rattle.p2p_log.specs.declared.item.Envelope.{Envelope}
+use Rattle.p2p_runtime.specs.QuotaLaw.{Rate as Quota}
+use Rattle.p2p_net_queues.specs.Meters.{fresh, passes_at, checked_at}
 use Rattle.p2p_net_queues.specs.Tables.{at, waiting, pushed_at, popped_at}
 use Rattle.p2p_net_channels.specs.declared.arrival.Arrived.{Arrived}
 use Rattle.p2p_net_channels.specs.declared.channels.Channels.{Channels}
 
 abbrev pub no_channels : Channels
-no_channels = record { capacities = []; total = 0; waiting = [] }
+no_channels = record { capacities = []; total = 0; waiting = []; quotas = [] }
 
 -- the capacity of a channel, where it is registered
 abbrev pub capacity_at : Channels → ℕ → Option ℕ
 capacity_at ch c = at ch.capacities c
 
-abbrev pub registered_with : Channels → ℕ → ℕ → Channels
-registered_with ch c k = record { capacities = insert_entry nat_cmp ch.capacities c k; total = ch.total + k; waiting = ch.waiting }
+abbrev pub registered_with : Channels → ℕ → ℕ → Quota → Channels
+registered_with ch c k quota = record {
+  capacities = insert_entry nat_cmp ch.capacities c k;
+  total = ch.total + k;
+  waiting = ch.waiting;
+  quotas = insert_entry nat_cmp ch.quotas c (fresh quota);
+}
+
+-- whether the quota of a channel admits one more of a connection at a moment
+abbrev pub may_admit : Channels → ℕ → ℕ → ℕ → Bool
+may_admit ch c conn now = passes_at ch.quotas c conn now
+
+-- the channels once that was asked
+abbrev pub metered : ℕ → ℕ → ℕ → Channels → Channels
+metered c conn now ch = record ch { quotas = checked_at ch.quotas c conn now }
 
 -- whether a channel holds so many messages
 abbrev pub is_full : Channels → ℕ → ℕ → Bool

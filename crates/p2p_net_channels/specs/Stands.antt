@@ -1,14 +1,26 @@
 -- When the channels of a node stand for a log.
-use Rattle.std.specs.Prelude.{◌≡◌, ℕ, ◌+◌, ◌^◌, ◌<◌, List, [], ◌∷◌, ◌++◌}
+use Rattle.std.specs.Prelude.{◌≡◌, ℕ, ◌+◌, ◌^◌, ◌<◌, List, [], ◌∷◌, ◌++◌, Option, Some, None}
 use Rattle.p2p_log.specs.declared.config.Config.{Config}
 use Rattle.p2p_log.specs.declared.queue.Queue.TheVariants as queue
 use Rattle.p2p_log.specs.declared.entry.Entry.{Entry}
 use Rattle.p2p_log.specs.Lines.{line}
-use Rattle.p2p_log_rules.specs.Facts.{channels, registers_at, capacity_in, sum_capacities}
+use Rattle.p2p_log.specs.declared.event.Rate.{Rate}
+use Rattle.p2p_log_rules.specs.Facts.{events_of, channels, registers_at, capacity_in, rates, rate_in, sum_capacities}
+use Rattle.p2p_log_rules.specs.Listening.{quota_of}
+use Rattle.p2p_log_rules.specs.Metering.{messages, limit_at, admitted_by, admitted}
 use Rattle.p2p_log_rules.specs.Effect.{mailbox_size_at}
+use Rattle.p2p_runtime.specs.QuotaKeys.{KeptByKey}
 use Rattle.p2p_net_queues.specs.Lines.{HoldsLines}
+use Rattle.p2p_net_queues.specs.Meters.{Meters}
+use Rattle.p2p_net_queues.specs.Tables.{at}
 use Rattle.p2p_net_channels.specs.Channels.{capacity_at}
 use Rattle.p2p_net_channels.specs.declared.channels.Channels.{Channels}
+
+-- what is kept for a channel of this rate, on each connection: nothing where it is not registered, and nothing was admitted there
+abbrev pub QuotaStands : List Config → List Entry → ℕ → ℕ → Option Rate → Option (KeptByKey ℕ) → Type 0
+QuotaStands configs log n c None None = (conn : ℕ) → admitted configs log n conn (messages c) ≡ []
+QuotaStands configs log n c (Some rate) (Some kept) = Meters log (quota_of rate) (λ conn. admitted configs log n conn (messages c)) kept
+QuotaStands configs log n c _ _ = ⊥
 
 pub record ChannelsStand (configs : List Config) (log : List Entry) (n : ℕ) (ch : Channels) : Type 0 where
   pub capacities : (c : ℕ) → capacity_at ch c ≡ capacity_in (channels configs log n) c
@@ -16,8 +28,15 @@ pub record ChannelsStand (configs : List Config) (log : List Entry) (n : ℕ) (c
   -- the router's mailbox can be counted
   pub room : mailbox_size_at configs n + ch.total < 2 ^ 64
   pub waits : HoldsLines (queue.Channel n) log ch.waiting
+  -- each channel's quota counts what each connection admitted there
+  pub quotas : (c : ℕ) → QuotaStands configs log n c (rate_in (rates (events_of log) n) c) (at ch.quotas c)
+
+-- an entry in which no connection admits a message
+abbrev pub AdmitsNone : List Config → List Entry → Entry → ℕ → Type 0
+AdmitsNone configs log e n = (conn c : ℕ) → admitted_by (limit_at configs n) n conn (messages c) log e ≡ []
 
 -- an entry that leaves them alone
 pub record LeavesChannels (configs : List Config) (log : List Entry) (e : Entry) (n : ℕ) : Type 0 where
   pub registers : registers_at configs n e.event.act ≡ []
   pub lines : (c : ℕ) → line (log ++ e ∷ []) (queue.Channel n c) ≡ line log (queue.Channel n c)
+  pub admits : AdmitsNone configs log e n

@@ -4,16 +4,17 @@ ghost use Rattle.p2p_log_rules.specs.Effect.{oldest_read, read_row as read_row_o
 ghost use Rattle.p2p_log.specs.Lines.{name_of};
 ghost use Rattle.p2p_net_queues.specs.Tables.{waiting};
 ghost use Rattle.p2p_net_channels.specs.Arrivals.{delivered};
-ghost use Rattle.p2p_net_channels.specs.Channels.{no_channels, capacity_at, registered_with, is_full as full_test, delivered_to, is_message as message_test, has_message_first, message_first, read_from};
+ghost use Rattle.p2p_net_channels.specs.Channels.{no_channels, capacity_at, registered_with, may_admit, metered, is_full as full_test, delivered_to, is_message as message_test, has_message_first, message_first, read_from};
 
 use crate::arrival::Arrived;
 use p2p_base::Key;
 use p2p_log::{Cause, End, Envelope, Item, Outcome, Queue, Reply};
 use p2p_log_rules::Row;
 use p2p_net_queues::{Deque, Table, Turn, only, taking};
+use p2p_runtime::{KeyedRateLimiter, Quota};
 use std::alloc::{AllocError, Global};
 
-/// The registered channels of a node, and the messages that wait in each for its reader.
+/// The registered channels of a node, what each admits of each connection, and the messages that wait in each for its reader.
 #[derive(Drop)]
 pub struct Channels {
     /// How many messages each channel holds at most.
@@ -22,6 +23,8 @@ pub struct Channels {
     pub total: usize,
     /// The messages of each channel, the oldest first.
     pub waiting: Table<Deque<Envelope>>,
+    /// The quota of each channel, on each connection, by the names of connections.
+    pub quotas: Table<KeyedRateLimiter<u64>>,
 }
 
 /// Whether an item is a message for a reader.
@@ -69,6 +72,7 @@ impl Channels {
             capacities: Table::new(alloc),
             total: 0,
             waiting: Table::new(alloc),
+            quotas: Table::new(alloc),
         }
     }
 
@@ -79,16 +83,36 @@ impl Channels {
         self.capacities.get(channel)
     }
 
-    /// Registers a channel of this capacity.
+    /// Registers a channel of this capacity, which admits so much of each connection.
     ///
     /// `Err` only where there is no memory. The channel may then be registered and not counted, and its node goes no further.
-    pub fn register(&mut self, channel: u64, capacity: usize) -> Result<(), AllocError>
+    pub fn register(
+        &mut self,
+        alloc: Global,
+        channel: u64,
+        capacity: usize,
+        quota: Quota,
+    ) -> Result<(), AllocError>
         requires { self.old.total + capacity < 2 ^ 64 }
-        ensures { OnOk result (self.new ≡ registered_with self.old channel capacity) }
+        ensures { OnOk result (self.new ≡ registered_with self.old channel capacity quota) }
     {
         self.capacities.insert(channel, capacity)?;
         self.total += capacity;
+        self.quotas
+            .insert(channel, KeyedRateLimiter::new(alloc, quota))?;
         Ok(())
+    }
+
+    /// Whether the quota of a channel admits one more message of a connection at the moment `now`, in nanoseconds: it does not
+    /// where the channel is not registered. A message that is admitted counts from then on.
+    ///
+    /// `Err` only where there is no memory. Its node goes no further then.
+    pub fn admit(&mut self, channel: u64, conn: u64, now: u64) -> Result<bool, AllocError>
+        ensures admits { IfOk result (λ b. b ≡ may_admit self.old channel conn now) }
+        ensures after { OnOk result (self.new ≡ metered channel conn now self.old) }
+    {
+        let admits = self.quotas.check_at(channel, conn, now)?;
+        Ok(admits)
     }
 
     /// Whether a channel holds so many messages.

@@ -1,8 +1,8 @@
-//! The channels of a node: their capacities, and the messages that wait in each for its reader.
+//! The channels of a node: their capacities, their quotas, and the messages that wait in each for its reader.
 #![tactic(auto)]
 
 pub mod arrival;
 pub mod channels;
 
-pub use arrival::{Arrived, open};
+pub use arrival::{Arrived, Arriving, hold, open, reopen};
 pub use channels::Channels;

@@ -1,10 +1,11 @@
 -- The connections of a node after one more entry.
-use Rattle.std.proofs.Common.{◌≡◌, ℕ, ◌+◌, ◌≤◌, Bool, true, false, cond, List, [], ◌∷◌, ◌++◌, length, refl, ap, sym, ◌∙◌, arith, append_assoc, append-nil, Option, Some, None}
+use Rattle.std.proofs.Common.{◌≡◌, ℕ, ◌+◌, Bool, true, false, cond, List, [], ◌∷◌, ◌++◌, refl, ap, sym, ◌∙◌, arith, append_assoc, append-nil}
 use Rattle.std.specs.Prelude.{filter, ◌==◌, ◌&&◌, ◌||◌}
 use Rattle.std.specs.List.{list_any}
 use Rattle.std.specs.BTreeMap.{is_at}
 use Rattle.std.specs.Ordering.{nat_cmp}
 use Rattle.std.proofs.lemmas.Bool.Decides.{nat_tests}
+use Rattle.p2p_log.specs.declared.config.Config.{Config}
 use Rattle.p2p_log.specs.declared.queue.Queue.{Queue}
 use Rattle.p2p_log.specs.declared.queue.Queue.TheVariants as queue
 use Rattle.p2p_log.specs.declared.item.Item.{Item}
@@ -13,14 +14,22 @@ use Rattle.p2p_log.specs.declared.entry.Entry.{Entry}
 use Rattle.p2p_log.specs.QueueCode.{kind_of, owner_of, detail_of, same_queue}
 use Rattle.p2p_log.specs.Lines.{stands_in, placed}
 use Rattle.p2p_log_rules.specs.Connections.{begins, is_begun, answers_by, is_running}
+use Rattle.p2p_log_rules.specs.Facts.{history_from, state_from}
+use Rattle.p2p_log_rules.specs.Metering.{pings, ping_quota, limit_at, admitted_by, admitted}
+use Rattle.p2p_log_rules.specs.Pings.{ping_frequency_at, last_pinged}
+use Rattle.p2p_log_rules.specs.Spawning.{connections_of}
 use Rattle.p2p_log_rules.proofs.Connections.{is_begun-append, is_running-append}
+use Rattle.p2p_runtime.specs.QuotaStep.{IsQuota}
 use Rattle.p2p_net_queues.specs.Tables.{waiting, pushed_at}
 use Rattle.p2p_net_queues.specs.Lines.{HoldsLines}
-use Rattle.p2p_net_queues.proofs.Holding.{holds_frame, longer}
+use Rattle.p2p_net_queues.specs.Meters.{Meters}
+use Rattle.p2p_net_queues.proofs.Holding.{holds_none, holds_frame, longer}
+use Rattle.p2p_net_queues.proofs.Meters.{admitted-kept, meters_new, meters_frame}
 use Rattle.p2p_net_queues.proofs.Tables.{waiting-pushed_at}
-use Rattle.p2p_net_connections.specs.Connections.{is_answer_to, answered_in, answered_by, answered}
-use Rattle.p2p_net_connections.specs.Stands.{ConnectionsStand, SpawnsNone, BeginsNone, LeavesConnections}
+use Rattle.p2p_net_connections.specs.Connections.{no_connections, is_answer_to, answered_in, answered_by, answered}
+use Rattle.p2p_net_connections.specs.Stands.{ConnectionsStand, SpawnsNone, BeginsNone, ReceivesNone, LeavesConnections}
 use Rattle.p2p_net_connections.specs.declared.connections.Connections.{Connections}
+use Rattle.p2p_net_connections.proofs.Pings.{pinged-kept}
 
 pub or-false : (b c : Bool) → c ≡ false → (b || c) ≡ b
 or-false true c h = refl
@@ -32,20 +41,60 @@ begun-kept log e n conn h = is_begun-append log e n conn ∙ or-false (is_begun 
 pub running-kept : (log : List Entry) (e : Entry) (n conn : ℕ) → list_any (λ b. b) (answers_by n conn log e) ≡ false → is_running (log ++ e ∷ []) n conn ≡ is_running log n conn
 running-kept log e n conn h = is_running-append log e n conn ∙ or-false (is_running log n conn) (list_any (λ (b : Bool). b) (answers_by n conn log e)) h
 
+-- ---- what came over them
+
+-- different connections have different queues
+pub same_held : (n c d : ℕ) → is_at (nat_cmp c) d ≡ same_queue (queue.Held n c) (queue.Held n d)
+same_held n c d = grind (arith, nat_tests)
+
+-- what waits for their quotas is left alone
+pub holds_kept : (configs : List Config) (log : List Entry) (e : Entry) (n : ℕ) (cs : Connections) → ConnectionsStand configs log n cs → ReceivesNone configs log e n → HoldsLines (queue.Held n) (log ++ e ∷ []) cs.held
+holds_kept configs log e n cs s none = holds_frame (queue.Held n) log e cs.held s.holds none.held
+
+-- and no ping is admitted
+pub pings_kept :
+    (configs : List Config) (log : List Entry) (e : Entry) (n : ℕ) (cs : Connections) → ConnectionsStand configs log n cs → ((conn : ℕ) → admitted_by (limit_at configs n) n conn pings log e ≡ [])
+    → Meters (log ++ e ∷ []) (ping_quota (ping_frequency_at configs n)) (λ conn. admitted configs (log ++ e ∷ []) n conn pings) cs.pings
+pings_kept configs log e n cs s none =
+    meters_frame log e (ping_quota (ping_frequency_at configs n)) (λ conn. admitted configs log n conn pings) (λ conn. admitted configs (log ++ e ∷ []) n conn pings) cs.pings s.pings
+    (λ conn. admitted-kept configs log e n conn pings (none conn))
+
+-- ---- all of them
+
+-- the quota of pings is one
+is_ping_quota : (frequency : ℕ) → IsQuota (ping_quota frequency)
+is_ping_quota frequency = record { some_burst = omega arith; some_period = omega arith }
+
+-- no connections stand for no log
+pub connections_new : (configs : List Config) (n : ℕ) → ConnectionsStand configs [] n (no_connections (ping_frequency_at configs n))
+unfolding is_begun is_running last_pinged admitted history_from state_from connections_of
+connections_new configs n = record {
+  spawned = λ conn. refl;
+  begun = λ conn. refl;
+  running = λ conn. refl;
+  pinged = λ conn. refl;
+  waits = holds_none (queue.Ready n);
+  holds = holds_none (queue.Held n);
+  pings = meters_new [] (ping_quota (ping_frequency_at configs n)) (λ conn. admitted configs [] n conn pings) (is_ping_quota (ping_frequency_at configs n)) (λ conn. refl);
+}
+
 -- none begins, and these answers wait
 pub connections_answered :
-    (log : List Entry) (e : Entry) (n : ℕ) (cs : Connections) (answers : List (ℕ × List Envelope)) → ConnectionsStand log n cs → SpawnsNone log e n → BeginsNone log e n
-    → HoldsLines (queue.Ready n) (log ++ e ∷ []) answers → ConnectionsStand (log ++ e ∷ []) n (record cs { answers = answers })
-connections_answered log e n cs answers s spawns none waits = record {
+    (configs : List Config) (log : List Entry) (e : Entry) (n : ℕ) (cs : Connections) (answers : List (ℕ × List Envelope)) → ConnectionsStand configs log n cs → SpawnsNone log e n → BeginsNone log e n
+    → ReceivesNone configs log e n → HoldsLines (queue.Ready n) (log ++ e ∷ []) answers → ConnectionsStand configs (log ++ e ∷ []) n (record cs { answers = answers })
+connections_answered configs log e n cs answers s spawns none receives waits = record {
   spawned = λ conn. s.spawned conn ∙ sym (spawns conn);
   begun = λ conn. s.begun conn ∙ sym (begun-kept log e n conn (none.no_begin conn));
   running = λ conn. s.running conn ∙ sym (running-kept log e n conn (ap (list_any (λ (b : Bool). b)) (none.no_answer conn)));
+  pinged = λ conn. s.pinged conn ∙ sym (pinged-kept configs log e n conn (none.no_begin conn));
   waits = waits;
+  holds = holds_kept configs log e n cs s receives;
+  pings = pings_kept configs log e n cs s receives.no_ping;
 }
 
 -- an entry that leaves them alone
-pub connections_frame : (log : List Entry) (e : Entry) (n : ℕ) (cs : Connections) → ConnectionsStand log n cs → LeavesConnections log e n → ConnectionsStand (log ++ e ∷ []) n cs
-connections_frame log e n cs s q = connections_answered log e n cs cs.answers s q.spawns q.begins (holds_frame (queue.Ready n) log e cs.answers s.waits q.lines)
+pub connections_frame : (configs : List Config) (log : List Entry) (e : Entry) (n : ℕ) (cs : Connections) → ConnectionsStand configs log n cs → LeavesConnections configs log e n → ConnectionsStand configs (log ++ e ∷ []) n cs
+connections_frame configs log e n cs s q = connections_answered configs log e n cs cs.answers s q.spawns q.begins q.receives (holds_frame (queue.Ready n) log e cs.answers s.waits q.lines)
 
 -- ---- answers that the node's router puts
 

@@ -1,3 +1,5 @@
 pub mod Beginning
 pub mod Changes
+pub mod Pings
+pub mod Receiving
 pub mod Spawning

@@ -5,19 +5,20 @@ use Rattle.std.specs.List.{list_any}
 use Rattle.p2p_base.specs.declared.key.Key.{Key}
 use Rattle.p2p_tracker_directory.specs.Reserved.{peer_of}
 use Rattle.p2p_tracker_directory.specs.declared.metadata.Metadata.{Metadata}
+use Rattle.p2p_log.specs.declared.config.Config.{Config}
 use Rattle.p2p_log.specs.declared.queue.Queue.TheVariants as queue
 use Rattle.p2p_log.specs.declared.entry.Entry.{Entry}
 use Rattle.p2p_log.specs.Lines.{line}
-use Rattle.p2p_log_rules.specs.Connections.{answers_by}
 use Rattle.p2p_log_rules.specs.Facts.{with_named}
 use Rattle.p2p_log_rules.specs.Spawning.{Spawned, connections_of}
 use Rattle.p2p_net_queues.specs.Tables.{at}
 use Rattle.p2p_net_queues.proofs.Tables.{at-inserted}
 use Rattle.p2p_net_connections.specs.Connections.{spawned_on, spawned_with}
-use Rattle.p2p_net_connections.specs.Stands.{ConnectionsStand, BeginsNone}
+use Rattle.p2p_net_connections.specs.Stands.{ConnectionsStand, BeginsNone, ReceivesNone}
 use Rattle.p2p_net_connections.specs.declared.connections.Connection.{Connection}
 use Rattle.p2p_net_connections.specs.declared.connections.Connections.{Connections}
-use Rattle.p2p_net_connections.proofs.Changes.{begun-kept, running-kept}
+use Rattle.p2p_net_connections.proofs.Changes.{begun-kept, running-kept, holds_kept, pings_kept}
+use Rattle.p2p_net_connections.proofs.Pings.{pinged-kept}
 
 on_cond : (b : Bool) (c : Connection) (o : Option Connection) → spawned_on (cond b (Some c) o) ≡ cond b (spawned_on (Some c)) (spawned_on o)
 on_cond true c o = refl
@@ -25,16 +26,19 @@ on_cond false c o = refl
 
 -- an entry in which its spawner makes one, over this link and by this reservation
 pub connections_spawned :
-    (log : List Entry) (e : Entry) (n link : ℕ) (m : Metadata Key) (cs : Connections) → ConnectionsStand log n cs
+    (configs : List Config) (log : List Entry) (e : Entry) (n link : ℕ) (m : Metadata Key) (cs : Connections) → ConnectionsStand configs log n cs
     → ((conn : ℕ) → connections_of (log ++ e ∷ []) n conn ≡ with_named (length log) (Some (record { key = peer_of m; link = link })) (connections_of log n) conn)
-    → BeginsNone log e n → ((conn : ℕ) → line (log ++ e ∷ []) (queue.Ready n conn) ≡ line log (queue.Ready n conn))
-    → ConnectionsStand (log ++ e ∷ []) n (spawned_with (length log) link m cs)
-connections_spawned log e n link m cs s made none lines = record {
+    → BeginsNone log e n → ReceivesNone configs log e n → ((conn : ℕ) → line (log ++ e ∷ []) (queue.Ready n conn) ≡ line log (queue.Ready n conn))
+    → ConnectionsStand configs (log ++ e ∷ []) n (spawned_with (length log) link m cs)
+connections_spawned configs log e n link m cs s made none receives lines = record {
   spawned = λ conn.
       ap spawned_on (at-inserted (length log) conn (record { link = link; reservation = m }) cs.spawned)
       ∙ (on_cond (conn == length log) (record { link = link; reservation = m }) (at cs.spawned conn)
       ∙ (ap (λ (o : Option Spawned). cond (conn == length log) (Some (record { key = peer_of m; link = link })) o) (s.spawned conn) ∙ sym (made conn)));
   begun = λ conn. s.begun conn ∙ sym (begun-kept log e n conn (none.no_begin conn));
   running = λ conn. s.running conn ∙ sym (running-kept log e n conn (ap (list_any (λ (b : Bool). b)) (none.no_answer conn)));
+  pinged = λ conn. s.pinged conn ∙ sym (pinged-kept configs log e n conn (none.no_begin conn));
   waits = λ conn. s.waits conn ∙ sym (lines conn);
+  holds = holds_kept configs log e n cs s receives;
+  pings = pings_kept configs log e n cs s receives.no_ping;
 }

@@ -12,19 +12,27 @@ use Rattle.p2p_log.specs.declared.item.Item.{Item}
 use Rattle.p2p_log.specs.declared.item.Envelope.{Envelope}
 use Rattle.p2p_log_rules.specs.Connections.{is_answer}
 use Rattle.p2p_log_rules.specs.Spawning.{Spawned}
+use Rattle.p2p_log_rules.specs.Metering.{ping_quota}
+use Rattle.p2p_net_queues.specs.Meters.{fresh, passes, checked}
 use Rattle.p2p_net_queues.specs.Tables.{waiting, pushed_at, popped_at}
 use Rattle.p2p_net_connections.specs.declared.connections.Connection.{Connection}
 use Rattle.p2p_net_connections.specs.declared.connections.Connections.{Connections}
 use Rattle.p2p_net_connections.specs.declared.connections.Stage.{Stage}
 use Rattle.p2p_net_connections.specs.declared.connections.Stage.TheVariants as stage
 
-abbrev pub no_connections : Connections
-no_connections = record { spawned = []; stages = []; answers = [] }
+-- no connections, of a node that pings so often
+abbrev pub no_connections : ℕ → Connections
+no_connections frequency = record { spawned = []; stages = []; answers = []; held = []; pings = fresh (ping_quota frequency) }
 
 -- whether a connection at this stage runs
 abbrev pub runs_on : Option Stage → Bool
-runs_on (Some stage.Running) = true
+runs_on (Some (stage.Running pinged)) = true
 runs_on _ = false
+
+-- the moment from which a connection at this stage counts to its next ping
+abbrev pub pinged_on : Option Stage → Option ℕ
+pinged_on (Some (stage.Running pinged)) = Some pinged
+pinged_on _ = None
 
 -- a connection that the spawner made, as the log has it
 abbrev pub spawned_on : Option Connection → Option Spawned
@@ -60,11 +68,35 @@ abbrev pub named_answer : Option Envelope → Option ((ℕ × ℕ) × Bool)
 named_answer None = None
 named_answer (Some x) = Some ((x.entry, x.place), is_answer x.item)
 
--- the stages, once this was taken for a connection
-abbrev pub stages_with : Option Envelope → ℕ → List (ℕ × Stage) → List (ℕ × Stage)
-stages_with None conn stages = stages
-stages_with (Some x) conn stages = cond (is_answer x.item) (insert_entry nat_cmp stages conn stage.Running) stages
+-- the stages, once this was taken for a connection at this moment
+abbrev pub stages_with : Option Envelope → ℕ → ℕ → List (ℕ × Stage) → List (ℕ × Stage)
+stages_with None conn now stages = stages
+stages_with (Some x) conn now stages = cond (is_answer x.item) (insert_entry nat_cmp stages conn (stage.Running now)) stages
 
 -- the first answer of a connection was taken
-abbrev pub without_answer : ℕ → Connections → Connections
-without_answer conn cs = record cs { stages = stages_with (slice_get (waiting cs.answers conn) 0) conn cs.stages; answers = popped_at cs.answers conn }
+abbrev pub without_answer : ℕ → ℕ → Connections → Connections
+without_answer conn now cs = record cs { stages = stages_with (slice_get (waiting cs.answers conn) 0) conn now cs.stages; answers = popped_at cs.answers conn }
+
+-- a connection pinged at this moment, where one was due
+abbrev pub pinged_with : Bool → ℕ → ℕ → Connections → Connections
+pinged_with true conn now cs = record cs { stages = insert_entry nat_cmp cs.stages conn (stage.Running now) }
+pinged_with false conn now cs = cs
+
+-- ---- what waits for the quotas of a connection
+
+-- an item more is held for a connection, as the put of this entry at this place
+abbrev pub held_with : ℕ → ℕ → ℕ → ℕ → Item → Connections → Connections
+held_with entry place n conn i cs =
+    record cs { held = pushed_at cs.held conn (record { entry = entry; place = place; queue = queue.Held n conn; item = i }) }
+
+-- the oldest that is held for a connection, less
+abbrev pub without_held : ℕ → Connections → Connections
+without_held conn cs = record cs { held = popped_at cs.held conn }
+
+-- whether the quota of pings admits one more of a connection at a moment
+abbrev pub may_ping : Connections → ℕ → ℕ → Bool
+may_ping cs conn now = passes cs.pings conn now
+
+-- the connections once that was asked
+abbrev pub ping_metered : ℕ → ℕ → Connections → Connections
+ping_metered conn now cs = record cs { pings = checked cs.pings conn now }

@@ -1,32 +1,46 @@
 -- When the connections of a node stand for a log.
 use Rattle.std.specs.Prelude.{◌≡◌, ℕ, false, List, [], ◌∷◌, ◌++◌, is_some}
+use Rattle.p2p_log.specs.declared.config.Config.{Config}
 use Rattle.p2p_log.specs.declared.queue.Queue.TheVariants as queue
 use Rattle.p2p_log.specs.declared.entry.Entry.{Entry}
 use Rattle.p2p_log.specs.Lines.{line}
 use Rattle.p2p_log_rules.specs.Connections.{begins, is_begun, answers_by, is_running}
+use Rattle.p2p_log_rules.specs.Metering.{pings, ping_quota, limit_at, admitted_by, admitted}
+use Rattle.p2p_log_rules.specs.Pings.{ping_frequency_at, last_pinged}
 use Rattle.p2p_log_rules.specs.Spawning.{connections_of}
 use Rattle.p2p_net_queues.specs.Lines.{HoldsLines}
+use Rattle.p2p_net_queues.specs.Meters.{Meters}
 use Rattle.p2p_net_queues.specs.Tables.{at}
-use Rattle.p2p_net_connections.specs.Connections.{runs_on, spawned_on}
+use Rattle.p2p_net_connections.specs.Connections.{runs_on, pinged_on, spawned_on}
 use Rattle.p2p_net_connections.specs.declared.connections.Connections.{Connections}
 
-pub record ConnectionsStand (log : List Entry) (n : ℕ) (cs : Connections) : Type 0 where
+pub record ConnectionsStand (configs : List Config) (log : List Entry) (n : ℕ) (cs : Connections) : Type 0 where
   pub spawned : (conn : ℕ) → spawned_on (at cs.spawned conn) ≡ connections_of log n conn
   pub begun : (conn : ℕ) → is_some (at cs.stages conn) ≡ is_begun log n conn
   pub running : (conn : ℕ) → runs_on (at cs.stages conn) ≡ is_running log n conn
+  pub pinged : (conn : ℕ) → pinged_on (at cs.stages conn) ≡ last_pinged configs log n conn
   pub waits : HoldsLines (queue.Ready n) log cs.answers
+  -- what waits for their quotas, and the quota of pings counts what each of them admitted
+  pub holds : HoldsLines (queue.Held n) log cs.held
+  pub pings : Meters log (ping_quota (ping_frequency_at configs n)) (λ conn. admitted configs log n conn pings) cs.pings
 
 -- an entry in which its spawner makes no connection
 abbrev pub SpawnsNone : List Entry → Entry → ℕ → Type 0
 SpawnsNone log e n = (conn : ℕ) → connections_of (log ++ e ∷ []) n conn ≡ connections_of log n conn
 
--- an entry in which none of them begins, and none takes an answer
+-- an entry in which none of them begins or pings, and none takes an answer
 pub record BeginsNone (log : List Entry) (e : Entry) (n : ℕ) : Type 0 where
   pub no_begin : (conn : ℕ) → begins n conn e ≡ false
   pub no_answer : (conn : ℕ) → answers_by n conn log e ≡ []
 
+-- an entry that leaves alone what waits for their quotas, and in which none admits a ping
+pub record ReceivesNone (configs : List Config) (log : List Entry) (e : Entry) (n : ℕ) : Type 0 where
+  pub held : (conn : ℕ) → line (log ++ e ∷ []) (queue.Held n conn) ≡ line log (queue.Held n conn)
+  pub no_ping : (conn : ℕ) → admitted_by (limit_at configs n) n conn pings log e ≡ []
+
 -- an entry that leaves them alone
-pub record LeavesConnections (log : List Entry) (e : Entry) (n : ℕ) : Type 0 where
+pub record LeavesConnections (configs : List Config) (log : List Entry) (e : Entry) (n : ℕ) : Type 0 where
   pub spawns : SpawnsNone log e n
   pub begins : BeginsNone log e n
+  pub receives : ReceivesNone configs log e n
   pub lines : (conn : ℕ) → line (log ++ e ∷ []) (queue.Ready n conn) ≡ line log (queue.Ready n conn)

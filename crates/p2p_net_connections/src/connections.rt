@@ -7,10 +7,12 @@ ghost use Rattle.p2p_log.specs.Lines.{name_of};
 ghost use Rattle.p2p_net_queues.specs.Tables.{at, waiting, popped_at};
 ghost use Rattle.p2p_net_connections.specs.Connections.{no_connections, spawned_with, begun_with, answered_by, answered, without_answer, named_answer};
 
+use crate::pinging::ping_quota;
 use p2p_base::Key;
 use p2p_log::{Envelope, Item, Queue, Reply};
 use p2p_log_rules::Row;
 use p2p_net_queues::{Deque, Table, Turn, only, taking};
+use p2p_runtime::KeyedRateLimiter;
 use p2p_tracker_directory::Reservation;
 use std::alloc::{AllocError, Global};
 
@@ -26,11 +28,12 @@ pub struct Connection {
 pub enum Stage {
     /// It waits for its router's answer.
     Begun,
-    /// It runs.
-    Running,
+    /// It runs, and counts to its next ping from the moment `pinged`, in nanoseconds.
+    Running { pinged: u64 },
 }
 
-/// The connections of a node, by the events that made them, and the router's answers that wait for them.
+/// The connections of a node, by the events that made them, the router's answers that wait for them, and what came over them
+/// and waits for their quotas.
 #[derive(Drop)]
 pub struct Connections {
     /// Each connection that its spawner made.
@@ -39,6 +42,10 @@ pub struct Connections {
     pub stages: Table<Stage>,
     /// The answers that wait for each connection, the oldest first.
     pub answers: Table<Deque<Envelope>>,
+    /// What came over each connection and waits until its quota admits it, the oldest first.
+    pub held: Table<Deque<Envelope>>,
+    /// The quota of the pings that come, on each connection, by the names of connections.
+    pub pings: KeyedRateLimiter<u64>,
 }
 
 /// Whether an item is the router's answer.
@@ -52,14 +59,16 @@ fn is_answer(item: &Item) -> bool
 }
 
 impl Connections {
-    /// No connections.
-    pub fn new(alloc: Global) -> Connections
-        ensures { result ≡ no_connections }
+    /// No connections, of a node that pings so often, in nanoseconds.
+    pub fn new(alloc: Global, ping_frequency: u64) -> Connections
+        ensures { result ≡ no_connections ping_frequency }
     {
         Connections {
             spawned: Table::new(alloc),
             stages: Table::new(alloc),
             answers: Table::new(alloc),
+            held: Table::new(alloc),
+            pings: KeyedRateLimiter::new(alloc, ping_quota(ping_frequency)),
         }
     }
 
@@ -152,19 +161,20 @@ impl Connections {
         }
     }
 
-    /// Takes the router's answer to a connection, which runs from then on.
+    /// Takes the router's answer to a connection, which runs from then on, and counts to its next ping from this moment, in
+    /// nanoseconds.
     ///
     /// `Err` only where there is no memory. The answer may then be taken and the connection not run, and its node goes no
     /// further.
-    pub fn run(&mut self, alloc: Global, conn: u64) -> Result<Row, AllocError>
+    pub fn run(&mut self, alloc: Global, conn: u64, now: u64) -> Result<Row, AllocError>
         ensures row { IfOk result (λ r. r ≡ takes_oldest (waiting self.old.answers conn)) }
-        ensures after { OnOk result (self.new ≡ without_answer conn self.old) }
+        ensures after { OnOk result (self.new ≡ without_answer conn now self.old) }
     {
         match self.pop(conn) {
             None => Ok(only(alloc, Reply::Idle)),
             Some((name, is_answer)) => {
                 if is_answer {
-                    self.stages.insert(conn, Stage::Running)?;
+                    self.stages.insert(conn, Stage::Running { pinged: now })?;
                 }
                 let row = taking(alloc, name)?;
                 Ok(row)

@@ -10,6 +10,7 @@ use Rattle.p2p_log.specs.declared.queue.Queue.TheVariants as queue
 use Rattle.p2p_log.specs.declared.queue.Side.{Side}
 use Rattle.p2p_log.specs.declared.queue.Side.TheVariants as side
 use Rattle.p2p_log.specs.declared.item.Item.{Item}
+use Rattle.p2p_log.specs.declared.item.Item.TheVariants as item
 use Rattle.p2p_log.specs.declared.item.Envelope.{Envelope}
 use Rattle.p2p_log.specs.declared.entry.Entry.{Entry}
 use Rattle.p2p_log.specs.declared.entry.Reply.{Reply}
@@ -20,14 +21,16 @@ use Rattle.p2p_log.specs.QueueCode.{same_queue}
 use Rattle.p2p_log.specs.Lines.{line, stands_in, placed}
 use Rattle.p2p_log.proofs.Queues.{same_queue-sym}
 use Rattle.p2p_log_rules.specs.declared.row.Opening.{Opening}
+use Rattle.p2p_log_rules.specs.Effect.{ping_puts}
 use Rattle.p2p_log_rules.specs.Facts.{state_from, with_named}
 use Rattle.p2p_log_rules.specs.Links.{dialed_by, dialer_of, with_opened, without_finished, acted_openings, openings_by, openings_of}
+use Rattle.p2p_log_rules.specs.Pings.{ping_frame}
 use Rattle.p2p_log_rules.proofs.Connections.{dialer_of-append, dialer_of-unmade}
 use Rattle.p2p_log_rules.proofs.Links.{openings_of-append}
 use Rattle.p2p_net_queues.specs.Tables.{at, waiting, pushed_at, popped_at}
 use Rattle.p2p_net_queues.proofs.Holding.{longer}
 use Rattle.p2p_net_queues.proofs.Tables.{waiting-pushed_at, waiting-popped_at, at-inserted}
-use Rattle.p2p_net_links.specs.Links.{no_links, way_of, with_way, written_way, opened_with}
+use Rattle.p2p_net_links.specs.Links.{no_links, way_of, with_way, written_way, batch_way, opened_with}
 use Rattle.p2p_net_links.specs.Stands.{LinksStand}
 use Rattle.p2p_net_links.specs.declared.links.Links.{Links}
 
@@ -327,11 +330,11 @@ placed_in entry p k j s t (f ∷ fs) b e =
     ∙ (ap (λ l. cond b (x ∷ l) l) (placed_in entry (p + 1) k j s t fs b e)
     ∙ (elim b as (λ c. cond c (x ∷ cond c rest []) (cond c rest []) ≡ cond c (x ∷ rest) []) [ true ↦ refl | false ↦ refl ]))
 
--- a batch is written to one direction
-pub links_written : (log : List Entry) (e : Entry) (l : Links) (s : Side) (k entry : ℕ) (fs : List ((ℕ × ℕ) × Item)) → LinksStand log l
+-- these frames are written to one direction
+frames_written : (log : List Entry) (e : Entry) (l : Links) (s : Side) (k entry : ℕ) (fs : List ((ℕ × ℕ) × Item)) → LinksStand log l
     → ((t : Side) (j : ℕ) → line (log ++ e ∷ []) (queue.Link j t) ≡ line log (queue.Link j t) ++ filter (stands_in (queue.Link j t)) (placed entry 0 (frames_put k s fs)))
     → OpensNone log e → LinksStand (log ++ e ∷ []) (with_way l s (written_way entry k s 0 fs (way_of l s)))
-links_written log e l s k entry fs st lines kept = record {
+frames_written log e l s k entry fs st lines kept = record {
   waits = λ t j.
       let put = placed entry 0 (frames_put k s fs) in
       let same = same_queue (queue.Link k s) (queue.Link j t) in
@@ -342,3 +345,14 @@ links_written log e l s k entry fs st lines kept = record {
   dialers = (with_way_kept log e l s (written_way entry k s 0 fs (way_of l s)) st kept).0;
   openings = (with_way_kept log e l s (written_way entry k s 0 fs (way_of l s)) st kept).1;
 }
+
+-- a ping, as the first of the frames of a batch
+abbrev ping_before : List ((ℕ × ℕ) × Item) → List ((ℕ × ℕ) × Item)
+ping_before fs = ((0, 0), item.Frame None ping_frame) ∷ fs
+
+-- a batch is written to one direction, with a ping before it where one is due
+pub links_written : (log : List Entry) (e : Entry) (l : Links) (s : Side) (k entry : ℕ) (due : Bool) (fs : List ((ℕ × ℕ) × Item)) → LinksStand log l
+    → ((t : Side) (j : ℕ) → line (log ++ e ∷ []) (queue.Link j t) ≡ line log (queue.Link j t) ++ filter (stands_in (queue.Link j t)) (placed entry 0 (ping_puts due (queue.Link k s) ++ frames_put k s fs)))
+    → OpensNone log e → LinksStand (log ++ e ∷ []) (with_way l s (batch_way due entry k s fs (way_of l s)))
+links_written log e l s k entry true fs st lines kept = frames_written log e l s k entry (ping_before fs) st lines kept
+links_written log e l s k entry false fs st lines kept = frames_written log e l s k entry fs st lines kept

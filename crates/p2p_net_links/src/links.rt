@@ -1,13 +1,15 @@
 //! `Links`, the frames in flight, who dialed, and between whom keys are exchanged.
 ghost use Rattle.std.specs.Prelude.{◌≡◌, ℕ, ◌++◌, ◌∷◌, [], length, map, slice_get, IfOk, OnOk};
 ghost use Rattle.std.specs.Option.{option_copied};
+ghost use Rattle.p2p_log_rules.specs.Effect.{only as only_reply, ping_puts};
 ghost use Rattle.p2p_net_queues.specs.Tables.{waiting, popped_at};
-ghost use Rattle.p2p_net_links.specs.Links.{no_links, way_of, written_way, with_way, batch_row, write_frames_row};
+ghost use Rattle.p2p_net_links.specs.Links.{no_links, way_of, pinged_way, written_way, batch_way, with_way, batch_row, write_frames_row};
 
 use p2p_base::List;
 use p2p_log::{Envelope, Item, Queue, Reply, Side};
 use p2p_log_rules::{Opening, Row};
 use p2p_net_queues::{Deque, Table, Turn, only};
+use p2p_wire::Message;
 use std::alloc::{AllocError, Global};
 
 /// The frames in flight over each link, the oldest first, by the direction in which they go, who dialed it, and between whom
@@ -43,6 +45,44 @@ fn write_all(
         row.takes.push(frame.0)?;
     }
     Ok(())
+}
+
+/// The row of a batch before its frames: a ping is written to one direction of a link, where one is due.
+fn begin_batch(
+    turn: Turn,
+    way: &mut Table<Deque<Envelope>>,
+    link: u64,
+    side: Side,
+    due: bool,
+) -> Result<Row, AllocError>
+    ensures row { IfOk result (λ r. r ≡ record (only_reply Reply.Ok) { puts = ping_puts due (Queue.Link link side) }) }
+    ensures way { OnOk result (way.new ≡ pinged_way due turn.entry link side way.old) }
+{
+    let mut row = only(turn.alloc, Reply::Ok);
+    if !due {
+        return Ok(row);
+    }
+    let frame = Message::Ping.encode(turn.alloc)?;
+    let ping = Item::Frame { copy: None, frame };
+    way.put(turn, &mut row, link, Queue::Link { link, side }, ping)?;
+    Ok(row)
+}
+
+/// Writes a ping, where one is due, and then these frames, which have these names, to one direction of a link, in order.
+fn write_batch(
+    turn: Turn,
+    way: &mut Table<Deque<Envelope>>,
+    link: u64,
+    side: Side,
+    due: bool,
+    frames: &[((u64, u64), Item)],
+) -> Result<Row, AllocError>
+    ensures row { IfOk result (λ r. r ≡ batch_row link side frames.now (record (only_reply Reply.Ok) { puts = ping_puts due (Queue.Link link side) })) }
+    ensures way { OnOk result (way.new ≡ batch_way due turn.entry link side frames.now way.old) }
+{
+    let mut row = begin_batch(turn, way, link, side, due)?;
+    write_all(turn, way, &mut row, link, side, frames)?;
+    Ok(row)
 }
 
 impl Links {
@@ -86,31 +126,8 @@ impl Links {
         }
     }
 
-    /// Writes these frames, which have these names, to one direction of a link, in order.
-    fn write_frames(
-        &mut self,
-        turn: Turn,
-        row: &mut Row,
-        link: u64,
-        side: Side,
-        frames: &[((u64, u64), Item)],
-    ) -> Result<(), AllocError>
-        ensures way { OnOk result (self.new ≡ with_way self.old side (written_way turn.entry link side (length row.old.puts) frames.now (way_of self.old side))) }
-        ensures row { OnOk result (row.new ≡ batch_row link side frames.now row.old) }
-    {
-        match side {
-            Side::Out => {
-                write_all(turn, &mut self.outward, row, link, side, frames)?;
-                Ok(())
-            }
-            Side::In => {
-                write_all(turn, &mut self.inward, row, link, side, frames)?;
-                Ok(())
-            }
-        }
-    }
-
-    /// Writes a batch to one direction of a link, in order: these frames, which were taken under these names.
+    /// Writes a batch to one direction of a link, in order: a ping first, where one is due, and these frames, which were taken
+    /// under these names.
     ///
     /// `Err` only where there is no memory. Some of them may then be in flight, and the node that wrote goes no further.
     pub fn write(
@@ -118,16 +135,31 @@ impl Links {
         turn: Turn,
         link: u64,
         side: Side,
+        ping: bool,
         frames: List<((u64, u64), Item)>,
     ) -> Result<Row, AllocError>
-        ensures row { IfOk result (λ r. r ≡ write_frames_row link side frames) }
-        ensures after { OnOk result (self.new ≡ with_way self.old side (written_way turn.entry link side 0 frames (way_of self.old side))) }
+        ensures row { IfOk result (λ r. r ≡ write_frames_row link side ping frames) }
+        ensures after { OnOk result (self.new ≡ with_way self.old side (batch_way ping turn.entry link side frames (way_of self.old side))) }
     {
-        if frames.is_empty() {
+        if !ping && frames.is_empty() {
             return Ok(only(turn.alloc, Reply::Idle));
         }
-        let mut row = only(turn.alloc, Reply::Ok);
-        self.write_frames(turn, &mut row, link, side, frames.as_slice())?;
-        Ok(row)
+        match side {
+            Side::Out => {
+                let row = write_batch(
+                    turn,
+                    &mut self.outward,
+                    link,
+                    side,
+                    ping,
+                    frames.as_slice(),
+                )?;
+                Ok(row)
+            }
+            Side::In => {
+                let row = write_batch(turn, &mut self.inward, link, side, ping, frames.as_slice())?;
+                Ok(row)
+            }
+        }
     }
 }

@@ -112,7 +112,7 @@ module _ {T : Type 0} where
 
 -- ---- a value that is taken out, and put back
 
-same_name : (k name : ℕ) → is_at (nat_cmp k) name ≡ (k == name)
+pub same_name : (k name : ℕ) → is_at (nat_cmp k) name ≡ (k == name)
 same_name k name = grind (arith, nat_tests)
 
 module _ {V : Type 0} where

@@ -1,5 +1,6 @@
 pub mod Board
 pub mod Lines
 pub mod Matching
+pub mod Meters
 pub mod Rows
 pub mod Tables

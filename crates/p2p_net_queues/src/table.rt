@@ -1,11 +1,13 @@
 //! `Table`, a map from numbers that contracts see as the list of its entries.
-ghost use Rattle.std.specs.Prelude.{◌≡◌, ◌==◌, ℕ, [], ◌∷◌, ◌++◌, None, cond, length, slice_get, is_some, OnOk};
+ghost use Rattle.std.specs.Prelude.{◌≡◌, ◌==◌, ℕ, [], ◌∷◌, ◌++◌, None, cond, length, slice_get, is_some, IfOk, OnOk};
 ghost use Rattle.std.specs.BTreeMap.{insert_entry};
 ghost use Rattle.std.specs.Ordering.{nat_cmp};
 ghost use Rattle.std.specs.Option.{option_copied};
+ghost use Rattle.p2p_net_queues.specs.Meters.{passes_at, checked_at};
 ghost use Rattle.p2p_net_queues.specs.Tables.{at, waiting, pushed_at, popped_at, cleared_at, without_at};
 
 use crate::Deque;
+use p2p_runtime::KeyedRateLimiter;
 use std::alloc::{AllocError, Global};
 use std::collections::BTreeMap;
 use std::marker::Model;
@@ -146,6 +148,25 @@ impl<T: Drop> Table<Deque<T>> {
         match self.tree.get(&key) {
             Some(line) => line.len(),
             None => 0,
+        }
+    }
+}
+
+impl Table<KeyedRateLimiter<u64>> {
+    /// Whether the quota of a key admits one more of a connection at the moment `now`, in nanoseconds: it does not where there is
+    /// none. What is admitted counts from then on.
+    ///
+    /// `Err` only where there is no memory. The node that owns the table goes no further then.
+    pub fn check_at(&mut self, key: u64, conn: u64, now: u64) -> Result<bool, AllocError>
+        ensures admits { IfOk result (λ b. b ≡ passes_at self.old key conn now) }
+        ensures after { OnOk result (self.new ≡ checked_at self.old key conn now) }
+    {
+        match self.tree.get_mut(&key) {
+            Some(limiter) => {
+                let answer = limiter.check_key(&conn, now)?;
+                Ok(answer.is_ok())
+            }
+            None => Ok(false),
         }
     }
 }
