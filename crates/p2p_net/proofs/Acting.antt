@@ -1,6 +1,6 @@
 -- What the code computes of nodes and links is the effect that the log defines, and they stand for the log with it.
-use Rattle.std.proofs.Common.{◌≡◌, ℕ, ◌<◌, Bool, true, false, cond, List, [], ◌∷◌, ◌++◌, length, refl, ap, sym, subst, ◌∙◌, arith, Option, Some, None}
-use Rattle.std.specs.Prelude.{slice_get, slice_set, ◌==◌, ◌&&◌, ◌||◌}
+use Rattle.std.proofs.Common.{◌≡◌, ℕ, ◌<◌, ◌≤◌, Bool, true, false, cond, List, [], ◌∷◌, ◌++◌, length, refl, ap, sym, subst, ◌∙◌, arith, Option, Some, None}
+use Rattle.std.specs.Prelude.{slice_get, ◌==◌, ◌&&◌, ◌||◌}
 use Rattle.std.specs.List.{list_any}
 use Rattle.std.proofs.lemmas.Bool.Decides.{nat_tests}
 use Rattle.std.proofs.lemmas.Option.{same_Some}
@@ -11,8 +11,8 @@ use Rattle.p2p_log.specs.declared.event.Event.{Event}
 use Rattle.p2p_log.specs.declared.event.Act.{Act}
 use Rattle.p2p_log.specs.declared.event.Act.TheVariants as act
 use Rattle.p2p_log_rules.specs.declared.row.Row.{Row}
-use Rattle.p2p_log_rules.specs.Facts.{events_of}
-use Rattle.p2p_log_rules.specs.Effect.{row, effect}
+use Rattle.p2p_log_rules.specs.Facts.{events_of, latest_moment}
+use Rattle.p2p_log_rules.specs.Effect.{effect}
 use Rattle.p2p_log_rules.specs.Lawful.{IsLawful}
 use Rattle.p2p_log_rules.specs.Valid.{may_act}
 use Rattle.p2p_log_laws.proofs.HandshakeLaws.{each_handshake, asker_runs}
@@ -44,7 +44,7 @@ use Rattle.p2p_net.proofs.Stepping.{route_performs}
 use Rattle.p2p_net.proofs.Trying.{attempt_performs}
 use Rattle.p2p_net.proofs.Tracking.{ask_performs, answer_performs, next_performs, tracker_performs}
 use Rattle.p2p_net.proofs.Sending.{send_step_performs}
-use Rattle.p2p_net.proofs.Receiving.{recv_step_performs}
+use Rattle.p2p_net.proofs.RecvStep.{recv_step_performs}
 
 -- ---- acts that name one node
 
@@ -54,28 +54,28 @@ asks_run configs log n lawful = λ name key x rest first is. asker_runs configs 
 
 -- each of them, a line each
 node_performs : (configs : List Config) (log : List Entry) (moment seed : ℕ) (a : Act) (x y : Node) (l links : Links) (r : Row) → NodeStands configs log (node_of log a) x → LinksStand log l
-    → IsLawful configs (events_of log) log → may_act configs (events_of log) a ≡ true → meeting_of a ≡ None → NodeDoes (length log) (node_of log a) moment seed a x y l links r
+    → IsLawful configs (events_of log) log → may_act configs (events_of log) a ≡ true → latest_moment (events_of log) ≤ moment → meeting_of a ≡ None → NodeDoes (length log) (node_of log a) moment seed a x y l links r
     → Performs configs log (asked moment seed a) (node_of log a) y links r
-node_performs configs log moment seed (act.Register c n rate) x y l links r s t lawful valid one d = register_performs configs log moment seed n c rate x y l links r s t valid d.0 d.1
-node_performs configs log moment seed (act.Start n) x y l links r s t lawful valid one d = start_performs configs log moment seed n x y l links r s t d.0 d.1
-node_performs configs log moment seed (act.Send bytes c n priority to) x y l links r s t lawful valid one d = send_performs configs log moment seed n c bytes priority to x y l links r s t d.0 d.1
-node_performs configs log moment seed (act.Router n) x y l links r s t lawful valid one d = route_performs configs log moment seed n x y l links r s t d.0 d.1
-node_performs configs log moment seed (act.SendStep conn n) x y l links r s t lawful valid one d = send_step_performs configs log moment seed conn n x y l links r s t (connections_are_one configs (events_of log) log lawful) d
-node_performs configs log moment seed (act.RecvStep conn n) x y l links r s t lawful valid one d = recv_step_performs configs log moment seed conn n x y l links r s t d
-node_performs configs log moment seed (act.Recv c n) x y l links r s t lawful valid one d = read_performs configs log moment seed n c x y l links r s t d.0 d.1
-node_performs configs log moment seed (act.Ask what n) x y l links r s t lawful valid one d = ask_performs configs log moment seed n what x y l links r s t d.0.0 d.0.1 d.1
-node_performs configs log moment seed (act.Answer e) x y l links r s t lawful valid one d = answer_performs configs log moment seed e x y l links r s t valid d.0.0 d.0.1 d.1
-node_performs configs log moment seed (act.Next e) x y l links r s t lawful valid one d = next_performs configs log moment seed e x y l links r s t valid d.0.0 d.0.1 d.1
-node_performs configs log moment seed (act.Tracker n) x y l links r s t lawful valid one d = tracker_performs configs log moment seed n x y l links r s t (asks_run configs log n lawful) d.0 d.1
-node_performs configs log moment seed (act.Spawner n) x y l links r s t lawful valid one d = spawner_performs configs log moment seed n x y l links r s t d.0 d.1
-node_performs configs log moment seed (act.Dialer n) x y l links r s t lawful valid one d = dialer_performs configs log moment seed n x y l links r s t d.0 d.1
-node_performs configs log moment seed (act.Listener n) x y l links r s t lawful valid one d = listener_performs configs log moment seed n x y l links r s t d.0 d.1
-node_performs configs log moment seed (act.Handshake e n) x y l links r s t lawful valid one d = handshake_performs configs log moment seed e n x y l links r s t d.0 d.1
-node_performs configs log moment seed (act.Attempt e n) x y l links r s t lawful valid one d = attempt_performs configs log moment seed e n x y l links r s t d.0 d.1
-node_performs configs log moment seed (act.Resolve addresses e n) x y l links r s t lawful valid one d = resolve_performs configs log moment seed addresses e n x y l links r s t d.0.0 d.0.1 d.1
-node_performs configs log moment seed (act.Refuse e n) x y l links r s t lawful valid one d = refuse_performs configs log moment seed e n x y l links r s t d.0.0 d.0.1 d.1
-node_performs configs log moment seed (act.Connect e from n m) x y l links r s t lawful valid one d = cc
-node_performs configs log moment seed (act.Finish link ok) x y l links r s t lawful valid one d = cc
+node_performs configs log moment seed (act.Register c n rate) x y l links r s t lawful valid late one d = register_performs configs log moment seed n c rate x y l links r s t valid d.0 d.1
+node_performs configs log moment seed (act.Start n) x y l links r s t lawful valid late one d = start_performs configs log moment seed n x y l links r s t d.0 d.1
+node_performs configs log moment seed (act.Send bytes c n priority to) x y l links r s t lawful valid late one d = send_performs configs log moment seed n c bytes priority to x y l links r s t d.0 d.1
+node_performs configs log moment seed (act.Router n) x y l links r s t lawful valid late one d = route_performs configs log moment seed n x y l links r s t d.0 d.1
+node_performs configs log moment seed (act.SendStep conn n) x y l links r s t lawful valid late one d = send_step_performs configs log moment seed conn n x y l links r s t (connections_are_one configs (events_of log) log lawful) d
+node_performs configs log moment seed (act.RecvStep conn n) x y l links r s t lawful valid late one d = recv_step_performs configs log moment seed conn n x y l links r s t late d
+node_performs configs log moment seed (act.Recv c n) x y l links r s t lawful valid late one d = read_performs configs log moment seed n c x y l links r s t d.0 d.1
+node_performs configs log moment seed (act.Ask what n) x y l links r s t lawful valid late one d = ask_performs configs log moment seed n what x y l links r s t d.0.0 d.0.1 d.1
+node_performs configs log moment seed (act.Answer e) x y l links r s t lawful valid late one d = answer_performs configs log moment seed e x y l links r s t valid d.0.0 d.0.1 d.1
+node_performs configs log moment seed (act.Next e) x y l links r s t lawful valid late one d = next_performs configs log moment seed e x y l links r s t valid d.0.0 d.0.1 d.1
+node_performs configs log moment seed (act.Tracker n) x y l links r s t lawful valid late one d = tracker_performs configs log moment seed n x y l links r s t (asks_run configs log n lawful) d.0 d.1
+node_performs configs log moment seed (act.Spawner n) x y l links r s t lawful valid late one d = spawner_performs configs log moment seed n x y l links r s t d.0 d.1
+node_performs configs log moment seed (act.Dialer n) x y l links r s t lawful valid late one d = dialer_performs configs log moment seed n x y l links r s t d.0 d.1
+node_performs configs log moment seed (act.Listener n) x y l links r s t lawful valid late one d = listener_performs configs log moment seed n x y l links r s t d.0 d.1
+node_performs configs log moment seed (act.Handshake e n) x y l links r s t lawful valid late one d = handshake_performs configs log moment seed e n x y l links r s t d.0 d.1
+node_performs configs log moment seed (act.Attempt e n) x y l links r s t lawful valid late one d = attempt_performs configs log moment seed e n x y l links r s t d.0 d.1
+node_performs configs log moment seed (act.Resolve addresses e n) x y l links r s t lawful valid late one d = resolve_performs configs log moment seed addresses e n x y l links r s t d.0.0 d.0.1 d.1
+node_performs configs log moment seed (act.Refuse e n) x y l links r s t lawful valid late one d = refuse_performs configs log moment seed e n x y l links r s t d.0.0 d.0.1 d.1
+node_performs configs log moment seed (act.Connect e from n m) x y l links r s t lawful valid late one d = cc
+node_performs configs log moment seed (act.Finish link ok) x y l links r s t lawful valid late one d = cc
 
 -- the parts of the other nodes are not named
 part_elsewhere : (p q : Part) (n m : ℕ) → (n == m) ≡ false → same_place (at p n) (at q m) ≡ false
@@ -115,14 +115,14 @@ one_each configs log ev nodes n y l links r s h away m z false ne g = node_frame
 
 -- one node changed, as its act says
 one_simulates : (configs : List Config) (log : List Entry) (ev : Event) (nodes new : List Node) (l links : Links) (r : Row) → WorldStands configs log nodes l → IsLawful configs (events_of log) log
-    → may_act configs (events_of log) ev.act ≡ true → meeting_of ev.act ≡ None → OneDoes (length log) (node_of log ev.act) ev nodes new l links r → Simulates configs log ev new links r
-one_simulates configs log ev nodes new l links r s lawful valid one d =
+    → may_act configs (events_of log) ev.act ≡ true → latest_moment (events_of log) ≤ ev.at → meeting_of ev.act ≡ None → OneDoes (length log) (node_of log ev.act) ev nodes new l links r → Simulates configs log ev new links r
+one_simulates configs log ev nodes new l links r s lawful valid late one d =
     let x : Node = d.0 in
     let y : Node = d.1.0 in
     let n = node_of log ev.act in
     let there : slice_get nodes n ≡ Some x = d.1.1.0 in
     let lt : n < length nodes = below nodes n x there in
-    let h : Performs configs log ev n y links r = node_performs configs log ev.at ev.seed ev.act x y l links r (s.each n x there) s.linked lawful valid one d.1.1.1.1 in
+    let h : Performs configs log ev n y links r = node_performs configs log ev.at ev.seed ev.act x y l links r (s.each n x there) s.linked lawful valid late one d.1.1.1.1 in
     record {
       row_is = h.row_is;
       stands = subst (λ (ns : List Node). WorldStands configs (log ++ effect configs log ev ∷ []) ns links) (sym d.1.1.1.0)
@@ -138,15 +138,15 @@ one_simulates configs log ev nodes new l links r s lawful valid one d =
 -- ---- all acts
 
 by_meeting : (configs : List Config) (log : List Entry) (moment seed : ℕ) (a : Act) (o : Option Meeting) (nodes new : List Node) (l links : Links) (r : Row) → WorldStands configs log nodes l → IsLawful configs (events_of log) log
-    → may_act configs (events_of log) a ≡ true → meeting_of a ≡ o → DoesOn o (length log) (node_of log a) (asked moment seed a) nodes new l links r → Simulates configs log (asked moment seed a) new links r
-by_meeting configs log moment seed a None nodes new l links r s lawful valid is d = one_simulates configs log (asked moment seed a) nodes new l links r s lawful valid is d
-by_meeting configs log moment seed (act.Connect e from n m) (Some how) nodes new l links r s lawful valid is d =
+    → may_act configs (events_of log) a ≡ true → latest_moment (events_of log) ≤ moment → meeting_of a ≡ o → DoesOn o (length log) (node_of log a) (asked moment seed a) nodes new l links r → Simulates configs log (asked moment seed a) new links r
+by_meeting configs log moment seed a None nodes new l links r s lawful valid late is d = one_simulates configs log (asked moment seed a) nodes new l links r s lawful valid late is d
+by_meeting configs log moment seed (act.Connect e from n m) (Some how) nodes new l links r s lawful valid late is d =
     link_simulates configs log moment seed e n m from nodes new l links r s
     (subst (λ (h : Meeting). Meets h (length log) nodes new l links r) (sym (same_Some (meeting.Link e from (record { dials = n; listens = m })) how is)) d)
-by_meeting configs log moment seed (act.Finish link ok) (Some how) nodes new l links r s lawful valid is d =
+by_meeting configs log moment seed (act.Finish link ok) (Some how) nodes new l links r s lawful valid late is d =
     finish_simulates configs log moment seed link ok nodes new l links r s (subst (λ (h : Meeting). Meets h (length log) nodes new l links r) (sym (same_Some (meeting.Finish link ok) how is)) d)
-by_meeting configs log moment seed a (Some how) nodes new l links r s lawful valid is d = cc
+by_meeting configs log moment seed a (Some how) nodes new l links r s lawful valid late is d = cc
 
 pub simulates : (configs : List Config) (log : List Entry) (ev : Event) (nodes new : List Node) (l links : Links) (r : Row) → WorldStands configs log nodes l → IsLawful configs (events_of log) log
-    → may_act configs (events_of log) ev.act ≡ true → WorldDoes (length log) (node_of log ev.act) ev nodes new l links r → Simulates configs log ev new links r
-simulates configs log ev nodes new l links r s lawful valid d = by_meeting configs log ev.at ev.seed ev.act (meeting_of ev.act) nodes new l links r s lawful valid refl d
+    → may_act configs (events_of log) ev.act ≡ true → latest_moment (events_of log) ≤ ev.at → WorldDoes (length log) (node_of log ev.act) ev nodes new l links r → Simulates configs log ev new links r
+simulates configs log ev nodes new l links r s lawful valid late d = by_meeting configs log ev.at ev.seed ev.act (meeting_of ev.act) nodes new l links r s lawful valid late refl d

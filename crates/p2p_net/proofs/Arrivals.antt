@@ -29,7 +29,7 @@ use Rattle.p2p_log_rules.specs.declared.row.Row.{Row}
 use Rattle.p2p_log_rules.specs.Attempting.{Attempt, attempts_of, told_row, answered_row, connected_row}
 use Rattle.p2p_log_rules.specs.Effect.{only, row, effect, entry_of}
 use Rattle.p2p_log_rules.specs.Facts.{key_at, is_up, with_named}
-use Rattle.p2p_log_rules.specs.Links.{openings_by, openings_of, arrived, ends_by, listening_ends_of}
+use Rattle.p2p_log_rules.specs.Links.{arrived, ends_by, listening_ends_of}
 use Rattle.p2p_log_laws.proofs.Untouched.{line-untouched}
 use Rattle.p2p_net_queues.proofs.Going.{line-kept}
 use Rattle.p2p_net_queues.specs.Tables as table

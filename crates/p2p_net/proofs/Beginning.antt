@@ -3,7 +3,6 @@ use Rattle.std.proofs.Common.{◌≡◌, ℕ, Bool, true, false, cond, List, [],
 use Rattle.std.specs.Prelude.{map, ◌==◌, is_some}
 use Rattle.std.specs.BTreeMap as tree
 use Rattle.std.specs.Ordering.{nat_cmp, is_eq}
-use Rattle.p2p_base.specs.declared.key.Key.{Key}
 use Rattle.p2p_log.specs.declared.config.Config.{Config}
 use Rattle.p2p_log.specs.declared.queue.Queue.{Queue}
 use Rattle.p2p_log.specs.declared.queue.Queue.TheVariants as queue
@@ -23,7 +22,6 @@ use Rattle.p2p_log_rules.specs.declared.row.Row.{Row}
 use Rattle.p2p_log_rules.specs.Connections.{half_at, is_begun, is_answer, is_running}
 use Rattle.p2p_log_rules.specs.Effect.{row, effect, entry_of, begin_row, mailbox_size_at}
 use Rattle.p2p_log_rules.specs.Facts.{is_up, taken}
-use Rattle.p2p_log_rules.specs.Spawning.{Spawned, connections_of}
 use Rattle.p2p_log_rules.proofs.Connections.{HalfParts, half_parts}
 use Rattle.p2p_log_rules.proofs.Spawning.{connections_of-unmade}
 use Rattle.p2p_log_laws.specs.Leading.{ConnectionsAreOne}
@@ -40,7 +38,6 @@ use Rattle.p2p_net_connections.proofs.Beginning.{connections_begun}
 use Rattle.p2p_net_links.specs.Stands.{LinksStand}
 use Rattle.p2p_net_links.specs.declared.links.Links.{Links}
 use Rattle.p2p_net_links.proofs.Changes.{openings_unmoved, links_frame}
-use Rattle.p2p_net_tracker.specs.Connecting.{connected_by}
 use Rattle.p2p_net_tracker.specs.Stands.{TrackerStands}
 use Rattle.p2p_net_tracker.proofs.ConnectSteps.{tracker_begun}
 use Rattle.p2p_net.specs.Connecting.{Begins}
@@ -48,9 +45,10 @@ use Rattle.p2p_net.specs.Places as place
 use Rattle.p2p_net.specs.Stands.{RouterStands, NodeStands}
 use Rattle.p2p_net.specs.declared.node.Node.{Node}
 use Rattle.p2p_net.proofs.EachPart.{with_parts, each_part, not_among-links}
+use Rattle.p2p_net.proofs.Receivers.{receives_nothing}
 use Rattle.p2p_net.proofs.Performing.{asked, Performs, taken-none}
 use Rattle.p2p_net.proofs.Routers.{HearsOfBegun-told, IsStranger-unbegun}
-use Rattle.p2p_net.proofs.Writing.{half_steps, step_begins, step_answers, step_beside, named_parts}
+use Rattle.p2p_net.proofs.RouterAnswers.{half_steps, step_begins, step_answers, step_beside, named_parts}
 
 -- one that has not begun does not run
 idle_stage : (o : Option Stage) → is_some o ≡ false → runs_on o ≡ false
@@ -74,7 +72,7 @@ module _ (configs : List Config) (log : List Entry) (at seed conn n : ℕ) (half
   key_is : parts.connection.key ≡ half.peer
   key_is = sym (ap (λ (h : Half). h.peer) parts.is)
 
-  connects : ConnectionsStand log n x.connections
+  connects : ConnectionsStand configs log n x.connections
   connects = s.each place.connections
 
   routes : RouterStands configs log n x.router
@@ -85,7 +83,7 @@ module _ (configs : List Config) (log : List Entry) (at seed conn n : ℕ) (half
 
   row_is : row configs log at seed (act.SendStep conn n) ≡ due
   unfolding row
-  row_is = half_steps configs log conn n half false false up has idle not_running
+  row_is = half_steps configs log conn n at half false false up has idle not_running
 
   effect_is : e ≡ effect configs log ev
   unfolding effect
@@ -115,10 +113,10 @@ module _ (configs : List Config) (log : List Entry) (at seed conn n : ℕ) (half
       none true c h k = absurd (cc)
       none false true h k = absurd (cc)
 
-  connections_now : ConnectionsStand (log ++ e ∷ []) n (begun_with conn x.connections)
+  connections_now : ConnectionsStand configs (log ++ e ∷ []) n (begun_with conn x.connections)
   connections_now =
-      connections_begun log e n conn x.connections connects (connections_of-unmade log e n refl) not_running (λ c. step_begins n conn c e refl refl)
-      (λ c. step_answers log e n conn c refl ∙ nothing (c == conn) (taken log e) (taken-none log e refl)) (λ c. beside (queue.Ready n c) refl refl)
+      connections_begun configs log e n conn x.connections connects (connections_of-unmade log e n refl) not_running (λ c. step_begins n conn c e refl refl)
+      (λ c. step_answers log e n conn c refl ∙ nothing (c == conn) (taken log e) (taken-none log e refl)) (receives_nothing configs log e n (taken-none log e refl) (λ c. beside (queue.Held n c) refl refl)) (λ c. beside (queue.Ready n c) refl refl)
     where
       nothing : (b : Bool) (items : List Item) → items ≡ [] → cond b (map is_answer items) [] ≡ []
       nothing true items none = ap (map is_answer) none
@@ -155,7 +153,7 @@ module _ (configs : List Config) (log : List Entry) (at seed conn n : ℕ) (half
     node =
         each_part configs log ev n x y named_parts s (subst (λ z. z ≡ with_parts named_parts x z) (sym d.1.0) refl)
         (λ p out. not_among-links named_parts p n out) (
-          subst (λ (z : Entry). ConnectionsStand (log ++ z ∷ []) n y.connections) effect_is (subst (ConnectionsStand (log ++ e ∷ []) n) (sym (ap (λ (z : Node). z.connections) d.1.0)) connections_now),
+          subst (λ (z : Entry). ConnectionsStand configs (log ++ z ∷ []) n y.connections) effect_is (subst (ConnectionsStand configs (log ++ e ∷ []) n) (sym (ap (λ (z : Node). z.connections) d.1.0)) connections_now),
           (
             subst (λ (z : Entry). RouterStands configs (log ++ z ∷ []) n y.router) effect_is router_now,
             (

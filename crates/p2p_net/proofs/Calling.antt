@@ -20,7 +20,9 @@ use Rattle.p2p_log_rules.specs.declared.row.Row.{Row}
 use Rattle.p2p_log_rules.specs.Frames.{frame_of}
 use Rattle.p2p_log_rules.specs.Facts.{events_of, has_started, registered, registers_at, capacity_for, channels, capacity_in, sum_capacities, is_up}
 use Rattle.p2p_log_rules.specs.Effect.{only, row, effect, entry_of, start_row, sent_row, send_row, read_row, oldest_read, recv_row, mailbox_size_at, router_capacity, limit_at, fitting_row}
-use Rattle.p2p_log_rules.specs.Valid.{fits_usize, may_register, may_act}
+use Rattle.p2p_log_rules.specs.Listening.{quota_of}
+use Rattle.p2p_log_rules.specs.Valid.{fits_usize, is_quota, may_register, may_act}
+use Rattle.p2p_runtime.specs.QuotaStep.{IsQuota}
 use Rattle.p2p_log_laws.proofs.Untouched.{line-untouched}
 use Rattle.p2p_net_queues.specs.Tables.{waiting, popped_at}
 use Rattle.p2p_net_router.specs.Stands.{StandsFor}
@@ -43,10 +45,20 @@ use Rattle.p2p_net.specs.Stands.{RouterStands, NodeStands}
 use Rattle.p2p_net.specs.declared.node.Node.{Node}
 use Rattle.p2p_net.proofs.EachPart.{with_parts, each_part, not_among}
 use Rattle.p2p_net.proofs.Frames.{links_kept}
+use Rattle.p2p_net.proofs.Receivers.{admits_apart}
 use Rattle.p2p_net.proofs.Routers.{RouterStands-moved, is_unbound-before}
 use Rattle.p2p_net.proofs.Performing.{asked, Performs, stays_performs, line-still}
 
 -- ---- register
+
+-- a rate that is tested is a quota
+quota_is : (rate : Rate) → is_quota rate ≡ true → IsQuota (quota_of rate)
+quota_is rate h =
+    let parts = and_parts (nat_lt 0 rate.burst) (nat_lt 0 rate.period) h in
+    record { some_burst = some rate.burst parts.0; some_period = some rate.period parts.1 }
+  where
+    some : (k : ℕ) → nat_lt 0 k ≡ true → 0 < k
+    some k is = grind (arith, nat_tests)
 
 pub register_performs : (configs : List Config) (log : List Entry) (at seed n c : ℕ) (rate : Rate) (x y : Node) (l links : Links) (r : Row) → NodeStands configs log n x → LinksStand log l
     → may_act configs (events_of log) (act.Register c n rate) ≡ true → Registers c rate x y r → links ≡ l → Performs configs log (asked at seed (act.Register c n rate)) n y links r
@@ -61,17 +73,18 @@ register_performs configs log at seed n c rate x y l links r s t valid d kept =
     let may : may_register configs (events_of log) c n rate ≡ true = (and_parts (nat_lt n (length configs)) (may_register configs (events_of log) c n rate) valid).1 in
     let regs = registered configs (events_of log) n in
     let capacity = capacity_for (slice_get configs n) rate in
-    let halves = and_parts (not (has_started (events_of log) n) && not (is_some (capacity_in regs c))) (fits_usize capacity && fits_usize (mailbox_size_at configs n + (sum_capacities regs + capacity))) may in
-    let fresh = and_parts (not (has_started (events_of log) n)) (not (is_some (capacity_in regs c))) halves.0 in
+    let halves = and_parts ((not (has_started (events_of log) n) && not (is_some (capacity_in regs c))) && is_quota rate) (fits_usize capacity && fits_usize (mailbox_size_at configs n + (sum_capacities regs + capacity))) may in
+    let named = and_parts (not (has_started (events_of log) n) && not (is_some (capacity_in regs c))) (is_quota rate) halves.0 in
+    let fresh = and_parts (not (has_started (events_of log) n)) (not (is_some (capacity_in regs c))) named.0 in
     let early : is_up log n ≡ false = not-true (has_started (events_of log) n) fresh.0 in
     let absent : capacity_in regs c ≡ None = none_in (capacity_in regs c) (not-true (is_some (capacity_in regs c)) fresh.1) in
     let fit = (and_parts (fits_usize capacity) (fits_usize (mailbox_size_at configs n + (sum_capacities regs + capacity))) halves.1).1 in
     let room : mailbox_size_at configs n + (x.channels.total + k) < 2 ^ 64 =
     counted (mailbox_size_at configs n) (sum_capacities regs) capacity x.channels.total k chan.total amount fit
     in
-    let parts : y ≡ record x { router = y.router; channels = registered_with x.channels c k } = d.1.0 in
+    let parts : y ≡ record x { router = y.router; channels = registered_with x.channels c k (quota_of rate) } = d.1.0 in
     let sub = d.1.1 in
-    let chan_is : y.channels ≡ registered_with x.channels c k = ap (λ (z : Node). z.channels) parts in
+    let chan_is : y.channels ≡ registered_with x.channels c k (quota_of rate) = ap (λ (z : Node). z.channels) parts in
     let conn_is : y.connections ≡ x.connections = ap (λ (z : Node). z.connections) parts in
     let at_number : x.router.number ≡ n = rout.number in
     record {
@@ -80,7 +93,7 @@ register_performs configs log at seed n c rate x y l links r s t valid d kept =
           each_part configs log ev n x y (place.channels ∷ place.router ∷ []) s (subst (λ z. z ≡ with_parts (place.channels ∷ place.router ∷ []) x z) (sym parts) refl)
           (λ p out. not_among (place.channels ∷ place.router ∷ []) p n n out) (
             subst (ChannelsStand configs (log ++ e ∷ []) n) (sym chan_is)
-                (channels_registered configs log e n c k rate x.channels chan refl amount (chan.capacities c ∙ absent) room (λ f. line-kept_all log e (queue.Channel n f) refl refl refl)),
+                (channels_registered configs log e n c k rate x.channels chan refl amount (chan.capacities c ∙ absent) room (λ f. line-kept_all log e (queue.Channel n f) refl refl refl) (quota_is rate named.1) (admits_apart configs log e n (act.Register c n rate) refl (λ d. refl))),
             (
               RouterStands-moved configs log e n x.router y.router rout
                   (sub.stands configs log e rout.stands (is_unbound-before configs log n x.router rout early)
@@ -216,20 +229,20 @@ recv_is configs log n c k ch s has =
 read_stands : (configs : List Config) (log : List Entry) (e : Entry) (n c : ℕ) (ch : Channels) (xs : List Envelope) → ChannelsStand configs log n ch → waiting ch.waiting c ≡ xs → e.event.act ≡ act.Recv c n
     → e.takes ≡ (oldest_read xs).takes → e.puts ≡ (oldest_read xs).puts → e.ends ≡ (oldest_read xs).ends → ChannelsStand configs (log ++ e ∷ []) n (taken_on (message_first (slice_get xs 0)) c ch)
 read_stands configs log e n c ch [] s is acts takes puts ends =
-    channels_moved configs log e n ch ch.waiting s (ap (registers_at configs n) acts)
+    channels_moved configs log e n ch ch.waiting s (ap (registers_at configs n) acts) (admits_apart configs log e n (act.Recv c n) acts (λ d. refl))
     (λ f. s.waits f ∙ sym (line-still log e e.reply (queue.Channel n f) (record { reply = refl; takes = takes; puts = puts; ends = ends })))
 read_stands configs log e n c ch (y ∷ ys) s is acts takes puts ends = read_first configs log e n c ch y ys s is acts y.item refl takes puts ends
   where
     still : (configs : List Config) (log : List Entry) (e : Entry) (n c : ℕ) (ch : Channels) → ChannelsStand configs log n ch → e.event.act ≡ act.Recv c n → e.takes ≡ [] → e.puts ≡ [] → e.ends ≡ [] → ChannelsStand configs (log ++ e ∷ []) n ch
     still configs log e n c ch s acts takes puts ends =
-        channels_moved configs log e n ch ch.waiting s (ap (registers_at configs n) acts)
+        channels_moved configs log e n ch ch.waiting s (ap (registers_at configs n) acts) (admits_apart configs log e n (act.Recv c n) acts (λ d. refl))
         (λ f. s.waits f ∙ sym (line-still log e e.reply (queue.Channel n f) (record { reply = refl; takes = takes; puts = puts; ends = ends })))
 
     read_first : (configs : List Config) (log : List Entry) (e : Entry) (n c : ℕ) (ch : Channels) (y : Envelope) (ys : List Envelope) → ChannelsStand configs log n ch → waiting ch.waiting c ≡ y ∷ ys → e.event.act ≡ act.Recv c n
         → (i : Item) → y.item ≡ i → e.takes ≡ (read_row (name_of y) i).takes → e.puts ≡ (read_row (name_of y) i).puts → e.ends ≡ (read_row (name_of y) i).ends
         → ChannelsStand configs (log ++ e ∷ []) n (taken_on (cond (is_message i) (Some y) None) c ch)
     read_first configs log e n c ch y ys s is acts (item.Message bytes copy from) it takes puts ends =
-        channels_moved configs log e n ch (popped_at ch.waiting c) s (ap (registers_at configs n) acts)
+        channels_moved configs log e n ch (popped_at ch.waiting c) s (ap (registers_at configs n) acts) (admits_apart configs log e n (act.Recv c n) acts (λ d. refl))
         (holds_taken (queue.Channel n) (same_channel n) log e c y ys ch.waiting s.waits
         (record { first = sym (s.waits c) ∙ is; gone = ap (λ t. t ++ flat_map ended_item e.ends) takes ∙ ap (λ d. name_of y ∷ flat_map ended_item d) ends })
         (λ f. ap (λ p. filter (stands_in (queue.Channel n f)) (placed (length log) 0 p)) puts))

@@ -43,7 +43,7 @@ AllOf P (p ∷ ps) = P p × AllOf P ps
 kept_part : (p : Part) (ps : List Part) (configs : List Config) (log : List Entry) (n : ℕ) (x y : Node) → is_in p ps ≡ false → PartStands p configs log n x → PartStands p configs log n (with_parts ps x y)
 kept_part router ps configs log n x y out s = subst (RouterStands configs log n) (sym (ap (λ b. cond b y.router x.router) out)) s
 kept_part channels ps configs log n x y out s = subst (ChannelsStand configs log n) (sym (ap (λ b. cond b y.channels x.channels) out)) s
-kept_part connections ps configs log n x y out s = subst (ConnectionsStand log n) (sym (ap (λ b. cond b y.connections x.connections) out)) s
+kept_part connections ps configs log n x y out s = subst (ConnectionsStand configs log n) (sym (ap (λ b. cond b y.connections x.connections) out)) s
 kept_part tracker ps configs log n x y out s = subst (TrackerStands configs log n) (sym (ap (λ b. cond b y.tracker x.tracker) out)) s
 kept_part dialer ps configs log n x y out s = subst (DialerStands configs log n) (sym (ap (λ b. cond b y.dialing x.dialing) out)) s
 kept_part listener ps configs log n x y out s = subst (ListenerStands configs log n) (sym (ap (λ b. cond b y.listening x.listening) out)) s

@@ -9,7 +9,6 @@ use Rattle.p2p_log.specs.declared.queue.Queue.{Queue}
 use Rattle.p2p_log.specs.declared.queue.Queue.TheVariants as queue
 use Rattle.p2p_log.specs.declared.entry.Entry.{Entry}
 use Rattle.p2p_log.specs.declared.entry.Reply.{Reply}
-use Rattle.p2p_log.specs.declared.entry.Reply.TheVariants as reply
 use Rattle.p2p_log.specs.declared.event.Event.{Event}
 use Rattle.p2p_log.specs.declared.event.Rate.{Rate}
 use Rattle.p2p_log.specs.declared.event.Act.{Act}
@@ -46,6 +45,7 @@ use Rattle.p2p_net.specs.Places.{Part, router, channels, connections, tracker, d
 use Rattle.p2p_net.specs.Stands.{RouterStands, PartStands}
 use Rattle.p2p_net.specs.declared.node.Node.{Node}
 use Rattle.p2p_net.proofs.ActKinds.{registers_unless, starts_unless, routes_unless, sends_unless}
+use Rattle.p2p_net.proofs.Receivers.{receives_unnamed, admits_unnamed}
 use Rattle.p2p_net.proofs.Routers.{RouterStands-moved}
 use Rattle.p2p_net.proofs.Touching.{line-unnamed}
 
@@ -237,13 +237,15 @@ part_frame channels configs log ev n x s h =
     (record {
       registers = ap (registers_at configs n) (effect-act configs log ev) ∙ registers_none configs log n channels ev.act (λ c m rate k. grind (arith, nat_tests)) h;
       lines = λ c. line-unnamed configs log ev (queue.Channel n c) h;
+      admits = admits_unnamed configs log (effect configs log ev) n ev.act (effect-act configs log ev) h;
     })
 part_frame connections configs log ev n x s h =
     let e = effect configs log ev in
-    connections_frame log e n x.connections s
+    connections_frame configs log e n x.connections s
     (record {
       spawns = λ conn. connections_of-unmade log e n (ap (steps_spawner n) (effect-act configs log ev) ∙ spawns_none log n ev.act h) conn;
       begins = begins_unsent log e n ev.act (effect-act configs log ev) (λ conn. sends_none log n conn ev.act h);
+      receives = receives_unnamed configs log e n ev.act (effect-act configs log ev) h (λ conn. line-unnamed configs log ev (queue.Held n conn) h);
       lines = λ conn. line-unnamed configs log ev (queue.Ready n conn) h;
     })
 part_frame tracker configs log ev n x s h =

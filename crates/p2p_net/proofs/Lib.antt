@@ -1,6 +1,7 @@
 pub mod ActKinds
 pub mod Acting
 pub mod Arrivals
+pub mod Arriving
 pub mod Attempting
 pub mod Beginning
 pub mod Between
@@ -23,15 +24,18 @@ pub mod Meetings
 pub mod Nodes
 pub mod Performing
 pub mod Readying
-pub mod Receiving
+pub mod Receivers
+pub mod RecvStep
 pub mod Records
 pub mod Resolving
+pub mod RouterAnswers
 pub mod Routers
 pub mod Running
 pub mod Sending
 pub mod SpawnerStep
 pub mod Starts
 pub mod Stepping
+pub mod Taking
 pub mod Touching
 pub mod Tracking
 pub mod Trying

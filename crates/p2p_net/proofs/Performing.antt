@@ -40,6 +40,7 @@ use Rattle.p2p_net.specs.Places.{Part, router, channels, connections, tracker, d
 use Rattle.p2p_net.specs.Stands.{PartStands, NodeStands, WorldStands}
 use Rattle.p2p_net.specs.declared.node.Node.{Node}
 use Rattle.p2p_net.proofs.ActKinds.{registers_unless, starts_unless}
+use Rattle.p2p_net.proofs.Receivers.{receives_nothing, admits_nothing}
 use Rattle.p2p_net.proofs.Routers.{RouterStands-idle}
 
 -- an event with this act
@@ -193,15 +194,20 @@ part_still router configs log e n x a rep s is q h =
     h.takes h.puts h.ends s
 part_still channels configs log e n x a rep s is q h =
     channels_frame configs log e n x.channels s
-    (record { registers = ap (registers_at configs n) is ∙ quiet_registers configs n a rep q; lines = λ c. line-still log e rep (queue.Channel n c) h })
+    (record {
+      registers = ap (registers_at configs n) is ∙ quiet_registers configs n a rep q;
+      lines = λ c. line-still log e rep (queue.Channel n c) h;
+      admits = admits_nothing configs log e n (taken-none log e h.takes);
+    })
 part_still connections configs log e n x a rep s is q h =
-    connections_frame log e n x.connections s
+    connections_frame configs log e n x.connections s
     (record {
       spawns = connections_of-untaken log e n (taken-none log e h.takes);
       begins = record {
         no_begin = λ conn. ap (λ b. steps_sender n conn b && is_done e.reply) is ∙ (ap (λ r. steps_sender n conn a && is_done r) h.reply ∙ quiet_begins n conn a rep q);
         no_answer = λ conn. ap (λ b. cond (steps_sender n conn b) (map is_answer (taken log e)) []) is ∙ either_nothing (steps_sender n conn a) (map is_answer (taken log e)) (ap (map is_answer) (taken-none log e h.takes));
       };
+      receives = receives_nothing configs log e n (taken-none log e h.takes) (λ conn. line-still log e rep (queue.Held n conn) h);
       lines = λ conn. line-still log e rep (queue.Ready n conn) h;
     })
 part_still tracker configs log e n x a rep s is q h =

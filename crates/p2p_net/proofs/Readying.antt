@@ -62,11 +62,14 @@ register_is : (configs : List Config) (log : List Entry) (n c : ℕ) (rate : Rat
 register_is configs log n c rate x s =
     let chan : ChannelsStand configs log n x.channels = s.each place.channels in
     let regs = registered configs (events_of log) n in
-    ap (λ b. (not b && not (is_some (capacity_at x.channels c))) && (fits_usize (capacity_by x rate) && fits_usize (x.config.mailbox_size + (x.channels.total + capacity_by x rate)))) (started_is configs log n x s)
-    ∙ (ap (λ o. (not (has_started (events_of log) n) && not (is_some o)) && (fits_usize (capacity_by x rate) && fits_usize (x.config.mailbox_size + (x.channels.total + capacity_by x rate)))) (chan.capacities c)
-    ∙ (ap (λ k. (not (has_started (events_of log) n) && not (is_some (capacity_in regs c))) && (fits_usize k && fits_usize (x.config.mailbox_size + (x.channels.total + k)))) (capacity_is configs n rate x s.own)
-    ∙ (ap (λ k. (not (has_started (events_of log) n) && not (is_some (capacity_in regs c))) && (fits_usize (capacity_for (slice_get configs n) rate) && fits_usize (k + (x.channels.total + capacity_for (slice_get configs n) rate)))) (size_is configs n x s.own)
-    ∙ ap (λ k. (not (has_started (events_of log) n) && not (is_some (capacity_in regs c))) && (fits_usize (capacity_for (slice_get configs n) rate) && fits_usize (mailbox_size_at configs n + (k + capacity_for (slice_get configs n) rate)))) chan.total)))
+    let tests : Bool → Option ℕ → ℕ → ℕ → ℕ → Bool = λ started o k size total.
+    ((not started && not (is_some o)) && is_quota rate) && (fits_usize k && fits_usize (size + (total + k)))
+    in
+    ap (λ b. tests b (capacity_at x.channels c) (capacity_by x rate) x.config.mailbox_size x.channels.total) (started_is configs log n x s)
+    ∙ (ap (λ o. tests (has_started (events_of log) n) o (capacity_by x rate) x.config.mailbox_size x.channels.total) (chan.capacities c)
+    ∙ (ap (λ k. tests (has_started (events_of log) n) (capacity_in regs c) k x.config.mailbox_size x.channels.total) (capacity_is configs n rate x s.own)
+    ∙ (ap (λ k. tests (has_started (events_of log) n) (capacity_in regs c) (capacity_for (slice_get configs n) rate) k x.channels.total) (size_is configs n x s.own)
+    ∙ ap (λ k. tests (has_started (events_of log) n) (capacity_in regs c) (capacity_for (slice_get configs n) rate) (mailbox_size_at configs n) k) chan.total)))
 
 spawned_is : (log : List Entry) (n conn : ℕ) → names_spawner n (slice_get log conn) ≡ valid.names_spawner (events_of log) n conn
 spawned_is [] n conn = refl
@@ -260,8 +263,10 @@ short k m h g = grind (arith, nat_tests)
 
 ready_by : (configs : List Config) (log : List Entry) (n : ℕ) (a : Act) (x : Node) → NodeStands configs log n x → ReleasesHeld configs log n → ConnectsReserved configs log n → fits x.config ≡ true → may_ask log x a ≡ true → IsReady a x
 ready_by configs log n (act.Register c m rate) x s released reserved fit may =
-    let halves = and_parts (not (is_started x) && not (is_some (capacity_at x.channels c))) (fits_usize (capacity_by x rate) && fits_usize (x.config.mailbox_size + (x.channels.total + capacity_by x rate))) may in
-    fits_below x.config.mailbox_size x.channels.total (capacity_by x rate) (and_parts (fits_usize (capacity_by x rate)) (fits_usize (x.config.mailbox_size + (x.channels.total + capacity_by x rate))) halves.1).1
+    let halves = and_parts ((not (is_started x) && not (is_some (capacity_at x.channels c))) && is_quota rate) (fits_usize (capacity_by x rate) && fits_usize (x.config.mailbox_size + (x.channels.total + capacity_by x rate))) may in (
+      fits_below x.config.mailbox_size x.channels.total (capacity_by x rate) (and_parts (fits_usize (capacity_by x rate)) (fits_usize (x.config.mailbox_size + (x.channels.total + capacity_by x rate))) halves.1).1,
+      (and_parts (not (is_started x) && not (is_some (capacity_at x.channels c))) (is_quota rate) halves.0).1,
+    )
 ready_by configs log n (act.Start m) x s released reserved fit may =
     let chan : ChannelsStand configs log n x.channels = s.each place.channels in
     let off : is_up log n ≡ false = sym (started_is configs log n x s) ∙ not-true (is_started x) may in (

@@ -1,16 +1,18 @@
 -- What a world keeps, with one more entry.
-use Rattle.std.proofs.Common.{◌≡◌, ℕ, true, false, List, [], ◌∷◌, ◌++◌, length, refl, ap, sym, subst, ◌∙◌}
+use Rattle.std.proofs.Common.{◌≡◌, ℕ, ◌≤◌, max, arith, true, false, List, [], ◌∷◌, ◌++◌, length, refl, ap, sym, subst, ◌∙◌}
 use Rattle.std.proofs.lemmas.Bool.{and_parts}
+use Rattle.std.proofs.lemmas.Bool.Decides.{nat_tests}
 use Rattle.std.specs.Prelude.{nat_le, ◌&&◌}
 use Rattle.p2p_log.specs.declared.config.Config.{Config}
 use Rattle.p2p_log.specs.declared.event.Event.{Event}
 use Rattle.p2p_log.specs.declared.entry.Entry.{Entry}
 use Rattle.p2p_log_rules.specs.declared.row.Row.{Row}
-use Rattle.p2p_log_rules.specs.Facts.{events_of}
+use Rattle.p2p_log_rules.specs.Facts.{events_of, latest_moment}
 use Rattle.p2p_log_rules.specs.Effect.{row, entry_of, effect}
 use Rattle.p2p_log_rules.specs.Valid.{last_moment, may_act, is_valid_event}
 use Rattle.p2p_log_rules.specs.Lawful.{IsLawful}
 use Rattle.p2p_log_rules.proofs.Facts.{events_of-append}
+use Rattle.p2p_net_queues.proofs.Meters.{latest_moment-entry}
 use Rattle.p2p_log_rules.proofs.Lawful.{IsLawful-nil, IsLawful-append}
 use Rattle.p2p_net_links.specs.declared.links.Links.{Links}
 use Rattle.p2p_net.specs.declared.node.Node.{Node}
@@ -41,6 +43,16 @@ pub valid_act : (configs : List Config) (events : List Event) (v : Event) → is
 unfolding is_valid_event
 valid_act configs events v h = (and_parts (nat_le (last_moment events) v.at) (may_act configs events v.act) h).1
 
+-- and it is not before the log
+pub moment_is_late : (configs : List Config) (log : List Entry) (nodes : List Node) (links : Links) (last : ℕ) (v : Event) → KeptStands configs log nodes links last → is_valid_event configs (events_of log) v ≡ true
+    → latest_moment (events_of log) ≤ v.at
+unfolding is_valid_event
+moment_is_late configs log nodes links last v k valid =
+    by (latest_moment (events_of log)) (last_moment (events_of log)) last v.at k.timely k.last_is (and_parts (nat_le (last_moment (events_of log)) v.at) (may_act configs (events_of log) v.act) valid).0
+  where
+    by : (latest moment last at : ℕ) → latest ≤ last → last ≡ moment → nat_le moment at ≡ true → latest ≤ at
+    by latest moment last at timely is after = grind (arith, nat_tests)
+
 -- what the code tests of an event
 pub tested : (configs : List Config) (log : List Entry) (nodes : List Node) (links : Links) (last : ℕ) (v : Event) → KeptStands configs log nodes links last → ready.may_apply nodes log last v ≡ is_valid_event configs (events_of log) v
 unfolding is_valid_event
@@ -49,9 +61,9 @@ tested configs log nodes links last v k =
     ∙ ap (λ b. nat_le (last_moment (events_of log)) v.at && b) (may_act-nodes configs log nodes links v.act k.world)
 
 -- a world whose log has one more entry, and that was the last moment
-pub kept_more : (configs : List Config) (log later : List Entry) (nodes : List Node) (links : Links) (v : Event) → IsLawful configs (events_of log) log → later ≡ log ++ effect configs log v ∷ [] → WorldStands configs later nodes links
+pub kept_more : (configs : List Config) (log later : List Entry) (nodes : List Node) (links : Links) (v : Event) → IsLawful configs (events_of log) log → latest_moment (events_of log) ≤ v.at → later ≡ log ++ effect configs log v ∷ [] → WorldStands configs later nodes links
     → KeptStands configs later nodes links v.at
-kept_more configs log later nodes links v lawful is s = record {
+kept_more configs log later nodes links v lawful late is s = record {
   world = s;
   lawful = subst (λ l. IsLawful configs (events_of l) l) (sym is)
       (subst (λ l. IsLawful configs l (log ++ effect configs log v ∷ [])) (sym (events_of-append log (effect configs log v) ∙ ap (λ e. events_of log ++ e ∷ []) (event-effect configs log v)))
@@ -61,6 +73,12 @@ kept_more configs log later nodes links v lawful is s = record {
       (ap (λ l. last_moment (events_of l)) is
       ∙ (ap last_moment (events_of-append log (effect configs log v))
       ∙ (ap (λ e. last_moment (events_of log ++ e ∷ [])) (event-effect configs log v) ∙ last_moment-append (events_of log) v)));
+  timely =
+      let grown : latest_moment (events_of later) ≡ max (latest_moment (events_of log)) v.at =
+      ap (λ l. latest_moment (events_of l)) is
+      ∙ (latest_moment-entry log (effect configs log v) ∙ ap (λ (w : Event). max (latest_moment (events_of log)) w.at) (event-effect configs log v))
+      in
+      omega (arith, late, grown);
 }
 
 pub entry_of-effect : (configs : List Config) (log : List Entry) (v : Event) (r : Row) → r ≡ row configs log v.at v.seed v.act → entry_of v r ≡ effect configs log v
@@ -69,10 +87,10 @@ entry_of-effect configs log v r h = ap (entry_of v) h
 
 -- what the code records of an event
 pub recorded : (configs : List Config) (log later : List Entry) (v : Event) (k : ℕ) (nodes new : List Node) (l links : Links) (e : Entry) → WorldStands configs log nodes l → IsLawful configs (events_of log) log
-    → is_valid_event configs (events_of log) v ≡ true → k ≡ length log → WorldRecords k (node_of log v.act) v nodes new l links e → later ≡ log ++ e ∷ [] → IsRecorded configs log v later new links
-recorded configs log later v k nodes new l links e s lawful valid at made grown =
+    → is_valid_event configs (events_of log) v ≡ true → latest_moment (events_of log) ≤ v.at → k ≡ length log → WorldRecords k (node_of log v.act) v nodes new l links e → later ≡ log ++ e ∷ [] → IsRecorded configs log v later new links
+recorded configs log later v k nodes new l links e s lawful valid late at made grown =
     let r : Row = made.0 in
-    let h : Simulates configs log v new links r = simulates configs log v nodes new l links r s lawful (valid_act configs (events_of log) v valid) (subst (λ i. WorldDoes i (node_of log v.act) v nodes new l links r) at made.1.1) in
+    let h : Simulates configs log v new links r = simulates configs log v nodes new l links r s lawful (valid_act configs (events_of log) v valid) late (subst (λ i. WorldDoes i (node_of log v.act) v nodes new l links r) at made.1.1) in
     let log_is : later ≡ log ++ effect configs log v ∷ [] = grown ∙ (ap (λ x. log ++ x ∷ []) made.1.0 ∙ ap (λ x. log ++ x ∷ []) (entry_of-effect configs log v r h.row_is)) in
     record { log_is = log_is; stands = subst (λ ls. WorldStands configs ls new links) (sym log_is) h.stands }
 
@@ -90,4 +108,5 @@ kept_new configs log nodes links none s = record {
   world = s;
   lawful = subst (λ l. IsLawful configs (events_of l) l) (sym none) (IsLawful-nil configs);
   last_is = sym (ap (λ l. last_moment (events_of l)) none);
+  timely = let nothing : latest_moment (events_of log) ≡ 0 = ap (λ l. latest_moment (events_of l)) none in omega (arith, nothing);
 }

@@ -7,9 +7,10 @@ use Rattle.p2p_log.specs.declared.entry.Reply.TheVariants as reply
 use Rattle.p2p_log.specs.declared.event.Act.TheVariants as act
 use Rattle.p2p_log_rules.specs.declared.row.Half.{Half}
 use Rattle.p2p_log_rules.specs.declared.row.Row.{Row}
-use Rattle.p2p_log_rules.specs.Connections.{half_at, is_begun, is_running}
-use Rattle.p2p_log_rules.specs.Effect.{only, row, sender_row, send_step_row}
+use Rattle.p2p_log_rules.specs.Connections.{half_at}
+use Rattle.p2p_log_rules.specs.Effect.{only, row, sender_row}
 use Rattle.p2p_log_rules.specs.Facts.{is_up}
+use Rattle.p2p_log_rules.specs.Pings.{is_past}
 use Rattle.p2p_log_laws.specs.Leading.{ConnectionsAreOne}
 use Rattle.p2p_net_queues.specs.Tables as table
 use Rattle.p2p_net_queues.specs.Tables.{waiting}
@@ -28,13 +29,14 @@ use Rattle.p2p_net.proofs.Beginning.{begin_performs}
 use Rattle.p2p_net.proofs.Halves.{half_is}
 use Rattle.p2p_net.proofs.Performing.{asked, Performs, stays_performs}
 use Rattle.p2p_net.proofs.Readying.{started_is}
-use Rattle.p2p_net.proofs.Writing.{run_performs, write_performs}
+use Rattle.p2p_net.proofs.RouterAnswers.{run_performs}
+use Rattle.p2p_net.proofs.Writing.{due_is, write_performs}
 
 module _ (configs : List Config) (log : List Entry) (at seed conn n : ℕ) (x y : Node) (l links : Links) (r : Row) (s : NodeStands configs log n x) (t : LinksStand log l) (one : ConnectionsAreOne log) where
   abbrev Done : Type 0
   Done = Performs configs log (asked at seed (act.SendStep conn n)) n y links r
 
-  connects : ConnectionsStand log n x.connections
+  connects : ConnectionsStand configs log n x.connections
   connects = s.each place.connections
 
   gone : row configs log at seed (act.SendStep conn n) ≡ only reply.Gone → r ≡ only reply.Gone → y ≡ x → links ≡ l → Done
@@ -42,27 +44,28 @@ module _ (configs : List Config) (log : List Entry) (at seed conn n : ℕ) (x y 
 
   down : is_up log n ≡ false → row configs log at seed (act.SendStep conn n) ≡ only reply.Gone
   unfolding row
-  down off = ap (λ b. cond b (sender_row configs log n conn (half_at log n conn)) (only reply.Gone)) off
+  down off = ap (λ b. cond b (sender_row configs log n conn at (half_at log n conn)) (only reply.Gone)) off
 
   nobody : is_up log n ≡ true → half_at log n conn ≡ None → row configs log at seed (act.SendStep conn n) ≡ only reply.Gone
   unfolding row
   nobody up none =
-      ap (λ b. cond b (sender_row configs log n conn (half_at log n conn)) (only reply.Gone)) up ∙ ap (sender_row configs log n conn) none
+      ap (λ b. cond b (sender_row configs log n conn at (half_at log n conn)) (only reply.Gone)) up ∙ ap (sender_row configs log n conn at) none
 
-  at_stage : (half : Half) (o : Option Stage) → is_up log n ≡ true → half_at log n conn ≡ Some half → table.at x.connections.stages conn ≡ o → StepsAt o (length log) n conn half x y l links r → Done
+  at_stage : (half : Half) (o : Option Stage) → is_up log n ≡ true → half_at log n conn ≡ Some half → table.at x.connections.stages conn ≡ o → StepsAt o (length log) n conn at half x y l links r → Done
   at_stage half None up has is d = begin_performs configs log at seed conn n half x y l links r s t one up has (sym (connects.begun conn) ∙ ap (λ (p : Option Stage). is_some p) is) d.0 d.1
   at_stage half (Some stage.Begun) up has is d =
       run_performs configs log at seed conn n half (waiting x.connections.answers conn) x y l links r s t up has (sym (connects.begun conn) ∙ ap (λ (p : Option Stage). is_some p) is) (sym (connects.running conn) ∙ ap runs_on is) refl d.0 d.1
-  at_stage half (Some stage.Running) up has is d =
-      write_performs configs log at seed conn n half x y l links r s t up has (sym (connects.begun conn) ∙ ap (λ (p : Option Stage). is_some p) is) (sym (connects.running conn) ∙ ap runs_on is) d
+  at_stage half (Some (stage.Running pinged)) up has is d =
+      write_performs configs log at seed conn n half (is_past x.config.ping_frequency at (Some pinged)) x y l links r s t up has (sym (connects.begun conn) ∙ ap (λ (p : Option Stage). is_some p) is)
+      (sym (connects.running conn) ∙ ap runs_on is) (due_is configs log n conn at pinged x s is) d
 
-  by_half : (o : Option Half) → is_up log n ≡ true → half_at log n conn ≡ o → StepsHalf o (length log) n conn x y l links r → Done
+  by_half : (o : Option Half) → is_up log n ≡ true → half_at log n conn ≡ o → StepsHalf o (length log) n conn at x y l links r → Done
   by_half None up none d = gone (nobody up none) d.0.0 d.0.1 d.1
   by_half (Some half) up has d = at_stage half (table.at x.connections.stages conn) up has refl d
 
-  by_start : (b : Bool) → is_up log n ≡ b → SendStepsBy b (length log) n conn x y l links r → Done
+  by_start : (b : Bool) → is_up log n ≡ b → SendStepsBy b (length log) n conn at x y l links r → Done
   by_start false off d = gone (down off) d.0.0 d.0.1 d.1
-  by_start true up d = by_half (half_by n x.connections l conn) up (sym (half_is log n conn x.connections l connects t)) d
+  by_start true up d = by_half (half_by n x.connections l conn) up (sym (half_is configs log n conn x.connections l connects t)) d
 
-  pub send_step_performs : SendSteps (length log) n conn x y l links r → Done
+  pub send_step_performs : SendSteps (length log) n conn at x y l links r → Done
   send_step_performs d = by_start (is_started x) (sym (started_is configs log n x s)) d

@@ -37,6 +37,7 @@ use Rattle.p2p_net.specs.Stands.{NodeStands}
 use Rattle.p2p_net.specs.declared.node.Node.{Node}
 use Rattle.p2p_net.proofs.EachPart.{with_parts, each_part, not_among}
 use Rattle.p2p_net.proofs.Frames.{begins_unsent, links_kept}
+use Rattle.p2p_net.proofs.Receivers.{receives_apart}
 use Rattle.p2p_net.proofs.Readying.{started_is}
 use Rattle.p2p_net.proofs.Performing.{asked, Performs, IsStill, line-still, part_still, stays_performs}
 use Rattle.p2p_net_tracker.proofs.Steps.{first_taken}
@@ -66,7 +67,7 @@ module _ (configs : List Config) (log : List Entry) (moment seed n : ℕ) (x y :
   spawns : SpawnerStands configs log n x.spawning
   spawns = s.each place.spawner
 
-  connects : ConnectionsStand log n x.connections
+  connects : ConnectionsStand configs log n x.connections
   connects = s.each place.connections
 
   row_up : is_up log n ≡ true → row configs log moment seed a ≡ takes_oldest waits
@@ -86,7 +87,7 @@ module _ (configs : List Config) (log : List Entry) (moment seed n : ℕ) (x y :
 
   -- what it comes to, where the two parts stand for the log with the entry
   performs : (due : Row) → row configs log moment seed a ≡ due → r ≡ due → y ≡ with_parts both x y
-      → SpawnerStands configs (log ++ e due ∷ []) n y.spawning → ConnectionsStand (log ++ e due ∷ []) n y.connections → Done
+      → SpawnerStands configs (log ++ e due ∷ []) n y.spawning → ConnectionsStand configs (log ++ e due ∷ []) n y.connections → Done
   performs due is done parts spawner connections =
       let same : e due ≡ effect configs log ev = effect_is due is in
       record {
@@ -94,7 +95,7 @@ module _ (configs : List Config) (log : List Entry) (moment seed n : ℕ) (x y :
         node =
             each_part configs log ev n x y both s parts (λ p out. not_among both p n n out) (
               subst (λ (d : Entry). SpawnerStands configs (log ++ d ∷ []) n y.spawning) same spawner,
-              (subst (λ (d : Entry). ConnectionsStand (log ++ d ∷ []) n y.connections) same connections, tt),
+              (subst (λ (d : Entry). ConnectionsStand configs (log ++ d ∷ []) n y.connections) same connections, tt),
             );
         linked = subst (LinksStand (log ++ effect configs log ev ∷ [])) (sym kept) (links_kept configs log ev l t refl);
       }
@@ -107,7 +108,7 @@ module _ (configs : List Config) (log : List Entry) (moment seed n : ℕ) (x y :
       performs due is d.0 (subst (λ z. z ≡ with_parts both x z) (sym d.1) refl)
       (subst (SpawnerStands configs (log ++ e due ∷ []) n) (sym (ap (λ (z : Node). z.spawning) d.1))
       (spawner_less configs log (e due) n x.spawning spawns (line-still log (e due) reply.Idle q still ∙ (none ∙ sym (ap (drop 1) none)))))
-      (subst (ConnectionsStand (log ++ e due ∷ []) n) (sym (ap (λ (z : Node). z.connections) d.1)) (part_still place.connections configs log (e due) n x a reply.Idle connects refl refl still))
+      (subst (ConnectionsStand configs (log ++ e due ∷ []) n) (sym (ap (λ (z : Node). z.connections) d.1)) (part_still place.connections configs log (e due) n x a reply.Idle connects refl refl still))
 
   -- what is taken makes a connection
   spawn : is_up log n ≡ true → (z : Envelope) (zs : List Envelope) → waits ≡ z ∷ zs → (w : Taken) → TakesFirst log n z w → SpawnsBy (Some w) (length log) x y r → Done
@@ -127,8 +128,9 @@ module _ (configs : List Config) (log : List Entry) (moment seed n : ℕ) (x y :
       in
       performs due is (d.0 ∙ ap taken_row takes.name) (subst (λ z. z ≡ with_parts both x z) (sym d.1) refl)
       (subst (SpawnerStands configs (log ++ e due ∷ []) n) (sym (ap (λ (z : Node). z.spawning) d.1)) (spawner_less configs log (e due) n x.spawning spawns left))
-      (subst (ConnectionsStand (log ++ e due ∷ []) n) (sym (ap (λ (z : Node). z.connections) d.1))
-      (connections_spawned log (e due) n w.link w.reservation x.connections connects made (begins_unsent log (e due) n a refl (λ conn. refl))
+      (subst (ConnectionsStand configs (log ++ e due ∷ []) n) (sym (ap (λ (z : Node). z.connections) d.1))
+      (connections_spawned configs log (e due) n w.link w.reservation x.connections connects made (begins_unsent log (e due) n a refl (λ conn. refl))
+      (receives_apart configs log (e due) n a refl (λ conn. refl) (λ conn. line-taken log (e due) q z zs (queue.Held n conn) first refl ∙ append-nil (line log (queue.Held n conn))))
       (λ conn. line-taken log (e due) q z zs (queue.Ready n conn) first refl ∙ append-nil (line log (queue.Ready n conn)))))
 
   by_line : is_up log n ≡ true → (xs : List Envelope) → waits ≡ xs → SpawnerStepsBy true (length log) x y r → Done

@@ -10,9 +10,9 @@ use Rattle.p2p_log.specs.declared.config.Config.{Config}
 use Rattle.p2p_log.specs.declared.queue.Queue.TheVariants as queue
 use Rattle.p2p_log.specs.declared.queue.Side.TheVariants as side
 use Rattle.p2p_log_rules.specs.Attempting.{dial_rules_in}
-use Rattle.p2p_log_rules.specs.Connections.{is_begun, is_running}
-use Rattle.p2p_log_rules.specs.Facts.{registered, history_from, state_from}
-use Rattle.p2p_log_rules.specs.Spawning.{connections_of}
+use Rattle.p2p_log_rules.specs.Facts.{registered}
+use Rattle.p2p_net_connections.proofs.Changes.{connections_new}
+use Rattle.p2p_net_channels.proofs.Quotas.{quotas_new}
 use Rattle.p2p_log_rules.specs.Effect.{mailbox_size_at}
 use Rattle.p2p_log_rules.specs.Listening.{no_gates, gate_rules_of}
 use Rattle.p2p_log_rules.specs.Valid.{fits, has_key, is_valid_config, config_fault_from, config_fault}
@@ -77,14 +77,10 @@ pub each-append :
 each-append P xs x each last n y s =
     last_or_before P xs x each last n y (nat_lt n (length xs)) (n == length xs) refl refl (sym (slice_get-append xs x n) ∙ s)
 
--- no channels, connections and links stand for no log
+-- no channels and no links stand for no log
 channels_new : (configs : List Config) (n : ℕ) → mailbox_size_at configs n < 2 ^ 64 → ChannelsStand configs [] n no_channels
 unfolding registered
-channels_new configs n h = record { capacities = λ c. refl; total = refl; room = omega (arith, h); waits = holds_none (queue.Channel n) }
-
-connections_new : (n : ℕ) → ConnectionsStand [] n no_connections
-unfolding is_begun is_running history_from state_from connections_of
-connections_new n = record { spawned = λ c. refl; begun = λ c. refl; running = λ c. refl; waits = holds_none (queue.Ready n) }
+channels_new configs n h = record { capacities = λ c. refl; total = refl; room = omega (arith, h); waits = holds_none (queue.Channel n); quotas = quotas_new configs n }
 
 pub links_new : LinksStand [] no_links
 links_new = record {
@@ -99,7 +95,7 @@ links_new = record {
 -- a node that was asked for nothing
 pub node_new :
     (configs : List Config) (n : ℕ) (x : Node) → slice_get configs n ≡ Some x.config → x.retained ≡ x.config.max_peers_per_set * x.config.tracked_peer_sets → x.failed ≡ false → x.config.mailbox_size < 2 ^ 64
-    → x.router.number ≡ n → StandsFor configs [] x.router → ((c : ℕ) → tree.get nat_cmp x.router.peers c ≡ None) → x.channels ≡ no_channels → x.connections ≡ no_connections → IsNew x.config x.tracker → x.dialing ≡ no_dialing → IsNewListening (gates_of x.config) x.listening → x.spawning ≡ no_spawning x.config.mailbox_size
+    → x.router.number ≡ n → StandsFor configs [] x.router → ((c : ℕ) → tree.get nat_cmp x.router.peers c ≡ None) → x.channels ≡ no_channels → x.connections ≡ no_connections x.config.ping_frequency → IsNew x.config x.tracker → x.dialing ≡ no_dialing → IsNewListening (gates_of x.config) x.listening → x.spawning ≡ no_spawning x.config.mailbox_size
     → NodeStands configs [] n x
 node_new configs n x config retained works small number stands none ch cs tr di li sp = record {
   own = record { config = config; retained = retained; works = works };
@@ -113,7 +109,7 @@ node_new configs n x config retained works small number stands none ch cs tr di 
     | place.channels ↦
         subst (ChannelsStand configs [] n) (sym ch)
         (channels_new configs n (subst (λ k. k < 2 ^ 64) (sym (ap (λ (o : Option Config). elim o [ None ↦ 0 | Some c ↦ c.mailbox_size ]) config)) small))
-    | place.connections ↦ subst (ConnectionsStand [] n) (sym cs) (connections_new n)
+    | place.connections ↦ subst (ConnectionsStand configs [] n) (sym (cs ∙ ap no_connections (sym (ap (λ (o : Option Config). elim o [ None ↦ 0 | Some c ↦ c.ping_frequency ]) config)))) (connections_new configs n)
     | place.tracker ↦ tracker_new configs n x.config x.tracker config tr
     | place.dialer ↦ subst (DialerStands configs [] n) (sym di) (dialer_new configs n)
     | place.listener ↦
@@ -133,6 +129,7 @@ absent = record {
   mailbox_size = 0;
   tracked_peer_sets = 0;
   send_batch_size = 0;
+  ping_frequency = 0;
   allow_private_ips = false;
   allow_dns = false;
   bypass_ip_check = false;

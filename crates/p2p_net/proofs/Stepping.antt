@@ -28,7 +28,9 @@ use Rattle.p2p_net.specs.Acts.{RoutesBy, Routes}
 use Rattle.p2p_net.specs.Stands.{RouterStands, NodeStands}
 use Rattle.p2p_net.specs.declared.node.Node.{Node}
 use Rattle.p2p_net.proofs.EachPart.{with_parts, each_part, not_among}
+use Rattle.p2p_log_laws.proofs.Untouched.{line-untouched}
 use Rattle.p2p_net.proofs.Frames.{links_kept, begins_unsent}
+use Rattle.p2p_net.proofs.Receivers.{receives_apart}
 use Rattle.p2p_net.proofs.Routers.{RouterStands-moved}
 use Rattle.p2p_net.proofs.Performing.{asked, Performs, stays_performs}
 
@@ -53,7 +55,7 @@ route_on configs log at seed n true x y l links r s t started d kept =
     let ev = asked at seed (act.Router n) in
     let e = effect configs log ev in
     let rout : RouterStands configs log n x.router = s.each place.router in
-    let conn : ConnectionsStand log n x.connections = s.each place.connections in
+    let conn : ConnectionsStand configs log n x.connections = s.each place.connections in
     let up : is_up log n ≡ true = ap (is_up log) (sym rout.number) ∙ (sym rout.stands.bound ∙ started) in
     let parts : y ≡ record x { router = y.router; connections = record x.connections { answers = answered (length log) n 0 r.puts x.connections.answers } } = d.0 in
     let calls = d.1 in
@@ -76,8 +78,9 @@ route_on configs log at seed n true x y l links r s t started d kept =
                 (subst (λ (z : Row). StandsFor configs (log ++ entry_of ev z ∷ []) y.router) row_is (calls.stands configs log ev rout.stands refl (ap act.Router (sym rout.number))))
                 (ap (λ (z : Router). z.number) calls.rest) (ap (λ (z : Router). z.peers) calls.rest),
             (
-              subst (ConnectionsStand (log ++ e ∷ []) n) (sym (ap (λ (z : Node). z.connections) parts))
-                  (connections_answered log e n x.connections (answered (length log) n 0 r.puts x.connections.answers) conn (connections_of-unmade log e n refl) (begins_unsent log e n (act.Router n) refl (λ c. refl))
+              subst (ConnectionsStand configs (log ++ e ∷ []) n) (sym (ap (λ (z : Node). z.connections) parts))
+                  (connections_answered configs log e n x.connections (answered (length log) n 0 r.puts x.connections.answers) conn (connections_of-unmade log e n refl) (begins_unsent log e n (act.Router n) refl (λ c. refl))
+                  (receives_apart configs log e n (act.Router n) refl (λ c. refl) (λ c. line-untouched configs log ev (queue.Held n c) refl refl))
                   (λ c. waiting-answered (length log) n 0 c r.puts x.connections.answers ∙ (ap (λ w. w ++ filter (stands_in (queue.Ready n c)) (placed (length log) 0 r.puts)) (conn.waits c) ∙ sym (adds c)))),
               tt,
             ),

@@ -19,7 +19,7 @@ use Rattle.p2p_log_rules.specs.Effect.{effect}
 use Rattle.p2p_log_rules.specs.Links.{openings_of}
 use Rattle.p2p_log_rules.specs.declared.row.Half.{Half}
 use Rattle.p2p_log_rules.specs.Connections.{half_at}
-use Rattle.p2p_log_rules.proofs.Touches.{in_router, in_mailboxes, in_half, in_link, in_channels, in_tracker, in_handshakes, in_ends, is_told_to, reads, writes, away}
+use Rattle.p2p_log_rules.proofs.Touches.{in_router, in_mailboxes, in_half, in_link, in_held, in_channels, in_tracker, in_handshakes, in_ends, is_told_to, reads, writes, away}
 use Rattle.p2p_log_rules.specs.Tracking.{asked_by}
 use Rattle.p2p_log_laws.proofs.Untouched.{line-untouched}
 use Rattle.p2p_net.specs.Places.{home, names, at, router, channels, connections, tracker, dialer, listener, spawner, links, same_place, ends_named, asked_node, or_first, node_asked}
@@ -55,6 +55,10 @@ mailbox_kinds : (n : ℕ) (q : Queue) → same_place (at router n) (home q) ≡ 
 mailbox_kinds n (queue.Router m) h k = grind (arith, nat_tests)
 mailbox_kinds n (queue.Tracker m) h k = grind (arith, nat_tests)
 mailbox_kinds n _ h k = refl
+
+held_kinds : (n conn : ℕ) (q : Queue) → same_place (at connections n) (home q) ≡ false → in_held n conn q ≡ false
+held_kinds n conn (queue.Held m e) h = grind (arith, nat_tests)
+held_kinds n conn _ h = refl
 
 channel_kinds : (n : ℕ) (q : Queue) → same_place (at channels n) (home q) ≡ false → in_channels n q ≡ false
 channel_kinds n (queue.Channel m c) h = grind (arith, nat_tests)
@@ -157,7 +161,9 @@ reads-named configs log (act.SendStep conn n) q h =
     (first_false (same_place (at connections n) (home q)) (same_place (at router n) (home q) || (same_place (at tracker n) (home q) || false)) rest)
     (first_false (same_place links (home q)) (same_place (at connections n) (home q) || (same_place (at router n) (home q) || (same_place (at tracker n) (home q) || false))) h)
 reads-named configs log (act.RecvStep conn n) q h =
-    link_kinds (half_at log n conn) q (first_false (same_place links (home q)) (same_place (at channels n) (home q) || false) h)
+    both_false (in_held n conn q) (in_link (half_at log n conn) q)
+    (held_kinds n conn q (third_of_three (same_place links (home q)) (same_place (at channels n) (home q)) (same_place (at connections n) (home q)) h))
+    (link_kinds (half_at log n conn) q (first_false (same_place links (home q)) (same_place (at channels n) (home q) || (same_place (at connections n) (home q) || false)) h))
 reads-named configs log (act.Recv c n) q h = channel_queue n c q (first_false (same_place (at channels n) (home q)) false h)
 reads-named configs log (act.Answer e) q h = told_queue log e q (first_false (same_place (at tracker (node_asked (slice_get log e))) (home q)) false h)
 reads-named configs log (act.Next e) q h = told_queue log e q (first_false (same_place (at tracker (node_asked (slice_get log e))) (home q)) false h)
@@ -185,7 +191,10 @@ writes-named configs log (act.SendStep conn n) q h =
     (mailbox_kinds n q (second_of_three (same_place (at connections n) (home q)) (same_place (at router n) (home q)) (same_place (at tracker n) (home q)) rest)
     (third_of_three (same_place (at connections n) (home q)) (same_place (at router n) (home q)) (same_place (at tracker n) (home q)) rest))
     (reads-named configs log (act.SendStep conn n) q h)
-writes-named configs log (act.RecvStep conn n) q h = channel_kinds n q (first_false (same_place (at channels n) (home q)) false (second_false (same_place links (home q)) (same_place (at channels n) (home q) || false) h))
+writes-named configs log (act.RecvStep conn n) q h =
+    both_false (in_held n conn q) (in_channels n q)
+    (held_kinds n conn q (third_of_three (same_place links (home q)) (same_place (at channels n) (home q)) (same_place (at connections n) (home q)) h))
+    (channel_kinds n q (second_of_three (same_place links (home q)) (same_place (at channels n) (home q)) (same_place (at connections n) (home q)) h))
 writes-named configs log (act.Ask what n) q h = tracker_queue n q (first_false (same_place (at tracker n) (home q)) false h)
 writes-named configs log (act.Tracker n) q h = tracker_kinds n q (first_false (same_place (at tracker n) (home q)) false h)
 writes-named configs log (act.Dialer n) q h = tracker_queue n q (first_false (same_place (at tracker n) (home q)) (same_place (at dialer n) (home q) || false) h)

@@ -3,9 +3,7 @@ use Rattle.std.specs.Prelude.{◌≡◌, ℕ, ◌+◌, Bool, true, false, ◌&&�
 use Rattle.p2p_base.specs.declared.key.Key.{Key}
 use Rattle.p2p_log.specs.declared.queue.Queue.{Queue}
 use Rattle.p2p_log.specs.declared.queue.Queue.TheVariants as queue
-use Rattle.p2p_log.specs.declared.queue.Side.{Side}
 use Rattle.p2p_log.specs.declared.item.Item.{Item}
-use Rattle.p2p_log.specs.declared.item.Envelope.{Envelope}
 use Rattle.p2p_log.specs.declared.entry.Reply.TheVariants as reply
 use Rattle.p2p_log.specs.declared.event.Rate.{Rate}
 use Rattle.p2p_log.specs.declared.event.Recipients.{Recipients}
@@ -13,21 +11,16 @@ use Rattle.p2p_log.specs.declared.event.Act.{Act}
 use Rattle.p2p_log.specs.declared.event.Act.TheVariants as act
 use Rattle.p2p_log.specs.Copies.{keys_of_recipients}
 use Rattle.p2p_log.specs.QueueCode.{same_queue}
-use Rattle.p2p_log.specs.Lines.{name_of}
-use Rattle.p2p_log_rules.specs.declared.row.Half.{Half}
 use Rattle.p2p_log_rules.specs.declared.row.Row.{Row}
-use Rattle.p2p_log_rules.specs.Effect.{only, oldest_read, other_side}
+use Rattle.p2p_log_rules.specs.Effect.{only, oldest_read}
+use Rattle.p2p_log_rules.specs.Listening.{quota_of}
 use Rattle.p2p_net_queues.specs.Board.{held}
 use Rattle.p2p_net_queues.specs.Rows.{taken_row}
 use Rattle.p2p_net_queues.specs.Tables as table
-use Rattle.p2p_net_queues.specs.Tables.{waiting, popped_at}
-use Rattle.p2p_net_channels.specs.declared.arrival.Arrived.{Arrived}
-use Rattle.p2p_net_channels.specs.declared.channels.Channels.{Channels}
-use Rattle.p2p_net_channels.specs.Arrivals.{arrival_in, delivered}
-use Rattle.p2p_net_channels.specs.Channels.{capacity_at, registered_with, is_full, delivered_to, read_from}
-use Rattle.p2p_net_connections.specs.Connections.{answered, runs_on, spawned_with}
+use Rattle.p2p_net_queues.specs.Tables.{waiting}
+use Rattle.p2p_net_channels.specs.Channels.{capacity_at, registered_with, read_from}
+use Rattle.p2p_net_connections.specs.Connections.{answered, spawned_with}
 use Rattle.p2p_net_links.specs.declared.links.Links.{Links}
-use Rattle.p2p_net_links.specs.Links.{way_of, with_way}
 use Rattle.p2p_net_dialer.specs.Attempts.{Tries, Resolves, AnswersDial}
 use Rattle.p2p_net_dialer.specs.Dialing as dialing
 use Rattle.p2p_net_dialer.specs.Dialing.{started}
@@ -48,20 +41,20 @@ use Rattle.p2p_net_tracker.specs.declared.tracker.Tracker.{Tracker}
 use Rattle.p2p_base.specs.Queue.{oldest}
 use Rattle.p2p_net_spawner.specs.Spawning.{taken_by, without_first}
 use Rattle.p2p_net_spawner.specs.declared.spawning.Taken.{Taken}
-use Rattle.p2p_net.specs.Connecting.{Stays, half_by, SendSteps}
+use Rattle.p2p_net.specs.Connecting.{Stays, SendSteps}
 use Rattle.p2p_net.specs.Ready.{is_started, capacity_by}
+use Rattle.p2p_net.specs.Receiving.{RecvSteps}
 use Rattle.p2p_tracker_directory.specs.declared.metadata.Metadata.{Metadata}
 use Rattle.p2p_net.specs.Routing as routing
 use Rattle.p2p_net.specs.Spawning.{release_item, Spawns}
 use Rattle.p2p_net.specs.declared.node.Node.{Node}
-use Rattle.p2p_net.specs.declared.steps.Arrival.{Arrival}
 
 -- ---- calls
 
 abbrev pub Registers : ℕ → Rate → Node → Node → Row → Type 0
 Registers c rate old new r =
     (r ≡ only (reply.Capacity (capacity_by old rate)))
-    × ((new ≡ record old { router = new.router; channels = registered_with old.channels c (capacity_by old rate) }) × routing.Subscribes c old.router new.router)
+    × ((new ≡ record old { router = new.router; channels = registered_with old.channels c (capacity_by old rate) (quota_of rate) }) × routing.Subscribes c old.router new.router)
 
 abbrev pub Starts : ℕ → ℕ → Node → Node → Row → Type 0
 Starts k at old new r =
@@ -97,74 +90,6 @@ RoutesBy true k n old new r =
 
 abbrev pub Routes : ℕ → ℕ → Node → Node → Row → Type 0
 Routes k n old new r = RoutesBy (is_started old) k n old new r
-
--- ---- a connection's receiving half
-
--- what becomes of a message that arrived under this name, by the capacity of its channel
-abbrev pub accepted_row : Option ℕ → ℕ → ℕ × ℕ → Key → Arrived → Channels → Row
-accepted_row None n name from m ch = only reply.Idle
-accepted_row (Some capacity) n name from m ch = delivered (is_full ch capacity m.channel) n from m (taken_row name)
-
-abbrev pub accepted_into : Option ℕ → ℕ → ℕ → Key → Arrived → Channels → Channels
-accepted_into None k n from m ch = ch
-accepted_into (Some capacity) k n from m ch = delivered_to (is_full ch capacity m.channel) k 0 n from m ch
-
-abbrev pub accepted_off : Option ℕ → ℕ → Side → Links → Links
-accepted_off None link s l = l
-accepted_off (Some capacity) link s l = with_way l s (popped_at (way_of l s) link)
-
--- by the message in the first frame
-abbrev pub arrived_row : Option Arrived → ℕ → ℕ × ℕ → Key → Channels → Row
-arrived_row None n name from ch = only reply.Idle
-arrived_row (Some m) n name from ch = accepted_row (capacity_at ch m.channel) n name from m ch
-
-abbrev pub arrived_into : Option Arrived → ℕ → ℕ → Key → Channels → Channels
-arrived_into None k n from ch = ch
-arrived_into (Some m) k n from ch = accepted_into (capacity_at ch m.channel) k n from m ch
-
-abbrev pub arrived_off : Option Arrived → ℕ → Side → Channels → Links → Links
-arrived_off None link s ch l = l
-arrived_off (Some m) link s ch l = accepted_off (capacity_at ch m.channel) link s l
-
--- by the first frame
-abbrev pub received_row : ℕ → Option Envelope → ℕ → Key → Channels → Row
-received_row limit None n from ch = only reply.Idle
-received_row limit (Some x) n from ch = arrived_row (arrival_in limit x.item) n (name_of x) from ch
-
-abbrev pub received_into : ℕ → Option Envelope → ℕ → ℕ → Key → Channels → Channels
-received_into limit None k n from ch = ch
-received_into limit (Some x) k n from ch = arrived_into (arrival_in limit x.item) k n from ch
-
-abbrev pub received_off : ℕ → Option Envelope → ℕ → Side → Channels → Links → Links
-received_off limit None link s ch l = l
-received_off limit (Some x) link s ch l = arrived_off (arrival_in limit x.item) link s ch l
-
--- the first frame, by its name and the message in it
-abbrev pub frame_in : ℕ → Option Envelope → Option Arrival
-frame_in limit None = None
-frame_in limit (Some x) = Some (record { name = name_of x; message = arrival_in limit x.item })
-
--- the first frame in one direction of a link
-abbrev pub first_in : Links → ℕ → Side → Option Envelope
-first_in l link s = slice_get (waiting (way_of l s) link) 0
-
-abbrev pub Receives : ℕ → ℕ → ℕ → Side → Key → Node → Node → Links → Links → Row → Type 0
-Receives k n link s from old new l links r =
-    (r ≡ received_row old.config.max_message_size (first_in l link s) n from old.channels)
-    × ((new ≡ record old { channels = received_into old.config.max_message_size (first_in l link s) k n from old.channels })
-    × (links ≡ received_off old.config.max_message_size (first_in l link s) link s old.channels l))
-
-abbrev pub ReceivesBy : Bool → ℕ → ℕ → ℕ → Side → Key → Node → Node → Links → Links → Row → Type 0
-ReceivesBy true k n link s from old new l links r = Receives k n link s from old new l links r
-ReceivesBy false k n link s from old new l links r = Stays old new r (only reply.Idle) × (links ≡ l)
-
-abbrev pub ReceivesOn : Option Half → ℕ → ℕ → ℕ → Node → Node → Links → Links → Row → Type 0
-ReceivesOn None k n conn old new l links r = Stays old new r (only reply.Gone) × (links ≡ l)
-ReceivesOn (Some half) k n conn old new l links r =
-    ReceivesBy (runs_on (table.at old.connections.stages conn)) k n half.link (other_side half.writes) half.peer old new l links r
-
-abbrev pub RecvSteps : ℕ → ℕ → ℕ → Node → Node → Links → Links → Row → Type 0
-RecvSteps k n conn old new l links r = ReceivesOn (half_by n old.connections l conn) k n conn old new l links r
 
 -- ---- the tracker
 
@@ -298,8 +223,8 @@ NodeDoes k n at seed (act.Register c m rate) old new l links r = Registers c rat
 NodeDoes k n at seed (act.Start m) old new l links r = Starts k at old new r × (links ≡ l)
 NodeDoes k n at seed (act.Send bytes c m priority to) old new l links r = Sends k c priority bytes to old new r × (links ≡ l)
 NodeDoes k n at seed (act.Router m) old new l links r = Routes k n old new r × (links ≡ l)
-NodeDoes k n at seed (act.SendStep conn m) old new l links r = SendSteps k n conn old new l links r
-NodeDoes k n at seed (act.RecvStep conn m) old new l links r = RecvSteps k n conn old new l links r
+NodeDoes k n at seed (act.SendStep conn m) old new l links r = SendSteps k n conn at old new l links r
+NodeDoes k n at seed (act.RecvStep conn m) old new l links r = RecvSteps k n conn at old new l links r
 NodeDoes k n at seed (act.Recv c m) old new l links r = Reads c old new r × (links ≡ l)
 NodeDoes k n at seed (act.Connect e from m to) old new l links r = Stays old new r (only reply.Idle) × (links ≡ l)
 NodeDoes k n at seed (act.Finish link ok) old new l links r = Stays old new r (only reply.Idle) × (links ≡ l)

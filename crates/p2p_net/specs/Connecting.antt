@@ -7,16 +7,17 @@ use Rattle.p2p_log.specs.declared.entry.Reply.TheVariants as reply
 use Rattle.p2p_log_rules.specs.declared.row.Half.{Half}
 use Rattle.p2p_log_rules.specs.declared.row.Row.{Row}
 use Rattle.p2p_log_rules.specs.Connections.{half_over}
-use Rattle.p2p_log_rules.specs.Effect.{only, takes_oldest, begin_row}
+use Rattle.p2p_log_rules.specs.Effect.{only, takes_oldest, begin_row, beside_ping}
+use Rattle.p2p_log_rules.specs.Pings.{is_past}
 use Rattle.p2p_log_rules.specs.Spawning.{Spawned}
 use Rattle.p2p_net_queues.specs.Tables as table
 use Rattle.p2p_net_queues.specs.Tables.{waiting}
-use Rattle.p2p_net_connections.specs.Connections.{spawned_on, begun_with, without_answer}
+use Rattle.p2p_net_connections.specs.Connections.{spawned_on, begun_with, without_answer, pinged_with}
 use Rattle.p2p_net_connections.specs.declared.connections.Connections.{Connections}
 use Rattle.p2p_net_connections.specs.declared.connections.Stage.{Stage}
 use Rattle.p2p_net_connections.specs.declared.connections.Stage.TheVariants as stage
 use Rattle.p2p_net_links.specs.declared.links.Links.{Links}
-use Rattle.p2p_net_links.specs.Links.{way_of, with_way, written_way, write_frames_row}
+use Rattle.p2p_net_links.specs.Links.{way_of, with_way, batch_way, write_frames_row}
 use Rattle.p2p_net_tracker.specs.Connecting.{connected_by}
 use Rattle.p2p_net.specs.Ready.{is_started}
 use Rattle.p2p_net.specs.Routing as routing
@@ -45,32 +46,33 @@ Begins k n conn peer old new r =
     × ((new ≡ record old { tracker = connected_by k conn peer old.tracker; router = new.router; connections = begun_with conn old.connections })
     × routing.Readies k 1 conn old.config.mailbox_size peer old.router new.router)
 
--- it takes its router's answer, and runs
-abbrev pub Runs : ℕ → Node → Node → Row → Type 0
-Runs conn old new r = (r ≡ takes_oldest (waiting old.connections.answers conn)) × (new ≡ record old { connections = without_answer conn old.connections })
+-- it takes its router's answer at a moment, and runs from then on
+abbrev pub Runs : ℕ → ℕ → Node → Node → Row → Type 0
+Runs conn at old new r = (r ≡ takes_oldest (waiting old.connections.answers conn)) × (new ≡ record old { connections = without_answer conn at old.connections })
 
--- a batch is written to the link
-abbrev pub Writes : ℕ → ℕ → Half → Node → Node → Links → Links → Row → Type 0
-Writes k conn half old new l links r =
+-- a batch is written to the link, with a ping before it where one is due
+abbrev pub Writes : ℕ → ℕ → ℕ → Half → Bool → Node → Node → Links → Links → Row → Type 0
+Writes k conn at half due old new l links r =
     (frames : List ((ℕ × ℕ) × Item))
-    × (routing.Batches conn old.config.send_batch_size old.router new.router frames
-    × ((new ≡ record old { router = new.router })
-    × ((r ≡ write_frames_row half.link half.writes frames)
-    × (links ≡ with_way l half.writes (written_way k half.link half.writes 0 frames (way_of l half.writes))))))
+    × (routing.Batches conn (beside_ping due old.config.send_batch_size) old.router new.router frames
+    × ((new ≡ record old { router = new.router; connections = pinged_with due conn at old.connections })
+    × ((r ≡ write_frames_row half.link half.writes due frames)
+    × (links ≡ with_way l half.writes (batch_way due k half.link half.writes frames (way_of l half.writes))))))
 
 -- by how far it is
-abbrev pub StepsAt : Option Stage → ℕ → ℕ → ℕ → Half → Node → Node → Links → Links → Row → Type 0
-StepsAt None k n conn half old new l links r = Begins k n conn half.peer old new r × (links ≡ l)
-StepsAt (Some stage.Begun) k n conn half old new l links r = Runs conn old new r × (links ≡ l)
-StepsAt (Some stage.Running) k n conn half old new l links r = Writes k conn half old new l links r
+abbrev pub StepsAt : Option Stage → ℕ → ℕ → ℕ → ℕ → Half → Node → Node → Links → Links → Row → Type 0
+StepsAt None k n conn at half old new l links r = Begins k n conn half.peer old new r × (links ≡ l)
+StepsAt (Some stage.Begun) k n conn at half old new l links r = Runs conn at old new r × (links ≡ l)
+StepsAt (Some (stage.Running pinged)) k n conn at half old new l links r =
+    Writes k conn at half (is_past old.config.ping_frequency at (Some pinged)) old new l links r
 
-abbrev pub StepsHalf : Option Half → ℕ → ℕ → ℕ → Node → Node → Links → Links → Row → Type 0
-StepsHalf None k n conn old new l links r = Stays old new r (only reply.Gone) × (links ≡ l)
-StepsHalf (Some half) k n conn old new l links r = StepsAt (table.at old.connections.stages conn) k n conn half old new l links r
+abbrev pub StepsHalf : Option Half → ℕ → ℕ → ℕ → ℕ → Node → Node → Links → Links → Row → Type 0
+StepsHalf None k n conn at old new l links r = Stays old new r (only reply.Gone) × (links ≡ l)
+StepsHalf (Some half) k n conn at old new l links r = StepsAt (table.at old.connections.stages conn) k n conn at half old new l links r
 
-abbrev pub SendStepsBy : Bool → ℕ → ℕ → ℕ → Node → Node → Links → Links → Row → Type 0
-SendStepsBy false k n conn old new l links r = Stays old new r (only reply.Gone) × (links ≡ l)
-SendStepsBy true k n conn old new l links r = StepsHalf (half_by n old.connections l conn) k n conn old new l links r
+abbrev pub SendStepsBy : Bool → ℕ → ℕ → ℕ → ℕ → Node → Node → Links → Links → Row → Type 0
+SendStepsBy false k n conn at old new l links r = Stays old new r (only reply.Gone) × (links ≡ l)
+SendStepsBy true k n conn at old new l links r = StepsHalf (half_by n old.connections l conn) k n conn at old new l links r
 
-abbrev pub SendSteps : ℕ → ℕ → ℕ → Node → Node → Links → Links → Row → Type 0
-SendSteps k n conn old new l links r = SendStepsBy (is_started old) k n conn old new l links r
+abbrev pub SendSteps : ℕ → ℕ → ℕ → ℕ → Node → Node → Links → Links → Row → Type 0
+SendSteps k n conn at old new l links r = SendStepsBy (is_started old) k n conn at old new l links r

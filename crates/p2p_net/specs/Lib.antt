@@ -7,6 +7,7 @@ pub mod Linking
 pub mod Meetings
 pub mod Places
 pub mod Ready
+pub mod Receiving
 pub mod Refusals
 pub mod Routing
 pub mod Spawning

@@ -1,6 +1,6 @@
 -- The parts of a node, and which of them an act names: its entry moves items of their queues alone, and changes what stands of
 -- them alone.
-use Rattle.std.specs.Prelude.{ℕ, Bool, true, false, ◌==◌, ◌&&◌, List, [], ◌∷◌, ◌++◌, map, Option, Some, None, slice_get}
+use Rattle.std.specs.Prelude.{ℕ, Bool, true, false, ◌==◌, ◌&&◌, List, [], ◌∷◌, map, Option, Some, None, slice_get}
 use Rattle.std.specs.List.{list_any}
 use Rattle.p2p_log.specs.declared.queue.Queue.{Queue}
 use Rattle.p2p_log.specs.declared.queue.Queue.TheVariants as queue
@@ -45,6 +45,7 @@ home (queue.Peers n c) = at router n
 home (queue.High n conn) = at router n
 home (queue.Low n conn) = at router n
 home (queue.Ready n conn) = at connections n
+home (queue.Held n conn) = at connections n
 home (queue.Channel n c) = at channels n
 home (queue.Tracker n) = at tracker n
 home (queue.Update n) = at tracker n
@@ -73,7 +74,7 @@ parts_named (act.Start n) = router ∷ dialer ∷ []
 parts_named (act.Send bytes c n priority to) = router ∷ []
 parts_named (act.Router n) = router ∷ connections ∷ []
 parts_named (act.SendStep conn n) = connections ∷ router ∷ tracker ∷ []
-parts_named (act.RecvStep conn n) = channels ∷ []
+parts_named (act.RecvStep conn n) = channels ∷ connections ∷ []
 parts_named (act.Recv c n) = channels ∷ []
 parts_named (act.Dialer n) = tracker ∷ dialer ∷ []
 parts_named (act.Listener n) = tracker ∷ listener ∷ []

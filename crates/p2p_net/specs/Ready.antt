@@ -1,5 +1,5 @@
 -- When a node may be asked for an act, by what it is.
-use Rattle.std.specs.Prelude.{◌≡◌, ℕ, ◌+◌, ◌*◌, ◌^◌, ◌<◌, ◌≤◌, Bool, true, false, ◌&&◌, ◌||◌, ◌==◌, not, nat_lt, nat_le, List, length, Option, Some, None, IsTrue, IfSome, is_some, slice_get}
+use Rattle.std.specs.Prelude.{◌≡◌, ℕ, ◌+◌, ◌*◌, ◌^◌, ◌<◌, ◌≤◌, Bool, true, false, ◌&&◌, ◌==◌, not, nat_lt, nat_le, List, length, Option, Some, None, IsTrue, IfSome, is_some, slice_get}
 use Rattle.p2p_log.specs.declared.event.Rate.{Rate}
 use Rattle.p2p_log.specs.declared.entry.Entry.{Entry}
 use Rattle.p2p_log.specs.declared.event.Event.{Event}
@@ -28,7 +28,7 @@ capacity_by x rate = x.retained * rate.burst
 
 abbrev pub may_register : Node → ℕ → Rate → Bool
 may_register x c rate =
-    (not (is_started x) && not (is_some (capacity_at x.channels c)))
+    ((not (is_started x) && not (is_some (capacity_at x.channels c))) && is_quota rate)
     && (fits_usize (capacity_by x rate) && fits_usize (x.config.mailbox_size + (x.channels.total + capacity_by x rate)))
 
 abbrev pub is_spawn_of : ℕ → Act → Bool
@@ -91,7 +91,7 @@ may_ask log x _ = true
 
 -- the sizes of a node, where it is asked for an act, that its tracker may take what waits for it, and that a handshake holds a place
 abbrev pub IsReady : Act → Node → Type 0
-IsReady (act.Register c n rate) x = x.channels.total + capacity_by x rate < 2 ^ 64
+IsReady (act.Register c n rate) x = (x.channels.total + capacity_by x rate < 2 ^ 64) × (is_quota rate ≡ true)
 IsReady (act.Start n) x =
     IsTrue (is_unbound x.router.messenger.binding)
     × ((1 ≤ x.config.mailbox_size)

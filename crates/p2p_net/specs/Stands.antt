@@ -37,7 +37,7 @@ pub record RouterStands (configs : List Config) (log : List Entry) (n : ℕ) (r 
 abbrev pub PartStands : Part → List Config → List Entry → ℕ → Node → Type 0
 PartStands router configs log n x = RouterStands configs log n x.router
 PartStands channels configs log n x = ChannelsStand configs log n x.channels
-PartStands connections configs log n x = ConnectionsStand log n x.connections
+PartStands connections configs log n x = ConnectionsStand configs log n x.connections
 PartStands tracker configs log n x = TrackerStands configs log n x.tracker
 PartStands dialer configs log n x = DialerStands configs log n x.dialing
 PartStands listener configs log n x = ListenerStands configs log n x.listening

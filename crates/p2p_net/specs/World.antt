@@ -1,10 +1,10 @@
 -- A world as its callers see it.
-use Rattle.std.specs.Prelude.{◌≡◌, ℕ, Bool, false, List, [], ◌∷◌, ◌++◌}
+use Rattle.std.specs.Prelude.{◌≡◌, ◌≤◌, ℕ, Bool, false, List, [], ◌∷◌, ◌++◌}
 use Rattle.p2p_log.specs.declared.config.Config.{Config}
 use Rattle.p2p_log.specs.declared.entry.Entry.{Entry}
 use Rattle.p2p_log.specs.declared.event.Event.{Event}
 use Rattle.p2p_log_rules.specs.Effect.{effect}
-use Rattle.p2p_log_rules.specs.Facts.{events_of}
+use Rattle.p2p_log_rules.specs.Facts.{events_of, latest_moment}
 use Rattle.p2p_log_rules.specs.Lawful.{IsLawful}
 use Rattle.p2p_log_rules.specs.Valid.{last_moment}
 use Rattle.p2p_net_links.specs.declared.links.Links.{Links}
@@ -28,6 +28,7 @@ pub record KeptStands (configs : List Config) (log : List Entry) (nodes : List N
   pub world : WorldStands configs log nodes links
   pub lawful : IsLawful configs (events_of log) log
   pub last_is : last ≡ last_moment (events_of log)
+  pub timely : latest_moment (events_of log) ≤ last
 
 -- what was recorded of an event after this log
 pub record IsRecorded (configs : List Config) (log : List Entry) (v : Event) (later : List Entry) (nodes : List Node) (links : Links) : Type 0 where

@@ -12,6 +12,7 @@ use bytes::Bytes;
 use p2p_log::{Rate, Recipients, Reply};
 use p2p_log_rules::Row;
 use p2p_net_queues::{Turn, only};
+use p2p_runtime::Quota;
 use std::alloc::AllocError;
 
 impl Node {
@@ -22,12 +23,14 @@ impl Node {
         channel: u64,
         quota: Rate,
     ) -> Result<Row, AllocError>
-        requires { self.old.channels.total + capacity_by self.old quota < 2 ^ 64 }
+        requires room { self.old.channels.total + capacity_by self.old quota < 2 ^ 64 }
+        requires rate { is_quota quota ≡ true }
         ensures does { IfOk result (λ r. Registers channel quota self.old self.new r) }
         ensures failed { OnOk result (self.new.failed ≡ self.old.failed) }
     {
         let capacity = self.retained * quota.burst as usize;
-        self.channels.register(channel, capacity)?;
+        let rate = Quota::new(quota.burst, quota.period).unwrap();
+        self.channels.register(turn.alloc, channel, capacity, rate)?;
         self.router.subscribe(turn.alloc, channel)?;
         Ok(only(turn.alloc, Reply::Capacity(capacity)))
     }

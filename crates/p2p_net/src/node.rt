@@ -44,7 +44,7 @@ pub struct Node {
     pub router: Router,
     /// Its channels, and what waits in them.
     pub channels: Channels,
-    /// Its connections, and the router's answers to them.
+    /// Its connections, the router's answers to them, and what waits for their quotas.
     pub connections: Connections,
     /// Its tracker, with what waits for those who asked it.
     pub tracker: Tracker,
@@ -186,7 +186,7 @@ impl Node {
         ensures peers { IfOk result (λ x. (c : ℕ) → tree.get nat_cmp x.router.peers c ≡ None) }
         ensures tracker { IfOk result (λ x. IsNew config x.tracker) }
         ensures channels { IfOk result (λ x. x.channels ≡ no_channels) }
-        ensures connections { IfOk result (λ x. x.connections ≡ no_connections) }
+        ensures connections { IfOk result (λ x. x.connections ≡ no_connections config.ping_frequency) }
         ensures dialing { IfOk result (λ x. x.dialing ≡ no_dialing) }
         ensures listening { IfOk result (λ x. IsNewListening (gates_of config) x.listening) }
         ensures spawning { IfOk result (λ x. x.spawning ≡ no_spawning config.mailbox_size) }
@@ -202,7 +202,7 @@ impl Node {
             retained: retained(&config),
             router: Router::new(alloc, number),
             channels: Channels::new(alloc),
-            connections: Connections::new(alloc),
+            connections: Connections::new(alloc, config.ping_frequency),
             tracker,
             dialing: Dialing::new(alloc),
             listening,
@@ -278,8 +278,8 @@ impl Node {
                 ..
             } => Ok(self.send(turn, *channel, bytes, *priority, to)?),
             Act::Router { .. } => Ok(self.route(turn)?),
-            Act::SendStep { conn, .. } => Ok(self.send_step(turn, links, *conn)?),
-            Act::RecvStep { conn, .. } => Ok(self.recv_step(turn, links, *conn)?),
+            Act::SendStep { conn, .. } => Ok(self.send_step(turn, links, *conn, event.at)?),
+            Act::RecvStep { conn, .. } => Ok(self.recv_step(turn, links, *conn, event.at)?),
             Act::Recv { channel, .. } => Ok(self.read(turn, *channel)?),
             Act::Connect { .. } => Ok(only(turn.alloc, Reply::Idle)),
             Act::Finish { .. } => Ok(only(turn.alloc, Reply::Idle)),

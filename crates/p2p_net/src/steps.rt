@@ -1,61 +1,22 @@
-//! The steps of a node: of its router, its tracker, its dialer and attempts, its listener and handshakes, and of the two halves of
-//! each connection.
-ghost use Rattle.std.specs.Prelude.{◌≡◌, ◌<◌, ℕ, true, is_some, IfOk, OnOk, IfSome, Option, slice_get};
-ghost use Rattle.p2p_log_rules.specs.Effect.{other_side as other_side_of};
-ghost use Rattle.p2p_log.specs.Lines.{name_of};
-ghost use Rattle.p2p_net_channels.specs.Arrivals.{arrival_in};
+//! The steps of a node: of its router, its tracker, its dialer and attempts, and its listener and handshakes.
+ghost use Rattle.std.specs.Prelude.{◌≡◌, ◌<◌, ℕ, true, is_some, IfOk, OnOk, IfSome, Option};
 ghost use Rattle.p2p_net_queues.specs.Tables as table;
 ghost use Rattle.p2p_log_rules.specs.Tracking.{key_cmp};
 ghost use Rattle.p2p_tracker_mailbox.specs.Desk.{next_message};
 ghost use Rattle.p2p_tracker.specs.Serving.{MayTake};
 ghost use Rattle.p2p_net.specs.Ready.{is_started as is_started_test};
-ghost use Rattle.p2p_net.specs.Connecting.{Writes};
-ghost use Rattle.p2p_net.specs.Acts.{TrackerStepsBy, DialerStepsBy, ListenerStepsBy, HandshakeSteps, AttemptSteps, HandsOn, Routes, Receives, RecvSteps, arrived_row, arrived_into, arrived_off, accepted_row, accepted_into, accepted_off, first_in, frame_in};
+ghost use Rattle.p2p_net.specs.Acts.{TrackerStepsBy, DialerStepsBy, ListenerStepsBy, HandshakeSteps, AttemptSteps, HandsOn, Routes};
 
 use crate::node::Node;
 use crate::spawning::release_of;
 use p2p_base::Key;
-use p2p_log::{Item, Reply, Side};
-use p2p_log_rules::{Half, Row};
-use p2p_net_channels::{Arrived, open};
-use p2p_net_connections::Stage;
+use p2p_log::{Item, Reply};
+use p2p_log_rules::Row;
 use p2p_net_dialer::{Dialed, Tried};
-use p2p_net_links::Links;
 use p2p_net_listener::{HandshakeStep, Took};
 use p2p_net_queues::{Turn, only, taking};
 use p2p_tracker_directory::Reservation;
 use std::alloc::AllocError;
-
-/// The direction opposite to this one.
-fn other_side(side: Side) -> Side
-    ensures { result ≡ other_side_of side }
-{
-    match side {
-        Side::Out => Side::In,
-        Side::In => Side::Out,
-    }
-}
-
-/// A frame in flight: the name of its item, and the message in it where it holds one within the limit.
-#[derive(Drop)]
-pub struct Arrival {
-    pub name: (u64, u64),
-    pub message: Option<Arrived>,
-}
-
-/// The first frame in one direction of a link.
-fn look(links: &Links, link: u64, side: Side, limit: u32) -> Result<Option<Arrival>, AllocError>
-    ensures { IfOk result (λ found. found ≡ frame_in limit (first_in links.now link side)) }
-{
-    match links.front(link, side) {
-        None => Ok(None),
-        Some(first) => {
-            let name = (first.entry, first.place);
-            let message = open(&first.item, limit as usize)?;
-            Ok(Some(Arrival { name, message }))
-        }
-    }
-}
 
 impl Node {
     /// One step of the router. Its answers to connections wait for these.
@@ -185,98 +146,6 @@ impl Node {
             ready,
         } = tried;
         self.hand_on(turn, release_of(released), ready, &mut row)?;
-        Ok(row)
-    }
-
-    /// Writes a batch of a connection to its link.
-    pub(crate) fn write(
-        &mut self,
-        turn: Turn,
-        links: &mut Links,
-        conn: u64,
-        half: Half,
-    ) -> Result<Row, AllocError>
-        ensures does { IfOk result (λ r. Writes turn.entry conn half self.old self.new links.old links.new r) }
-        ensures failed { OnOk result (self.new.failed ≡ self.old.failed) }
-    {
-        let size = self.config.send_batch_size;
-        let frames = self.router.batch(turn.alloc, conn, size)?;
-        let row = links.write(turn, half.link, half.writes, frames)?;
-        Ok(row)
-    }
-
-    /// Takes a frame with a message off its link, and puts the message into its channel.
-    fn accept(
-        &mut self,
-        turn: Turn,
-        links: &mut Links,
-        link: u64,
-        side: Side,
-        from: Key,
-        name: (u64, u64),
-        arrived: Arrived,
-    ) -> Result<Row, AllocError>
-        ensures row { IfOk result (λ r. r ≡ arrived_row (Some arrived) turn.node name from self.old.channels) }
-        ensures node { OnOk result (self.new ≡ record self.old { channels = arrived_into (Some arrived) turn.entry turn.node from self.old.channels }) }
-        ensures links { OnOk result (links.new ≡ arrived_off (Some arrived) link side self.old.channels links.old) }
-    {
-        let Some(capacity) = self.channels.capacity(arrived.channel) else {
-            return Ok(only(turn.alloc, Reply::Idle));
-        };
-        let _ = links.take(link, side);
-        let mut row = taking(turn.alloc, name)?;
-        self.channels
-            .deliver(turn, &mut row, capacity, from, arrived)?;
-        Ok(row)
-    }
-
-    /// Moves the first frame in one direction of a link to its channel, where it holds a message of a registered one.
-    fn receive(
-        &mut self,
-        turn: Turn,
-        links: &mut Links,
-        link: u64,
-        side: Side,
-        from: Key,
-    ) -> Result<Row, AllocError>
-        ensures does { IfOk result (λ r. Receives turn.entry turn.node link side from self.old self.new links.old links.new r) }
-        ensures failed { OnOk result (self.new.failed ≡ self.old.failed) }
-    {
-        match look(links, link, side, self.config.max_message_size)? {
-            None => Ok(only(turn.alloc, Reply::Idle)),
-            Some(
-                Arrival {
-                    name,
-                    message: None,
-                },
-            ) => Ok(only(turn.alloc, Reply::Idle)),
-            Some(
-                Arrival {
-                    name,
-                    message: Some(arrived),
-                },
-            ) => Ok(self.accept(turn, links, link, side, from, name, arrived)?),
-        }
-    }
-
-    /// One step of the receiving half of a connection that runs.
-    pub(crate) fn recv_step(
-        &mut self,
-        turn: Turn,
-        links: &mut Links,
-        conn: u64,
-    ) -> Result<Row, AllocError>
-        ensures does { IfOk result (λ r. RecvSteps turn.entry turn.node conn self.old self.new links.old links.new r) }
-        ensures failed { OnOk result (self.new.failed ≡ self.old.failed) }
-    {
-        let Some(half) = self.half(turn.node, links, conn) else {
-            return Ok(only(turn.alloc, Reply::Gone));
-        };
-        if self.connections.stage(conn) != Some(Stage::Running) {
-            return Ok(only(turn.alloc, Reply::Idle));
-        }
-        let side = other_side(half.writes);
-        let row = self.receive(turn, links, half.link, side, half.peer)?;
         Ok(row)
     }
 }

@@ -5,14 +5,15 @@ ghost use Rattle.p2p_net.specs.Ready.{capacity_by, names_spawner, names_dialer, 
 use crate::node::{Node, node_of, other_of};
 use p2p_log::{Act, Asked, Entry, Event, Rate};
 
-/// Whether a channel may be registered at a node: it has not started, the channel is new, and what it would hold can be
-/// counted.
+/// Whether a channel may be registered at a node: it has not started, the channel is new, its quota admits something,
+/// sometimes, and what it would hold can be counted.
 fn may_register(node: &Node, channel: u64, quota: Rate) -> bool
     ensures { result ≡ may_register_test node.now channel quota }
 {
     let capacity = node.retained as u128 * quota.burst as u128;
     let most = usize::MAX as u128;
-    (!node.is_started() && !node.channels.capacities.has(channel))
+    ((!node.is_started() && !node.channels.capacities.has(channel))
+        && (0 < quota.burst && 0 < quota.period))
         && (capacity <= most
             && node.config.mailbox_size as u128 + (node.channels.total as u128 + capacity) <= most)
 }

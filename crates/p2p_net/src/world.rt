@@ -4,7 +4,7 @@ ghost use Rattle.std.specs.Option.{option_copied};
 ghost use Rattle.p2p_base.specs.declared.key.Key.{Key};
 ghost use Rattle.p2p_log.specs.declared.config.Config.{Config};
 ghost use Rattle.p2p_log.specs.declared.entry.Entry.{Entry};
-ghost use Rattle.p2p_log_rules.specs.Facts.{events_of};
+ghost use Rattle.p2p_log_rules.specs.Facts.{events_of, latest_moment};
 ghost use Rattle.p2p_log_rules.specs.Effect.{effect};
 ghost use Rattle.p2p_log_rules.specs.Lawful.{IsLawful};
 ghost use Rattle.p2p_log_rules.specs.Valid.{config_fault as config_fault_of, event_fault, is_valid_event};
@@ -69,7 +69,7 @@ fn record(
     requires { MayPerform nodes.old.items links.old (node_of_act report.old.log event.now.act) event.now.act }
     ensures ok { OnOk result ((configs : List Config) → WorldStands configs report.old.log nodes.old.items links.old
         → IsLawful configs (events_of report.old.log) report.old.log → is_valid_event configs (events_of report.old.log) event.now ≡ true
-        → IsRecorded configs report.old.log event.now report.new.log nodes.new.items links.new) }
+        → latest_moment (events_of report.old.log) ≤ event.now.at → IsRecorded configs report.old.log event.now report.new.log nodes.new.items links.new) }
     ensures err { OnErr result (report.new.log ≡ report.old.log) }
 {
     let entry = report.log.len() as u64;

@@ -1,12 +1,12 @@
-use Rattle.std.proofs.Common.{◌≡◌, true, false, ap, sym, subst, ◌∙◌, ◌++◌, ◌∷◌, [], rules}
-use Rattle.p2p_log_rules.specs.Facts.{events_of}
+use Rattle.std.proofs.Common.{◌≡◌, ◌≤◌, true, false, ap, sym, subst, ◌∙◌, ◌++◌, ◌∷◌, [], rules}
+use Rattle.p2p_log_rules.specs.Facts.{events_of, latest_moment}
 use Rattle.p2p_log_rules.specs.Effect.{effect}
 use Rattle.p2p_log_rules.specs.Valid.{is_valid_event}
 use Rattle.p2p_net.specs.Ready.{may_apply}
 use Rattle.p2p_net.specs.Refusals.{ApplyRefused}
 use Rattle.p2p_net.specs.World.{WorldView, IsRecorded}
 use Rattle.p2p_net.proofs.Readying.{may_perform}
-use Rattle.p2p_net.proofs.Records.{valid_act, tested, kept_more, refused}
+use Rattle.p2p_net.proofs.Records.{valid_act, moment_is_late, tested, kept_more, refused}
 use Rattle.p2p_net.proofs.world.World.apply.Goals as goal
 
 pub returns-in_err-allow-clause-err : goal.returns-in_err-allow-clause-err
@@ -40,16 +40,22 @@ is_valid c =
     sym (tested w.configs w.report.log w.nodes.items w.links w.last v (c.self.invariant c.if-self.false))
     ∙ (ap (λ nodes. may_apply nodes w.report.log w.last v) (sym c.as_slice.ensures.value) ∙ c.in_ok-allow.ensures.ok)
 
+-- it is not before the log
+is_late : (c : goal.After-self-3-1) → latest_moment (events_of c.self.inside.report.log) ≤ c.args.event.now.at
+is_late c =
+    let w = c.self.inside in
+    moment_is_late w.configs w.report.log w.nodes.items w.links w.last c.args.event.now (c.self.invariant c.if-self.false) (is_valid c)
+
 is_recorded : (c : goal.After-self-3-1) → IsRecorded c.self.inside.configs c.self.inside.report.log c.args.event.now c.record.new.report.log c.record.new.nodes.items c.record.new.links
 is_recorded c =
     let kept = c.self.invariant c.if-self.false in
-    c.in_ok-record.ensures.ok c.self.inside.configs kept.world kept.lawful (is_valid c)
+    c.in_ok-record.ensures.ok c.self.inside.configs kept.world kept.lawful (is_valid c) (is_late c)
 
 pub invariant_of-self-2 : goal.invariant_of-self-2
 invariant_of-self-2 c = λ _.
     let w = c.self.inside in
     let r = is_recorded c in
-    kept_more w.configs w.report.log c.record.new.report.log c.record.new.nodes.items c.record.new.links c.args.event.now (c.self.invariant c.if-self.false).lawful r.log_is r.stands
+    kept_more w.configs w.report.log c.record.new.report.log c.record.new.nodes.items c.record.new.links c.args.event.now (c.self.invariant c.if-self.false).lawful (is_late c) r.log_is r.stands
 
 pub returns-clause-ok : goal.returns-clause-ok
 returns-clause-ok c =

@@ -1,0 +1,65 @@
+-- Entries in which no connection of a node admits anything.
+use Rattle.std.proofs.Common.{◌≡◌, ℕ, Bool, true, false, cond, List, [], ◌∷◌, ◌++◌, refl, ap, ◌∙◌, arith}
+use Rattle.std.specs.Prelude.{◌&&◌}
+use Rattle.std.proofs.lemmas.Bool.Decides.{nat_tests}
+use Rattle.p2p_log.specs.declared.config.Config.{Config}
+use Rattle.p2p_log.specs.declared.queue.Queue.TheVariants as queue
+use Rattle.p2p_log.specs.declared.entry.Entry.{Entry}
+use Rattle.p2p_log.specs.declared.event.Act.{Act}
+use Rattle.p2p_log.specs.declared.event.Act.TheVariants as act
+use Rattle.p2p_log.specs.Lines.{line}
+use Rattle.p2p_log_rules.specs.Facts.{taken}
+use Rattle.p2p_log_rules.specs.Metering.{Metered, pings, messages, limit_at, admits_one, admitted_by, steps_receiver}
+use Rattle.p2p_net_channels.specs.Stands.{AdmitsNone}
+use Rattle.p2p_net_connections.specs.Stands.{ReceivesNone}
+use Rattle.p2p_net.specs.Places.{channels, connections, at, names}
+
+-- an entry of another act than a step of a receiving half of the node
+pub admits-unreceived : (limit n conn : ℕ) (what : Metered) (log : List Entry) (e : Entry) (a : Act) → e.event.act ≡ a → steps_receiver n conn a ≡ false
+    → admitted_by limit n conn what log e ≡ []
+admits-unreceived limit n conn what log e a is none =
+    ap (λ b. cond (steps_receiver n conn b && admits_one limit what (taken log e) e.puts) (e.event.at ∷ []) []) is
+    ∙ ap (λ b. cond (b && admits_one limit what (taken log e) e.puts) (e.event.at ∷ []) []) none
+
+-- one that takes nothing
+pub admits-untaken : (limit n conn : ℕ) (what : Metered) (log : List Entry) (e : Entry) → taken log e ≡ [] → admitted_by limit n conn what log e ≡ []
+admits-untaken limit n conn what log e none =
+    ap (λ items. cond (steps_receiver n conn e.event.act && admits_one limit what items e.puts) (e.event.at ∷ []) []) none ∙ never (steps_receiver n conn e.event.act)
+  where
+    never : (b : Bool) → cond (b && false) (e.event.at ∷ []) [] ≡ []
+    never true = refl
+    never false = refl
+
+-- ---- by the parts that an act names
+
+receives_elsewhere : (log : List Entry) (n conn : ℕ) (a : Act) → names log a (at connections n) ≡ false → steps_receiver n conn a ≡ false
+receives_elsewhere log n conn (act.RecvStep d m) h = grind (arith, nat_tests)
+receives_elsewhere log n conn _ h = refl
+
+delivers_elsewhere : (log : List Entry) (n conn : ℕ) (a : Act) → names log a (at channels n) ≡ false → steps_receiver n conn a ≡ false
+delivers_elsewhere log n conn (act.RecvStep d m) h = grind (arith, nat_tests)
+delivers_elsewhere log n conn _ h = refl
+
+pub receives_unnamed : (configs : List Config) (log : List Entry) (e : Entry) (n : ℕ) (a : Act) → e.event.act ≡ a → names log a (at connections n) ≡ false
+    → ((conn : ℕ) → line (log ++ e ∷ []) (queue.Held n conn) ≡ line log (queue.Held n conn)) → ReceivesNone configs log e n
+receives_unnamed configs log e n a is h held =
+    record { held = held; no_ping = λ conn. admits-unreceived (limit_at configs n) n conn pings log e a is (receives_elsewhere log n conn a h) }
+
+pub admits_unnamed : (configs : List Config) (log : List Entry) (e : Entry) (n : ℕ) (a : Act) → e.event.act ≡ a → names log a (at channels n) ≡ false → AdmitsNone configs log e n
+admits_unnamed configs log e n a is h conn c = admits-unreceived (limit_at configs n) n conn (messages c) log e a is (delivers_elsewhere log n conn a h)
+
+-- ---- entries of other acts, and ones that take nothing
+
+pub receives_apart : (configs : List Config) (log : List Entry) (e : Entry) (n : ℕ) (a : Act) → e.event.act ≡ a → ((conn : ℕ) → steps_receiver n conn a ≡ false)
+    → ((conn : ℕ) → line (log ++ e ∷ []) (queue.Held n conn) ≡ line log (queue.Held n conn)) → ReceivesNone configs log e n
+receives_apart configs log e n a is none held = record { held = held; no_ping = λ conn. admits-unreceived (limit_at configs n) n conn pings log e a is (none conn) }
+
+pub admits_apart : (configs : List Config) (log : List Entry) (e : Entry) (n : ℕ) (a : Act) → e.event.act ≡ a → ((conn : ℕ) → steps_receiver n conn a ≡ false) → AdmitsNone configs log e n
+admits_apart configs log e n a is none conn c = admits-unreceived (limit_at configs n) n conn (messages c) log e a is (none conn)
+
+pub receives_nothing : (configs : List Config) (log : List Entry) (e : Entry) (n : ℕ) → taken log e ≡ []
+    → ((conn : ℕ) → line (log ++ e ∷ []) (queue.Held n conn) ≡ line log (queue.Held n conn)) → ReceivesNone configs log e n
+receives_nothing configs log e n none held = record { held = held; no_ping = λ conn. admits-untaken (limit_at configs n) n conn pings log e none }
+
+pub admits_nothing : (configs : List Config) (log : List Entry) (e : Entry) (n : ℕ) → taken log e ≡ [] → AdmitsNone configs log e n
+admits_nothing configs log e n none conn c = admits-untaken (limit_at configs n) n conn (messages c) log e none

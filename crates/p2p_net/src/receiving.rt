@@ -1,0 +1,185 @@
+//! What the receiving half of a connection does: it takes what comes over its link, or what it holds, as the quotas admit it.
+ghost use Rattle.std.specs.Prelude.{◌≡◌, true, IfOk, OnOk};
+ghost use Rattle.p2p_log_rules.specs.Effect.{only as only_reply, hold_row, other_side as other_side_of};
+ghost use Rattle.p2p_net_channels.specs.Arrivals.{held_item};
+ghost use Rattle.p2p_net.specs.Receiving.{frame_in, first_in, kept_in, held_first, verdict, asked_of, passed_row, passed_into, held_into, Receives, Retries, RecvSteps};
+
+use crate::node::Node;
+use p2p_base::Key;
+use p2p_log::{Reply, Side};
+use p2p_log_rules::{Half, Row};
+use p2p_net_channels::{Arriving, hold, open, reopen};
+use p2p_net_connections::{Connections, Stage};
+use p2p_net_links::Links;
+use p2p_net_queues::{Turn, only, taking};
+use std::alloc::AllocError;
+
+/// The direction opposite to this one.
+fn other_side(side: Side) -> Side
+    ensures { result ≡ other_side_of side }
+{
+    match side {
+        Side::Out => Side::In,
+        Side::In => Side::Out,
+    }
+}
+
+/// What came over a connection: the name of its item, and what it is.
+#[derive(Drop)]
+pub struct Arrival {
+    pub name: (u64, u64),
+    pub arriving: Arriving,
+}
+
+/// What is in the first frame in one direction of a link, where it can be read and is within the limit.
+fn look(links: &Links, link: u64, side: Side, limit: u32) -> Result<Option<Arrival>, AllocError>
+    ensures { IfOk result (λ found. found ≡ frame_in limit (first_in links.now link side)) }
+{
+    match links.front(link, side) {
+        None => Ok(None),
+        Some(first) => {
+            let name = (first.entry, first.place);
+            match open(&first.item, limit as usize)? {
+                None => Ok(None),
+                Some(arriving) => Ok(Some(Arrival { name, arriving })),
+            }
+        }
+    }
+}
+
+/// What a connection has held longest.
+fn look_held(connections: &Connections, conn: u64) -> Result<Option<Arrival>, AllocError>
+    ensures { IfOk result (λ found. found ≡ kept_in (held_first connections.now conn)) }
+{
+    match connections.held(conn) {
+        None => Ok(None),
+        Some(first) => {
+            let name = (first.entry, first.place);
+            match reopen(&first.item)? {
+                None => Ok(None),
+                Some(arriving) => Ok(Some(Arrival { name, arriving })),
+            }
+        }
+    }
+}
+
+impl Node {
+    /// Asks the quota of what came over a connection whether it admits it at the moment `at`, in nanoseconds. `None` where it is
+    /// a message on a channel that is not registered.
+    fn admit(&mut self, conn: u64, at: u64, arriving: &Arriving) -> Result<Option<bool>, AllocError>
+        ensures verdict { IfOk result (λ v. v ≡ verdict conn at arriving.now self.old) }
+        ensures after { OnOk result (self.new ≡ asked_of conn at arriving.now self.old) }
+        ensures failed { OnOk result (self.new.failed ≡ self.old.failed) }
+    {
+        match arriving {
+            Arriving::Ping => Ok(Some(self.connections.admit_ping(conn, at)?)),
+            Arriving::Message(arrived) => {
+                if self.channels.capacity(arrived.channel).is_none() {
+                    return Ok(None);
+                }
+                Ok(Some(self.channels.admit(arrived.channel, conn, at)?))
+            }
+        }
+    }
+
+    /// What was admitted leaves: a message goes into its channel, and a ping leaves no trace.
+    fn pass(&mut self, turn: Turn, from: Key, arrival: Arrival) -> Result<Row, AllocError>
+        ensures row { IfOk result (λ r. r ≡ passed_row turn.node from arrival.name arrival.arriving self.old.channels) }
+        ensures after { OnOk result (self.new ≡ passed_into turn.entry turn.node from arrival.arriving self.old) }
+    {
+        let Arrival { name, arriving } = arrival;
+        let mut row = taking(turn.alloc, name)?;
+        match arriving {
+            Arriving::Ping => Ok(row),
+            Arriving::Message(arrived) => match self.channels.capacity(arrived.channel) {
+                None => Ok(row),
+                Some(capacity) => {
+                    self.channels
+                        .deliver(turn, &mut row, capacity, from, arrived)?;
+                    Ok(row)
+                }
+            },
+        }
+    }
+
+    /// What is not admitted yet is held.
+    fn hold(&mut self, turn: Turn, conn: u64, arrival: Arrival) -> Result<Row, AllocError>
+        ensures row { IfOk result (λ r. r ≡ hold_row turn.node conn arrival.name (held_item arrival.arriving)) }
+        ensures after { OnOk result (self.new ≡ held_into turn.entry turn.node conn arrival.arriving self.old) }
+    {
+        let Arrival { name, arriving } = arrival;
+        let mut row = taking(turn.alloc, name)?;
+        self.connections.hold(turn, &mut row, conn, hold(arriving))?;
+        Ok(row)
+    }
+
+    /// Takes the first frame off a link, where it can be read, and delivers what is in it or holds it.
+    fn receive(
+        &mut self,
+        turn: Turn,
+        links: &mut Links,
+        conn: u64,
+        at: u64,
+        half: Half,
+    ) -> Result<Row, AllocError>
+        ensures does { IfOk result (λ r. Receives turn.entry turn.node conn at half self.old self.new links.old links.new r) }
+        ensures failed { OnOk result (self.new.failed ≡ self.old.failed) }
+    {
+        let side = other_side(half.writes);
+        let Some(arrival) = look(links, half.link, side, self.config.max_message_size)? else {
+            return Ok(only(turn.alloc, Reply::Idle));
+        };
+        let Some(admitted) = self.admit(conn, at, &arrival.arriving)? else {
+            return Ok(only(turn.alloc, Reply::Idle));
+        };
+        let _ = links.take(half.link, side);
+        if admitted {
+            Ok(self.pass(turn, half.peer, arrival)?)
+        } else {
+            Ok(self.hold(turn, conn, arrival)?)
+        }
+    }
+
+    /// Delivers what a connection has held longest, where its quota admits it now.
+    fn retry(&mut self, turn: Turn, conn: u64, at: u64, from: Key) -> Result<Row, AllocError>
+        ensures does { IfOk result (λ r. Retries turn.entry turn.node conn at from self.old self.new r) }
+        ensures failed { OnOk result (self.new.failed ≡ self.old.failed) }
+    {
+        let Some(arrival) = look_held(&self.connections, conn)? else {
+            return Ok(only(turn.alloc, Reply::Idle));
+        };
+        match self.admit(conn, at, &arrival.arriving)? {
+            Some(true) => {
+                self.connections.unhold(conn);
+                Ok(self.pass(turn, from, arrival)?)
+            }
+            _ => Ok(only(turn.alloc, Reply::Idle)),
+        }
+    }
+
+    /// One step of the receiving half of a connection that runs, at the moment `at`, in nanoseconds.
+    pub(crate) fn recv_step(
+        &mut self,
+        turn: Turn,
+        links: &mut Links,
+        conn: u64,
+        at: u64,
+    ) -> Result<Row, AllocError>
+        ensures does { IfOk result (λ r. RecvSteps turn.entry turn.node conn at self.old self.new links.old links.new r) }
+        ensures failed { OnOk result (self.new.failed ≡ self.old.failed) }
+    {
+        let Some(half) = self.half(turn.node, links, conn) else {
+            return Ok(only(turn.alloc, Reply::Gone));
+        };
+        match self.connections.stage(conn) {
+            Some(Stage::Running { .. }) => {
+                if self.connections.held(conn).is_some() {
+                    Ok(self.retry(turn, conn, at, half.peer)?)
+                } else {
+                    Ok(self.receive(turn, links, conn, at, half)?)
+                }
+            }
+            _ => Ok(only(turn.alloc, Reply::Idle)),
+        }
+    }
+}
