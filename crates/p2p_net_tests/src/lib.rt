@@ -2,9 +2,10 @@
 //! that the gate proves each of those crates once.
 //!
 //! Of `p2p_router` are `router` and `lists`, over the stand of `routing`; of `p2p_net_queues` is `queues`, of `p2p_net_router`
-//! `routers`, of `p2p_net_channels` and `p2p_net_links` `parts`. Of `p2p_net` are `world` and, with the parts of these names,
-//! `tracker`, `dialer`, `attempts`, `listener`, `handshakes`, `finishing`, `spawning` and `connecting`: they are scripts, which
-//! `scripts` runs, `paths` has the events by which two nodes get a connection, and `seen` has what an event shows.
+//! `routers`, of `p2p_net_channels` and `p2p_net_links` `parts`, and of `p2p_net_channels` and `p2p_net_connections` `meters`. Of
+//! `p2p_net` are `world` and, with the parts of these names, `tracker`, `dialer`, `attempts`, `listener`, `handshakes`,
+//! `finishing`, `spawning`, `connecting`, `pinging` and `holding`: they are scripts, which `scripts` and, of `pinging` and
+//! `holding`, `moments` run, `paths` has the events by which two nodes get a connection, and `seen` has what an event shows.
 #![tactic(auto)]
 
 #[cfg(test)]
@@ -18,13 +19,21 @@ mod finishing;
 #[cfg(test)]
 mod handshakes;
 #[cfg(test)]
+mod holding;
+#[cfg(test)]
 mod listener;
 #[cfg(test)]
 mod lists;
 #[cfg(test)]
+mod meters;
+#[cfg(test)]
+mod moments;
+#[cfg(test)]
 mod parts;
 #[cfg(test)]
 mod paths;
+#[cfg(test)]
+mod pinging;
 #[cfg(test)]
 mod queues;
 #[cfg(test)]

@@ -1,9 +1,10 @@
 //! A frame's way over a link to its channel, by the parts that move it.
+use crate::seen::{Put, Puts, Said, Seen, puts_of, said_by};
 use bytes::Bytes;
 use p2p_base::{Key, List};
 use p2p_log::{Item, Reply, Side};
 use p2p_log_rules::Row;
-use p2p_net_channels::{Arrived, Channels, open};
+use p2p_net_channels::{Arrived, Arriving, Channels, open};
 use p2p_net_links::Links;
 use p2p_net_queues::{Turn, only};
 use p2p_wire::EncodedData;
@@ -32,10 +33,13 @@ fn frames(alloc: Global) -> Result<List<((u64, u64), Item)>, AllocError> {
 
 // The message in the frame once that was written to a link, where it has at most `limit` bytes.
 fn arrived(alloc: Global, links: &mut Links, limit: usize) -> Result<Option<Arrived>, AllocError> {
-    let _ = links.write(turn(alloc, 3, 0), 0, Side::Out, frames(alloc)?)?;
-    match links.take(0, Side::Out) {
-        Some(frame) => open(&frame.item, limit),
-        None => Ok(None),
+    let _ = links.write(turn(alloc, 3, 0), 0, Side::Out, false, frames(alloc)?)?;
+    let Some(frame) = links.take(0, Side::Out) else {
+        return Ok(None);
+    };
+    match open(&frame.item, limit)? {
+        Some(Arriving::Message(message)) => Ok(Some(message)),
+        _ => Ok(None),
     }
 }
 
@@ -71,14 +75,118 @@ fn delivered_twice(alloc: Global, channels: &mut Channels) -> Result<(usize, usi
     Ok((row.puts.len(), row.ends.len()))
 }
 
-// The same at a node with this channel alone.
+// The same where nothing waits in the channel.
 fn delivered(alloc: Global) -> Result<(usize, usize), AllocError> {
     let mut channels = Channels::new(alloc);
-    channels.register(5, 1)?;
     delivered_twice(alloc, &mut channels)
 }
 
 #[test]
 fn a_full_channel_drops_what_comes(rt: HostRuntime) {
     assert_eq!(rt; delivered(rt.alloc()), Ok((1, 1)));
+}
+
+// ---- what is written to a link
+
+// A frame in flight.
+#[derive(Clone, Copy, PartialEq)]
+enum Flying {
+    Nothing,
+    // A ping, which the node takes for one.
+    Ping,
+    // A message of this copy.
+    Message((u64, u64)),
+    Other,
+}
+
+// What the row of a batch shows, and the three oldest frames in flight after it.
+type Written = (Seen, [Flying; 3]);
+
+// Takes the oldest frame in flight.
+fn landed(links: &mut Links) -> Result<Flying, AllocError> {
+    let Some(first) = links.take(9, Side::In) else {
+        return Ok(Flying::Nothing);
+    };
+    match open(&first.item, 2)? {
+        Some(Arriving::Ping) => Ok(Flying::Ping),
+        Some(Arriving::Message(message)) => Ok(Flying::Message(message.copy)),
+        None => Ok(Flying::Other),
+    }
+}
+
+// No frames, or the one.
+fn some_frames(alloc: Global, one: bool) -> Result<List<((u64, u64), Item)>, AllocError> {
+    if one {
+        frames(alloc)
+    } else {
+        Ok(List::empty(alloc))
+    }
+}
+
+// Writes a batch with a ping or without, and with a message or without, to a link over which nothing is in flight.
+fn batch(alloc: Global, ping: bool, one: bool) -> Result<Written, AllocError> {
+    let mut links = Links::new(alloc);
+    let row = links.write(
+        turn(alloc, 3, 0),
+        9,
+        Side::In,
+        ping,
+        some_frames(alloc, one)?,
+    )?;
+    let seen = Seen(
+        said_by(&row.reply),
+        row.takes.len(),
+        puts_of(row.puts.as_slice()),
+    );
+    let first = landed(&mut links)?;
+    let second = landed(&mut links)?;
+    let third = landed(&mut links)?;
+    Ok((seen, [first, second, third]))
+}
+
+const PING: Put = Put::Pinged(9, Side::In);
+
+const MESSAGE: Put = Put::Written(9, Side::In);
+
+// With a ping, with a message, and what that shows.
+const BATCHES: &[(bool, bool, Seen, [Flying; 3])] = &[
+    (
+        false,
+        false,
+        Seen(Said::Idle, 0, Puts::Nothing),
+        [Flying::Nothing, Flying::Nothing, Flying::Nothing],
+    ),
+    (
+        true,
+        false,
+        Seen(Said::Ok, 0, Puts::One(PING)),
+        [Flying::Ping, Flying::Nothing, Flying::Nothing],
+    ),
+    (
+        false,
+        true,
+        Seen(Said::Ok, 1, Puts::One(MESSAGE)),
+        [Flying::Message((1, 0)), Flying::Nothing, Flying::Nothing],
+    ),
+    (
+        true,
+        true,
+        Seen(Said::Ok, 1, Puts::Two(PING, MESSAGE)),
+        [Flying::Ping, Flying::Message((1, 0)), Flying::Nothing],
+    ),
+];
+
+// The place of the first batch that shows another thing. `None` where each shows what is written.
+fn first_other_batch(alloc: Global) -> Result<Option<usize>, AllocError> {
+    for (i, row) in BATCHES.iter().enumerate() {
+        if batch(alloc, row.0, row.1)? != (row.2, row.3) {
+            return Ok(Some(i));
+        }
+    }
+    Ok(None)
+}
+
+#[test]
+fn a_ping_is_written_before_the_frames_of_its_batch_or_alone(rt: HostRuntime) {
+    assert_eq!(rt; first_other_batch(rt.alloc()), Ok(None));
 }

@@ -2,12 +2,12 @@
 use crate::scripts::Do;
 use std::alloc::{AllocError, Global};
 
-// Three started nodes with one channel, whose routers took its subscription. The nodes of the keys 2 and 3 track the first one,
+// Three nodes with one channel.
+const REGISTERED: &[(u64, Do)] = &[(0, Do::Register), (1, Do::Register), (2, Do::Register)];
+
+// Three started nodes, whose routers took the subscription of a channel. The nodes of the keys 2 and 3 track the first one,
 // which tracks both, and whose listener was told of their addresses.
 const MEETING: &[(u64, Do)] = &[
-    (0, Do::Register),
-    (1, Do::Register),
-    (2, Do::Register),
     (0, Do::Start),
     (1, Do::Start),
     (2, Do::Start),
@@ -68,32 +68,70 @@ fn run(node: u64, dialed: u64, listened: u64) -> [(u64, Do); 8] {
 }
 
 // The nodes of the keys 1 and 2 have a connection, which has not begun: 32 at the first and 31 at the one that dialed it, over the
-// link 21. The next event is 33.
-pub fn one_made(alloc: Global) -> Result<Vec<(u64, Do)>, AllocError> {
+// link 21. These three events registered the one channel of each node. The next event is 33.
+fn one_made_with(alloc: Global, registered: &[(u64, Do)]) -> Result<Vec<(u64, Do)>, AllocError> {
     let mut events = Vec::new(alloc);
+    events.extend_from_slice(registered)?;
     events.extend_from_slice(MEETING)?;
     events.extend_from_slice(&made(1, 2, 16))?;
     Ok(events)
 }
 
+pub fn one_made(alloc: Global) -> Result<Vec<(u64, Do)>, AllocError> {
+    one_made_with(alloc, REGISTERED)
+}
+
 // So has that of the key 3 with the first: 49 there and 48 at the one that dialed, over the link 38. The next event is 50.
-pub fn two_made(alloc: Global) -> Result<Vec<(u64, Do)>, AllocError> {
-    let mut events = one_made(alloc)?;
+fn two_made_with(alloc: Global, registered: &[(u64, Do)]) -> Result<Vec<(u64, Do)>, AllocError> {
+    let mut events = one_made_with(alloc, registered)?;
     events.extend_from_slice(&made(2, 3, 33))?;
     Ok(events)
 }
 
+pub fn two_made(alloc: Global) -> Result<Vec<(u64, Do)>, AllocError> {
+    two_made_with(alloc, REGISTERED)
+}
+
 // The first of them runs. The next event is 41.
-pub fn one_running(alloc: Global) -> Result<Vec<(u64, Do)>, AllocError> {
-    let mut events = one_made(alloc)?;
+pub fn one_running_with(
+    alloc: Global,
+    registered: &[(u64, Do)],
+) -> Result<Vec<(u64, Do)>, AllocError> {
+    let mut events = one_made_with(alloc, registered)?;
     events.extend_from_slice(&run(1, 31, 32))?;
     Ok(events)
 }
 
+pub fn one_running(alloc: Global) -> Result<Vec<(u64, Do)>, AllocError> {
+    one_running_with(alloc, REGISTERED)
+}
+
 // Both run. The next event is 66.
-pub fn two_running(alloc: Global) -> Result<Vec<(u64, Do)>, AllocError> {
-    let mut events = two_made(alloc)?;
+pub fn two_running_with(
+    alloc: Global,
+    registered: &[(u64, Do)],
+) -> Result<Vec<(u64, Do)>, AllocError> {
+    let mut events = two_made_with(alloc, registered)?;
     events.extend_from_slice(&run(1, 31, 32))?;
     events.extend_from_slice(&run(2, 48, 49))?;
+    Ok(events)
+}
+
+pub fn two_running(alloc: Global) -> Result<Vec<(u64, Do)>, AllocError> {
+    two_running_with(alloc, REGISTERED)
+}
+
+// These four events registered two channels at each of the nodes of the keys 1 and 2, which have a connection that runs: 35 at the
+// first and 34 at the one that dialed it, over the link 24. The next event is 44.
+pub fn one_running_with_two_channels(
+    alloc: Global,
+    registered: &[(u64, Do)],
+) -> Result<Vec<(u64, Do)>, AllocError> {
+    let mut events = Vec::new(alloc);
+    events.extend_from_slice(registered)?;
+    events.extend_from_slice(MEETING)?;
+    events.extend_from_slice(&[(0, Do::Router), (1, Do::Router)])?;
+    events.extend_from_slice(&made(1, 2, 19))?;
+    events.extend_from_slice(&run(1, 34, 35))?;
     Ok(events)
 }

@@ -16,6 +16,7 @@ pub const CONFIG: Config = Config {
     mailbox_size: 1,
     tracked_peer_sets: 4,
     send_batch_size: 8,
+    ping_frequency: 5_000_000_000,
     allow_private_ips: true,
     allow_dns: true,
     bypass_ip_check: false,
@@ -56,12 +57,18 @@ pub enum Do {
     Answer(u64),
     // or what comes next for the subscription that it made.
     Next(u64),
-    // Its one channel is registered,
+    // Its channel 7 is registered,
     Register,
-    // it sends the peer of this key a message of this byte on it,
+    // or this one, with this burst and this period,
+    RegisterOn(u64, u32, u64),
+    // it sends the peer of this key a message of this byte on the channel 7, without priority or with it,
     Send(u64, u8),
-    // or takes a message from it.
+    SendFirst(u64, u8),
+    // or on this one, without priority,
+    SendOn(u64, u64, u8),
+    // or takes a message from the channel 7 or from this one.
     Recv,
+    RecvOn(u64),
     // A step of its router, or of the sending or the receiving half of the connection that this event made.
     Router,
     SendStep(u64),
@@ -136,25 +143,29 @@ fn of_tracker(node: u64, asked: Asked) -> Act {
     Act::Ask { asked, node }
 }
 
-// A node registers the channel 7.
-fn register(node: u64) -> Act {
+// A node registers a channel.
+fn register(node: u64, channel: u64, burst: u32, period: u64) -> Act {
     Act::Register {
-        channel: 7,
+        channel,
         node,
-        quota: Rate {
-            burst: 8,
-            period: 1_000_000_000,
-        },
+        quota: Rate { burst, period },
     }
 }
 
-// It sends the peer of this key a message of this byte there, without priority.
-fn send(alloc: Global, node: u64, key: u64, byte: u8) -> Result<Act, AllocError> {
+// It sends the peer of this key a message of this byte there.
+fn send(
+    alloc: Global,
+    node: u64,
+    channel: u64,
+    key: u64,
+    byte: u8,
+    priority: bool,
+) -> Result<Act, AllocError> {
     Ok(Act::Send {
         bytes: Bytes::copy_from_slice(alloc, &[byte])?,
-        channel: 7,
+        channel,
         node,
-        priority: false,
+        priority,
         to: Recipients::One(Key(key)),
     })
 }
@@ -171,9 +182,13 @@ fn act(alloc: Global, node: u64, what: Do) -> Result<Act, AllocError> {
         Do::Block(key) => Ok(of_tracker(node, Asked::Block { key: Key(key) })),
         Do::Answer(question) => Ok(Act::Answer { question }),
         Do::Next(question) => Ok(Act::Next { question }),
-        Do::Register => Ok(register(node)),
-        Do::Send(key, byte) => Ok(send(alloc, node, key, byte)?),
+        Do::Register => Ok(register(node, 7, 8, 1_000_000_000)),
+        Do::RegisterOn(channel, burst, period) => Ok(register(node, channel, burst, period)),
+        Do::Send(key, byte) => Ok(send(alloc, node, 7, key, byte, false)?),
+        Do::SendFirst(key, byte) => Ok(send(alloc, node, 7, key, byte, true)?),
+        Do::SendOn(channel, key, byte) => Ok(send(alloc, node, channel, key, byte, false)?),
         Do::Recv => Ok(Act::Recv { channel: 7, node }),
+        Do::RecvOn(channel) => Ok(Act::Recv { channel, node }),
         Do::Router => Ok(Act::Router { node }),
         Do::SendStep(conn) => Ok(Act::SendStep { conn, node }),
         Do::RecvStep(conn) => Ok(Act::RecvStep { conn, node }),
@@ -193,7 +208,8 @@ fn act(alloc: Global, node: u64, what: Do) -> Result<Act, AllocError> {
     }
 }
 
-fn ask(alloc: Global, world: &mut World, at: u64, node: u64, what: Do) -> Result<(), RunError> {
+// Asks a node for this at a moment.
+pub fn ask(alloc: Global, world: &mut World, at: u64, node: u64, what: Do) -> Result<(), RunError> {
     let act = act(alloc, node, what)?;
     world.apply(&Event { at, seed: 0, act })
 }
@@ -271,7 +287,7 @@ pub fn first_other_of_two(
 }
 
 // Asks for all of this at the moment 0, each of the node of this number.
-fn ask_each(alloc: Global, world: &mut World, before: &[(u64, Do)]) -> Result<(), RunError> {
+pub fn ask_each(alloc: Global, world: &mut World, before: &[(u64, Do)]) -> Result<(), RunError> {
     for step in before {
         ask(alloc, world, 0, step.0, step.1)?;
     }
@@ -290,7 +306,7 @@ pub fn first_other_of_three(
 }
 
 // The same node, whose mailboxes hold two messages.
-fn dialing_with_room(key: u64) -> Config {
+pub fn dialing_with_room(key: u64) -> Config {
     Config {
         mailbox_size: 2,
         ..dialing(key)

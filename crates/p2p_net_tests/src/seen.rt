@@ -1,7 +1,8 @@
 //! What the entries of a world show, in plain data.
 use p2p_base::{Feedback, Key};
 use p2p_gates_rules::Reply as GatesReply;
-use p2p_net::{Entry, Item, Queue, Reply, Side};
+use p2p_net::{End, Entry, Item, Queue, Reply, Side};
+use p2p_wire::PING_PREFIX;
 
 // What an entry shows: its reply, how many items it took, and what it put.
 #[derive(Clone, Copy, PartialEq)]
@@ -42,6 +43,14 @@ pub enum Puts {
     More(usize),
 }
 
+// How many items and copies an entry ended, with the end where it is one.
+#[derive(Clone, Copy, PartialEq)]
+pub enum Ends {
+    Nothing,
+    One(End),
+    More(usize),
+}
+
 // An item that was put.
 #[derive(Clone, Copy, PartialEq)]
 pub enum Put {
@@ -72,12 +81,18 @@ pub enum Put {
     // its router answers it, and lists so many peers.
     Answer(u64, u64),
     Peers(u64, usize),
-    // A message waits for its router, at this node for this connection, at this link in this direction, or in the channel of this
-    // node, under the key of its sender.
+    // A message waits for its router, at this node for this connection, without priority or with it, at this link in this
+    // direction, or in the channel of this node, under the key of its sender.
     Content,
     Waiting(u64, u64),
+    WaitingFirst(u64, u64),
     Written(u64, Side),
     Arrived(u64, u64),
+    // A ping is at this link in this direction.
+    Pinged(u64, Side),
+    // What came over this connection of this node is held: a message on this channel, or a ping.
+    Held(u64, u64, u64),
+    HeldPing(u64, u64),
     PeerSet,
     Update,
     Blocked,
@@ -92,7 +107,8 @@ fn message_of(from: Key, bytes: &[u8]) -> Said {
     }
 }
 
-fn said_by(reply: &Reply) -> Said {
+// What is said by a reply.
+pub fn said_by(reply: &Reply) -> Said {
     match reply {
         Reply::Ok => Said::Ok,
         Reply::Idle => Said::Idle,
@@ -120,6 +136,23 @@ fn finished(queue: &Queue, ok: bool) -> Put {
     }
 }
 
+// What was written to a link: a message is a copy's, and a ping no copy's.
+fn put_to_link(link: u64, side: Side, copy: Option<(u64, u64)>, frame: &[u8]) -> Put {
+    if copy.is_some() {
+        return Put::Written(link, side);
+    }
+    match frame {
+        [kind] => {
+            if *kind == PING_PREFIX {
+                Put::Pinged(link, side)
+            } else {
+                Put::Other
+            }
+        }
+        _ => Put::Other,
+    }
+}
+
 // What was put for a connection, by its queue.
 fn put_for_connection(put: &(Queue, Item)) -> Put {
     match put {
@@ -129,7 +162,14 @@ fn put_for_connection(put: &(Queue, Item)) -> Put {
         (Queue::Peers { node, .. }, Item::Peers(keys)) => Put::Peers(*node, keys.len()),
         (Queue::Router(_), Item::Content { .. }) => Put::Content,
         (Queue::Low { node, conn }, Item::Frame { .. }) => Put::Waiting(*node, *conn),
-        (Queue::Link { link, side }, Item::Frame { .. }) => Put::Written(*link, *side),
+        (Queue::High { node, conn }, Item::Frame { .. }) => Put::WaitingFirst(*node, *conn),
+        (Queue::Link { link, side }, Item::Frame { copy, frame }) => {
+            put_to_link(*link, *side, *copy, frame.as_slice())
+        }
+        (Queue::Held { node, conn }, Item::Held { channel, .. }) => {
+            Put::Held(*node, *conn, *channel)
+        }
+        (Queue::Held { node, conn }, Item::Ping) => Put::HeldPing(*node, *conn),
         (Queue::Channel { node, .. }, Item::Message { from, .. }) => Put::Arrived(*node, from.0),
         _ => Put::Other,
     }
@@ -161,8 +201,9 @@ fn put_of(put: &(Queue, Item)) -> Put {
     }
 }
 
-fn puts_of(entry: &Entry) -> Puts {
-    match entry.puts.as_slice() {
+// What was put.
+pub fn puts_of(puts: &[(Queue, Item)]) -> Puts {
+    match puts {
         [] => Puts::Nothing,
         [only] => Puts::One(put_of(only)),
         [first, last] => Puts::Two(put_of(first), put_of(last)),
@@ -173,8 +214,24 @@ fn puts_of(entry: &Entry) -> Puts {
 // What the newest of these entries shows.
 pub fn newest(log: &[Entry]) -> Seen {
     match log.last() {
-        Some(entry) => Seen(said_by(&entry.reply), entry.takes.len(), puts_of(entry)),
+        Some(entry) => Seen(
+            said_by(&entry.reply),
+            entry.takes.len(),
+            puts_of(entry.puts.as_slice()),
+        ),
         None => Seen(Said::Other, 0, Puts::Nothing),
+    }
+}
+
+// What the newest of these entries ended.
+pub fn newest_ends(log: &[Entry]) -> Ends {
+    match log.last() {
+        Some(entry) => match entry.ends.as_slice() {
+            [] => Ends::Nothing,
+            [only] => Ends::One(*only),
+            more => Ends::More(more.len()),
+        },
+        None => Ends::Nothing,
     }
 }
 

@@ -15,24 +15,28 @@ fn config(max_peers_per_set: usize) -> Config {
 // What a script asks of the node.
 #[derive(Clone, Copy)]
 enum Do {
-    // A channel is registered, with this burst.
+    // A channel is registered, with this burst, or with a burst of 1 and this period.
     Register(u64, u32),
+    RegisterEach(u64, u64),
     // It starts.
     Start,
     // A step of its router.
     Router,
 }
 
+// The channel is registered, with this quota.
+fn register(channel: u64, burst: u32, period: u64) -> Act {
+    Act::Register {
+        channel,
+        node: 0,
+        quota: Rate { burst, period },
+    }
+}
+
 fn act(what: Do) -> Act {
     match what {
-        Do::Register(channel, burst) => Act::Register {
-            channel,
-            node: 0,
-            quota: Rate {
-                burst,
-                period: 1_000_000_000,
-            },
-        },
+        Do::Register(channel, burst) => register(channel, burst, 1_000_000_000),
+        Do::RegisterEach(channel, period) => register(channel, 1, period),
         Do::Start => Act::Start { node: 0 },
         Do::Router => Act::Router { node: 0 },
     }
@@ -82,6 +86,10 @@ const RUNS: &[Run] = &[
         &[(0, Do::Register(7, u32::MAX))],
         Err(RunError::Event(0)),
     ),
+    // Its quota admits nothing, or has no period.
+    (2, &[(0, Do::Register(7, 0))], Err(RunError::Event(0))),
+    (2, &[(0, Do::RegisterEach(7, 0))], Err(RunError::Event(0))),
+    (2, &[(0, Do::RegisterEach(7, 1))], Ok(Some(8))),
     // A channel is registered after the start.
     (
         2,

@@ -1,0 +1,179 @@
+//! Scripts of connections with moments: what is asked of which node and when, what each event shows, and what it ends.
+use crate::scripts::{Do, ask, ask_each, dialing_with_room};
+use crate::seen::{Ends, Put, Puts, Said, Seen, newest, newest_ends};
+use p2p_net::{Cause, Config, End, Fate, Outcome, RunError, Side, World};
+use std::alloc::{AllocError, Global};
+
+// What an event shows.
+#[derive(Clone, Copy)]
+pub enum Shown {
+    Idle,
+    Pending,
+    // It took an item and put none.
+    Taken,
+    // A message for one peer waits for its router.
+    Asked,
+    // At this node this connection begins, and the tracker and then the router are told of it and of the key of its peer.
+    Begun(u64, u64, u64),
+    // The router of this node answers this connection, and lists one peer in place of the list that this event put.
+    Answered(u64, u64, u64),
+    // A message waits at this node for this connection, without priority or with it.
+    Routed(u64, u64),
+    RoutedFirst(u64, u64),
+    // To this link, in this direction, was written a ping alone, a ping and then one message, one message or two.
+    Pinged(u64, Side),
+    PingedFirst(u64, Side),
+    Written(u64, Side),
+    WrittenTwo(u64, Side),
+    // What came over this connection of this node is held: a message on this channel, or a ping.
+    Held(u64, u64, u64),
+    HeldPing(u64, u64),
+    // A message went into a channel of this node, under this key of its sender.
+    Arrived(u64, u64),
+    // The one copy of this send is dropped, since its channel is full.
+    Dropped(u64),
+    // This byte is read, from this key, and the one copy of this send is delivered.
+    Read(u64, u8, u64),
+}
+
+// When, which node is asked for what, and what that shows.
+pub type Step = (u64, u64, Do, Shown);
+
+// So many items were taken, and these put.
+fn moved(taken: usize, puts: Puts) -> Seen {
+    Seen(Said::Ok, taken, puts)
+}
+
+// One item was taken, and this one put.
+fn one_put(put: Put) -> Seen {
+    moved(1, Puts::One(put))
+}
+
+// The same as the reply, the count of the items that were taken, and what was put.
+fn seen_of(shown: Shown) -> Seen {
+    match shown {
+        Shown::Idle => Seen(Said::Idle, 0, Puts::Nothing),
+        Shown::Pending => Seen(Said::Pending, 0, Puts::Nothing),
+        Shown::Taken => moved(1, Puts::Nothing),
+        Shown::Asked => Seen(Said::Sent(1), 0, Puts::One(Put::Content)),
+        Shown::Begun(node, conn, key) => moved(
+            0,
+            Puts::Two(Put::Connect(node, conn, key), Put::Ready(node, conn, key)),
+        ),
+        Shown::Answered(node, conn, _) => {
+            moved(1, Puts::Two(Put::Answer(node, conn), Put::Peers(node, 1)))
+        }
+        Shown::Routed(node, conn) => one_put(Put::Waiting(node, conn)),
+        Shown::RoutedFirst(node, conn) => one_put(Put::WaitingFirst(node, conn)),
+        Shown::Pinged(link, side) => moved(0, Puts::One(Put::Pinged(link, side))),
+        Shown::PingedFirst(link, side) => moved(
+            1,
+            Puts::Two(Put::Pinged(link, side), Put::Written(link, side)),
+        ),
+        Shown::Written(link, side) => one_put(Put::Written(link, side)),
+        Shown::WrittenTwo(link, side) => moved(
+            2,
+            Puts::Two(Put::Written(link, side), Put::Written(link, side)),
+        ),
+        Shown::Held(node, conn, channel) => one_put(Put::Held(node, conn, channel)),
+        Shown::HeldPing(node, conn) => one_put(Put::HeldPing(node, conn)),
+        Shown::Arrived(node, key) => one_put(Put::Arrived(node, key)),
+        Shown::Dropped(_) => moved(1, Puts::Nothing),
+        Shown::Read(key, byte, _) => Seen(Said::Message(key, byte), 1, Puts::Nothing),
+    }
+}
+
+const DROPPED: Outcome = Outcome::Dropped(Cause::MailboxFull);
+
+// The end that it makes.
+fn ends_of(shown: Shown) -> Ends {
+    match shown {
+        Shown::Dropped(send) => Ends::One(End::Copy(send, 0, DROPPED)),
+        Shown::Read(_, _, send) => Ends::One(End::Copy(send, 0, Outcome::Delivered)),
+        Shown::Answered(_, _, list) => Ends::One(End::Item(list, 0)),
+        _ => Ends::Nothing,
+    }
+}
+
+// Three nodes, of the keys 1, 2 and 3, of which each pings so often, and all write so many frames at once. Their mailboxes hold
+// two messages.
+pub fn three(ping_frequencies: [u64; 3], send_batch_size: usize) -> [Config; 3] {
+    let [first, second, third] = ping_frequencies;
+    [
+        pinging(1, first, send_batch_size),
+        pinging(2, second, send_batch_size),
+        pinging(3, third, send_batch_size),
+    ]
+}
+
+// One of them.
+fn pinging(key: u64, ping_frequency: u64, send_batch_size: usize) -> Config {
+    Config {
+        ping_frequency,
+        send_batch_size,
+        ..dialing_with_room(key)
+    }
+}
+
+// Whether the newest event of a world shows this and ends what it is to end.
+fn shows(world: &World, shown: Shown) -> bool {
+    let log = world.report().log.as_slice();
+    newest(log) == seen_of(shown) && newest_ends(log) == ends_of(shown)
+}
+
+// The place of the first event of a script that shows another thing. `None` where each shows what is written.
+fn first_other_of(
+    alloc: Global,
+    world: &mut World,
+    script: &[Step],
+) -> Result<Option<usize>, RunError> {
+    for (i, step) in script.iter().enumerate() {
+        ask(alloc, world, step.0, step.1, step.2)?;
+        if !shows(world, step.3) {
+            return Ok(Some(i));
+        }
+    }
+    Ok(None)
+}
+
+// A new world of these nodes, of which this was asked before.
+fn world_after(
+    alloc: Global,
+    configs: &[Config],
+    before: Result<Vec<(u64, Do)>, AllocError>,
+) -> Result<World, RunError> {
+    let before = before?;
+    let mut world = World::new(alloc, configs)?;
+    ask_each(alloc, &mut world, before.as_slice())?;
+    Ok(world)
+}
+
+// The same there.
+pub fn first_other(
+    alloc: Global,
+    configs: &[Config],
+    before: Result<Vec<(u64, Do)>, AllocError>,
+    script: &[Step],
+) -> Result<Option<usize>, RunError> {
+    let mut world = world_after(alloc, configs, before)?;
+    first_other_of(alloc, &mut world, script)
+}
+
+// The place of the first event of a script after which the one copy of this send has another fate. `None` where it has what is
+// written after each.
+pub fn first_other_fate(
+    alloc: Global,
+    configs: &[Config],
+    before: Result<Vec<(u64, Do)>, AllocError>,
+    script: &[(u64, u64, Do, Option<Fate>)],
+    send: u64,
+) -> Result<Option<usize>, RunError> {
+    let mut world = world_after(alloc, configs, before)?;
+    for (i, step) in script.iter().enumerate() {
+        ask(alloc, &mut world, step.0, step.1, step.2)?;
+        if world.report().fate(send, 0) != step.3 {
+            return Ok(Some(i));
+        }
+    }
+    Ok(None)
+}
