@@ -34,6 +34,11 @@ copy_onto out (Some name) = name_onto out name
 abbrev pub frame_onto : List ℕ → Option (ℕ × ℕ) → List ℕ → List ℕ
 frame_onto out copy frame = hex_onto (copy_onto (out ++ codes "{\"copy\":") copy ++ codes ",\"frame\":") frame ++ codes "}"
 
+-- a message that is held until its channel's quota admits it
+abbrev pub held_onto : List ℕ → ℕ → List ℕ → ℕ × ℕ → List ℕ
+held_onto out c bytes copy =
+    name_onto (number_onto (hex_onto (out ++ codes "{\"bytes\":") bytes ++ codes ",\"channel\":") c ++ codes ",\"copy\":") copy ++ codes "}"
+
 abbrev pub message_onto : List ℕ → List ℕ → ℕ × ℕ → Key → List ℕ
 message_onto out bytes copy from =
     key_onto (name_onto (hex_onto (out ++ codes "{\"bytes\":") bytes ++ codes ",\"copy\":") copy ++ codes ",\"from\":") from ++ codes "}"
@@ -45,6 +50,8 @@ item_onto out (item.Content c frame priority send to) = content_onto out c frame
 item_onto out (item.Peers keys) = list_onto key_onto out keys
 item_onto out item.Answer = out ++ codes "true"
 item_onto out (item.Frame copy frame) = frame_onto out copy frame
+item_onto out (item.Held c bytes copy) = held_onto out c bytes copy
+item_onto out item.Ping = out ++ codes "\"ping\""
 item_onto out (item.Message bytes copy from) = message_onto out bytes copy from
 item_onto out (item.Call e) = call_onto out e
 item_onto out (item.Connect conn k) = connect_onto out conn k

@@ -29,6 +29,7 @@ queue_onto out (queue.Ready n e) = numbers_onto (out ++ codes "\"ready:") n e
 queue_onto out (queue.High n e) = numbers_onto (out ++ codes "\"high:") n e
 queue_onto out (queue.Low n e) = numbers_onto (out ++ codes "\"low:") n e
 queue_onto out (queue.Link e s) = link_onto out e s
+queue_onto out (queue.Held n e) = numbers_onto (out ++ codes "\"held:") n e
 queue_onto out (queue.Channel n c) = numbers_onto (out ++ codes "\"channel:") n c
 queue_onto out (queue.Tracker n) = number_end_onto (out ++ codes "\"tracker:") n
 queue_onto out (queue.Update n) = number_end_onto (out ++ codes "\"update:") n

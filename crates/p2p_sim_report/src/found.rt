@@ -136,6 +136,7 @@ fn note_item(
             copy: Some(copy),
             ..
         } => set_at(waiting, *copy, fate),
+        Item::Held { copy, .. } => set_at(waiting, *copy, fate),
         Item::Message { copy, .. } => set_at(waiting, *copy, fate),
         _ => Ok(()),
     }

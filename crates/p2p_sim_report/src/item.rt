@@ -1,7 +1,7 @@
 //! The text of items and puts.
 ghost use Rattle.std.specs.Prelude.{◌≡◌, OnOk};
 ghost use Rattle.std.specs.String.{string_bytes};
-ghost use Rattle.p2p_sim_report.specs.ItemText.{subscribe_onto, ready_onto, content_start_onto, content_onto, copy_onto, frame_onto, message_onto};
+ghost use Rattle.p2p_sim_report.specs.ItemText.{subscribe_onto, ready_onto, content_start_onto, content_onto, copy_onto, frame_onto, held_onto, message_onto};
 
 use crate::peers::{put_peer_set, put_update};
 use crate::text::{ToText, put, put_flag, put_hex, put_list, put_number};
@@ -85,6 +85,24 @@ fn put_frame(out: &mut String, copy: Option<(u64, u64)>, frame: &[u8]) -> Result
     put(out, "}")
 }
 
+// A message that is held until its channel's quota admits it.
+fn put_held(
+    out: &mut String,
+    channel: u64,
+    bytes: &[u8],
+    copy: (u64, u64),
+) -> Result<(), AllocError>
+    ensures { OnOk result (string_bytes out.new ≡ held_onto (string_bytes out.old) channel bytes.now copy) }
+{
+    put(out, "{\"bytes\":")?;
+    put_hex(out, bytes)?;
+    put(out, ",\"channel\":")?;
+    put_number(out, channel)?;
+    put(out, ",\"copy\":")?;
+    copy.write_onto(out)?;
+    put(out, "}")
+}
+
 fn put_message(
     out: &mut String,
     bytes: &[u8],
@@ -128,6 +146,12 @@ impl ToText for Item {
             Item::Peers(keys) => put_list(out, keys.as_slice()),
             Item::Answer => put(out, "true"),
             Item::Frame { copy, frame } => put_frame(out, *copy, frame.as_slice()),
+            Item::Held {
+                channel,
+                bytes,
+                copy,
+            } => put_held(out, *channel, bytes.as_slice(), *copy),
+            Item::Ping => put(out, "\"ping\""),
             Item::Message { bytes, copy, from } => put_message(out, bytes.as_slice(), *copy, *from),
             Item::Call(event) => put_call(out, *event),
             Item::Connect { conn, key } => put_connect(out, *conn, *key),

@@ -59,6 +59,7 @@ impl ToText for Queue {
             Queue::High { node, conn } => put_numbers(out, "\"high:", node, conn),
             Queue::Low { node, conn } => put_numbers(out, "\"low:", node, conn),
             Queue::Link { link, side } => put_link(out, link, side),
+            Queue::Held { node, conn } => put_numbers(out, "\"held:", node, conn),
             Queue::Channel { node, channel } => put_numbers(out, "\"channel:", node, channel),
             Queue::Tracker(node) => put_one(out, "\"tracker:", node),
             Queue::Update(node) => put_one(out, "\"update:", node),

@@ -11,7 +11,7 @@ use Rattle.p2p_sim_script.specs.Presets.{preset_of}
 abbrev pub names : List Name
 names =
     "key" ∷ "preset" ∷ "max_peers_per_set" ∷ "max_message_size" ∷ "mailbox_size"
-    ∷ "tracked_peer_sets" ∷ "send_batch_size" ∷ "allow_private_ips" ∷ "allow_dns" ∷ "bypass_ip_check"
+    ∷ "tracked_peer_sets" ∷ "send_batch_size" ∷ "ping_frequency" ∷ "allow_private_ips" ∷ "allow_dns" ∷ "bypass_ip_check"
     ∷ "peer_connection_cooldown" ∷ "block_duration"
     ∷ "max_concurrent_handshakes" ∷ "allowed_handshake_rate_per_ip" ∷ "allowed_handshake_rate_per_subnet"
     ∷ "handshake_timeout" ∷ "dial_timeout" ∷ "dial_frequency" ∷ []
@@ -31,6 +31,7 @@ named_of d = do
     mailbox_size = messages;
     tracked_peer_sets = preset.tracked_peer_sets;
     send_batch_size = preset.send_batch_size;
+    ping_frequency = preset.ping_frequency;
     allow_private_ips = preset.allow_private_ips;
     allow_dns = preset.allow_dns;
     bypass_ip_check = preset.bypass_ip_check;
@@ -44,11 +45,12 @@ named_of d = do
     dial_frequency = preset.dial_frequency;
   })
 
--- this configuration with what is said of peer sets, batches, addresses and blocks, where it is said
+-- this configuration with what is said of peer sets, batches, pings, addresses and blocks, where it is said
 abbrev pub with_peers : Config → Data → Option Config
 with_peers base d = do
   sets ← absent_or base.tracked_peer_sets "tracked_peer_sets" (within 1 (2 ^ 64 - 1)) d
   batch ← absent_or base.send_batch_size "send_batch_size" (within 1 (2 ^ 64 - 1)) d
+  ping ← absent_or base.ping_frequency "ping_frequency" whole d
   private ← absent_or base.allow_private_ips "allow_private_ips" as_bool d
   dns ← absent_or base.allow_dns "allow_dns" as_bool d
   bypass ← absent_or base.bypass_ip_check "bypass_ip_check" as_bool d
@@ -57,6 +59,7 @@ with_peers base d = do
   Some (record base {
     tracked_peer_sets = sets;
     send_batch_size = batch;
+    ping_frequency = ping;
     allow_private_ips = private;
     allow_dns = dns;
     bypass_ip_check = bypass;

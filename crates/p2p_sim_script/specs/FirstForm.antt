@@ -1,6 +1,6 @@
 -- The scripts of the first form: no more copies than the least burst. Where a connection's sending half takes a step, each
--- message is on a channel that each node registers, and no longer than any node takes, unless it is too long for its own; every
--- event is earlier than five seconds, no node is asked to change its peers once it has met some, and no link loses an end.
+-- message is on a channel that each node registers, and no longer than any node takes, unless it is too long for its own; no
+-- node is asked to change its peers once it has met some, and no link loses an end.
 use Rattle.std.specs.Prelude.{ℕ, Bool, true, false, not, ◌==◌, ◌&&◌, ◌||◌, nat_lt, nat_le, List, [], flat_map, length, Some, None, slice_get}
 use Rattle.std.specs.List.{list_any, list_all, range_with_len}
 use Rattle.p2p_base.specs.declared.key.Key.{Key}
@@ -67,12 +67,8 @@ act_fits configs stepped count registered _ = true
 
 -- ---- all of it
 
--- before a connection could send a ping, where there may be one
-abbrev pub is_early : Bool → ℕ → Bool
-is_early stepped at = not stepped || nat_lt at 5000000000
-
 abbrev pub event_fits : List Config → Bool → ℕ → (ℕ → ℕ → Bool) → Event → Bool
-event_fits configs stepped count registered e = is_early stepped e.at && act_fits configs stepped count registered e.act
+event_fits configs stepped count registered e = act_fits configs stepped count registered e.act
 
 -- what a script keeps to in which a connection may begin
 abbrev pub keeps_connections : List Config → List Event → Bool

@@ -9,6 +9,7 @@ abbrev pub recommended : Preset
 recommended = record {
   tracked_peer_sets = 4;
   send_batch_size = 8;
+  ping_frequency = 50000000000;
   allow_private_ips = false;
   allow_dns = true;
   bypass_ip_check = false;
@@ -26,6 +27,7 @@ abbrev pub local : Preset
 local = record {
   tracked_peer_sets = 4;
   send_batch_size = 8;
+  ping_frequency = 5000000000;
   allow_private_ips = true;
   allow_dns = true;
   bypass_ip_check = false;

@@ -13,7 +13,7 @@ use p2p_log::Config;
 use serde_json::Value;
 use std::alloc::Global;
 
-const NAMES: [&str; 18] = [
+const NAMES: [&str; 19] = [
     "key",
     "preset",
     "max_peers_per_set",
@@ -21,6 +21,7 @@ const NAMES: [&str; 18] = [
     "mailbox_size",
     "tracked_peer_sets",
     "send_batch_size",
+    "ping_frequency",
     "allow_private_ips",
     "allow_dns",
     "bypass_ip_check",
@@ -50,6 +51,7 @@ fn read_named(tree: &Value) -> Option<Config>
         mailbox_size,
         tracked_peer_sets: preset.tracked_peer_sets as usize,
         send_batch_size: preset.send_batch_size as usize,
+        ping_frequency: preset.ping_frequency,
         allow_private_ips: preset.allow_private_ips,
         allow_dns: preset.allow_dns,
         bypass_ip_check: preset.bypass_ip_check,
@@ -64,12 +66,13 @@ fn read_named(tree: &Value) -> Option<Config>
     })
 }
 
-// `base` with what `tree` says of peer sets, batches, addresses and blocks, where it does.
+// `base` with what `tree` says of peer sets, batches, pings, addresses and blocks, where it does.
 fn read_peers(tree: &Value, base: Config) -> Option<Config>
     ensures { result ≡ with_peers base (view tree.now) }
 {
     let sets = within_or(tree, "tracked_peer_sets", 1, base.tracked_peer_sets as u64)?;
     let batch = within_or(tree, "send_batch_size", 1, base.send_batch_size as u64)?;
+    let ping_frequency = whole_or(tree, "ping_frequency", base.ping_frequency)?;
     let private = flag_or(tree, "allow_private_ips", base.allow_private_ips)?;
     let dns = flag_or(tree, "allow_dns", base.allow_dns)?;
     let bypass = flag_or(tree, "bypass_ip_check", base.bypass_ip_check)?;
@@ -82,6 +85,7 @@ fn read_peers(tree: &Value, base: Config) -> Option<Config>
     Some(Config {
         tracked_peer_sets: sets as usize,
         send_batch_size: batch as usize,
+        ping_frequency,
         allow_private_ips: private,
         allow_dns: dns,
         bypass_ip_check: bypass,

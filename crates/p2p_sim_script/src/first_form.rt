@@ -16,14 +16,14 @@ use std::slice::from_ref;
 
 /// Whether the script is one of the first form: it asks for no more copies than the least burst that it registers, a message
 /// to a list of keys for as many as the list has. Where the sending half of a connection takes a step, each message is on a
-/// channel that each node registers, before or after, and no longer than any node takes, unless it is too long for its own;
-/// every event is earlier than five seconds, so that no connection sends a ping; no node is asked to track, to overwrite or
-/// to block peers after the first step of its dialer or its listener, so that no connection is killed; and no link loses an end
-/// once keys were exchanged over it, since a node dials or listens, no deadline comes, and the spawners' mailboxes hold all.
+/// channel that each node registers, before or after, and no longer than any node takes, unless it is too long for its own; no
+/// node is asked to track, to overwrite or to block peers after the first step of its dialer or its listener, so that no
+/// connection is killed; and no link loses an end once keys were exchanged over it, since a node dials or listens, and the
+/// spawners' mailboxes hold all.
 ///
-/// Takes time in proportion to the length of the script with its lists, and for each message to the count of nodes, but for the
-/// logarithm of the count of registered channels and of nodes; and for each event to the count of nodes where a connection may
-/// begin. `AllocError` comes where there was no memory for those.
+/// Takes time in proportion to the length of the script with its lists, to the count of nodes, and for each message to that
+/// count, but for the logarithm of the count of registered channels and of nodes. `AllocError` comes where there was no memory
+/// for those.
 pub fn is_first_form(
     alloc: Global,
     configs: &[Config],
@@ -114,25 +114,7 @@ fn all_fit(
 ) -> bool
     ensures { result ≡ list_all (form.event_fits configs.now stepped count (has registered.now)) script.now }
 {
-    script.iter().all(|event| event_fits(configs, stepped, count, registered, event))
-}
-
-fn is_early(stepped: bool, at: u64) -> bool
-    ensures { result ≡ form.is_early stepped at }
-{
-    !stepped || at < 5_000_000_000
-}
-
-fn event_fits(
-    configs: &[Config],
-    stepped: bool,
-    count: usize,
-    registered: &BTreeSet<(u64, u64)>,
-    event: &Event,
-) -> bool
-    ensures { result ≡ form.event_fits configs.now stepped count (has registered.now) event.now }
-{
-    is_early(stepped, event.at) && act_fits(configs, stepped, count, registered, &event.act)
+    script.iter().all(|event| act_fits(configs, stepped, count, registered, &event.act))
 }
 
 fn act_fits(

@@ -9,10 +9,11 @@ use p2p_log::{Act, Config, Event};
 use std::alloc::{AllocError, Global};
 use std::collections::BTreeSet;
 
-/// Whether a node dials or listens and not both, every event is earlier than each deadline of an attempt or a handshake could
-/// be, and the spawners' mailboxes hold all connections that may come, so that no connection loses its peer.
+/// Whether a node dials or listens and not both, and the spawners' mailboxes hold all connections that may come, so that no
+/// connection loses its peer. What an attempt or a handshake was told of its link it takes before its deadline would end it.
 ///
-/// Takes time in proportion to the length of the script times the count of nodes.
+/// Takes time in proportion to the length of the script, but for the logarithm of the count of nodes that listen, and to the
+/// count of nodes.
 pub(crate) fn keeps_links(
     alloc: Global,
     configs: &[Config],
@@ -22,7 +23,7 @@ pub(crate) fn keeps_links(
 {
     let listeners = listeners(alloc, script)?;
     let count = link_count(script);
-    Ok(all_keep(configs, &listeners, script) && all_hold(count, configs))
+    Ok(all_dial_only(&listeners, script) && all_hold(count, configs))
 }
 
 // The nodes that listen.
@@ -45,18 +46,10 @@ fn note_listener(nodes: &mut BTreeSet<u64>, act: &Act) -> Result<(), AllocError>
     }
 }
 
-fn all_keep(configs: &[Config], listeners: &BTreeSet<u64>, script: &[Event]) -> bool
-    ensures { result ≡ list_all (kept.event_keeps_links configs.now (has_node listeners.now)) script.now }
+fn all_dial_only(listeners: &BTreeSet<u64>, script: &[Event]) -> bool
+    ensures { result ≡ list_all (λ e. kept.dials_only (has_node listeners.now) e.act) script.now }
 {
-    script
-        .iter()
-        .all(|event| event_keeps_links(configs, listeners, event))
-}
-
-fn event_keeps_links(configs: &[Config], listeners: &BTreeSet<u64>, event: &Event) -> bool
-    ensures { result ≡ kept.event_keeps_links configs.now (has_node listeners.now) event.now }
-{
-    dials_only(listeners, &event.act) && all_in_time(event.at, configs)
+    script.iter().all(|event| dials_only(listeners, &event.act))
 }
 
 fn dials_only(listeners: &BTreeSet<u64>, act: &Act) -> bool
@@ -66,18 +59,6 @@ fn dials_only(listeners: &BTreeSet<u64>, act: &Act) -> bool
         Act::Dialer { node } => !has(listeners, *node),
         _ => true,
     }
-}
-
-fn all_in_time(at: u64, configs: &[Config]) -> bool
-    ensures { result ≡ list_all (kept.is_in_time at) configs.now }
-{
-    configs.iter().all(|config| is_in_time(at, config))
-}
-
-fn is_in_time(at: u64, config: &Config) -> bool
-    ensures { result ≡ kept.is_in_time at config.now }
-{
-    at < config.dial_timeout && at < config.handshake_timeout
 }
 
 fn link_count(script: &[Event]) -> usize

@@ -11,6 +11,7 @@ use serde_json::Value;
 pub struct Preset {
     pub tracked_peer_sets: u64,
     pub send_batch_size: u64,
+    pub ping_frequency: u64,
     pub allow_private_ips: bool,
     pub allow_dns: bool,
     pub bypass_ip_check: bool,
@@ -27,6 +28,7 @@ pub struct Preset {
 const RECOMMENDED: Preset = Preset {
     tracked_peer_sets: 4,
     send_batch_size: 8,
+    ping_frequency: 50_000_000_000,
     allow_private_ips: false,
     allow_dns: true,
     bypass_ip_check: false,
@@ -49,6 +51,7 @@ const RECOMMENDED: Preset = Preset {
 const LOCAL: Preset = Preset {
     tracked_peer_sets: 4,
     send_batch_size: 8,
+    ping_frequency: 5_000_000_000,
     allow_private_ips: true,
     allow_dns: true,
     bypass_ip_check: false,

@@ -15,6 +15,9 @@ pub enum Thing {
     Content(u64, &'static [Key]),
     // The name of its copy.
     Frame(Option<(u64, u64)>),
+    // The name of its copy.
+    Held((u64, u64)),
+    Ping,
     Peers(&'static [Key]),
     Answer,
     Message,
@@ -128,6 +131,19 @@ fn listed(alloc: Global, thing: Thing) -> Result<Item, AllocError> {
     }
 }
 
+// The items that are held until a quota admits them.
+fn held(alloc: Global, thing: Thing) -> Result<Item, AllocError> {
+    match thing {
+        Thing::Held(copy) => Ok(Item::Held {
+            channel: 7,
+            bytes: Bytes::from_static(b"jM"),
+            copy,
+        }),
+        Thing::Ping => Ok(Item::Ping),
+        other => listed(alloc, other),
+    }
+}
+
 // The items of a link over which keys were exchanged, or were not.
 fn of_link(alloc: Global, thing: Thing) -> Result<Item, AllocError> {
     match thing {
@@ -141,7 +157,7 @@ fn of_link(alloc: Global, thing: Thing) -> Result<Item, AllocError> {
             key: Key(3),
             link: 8,
         }),
-        other => listed(alloc, other),
+        other => held(alloc, other),
     }
 }
 

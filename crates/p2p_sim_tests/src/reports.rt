@@ -19,6 +19,8 @@ const OUTWARD: Queue = Queue::Link {
     side: Side::Out,
 };
 
+const HELD: Queue = Queue::Held { node: 1, conn: 4 };
+
 const INWARD: Queue = Queue::Link {
     link: 4,
     side: Side::In,
@@ -122,6 +124,32 @@ const ROWS: &[Row] = &[
         puts: &[],
         ends: &[],
     },
+    Row {
+        asked: Do::Send,
+        said: Said::Sent(&[Key(3), Key(4)]),
+        takes: &[],
+        puts: &[],
+        ends: &[],
+    },
+    Row {
+        asked: Do::RecvStep,
+        said: Said::Ok,
+        takes: &[],
+        puts: &[
+            (HELD, Thing::Held((11, 0))),
+            (HELD, Thing::Ping),
+            (HELD, Thing::Held((11, 1))),
+        ],
+        ends: &[],
+    },
+    // What was held is taken, and its copy waits where this puts it.
+    Row {
+        asked: Do::RecvStep,
+        said: Said::Ok,
+        takes: &[(12, 0), (12, 1)],
+        puts: &[(OUTWARD, Thing::Frame(Some((11, 0))))],
+        ends: &[],
+    },
 ];
 
 const LINES: &[&str] = &[
@@ -136,6 +164,9 @@ const LINES: &[&str] = &[
     r#"{"end":[["copy",8,0,"unbound"]],"n":8,"put":[],"reply":{"sent":[1,9]},"take":[]}"#,
     r#"{"end":[],"n":9,"put":[],"reply":"gone","take":[]}"#,
     r#"{"end":[],"n":10,"put":[],"reply":{"message_too_large":[6,5]},"take":[]}"#,
+    r#"{"end":[],"n":11,"put":[],"reply":{"sent":[3,4]},"take":[]}"#,
+    r#"{"end":[],"n":12,"put":[["held:1:4",{"bytes":"6a4d","channel":7,"copy":[11,0]}],["held:1:4","ping"],["held:1:4",{"bytes":"6a4d","channel":7,"copy":[11,1]}]],"reply":"ok","take":[]}"#,
+    r#"{"end":[],"n":13,"put":[["link:4:out",{"copy":[11,0],"frame":"ab"}]],"reply":"ok","take":[[12,0],[12,1]]}"#,
     r#"{"copy":[2,0],"fate":["delivered","channel:1:7",6]}"#,
     r#"{"copy":[2,1],"fate":["dropped","no_connection",3]}"#,
     r#"{"copy":[2,2],"fate":["dropped","relay_full",3]}"#,
@@ -143,7 +174,9 @@ const LINES: &[&str] = &[
     r#"{"copy":[7,0],"fate":["waiting","router:0"]}"#,
     r#"{"copy":[8,0],"fate":["dropped","unbound",8]}"#,
     r#"{"copy":[8,1],"fate":null}"#,
-    r#"{"copies":7,"entries":11}"#,
+    r#"{"copy":[11,0],"fate":["waiting","link:4:out"]}"#,
+    r#"{"copy":[11,1],"fate":["waiting","held:1:4"]}"#,
+    r#"{"copies":9,"entries":14}"#,
 ];
 
 #[test]

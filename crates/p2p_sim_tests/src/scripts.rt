@@ -48,7 +48,8 @@ const CHANGES_OF_KIND: &[(&str, &str, bool)] = &[
     (r#""mailbox_size":4"#, r#""mailbox_size":0"#, false),
     (r#""preset":"local""#, r#""preset":"recommended""#, true),
     (r#""preset":"local","#, r#""#, false),
-    (r#""key":1"#, r#""key":1,"ping_frequency":1"#, false),
+    (r#""key":1"#, r#""key":1,"ping_frequency":1"#, true),
+    (r#""key":1"#, r#""key":1,"ping":1"#, false),
     (r#""burst":1"#, r#""burst":0"#, false),
     (r#""burst":4294967295"#, r#""burst":4294967296"#, false),
     (
@@ -109,7 +110,7 @@ const SEND_STEP: &str = r#"{"at":0,"conn":3,"do":"send_step","node":0},"#;
 
 const LATEST: &str = r#""at":4999999999"#;
 
-const LATER: &str = r#""at":5000000000"#;
+const LAST: &str = r#""at":18446744073709551615"#;
 
 const DIALER_AND_BLOCK: &str =
     r#"{"at":0,"do":"dialer","node":1},{"at":0,"do":"block","key":2,"node":1}"#;
@@ -248,11 +249,26 @@ const CHANGES_OF_FORM: &[(&str, &str, &str, &str, Form)] = &[
         "",
         Form::Another,
     ),
-    // No connection begins without a step of its sending half, nor sends a ping before five seconds.
+    // No connection begins without a step of its sending half.
     (SPAWNER, "", "", "", Form::First),
-    (LATEST, LATER, "", "", Form::Another),
-    (LATEST, LATER, SEND_STEP, "", Form::First),
     (SEND_STEP, "", "", "", Form::First),
+    // A connection pings once that is due, at any moment.
+    (LATEST, LAST, "", "", Form::First),
+    (LATEST, LAST, SEND_STEP, "", Form::First),
+    (
+        SIZE,
+        r#""mailbox_size":4,"ping_frequency":0"#,
+        "",
+        "",
+        Form::First,
+    ),
+    (
+        SIZE,
+        r#""mailbox_size":4,"ping_frequency":0"#,
+        LATEST,
+        LAST,
+        Form::First,
+    ),
     // The node that is to change its peers met some before.
     (ROUTER, DIALER_AND_BLOCK, "", "", Form::Another),
     (ROUTER, LISTENER_AND_TRACK, "", "", Form::Another),
@@ -265,17 +281,17 @@ const CHANGES_OF_FORM: &[(&str, &str, &str, &str, Form)] = &[
     (ROUTER, DIALER_AND_LISTENER, "", "", Form::Another),
     (ROUTER, DIALER_AND_LISTENER, SEND_STEP, "", Form::First),
     (ROUTER, LISTENER_AND_DIALER_THERE, "", "", Form::First),
-    // A handshake, or an attempt, could come to its deadline.
+    // A handshake, or an attempt, may come to its deadline.
     (
         SIZE,
         r#""mailbox_size":4,"handshake_timeout":4999999999"#,
         "",
         "",
-        Form::Another,
+        Form::First,
     ),
     (
         SIZE,
-        r#""mailbox_size":4,"handshake_timeout":5000000000"#,
+        r#""mailbox_size":4,"handshake_timeout":0"#,
         "",
         "",
         Form::First,
@@ -285,11 +301,11 @@ const CHANGES_OF_FORM: &[(&str, &str, &str, &str, Form)] = &[
         r#""mailbox_size":4,"dial_timeout":4999999999"#,
         "",
         "",
-        Form::Another,
+        Form::First,
     ),
     (
         SIZE,
-        r#""mailbox_size":4,"dial_timeout":4999999999"#,
+        r#""mailbox_size":4,"dial_timeout":0"#,
         SEND_STEP,
         "",
         Form::First,

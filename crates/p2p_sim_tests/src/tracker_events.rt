@@ -183,7 +183,7 @@ fn have_peers(alloc: Global, script: &[Event]) -> Result<[bool; 3], AllocError> 
 }
 
 // What a preset gives of a configuration.
-type Given = ([usize; 2], [bool; 3], [u64; 2]);
+type Given = ([usize; 2], [bool; 3], [u64; 3]);
 
 fn given(config: &Config) -> Given {
     (
@@ -193,7 +193,11 @@ fn given(config: &Config) -> Given {
             config.allow_dns,
             config.bypass_ip_check,
         ],
-        [config.peer_connection_cooldown, config.block_duration],
+        [
+            config.peer_connection_cooldown,
+            config.block_duration,
+            config.ping_frequency,
+        ],
     )
 }
 
@@ -201,17 +205,17 @@ const GIVEN: &[Given] = &[
     (
         [4, 8],
         [true, true, false],
-        [1_000_000_000, 3_600_000_000_000],
+        [1_000_000_000, 3_600_000_000_000, 5_000_000_000],
     ),
     (
         [4, 8],
         [false, true, false],
-        [60_000_000_000, 14_400_000_000_000],
+        [60_000_000_000, 14_400_000_000_000, 50_000_000_000],
     ),
     (
         [1, 3],
         [false, false, true],
-        [0, 18_446_744_073_709_551_615],
+        [0, 18_446_744_073_709_551_615, 13],
     ),
 ];
 

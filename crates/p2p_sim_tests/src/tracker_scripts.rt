@@ -7,7 +7,7 @@ pub const TRACKING: &str = r#"{"configs":[
     {"key":1,"preset":"local","max_peers_per_set":2,"max_message_size":9,"mailbox_size":4},
     {"key":2,"preset":"recommended","max_peers_per_set":2,"max_message_size":9,"mailbox_size":4},
     {"key":3,"preset":"local","max_peers_per_set":2,"max_message_size":9,"mailbox_size":4,
-     "tracked_peer_sets":1,"send_batch_size":3,"allow_private_ips":false,"allow_dns":false,
+     "tracked_peer_sets":1,"send_batch_size":3,"ping_frequency":13,"allow_private_ips":false,"allow_dns":false,
      "bypass_ip_check":true,"peer_connection_cooldown":0,"block_duration":18446744073709551615,
      "max_concurrent_handshakes":4294967295,"allowed_handshake_rate_per_ip":{"burst":2,"period":11},
      "allowed_handshake_rate_per_subnet":{"burst":4294967294,"period":18446744073709551614},
@@ -154,7 +154,7 @@ const CHANGES_OF_NAMES: &[(&str, &str, bool)] = &[
     (r#""allow_dns":false"#, r#""allow_dns":null"#, false),
     (r#""allow_dns":false"#, r#""allow_dns":0"#, false),
     (r#""bypass_ip_check":true"#, r#""bypass_ip":true"#, false),
-    (r#""bypass_ip_check":true"#, r#""ping_frequency":1"#, false),
+    (r#""bypass_ip_check":true"#, r#""bypass":true"#, false),
     ("18446744073709551615", "0", true),
     ("18446744073709551615", "18446744073709551616", false),
     ("_cooldown\":0", "_cooldown\":-1", false),
@@ -194,6 +194,27 @@ const CHANGES_OF_DIALS: &[(&str, &str, bool)] = &[
     (r#""dial_frequency":12"#, r#""dial_frequency":1.0"#, false),
 ];
 
+// Changes of what a configuration says of pings.
+const CHANGES_OF_PINGS: &[(&str, &str, bool)] = &[
+    (r#""ping_frequency":13,"#, "", true),
+    (r#""ping_frequency":13"#, r#""ping_frequency":0"#, true),
+    (
+        r#""ping_frequency":13"#,
+        r#""ping_frequency":18446744073709551615"#,
+        true,
+    ),
+    (
+        r#""ping_frequency":13"#,
+        r#""ping_frequency":18446744073709551616"#,
+        false,
+    ),
+    (r#""ping_frequency":13"#, r#""ping_frequency":"13""#, false),
+    (r#""ping_frequency":13"#, r#""ping_frequency":-1"#, false),
+    (r#""ping_frequency":13"#, r#""ping_frequency":13.0"#, false),
+    (r#""ping_frequency":13"#, r#""ping_frequency":null"#, false),
+    (r#""ping_frequency":13"#, r#""ping_frequencies":13"#, false),
+];
+
 #[test]
 fn peers_have_distinct_keys_and_whole_addresses(rt: HostRuntime) {
     assert_eq!(rt;
@@ -206,6 +227,14 @@ fn peers_have_distinct_keys_and_whole_addresses(rt: HostRuntime) {
 fn dials_and_handshakes_have_their_bounds(rt: HostRuntime) {
     assert_eq!(rt;
         first_other(rt.alloc(), TRACKING, CHANGES_OF_DIALS),
+        Ok(None)
+    );
+}
+
+#[test]
+fn pings_have_their_bounds(rt: HostRuntime) {
+    assert_eq!(rt;
+        first_other(rt.alloc(), TRACKING, CHANGES_OF_PINGS),
         Ok(None)
     );
 }
