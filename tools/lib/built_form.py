@@ -1,13 +1,8 @@
 """The form that is built: which scripts the program runs so far, where they are valid."""
 
-END_OF_TIME = 5_000_000_000
-
 # The steps by which a node meets peers, and what its tracker may be asked that could end a connection.
 MEETINGS = ('dialer', 'listener')
 CHANGES = ('track', 'overwrite', 'block')
-
-# How long an attempt and a handshake have.
-TIMEOUTS = ('dial_timeout', 'handshake_timeout')
 
 
 def copy_count(events):
@@ -20,24 +15,13 @@ def register_faults(events):
     for event in events:
         if event.act == 'register' and event.said['quota'] < copies:
             yield event.fault('quota', 'the script asks for %d copies, more than this burst of %d; '
-                              'the quotas of channels do not act yet' % (copies, event.said['quota']))
+                              'the quotas of senders do not act yet' % (copies, event.said['quota']))
 
 
 def is_too_long(event, configurations):
     """Whether a message is longer than its own node lets it be, which tells so."""
     node = event.said['node']
     return node < len(configurations) and event.said['bytes'] > configurations[node].said['max_message_size']
-
-
-def time_faults(script):
-    timeout = min((one.said[name] for one in script.configurations for name in TIMEOUTS), default=END_OF_TIME)
-    for event in script.events:
-        if event.said['at'] >= END_OF_TIME:
-            yield event.fault('at', 'moments of %d nanoseconds and later are not built yet in a script with a send_step'
-                              % END_OF_TIME)
-        elif event.said['at'] >= timeout:
-            yield event.fault('at', 'the least `dial_timeout` or `handshake_timeout` is %d; moments of that and later '
-                              'are not built yet in a script with a send_step' % timeout)
 
 
 def change_faults(events):
@@ -97,7 +81,6 @@ def message_faults(script):
 def connection_faults(script):
     """What a script may not have where a connection may begin."""
     if any(event.act == 'send_step' for event in script.events):
-        yield from time_faults(script)
         yield from change_faults(script.events)
         yield from both_faults(script.events)
         yield from link_faults(script)

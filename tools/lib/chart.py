@@ -1,6 +1,6 @@
 """The sequence chart of a report: nodes as lines, time downward, copies as arrows through their connections."""
 from journey import node_of
-from places import all_nodes, keys_of_nodes, link_ends, links_of, nodes_at
+from places import all_nodes, keys_of_nodes, link_ends, link_writers, links_of, nodes_at
 from svg import Picture
 
 ROW = 24
@@ -11,6 +11,7 @@ LANES = (0, 7, -7, 14, -14)
 COLOURS = ('#1f6fb4', '#d2691e', '#2e8b57', '#8a4fbf', '#b8860b', '#008b8b', '#c2528b', '#556b2f')
 DROPPED = '#c0262d'
 QUIET = '#bbb'
+PING = '#777'
 
 # What an item says that ends an attempt or a handshake, by the name at which it says false.
 REFUSALS = {'acceptable': 'not acceptable', 'finished': 'not finished', 'listen': 'not reserved'}
@@ -66,6 +67,11 @@ def end_text(queue, item):
     return 'release of key %s: %s' % (item['release'], queue) if 'release' in item else ''
 
 
+def is_ping(queue, item):
+    """Whether a put is a ping that is written to a link, which no copy has, or one that is held."""
+    return item == 'ping' or (queue.startswith('link:') and isinstance(item, dict) and item.get('copy', queue) is None)
+
+
 class Chart:
     """A report, which of its entries are drawn, and where everything stands."""
 
@@ -78,6 +84,7 @@ class Chart:
         self.nodes = all_nodes(report, journeys)
         self.keys = keys_of_nodes(report, journeys)
         self.reads = link_ends(report, journeys)
+        self.writes = link_writers(report)
         self.labelled = set()
         self.taken = {}
         self.waiting = {}
@@ -111,6 +118,8 @@ class Chart:
             self.draw_ends(entry)
         for place, journey in enumerate(self.journeys):
             self.draw_journey(journey, COLOURS[place % len(COLOURS)], LANES[place % len(LANES)])
+        for entry in self.report.entries[self.first:self.last + 1]:
+            self.draw_pings(entry)
         return self.picture.write()
 
     def draw_rows(self):
@@ -149,6 +158,13 @@ class Chart:
                 self.picture.cross(self.x(node), self.y(entry.number), 5, DROPPED)
                 words = 'connection ended: %s' % entry.reply['ended']
                 self.note(self.x(node) + 10, self.y(entry.number), words, DROPPED)
+
+    def draw_pings(self, entry):
+        """Each ping that is written, at the node that writes it, and each that is held."""
+        for queue, item in entry.puts:
+            node = self.writes.get(queue, node_of(queue))
+            if is_ping(queue, item) and node in self.nodes:
+                self.note(self.x(node) + 10, self.y(entry.number), 'ping: %s' % queue, PING)
 
     def draw_journey(self, journey, colour, lane):
         """A copy from its send to its end: along a node's line while it stands there, across while it is on a link."""

@@ -7,6 +7,4 @@ ACTS = frozenset('''
     mux mux_register mux_poll give_up sub_send sub_recv sub_close global_send backup_recv mux_step
 '''.split())
 
-CONFIGURATION_NAMES = frozenset(['ping_frequency'])
-
 START_NAMES = frozenset(['bind'])

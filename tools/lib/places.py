@@ -51,6 +51,15 @@ def keys_of_nodes(report, journeys):
     return keys
 
 
+def link_writers(report):
+    """For each direction of a link the node that writes it."""
+    writes = {}
+    for link, (dialing, listening) in links_of(report).items():
+        writes['link:%d:out' % link] = dialing
+        writes['link:%d:in' % link] = listening
+    return writes
+
+
 def link_ends(report, journeys):
     """For each direction of a link the node that reads it, as far as the report tells."""
     reads = {}

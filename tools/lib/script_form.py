@@ -11,8 +11,6 @@ CONFIGURATION_FORMS = {
     'mailbox_size': lambda field: whole(field, 1),
 }
 
-PRESETS = ('local', 'recommended')
-
 
 def a_rate(field):
     """A quota: its burst."""
@@ -26,6 +24,7 @@ def a_rate(field):
 GIVEN_FORMS = {
     'tracked_peer_sets': lambda field: whole(field, 1),
     'send_batch_size': lambda field: whole(field, 1),
+    'ping_frequency': whole,
     'allow_private_ips': a_flag,
     'allow_dns': a_flag,
     'bypass_ip_check': a_flag,
@@ -39,8 +38,11 @@ GIVEN_FORMS = {
     'dial_frequency': whole,
 }
 
-# What both presets give.
-OF_BOTH_PRESETS = {'tracked_peer_sets': 4, 'handshake_timeout': 5_000_000_000, 'dial_timeout': 15_000_000_000}
+# What each preset gives, of what a verdict or a test asks for.
+PRESETS = {
+    'local': {'tracked_peer_sets': 4, 'ping_frequency': 5_000_000_000},
+    'recommended': {'tracked_peer_sets': 4, 'ping_frequency': 50_000_000_000},
+}
 
 
 class NotBuilt(Fault):
@@ -136,15 +138,11 @@ def read_names(field, forms, optional_forms):
 
 def read_configuration(number, field):
     field.what = 'configuration %d' % number
-    an_object(field, ['preset', *CONFIGURATION_FORMS, *GIVEN_FORMS, *later.CONFIGURATION_NAMES])
+    an_object(field, ['preset', *CONFIGURATION_FORMS, *GIVEN_FORMS])
     preset = a_text(field.at_name('preset'))
     if preset not in PRESETS:
         raise field.at_name('preset').fault('"%s" is no preset%s' % (preset, perhaps(preset, PRESETS)))
-    said = {**OF_BOTH_PRESETS, **read_names(field, CONFIGURATION_FORMS, GIVEN_FORMS)}
-    for name, at, _ in field.value.held:
-        if name in later.CONFIGURATION_NAMES:
-            raise NotBuilt(at, field.what, '`%s` is not built yet: the preset gives it' % name)
-    return Part(number, field, said)
+    return Part(number, field, {**PRESETS[preset], **read_names(field, CONFIGURATION_FORMS, GIVEN_FORMS)})
 
 
 def read_event(number, field):

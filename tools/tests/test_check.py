@@ -6,7 +6,10 @@ from itertools import product
 
 import hello
 from files import TOP, beside, broken_scripts, examples, read_bytes, read_text, run_tool
+from json_text import read_json
 from judge import LIMIT, judge, lines_of, status_now
+from script_form import read_script
+from words import U64
 
 # The first step of a dialer or a listener of each node of the first example, and what changes a node's peers.
 MEETING = [hello.acts('dialer')[0], hello.acts('listener')[0]]
@@ -95,21 +98,34 @@ class Check(unittest.TestCase):
                     self.assertEqual([status_now(judged(each)) for each in (events, with_a_step(events))], [0, due])
                     self.assertEqual(status_now(judged(with_a_step(events[:1]) + events[1:])), due)
 
-    def test_no_deadline_comes_where_a_connection_may_begin(self):
+    def test_a_deadline_may_come_where_a_connection_may_begin(self):
         for name, node, timeout in product(('dial_timeout', 'handshake_timeout'), (0, 1), (0, 1, 1000)):
             said = [{}, {}]
             said[node] = {name: timeout}
             for at in (0, 1, 999, 1000):
                 after = [{'at': at, 'do': 'tracker', 'node': 0}]
                 with self.subTest((name, node, timeout, at)):
-                    self.assertEqual(status_now(judged(after, said=said)), 0)
-                    self.assertEqual(status_now(judged(with_a_step([]) + after, said=said)), 0 if at < timeout else 6)
+                    found = [status_now(judged(each, said=said)) for each in (after, with_a_step([]) + after)]
+                    self.assertEqual(found, [0, 0])
 
-    def test_a_long_timeout_does_not_let_a_script_go_beyond_the_first_ping(self):
-        long_times = dict.fromkeys(('dial_timeout', 'handshake_timeout'), 10 ** 12)
-        for at, due in ((4_999_999_999, 0), (5_000_000_000, 6)):
-            after = with_a_step([]) + [{'at': at, 'do': 'tracker', 'node': 0}]
-            self.assertEqual(status_now(judged(after, said=[long_times, long_times])), due)
+    def test_a_connection_may_ping_at_any_moment(self):
+        for frequency, at in product((0, 1, 5_000_000_000, U64), (0, 4_999_999_999, 5_000_000_000, U64)):
+            steps = with_a_step([]) + [{'at': at, 'do': act, 'node': 0, 'conn': 0} for act in ('send_step', 'recv_step')]
+            with self.subTest((frequency, at)):
+                self.assertEqual(status_now(judged(steps, said=[{'ping_frequency': frequency}])), 0)
+
+    def test_a_ping_frequency_is_a_whole_number(self):
+        for frequency, due in ((0, 0), (1, 0), (U64, 0), (U64 + 1, 6), (-1, 6), (1.5, 6), ('1', 6), (None, 6), (True, 6)):
+            with self.subTest(frequency):
+                self.assertEqual(status_now(judged([], said=[{'ping_frequency': frequency}])), due)
+
+    def test_a_preset_says_how_often_a_node_pings_that_does_not_say_it(self):
+        for preset, due in (('local', 5_000_000_000), ('recommended', 50_000_000_000)):
+            for more, said in (({}, due), ({'ping_frequency': 7}, 7)):
+                configuration = {**hello.configurations()[0], 'preset': preset, **more}
+                script = read_script(read_json(json.dumps({'configs': [configuration], 'script': []})))
+                with self.subTest((preset, more)):
+                    self.assertEqual([one.said['ping_frequency'] for one in script.configurations], [said])
 
     def test_each_mailbox_holds_all_links_where_a_connection_may_begin(self):
         begin = [{'do': 'dialer', 'node': 0}]

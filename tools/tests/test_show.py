@@ -4,11 +4,14 @@ import tempfile
 import unittest
 import xml.dom.minidom
 
+from copy_table import copy_table
 from files import TOP, beside, read_text, reports, run_tool
-from places import keys_of_nodes, link_ends, links_of
+from journey import journeys
+from places import keys_of_nodes, link_ends, link_writers, links_of
 from report_form import BadReport, read_report
 
 HELLO = os.path.join(TOP, 'examples', 'hello.report')
+PINGS = os.path.join(TOP, 'examples', 'pings.report')
 TRACKER = r'''{"end":[],"n":0,"put":[["tracker:0",{"call":0}]],"reply":{"feedback":"ok"},"take":[]}
 {"end":[],"n":1,"put":[["control:0:4","kill"],["update:0",[[10,0,0,2]]],["updates:0",{"all":{"primary":[2],"secondary":[]},"index":6,"latest":{"primary":[2],"secondary":[]}}]],"reply":"ok","take":[[0,0]]}
 {"end":[],"n":2,"put":[],"reply":{"update":{"all":{"primary":[2],"secondary":[]},"index":6,"latest":{"primary":[2],"secondary":[]}}},"take":[[1,2]]}
@@ -88,6 +91,23 @@ FINISH_SCRIPT = r'''{"configs":[],"script":[
 {"at":0,"do":"tracker","node":1},
 {"at":0,"do":"finish","link":4,"ok":false},
 {"at":0,"do":"spawner","node":0}]}
+'''
+HELD = r'''{"end":[],"n":0,"put":[["router:0",{"content":{"channel":7,"frame":"00070161","priority":false,"send":0,"to":[2]}}]],"reply":{"sent":[2]},"take":[]}
+{"end":[],"n":1,"put":[["low:0:9",{"copy":[0,0],"frame":"00070161"}]],"reply":"ok","take":[[0,0]]}
+{"end":[],"n":2,"put":[["link:8:out",{"copy":null,"frame":"01"}],["link:8:out",{"copy":[0,0],"frame":"00070161"}]],"reply":"ok","take":[[1,0]]}
+{"end":[],"n":3,"put":[["held:1:10","ping"]],"reply":"ok","take":[[2,0]]}
+{"end":[],"n":4,"put":[],"reply":"ok","take":[[3,0]]}
+{"end":[],"n":5,"put":[["held:1:10",{"bytes":"61","channel":7,"copy":[0,0]}]],"reply":"ok","take":[[2,1]]}
+{"copy":[0,0],"fate":["waiting","held:1:10"]}
+{"copies":1,"entries":6}
+'''
+HELD_SCRIPT = r'''{"configs":[],"script":[
+{"at":0,"do":"send","node":0,"channel":7,"bytes":"61","priority":false,"to":{"one":2}},
+{"at":0,"do":"router","node":0},
+{"at":0,"do":"send_step","node":0,"conn":9},
+{"at":0,"do":"recv_step","node":1,"conn":10},
+{"at":0,"do":"recv_step","node":1,"conn":10},
+{"at":0,"do":"recv_step","node":1,"conn":10}]}
 '''
 BAD = {
     '': 'the last line, with the counts, is missing',
@@ -187,6 +207,21 @@ class Show(unittest.TestCase):
         for queue in ('attempt:0:5', 'handshake:1:6', 'tracker:1', 'spawner:0'):
             self.assertNotIn('not finished: %s' % queue, drawn)
         self.assertNotIn('not reserved: tracker:1', drawn)
+
+    def test_a_message_that_is_held_has_its_queue_in_the_table_and_in_the_picture(self):
+        report = read_report(HELD)
+        found = journeys(report, [])
+        self.assertEqual([(one.steps[-1], one.end_text()) for one in found], [((5, 'held:1:10'), 'waits in held:1:10')])
+        self.assertIn('link:8:out (2)  held:1:10 (5)   waits in held:1:10', copy_table(found, keys_of_nodes(report, found))[1])
+        self.assert_drawn(HELD, HELD_SCRIPT, ('>held:1:10<', '[0,0] waits in held:1:10', '5  node 1 recv_step: ok'))
+
+    def test_a_ping_is_drawn_where_it_is_written_and_where_it_is_held(self):
+        self.assertEqual(self.drawn(HELD, HELD_SCRIPT).count('ping: '), 1)
+        drawn = self.drawn(read_text(PINGS), read_text(beside(PINGS, '.json')))
+        self.assertEqual((drawn.count('ping: link:13:out'), drawn.count('ping: held:1:25'), drawn.count('ping: ')), (2, 1, 3))
+
+    def test_each_direction_of_a_link_has_its_writer(self):
+        self.assertEqual(link_writers(read_report(read_text(HELLO))), {'link:13:out': 0, 'link:13:in': 1})
 
     def test_a_part_of_a_report_can_be_drawn(self):
         with tempfile.TemporaryDirectory() as folder:
