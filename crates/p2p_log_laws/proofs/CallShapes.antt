@@ -26,6 +26,7 @@ use Rattle.p2p_log.specs.declared.event.Rate.{Rate}
 use Rattle.p2p_log.specs.declared.event.Recipients.{Recipients}
 use Rattle.p2p_log_rules.specs.declared.row.Row.{Row}
 use Rattle.p2p_log.specs.Lines.{name_of, same_name, ended_item, line}
+use Rattle.p2p_log_rules.specs.Admitting.{keys_admitted}
 use Rattle.p2p_log_rules.specs.Facts.{is_up, channels, capacity_in, capacity_for}
 use Rattle.p2p_log_rules.specs.Frames.{frame_of}
 use Rattle.p2p_log.specs.Copies.{keys_of_recipients, carries_copy, ends_copy, copies_from, copies_of}
@@ -125,25 +126,38 @@ sent_shape configs log a s n true false by up sends refuses near =
     single : (b : Bool) → one b + (0 + 0) ≡ (0 + one b) + 0
     single b = omega arith
 
-pub send_shape : (configs : List Config) (log : List Entry) (bytes : List ℕ) (c n : ℕ) (priority : Bool) (to : Recipients)
-    → Shape configs log (act.Send bytes c n priority to) (Effect.send_row configs log bytes c n priority to)
-send_shape configs log bytes c n priority to =
-    let full : Bool = nat_le (Effect.router_capacity configs log n) (length (line log (queue.Router n))) in
-    let sent : Row = Effect.sent_row (is_up log n) full n (length log) c priority (frame_of c bytes) (keys_of_recipients to) in
+pub send_shape : (configs : List Config) (log : List Entry) (bytes : List ℕ) (c n : ℕ) (priority : Bool) (to : Recipients) (moment : ℕ)
+    → Shape configs log (act.Send bytes c n priority to) (Effect.send_row configs log bytes c n priority to moment)
+send_shape configs log bytes c n priority to moment =
     elim (capacity_in (channels configs log n) c) as (λ o. Shape configs log (act.Send bytes c n priority to) (elim o [
       | None ↦ Effect.only reply.Gone
-      | Some _ ↦ Effect.fitting_row (nat_lt (Effect.limit_at configs n) (length bytes)) (length bytes) (Effect.limit_at configs n) sent
+      | Some _ ↦ Effect.send_keys_row configs log bytes c n priority (keys_of_recipients to) (keys_admitted log n c moment (keys_of_recipients to))
     ])) [
       | None ↦ still configs log (act.Send bytes c n priority to) reply.Gone refl refl
-      | Some _ ↦ by_size (nat_lt (Effect.limit_at configs n) (length bytes)) sent
-          (sent_shape configs log (act.Send bytes c n priority to) (record { by = Node n; channel = c; priority = priority; bytes = bytes; keys = keys_of_recipients to })
-          n (is_up log n) full refl refl refl refl (same_queue-refl (queue.Router n)))
+      | Some _ ↦ by_keys (keys_of_recipients to) (keys_admitted log n c moment (keys_of_recipients to))
     ]
   where
+    full : Bool
+    full = nat_le (Effect.router_capacity configs log n) (length (line log (queue.Router n)))
+
+    to_keys : List Key → Row
+    to_keys keys = Effect.sent_row (is_up log n) full n (length log) c priority (frame_of c bytes) keys
+
     by_size : (b : Bool) (sent : Row) → Shape configs log (act.Send bytes c n priority to) sent
         → Shape configs log (act.Send bytes c n priority to) (Effect.fitting_row b (length bytes) (Effect.limit_at configs n) sent)
     by_size true sent shape = still configs log (act.Send bytes c n priority to) (reply.MessageTooLarge (length bytes) (Effect.limit_at configs n)) refl refl
     by_size false sent shape = shape
+
+    sent : (keys : List Key) → Shape configs log (act.Send bytes c n priority to) (Effect.fitting_row (nat_lt (Effect.limit_at configs n) (length bytes)) (length bytes) (Effect.limit_at configs n) (to_keys keys))
+    sent keys =
+        by_size (nat_lt (Effect.limit_at configs n) (length bytes)) (to_keys keys)
+        (sent_shape configs log (act.Send bytes c n priority to) (record { by = Node n; channel = c; priority = priority; bytes = bytes; keys = keys })
+        n (is_up log n) full refl refl refl refl (same_queue-refl (queue.Router n)))
+
+    by_keys : (offered keys : List Key) → Shape configs log (act.Send bytes c n priority to) (Effect.send_keys_row configs log bytes c n priority offered keys)
+    by_keys [] keys = sent keys
+    by_keys (k ∷ ks) [] = still configs log (act.Send bytes c n priority to) (reply.Sent []) refl refl
+    by_keys (k ∷ ks) (j ∷ js) = sent (j ∷ js)
 
 -- ---- reading
 

@@ -23,7 +23,7 @@ pub row_shape : (configs : List Config) (log : List Entry) (at seed : ℕ) (a : 
 unfolding row
 row_shape configs log at seed (act.Register c n rate) = register_shape configs log c n rate
 row_shape configs log at seed (act.Start n) = start_shape configs log n
-row_shape configs log at seed (act.Send bytes c n priority to) = send_shape configs log bytes c n priority to
+row_shape configs log at seed (act.Send bytes c n priority to) = send_shape configs log bytes c n priority to at
 row_shape configs log at seed (act.Router n) = router_shape configs log n
 row_shape configs log at seed (act.SendStep conn n) = send_step_shape configs log conn n at
 row_shape configs log at seed (act.RecvStep conn n) = recv_step_shape configs log conn n at

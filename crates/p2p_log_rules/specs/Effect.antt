@@ -33,6 +33,7 @@ pub use Rattle.p2p_log_rules.specs.Metering.{limit_at}
 use Rattle.p2p_log_rules.specs.Metering.{Metered, pings, messages, may_pass}
 use Rattle.p2p_log_rules.specs.Pings.{ping_frame, ping_is_due}
 pub use Rattle.p2p_log_rules.specs.Rows.{only, takes_oldest, mailbox_size_at, overwritten, ring_ends}
+use Rattle.p2p_log_rules.specs.Admitting.{keys_admitted}
 use Rattle.p2p_log_rules.specs.Attempting.{attempt_row, resolve_row, refuse_row, connect_row}
 use Rattle.p2p_log_rules.specs.Dialing.{dialer_row}
 use Rattle.p2p_log_rules.specs.Handshaking.{handshake_row}
@@ -74,14 +75,23 @@ abbrev pub fitting_row : Bool → ℕ → ℕ → Row → Row
 fitting_row true size limit sent = only (reply.MessageTooLarge size limit)
 fitting_row false size limit sent = sent
 
-abbrev pub send_row : List Config → List Entry → List ℕ → ℕ → ℕ → Bool → Recipients → Row
-send_row configs log bytes c n priority to =
+-- and by what the channel's quota admits of the keys that it is for: where it admits none of them, nothing is sent
+abbrev pub admitted_row : List Key → List Key → Row → Row
+admitted_row (k ∷ ks) [] sent = only (reply.Sent [])
+admitted_row to keys sent = sent
+
+-- send to these keys of those that it is for
+abbrev pub send_keys_row : List Config → List Entry → List ℕ → ℕ → ℕ → Bool → List Key → List Key → Row
+send_keys_row configs log bytes c n priority to keys =
+    admitted_row to keys
+    (fitting_row (nat_lt (limit_at configs n) (length bytes)) (length bytes) (limit_at configs n)
+    (sent_row (is_up log n) (nat_le (router_capacity configs log n) (length (line log (queue.Router n)))) n (length log) c priority (frame_of c bytes) keys))
+
+abbrev pub send_row : List Config → List Entry → List ℕ → ℕ → ℕ → Bool → Recipients → ℕ → Row
+send_row configs log bytes c n priority to at =
     elim (capacity_in (channels configs log n) c) [
       | None ↦ only reply.Gone
-      | Some _ ↦
-          fitting_row (nat_lt (limit_at configs n) (length bytes)) (length bytes) (limit_at configs n)
-          (sent_row (is_up log n) (nat_le (router_capacity configs log n) (length (line log (queue.Router n))))
-          n (length log) c priority (frame_of c bytes) (keys_of_recipients to))
+      | Some _ ↦ send_keys_row configs log bytes c n priority (keys_of_recipients to) (keys_admitted log n c at (keys_of_recipients to))
     ]
 
 -- recv: the oldest message of the channel
@@ -314,7 +324,7 @@ recv_step_row configs log conn n at =
 unfoldable pub row : List Config → List Entry → ℕ → ℕ → Act → Row
 row configs log at seed (act.Register c n rate) = register_row configs n rate
 row configs log at seed (act.Start n) = start_row configs log n
-row configs log at seed (act.Send bytes c n priority to) = send_row configs log bytes c n priority to
+row configs log at seed (act.Send bytes c n priority to) = send_row configs log bytes c n priority to at
 row configs log at seed (act.Router n) = router_row configs log n
 row configs log at seed (act.SendStep conn n) = send_step_row configs log conn n at
 row configs log at seed (act.RecvStep conn n) = recv_step_row configs log conn n at

@@ -1,3 +1,4 @@
+pub mod Admitting
 pub mod Attempting
 pub mod Connections
 pub mod Dialing
