@@ -1,4 +1,7 @@
+mod Admitted
 pub mod Changes
 pub mod Metering
 pub mod Quotas
 pub mod Registering
+pub mod Senders
+pub mod Sending

@@ -2,6 +2,7 @@
 use Rattle.std.proofs.Common.{◌≡◌, ℕ, ◌≤◌, Bool, true, false, cond, List, [], ◌∷◌, ◌++◌, Option, Some, None, refl, ap, sym, subst, ◌∙◌, append-nil}
 use Rattle.std.specs.Prelude.{◌==◌, flat_map, is_some, slice_get}
 use Rattle.std.specs.Map.{lookup}
+use Rattle.std.specs.Ordering.{nat_cmp}
 use Rattle.std.proofs.lemmas.Grind.{flat_map-append}
 use Rattle.p2p_runtime.specs.QuotaKeys.{KeptByKey}
 use Rattle.p2p_runtime.specs.QuotaLaw.{admits}
@@ -85,7 +86,7 @@ pub quota_stays :
     → ((conn : ℕ) → admitted_by (limit_at configs n) n conn (messages c) log e ≡ []) → QuotaStands configs (log ++ e ∷ []) n c r o
 quota_stays configs log e n c None None h none = λ conn. admitted-kept configs log e n conn (messages c) (none conn) ∙ h conn
 quota_stays configs log e n c (Some rate) (Some kept) h none =
-    meters_frame log e (quota_of rate) (λ conn. admitted configs log n conn (messages c)) (λ conn. admitted configs (log ++ e ∷ []) n conn (messages c)) kept h (λ conn. admitted-kept configs log e n conn (messages c) (none conn))
+    meters_frame nat_cmp log e (quota_of rate) (λ conn. admitted configs log n conn (messages c)) (λ conn. admitted configs (log ++ e ∷ []) n conn (messages c)) kept h (λ conn. admitted-kept configs log e n conn (messages c) (none conn))
 quota_stays configs log e n c None (Some kept) h none = absurd h
 quota_stays configs log e n c (Some rate) None h none = absurd h
 
@@ -103,7 +104,7 @@ may_admit_is configs log n c k conn now ch s late registered =
     by (rate_in (rates (events_of log) n) c) (at ch.quotas c) (s.quotas c)
     (sym (same_known configs log n c) ∙ ap (λ (o : Option ℕ). is_some o) (sym (s.capacities c) ∙ registered))
   where
-    by : (r : Option Rate) (o : Option (KeptByKey ℕ)) → QuotaStands configs log n c r o → is_some r ≡ true → passes_on o conn now ≡ admits (quota_or_none r) (admitted configs log n conn (messages c)) now
-    by (Some rate) (Some kept) h known = passes_is log (quota_of rate) (λ d. admitted configs log n d (messages c)) kept conn now h late
+    by : (r : Option Rate) (o : Option (KeptByKey ℕ)) → QuotaStands configs log n c r o → is_some r ≡ true → passes_on nat_cmp o conn now ≡ admits (quota_or_none r) (admitted configs log n conn (messages c)) now
+    by (Some rate) (Some kept) h known = passes_is nat_cmp log (quota_of rate) (λ d. admitted configs log n d (messages c)) kept conn now h late
     by (Some rate) None h known = absurd h
     by None o h known = cc

@@ -12,7 +12,9 @@ use Rattle.p2p_log.specs.declared.event.Act.TheVariants as act
 use Rattle.p2p_log.specs.declared.entry.Entry.{Entry}
 use Rattle.p2p_log.specs.Lines.{line}
 use Rattle.p2p_log_rules.specs.Facts.{events_of, registers_at, capacity_for, channels, capacity_in, rates_by, rates, rate_in, sum_capacities}
+use Rattle.p2p_log_rules.specs.Admitting.{rate_at, sent_moments}
 use Rattle.p2p_log_rules.specs.Listening.{quota_of}
+use Rattle.p2p_log_rules.specs.Tracking.{key_cmp}
 use Rattle.p2p_log_rules.specs.Metering.{messages, admitted}
 use Rattle.p2p_log_rules.specs.Effect.{mailbox_size_at}
 use Rattle.p2p_runtime.specs.QuotaStep.{IsQuota}
@@ -21,10 +23,11 @@ use Rattle.p2p_net_queues.specs.Tables.{at}
 use Rattle.p2p_net_queues.proofs.Meters.{admitted-kept, meters_new}
 use Rattle.p2p_net_queues.proofs.Tables.{lookup-insert_entry, at-inserted}
 use Rattle.p2p_net_channels.specs.Channels.{capacity_at, registered_with}
-use Rattle.p2p_net_channels.specs.Stands.{QuotaStands, AdmitsNone, ChannelsStand}
+use Rattle.p2p_net_channels.specs.Stands.{QuotaStands, SenderStands, AdmitsNone, SendsNone, ChannelsStand}
 use Rattle.p2p_net_channels.specs.declared.channels.Channels.{Channels}
 use Rattle.p2p_net_channels.proofs.Changes.{channels-append}
 use Rattle.p2p_net_channels.proofs.Quotas.{rates-append, same_known, admitted_none, quota_stays}
+use Rattle.p2p_net_channels.proofs.Sending.{sent_moments-kept, sent_none, sender_stays}
 
 lookup-last :
     {V : Type 0} (xs : List (ℕ × V)) (c : ℕ) (k : V) (d : ℕ)
@@ -67,7 +70,7 @@ module _ (configs : List Config) (log : List Entry) (e : Entry) (n c : ℕ) (rat
       → AdmitsNone configs log e n → (d : ℕ) (b : Bool) → (d == c) ≡ b → (r : Option Rate) → rate_in (rates (events_of log) n) d ≡ r
       → QuotaStands configs (log ++ e ∷ []) n d (elim r [ None ↦ cond b (Some rate) None | Some v ↦ Some v ]) (cond b (Some (fresh (quota_of rate))) (at ch.quotas d))
   new_quota stands absent is_quota admits d true here None is =
-      meters_new (log ++ e ∷ []) (quota_of rate) (λ conn. admitted configs (log ++ e ∷ []) n conn (messages d)) is_quota
+      meters_new nat_cmp (log ++ e ∷ []) (quota_of rate) (λ conn. admitted configs (log ++ e ∷ []) n conn (messages d)) is_quota
       (λ conn. admitted-kept configs log e n conn (messages d) (admits conn d) ∙ admitted_none configs log n d (rate_in (rates (events_of log) n) d) (at ch.quotas d) (stands d) is conn)
   new_quota stands absent is_quota admits d true here (Some v) is =
       let same : d ≡ c = eqb-true d c here in
@@ -78,13 +81,29 @@ module _ (configs : List Config) (log : List Entry) (e : Entry) (n c : ℕ) (rat
   new_quota stands absent is_quota admits d false there (Some v) is =
       quota_stays configs log e n d (Some v) (at ch.quotas d) (subst (λ o. QuotaStands configs log n d o (at ch.quotas d)) is (stands d)) (λ conn. admits conn d)
 
+  new_sender :
+      ((d : ℕ) → SenderStands log n d (rate_at log n d) (at ch.senders d)) → rate_at log n c ≡ None → IsQuota (quota_of rate)
+      → SendsNone log e n → (d : ℕ) (b : Bool) → (d == c) ≡ b → (r : Option Rate) → rate_at log n d ≡ r
+      → SenderStands (log ++ e ∷ []) n d (elim r [ None ↦ cond b (Some rate) None | Some v ↦ Some v ]) (cond b (Some (fresh (quota_of rate))) (at ch.senders d))
+  new_sender stands absent is_quota sends d true here None is =
+      meters_new key_cmp (log ++ e ∷ []) (quota_of rate) (sent_moments (log ++ e ∷ []) n d) is_quota
+      (λ k. sent_moments-kept log e n d sends k ∙ sent_none log n d (rate_at log n d) (at ch.senders d) (stands d) is k)
+  new_sender stands absent is_quota sends d true here (Some v) is =
+      let same : d ≡ c = eqb-true d c here in
+      let missing : rate_at log n d ≡ None = ap (rate_in (rates (events_of log) n)) same ∙ absent in
+      absurd (cc)
+  new_sender stands absent is_quota sends d false there None is =
+      sender_stays log e n d None (at ch.senders d) (subst (λ o. SenderStands log n d o (at ch.senders d)) is (stands d)) (sent_moments-kept log e n d sends)
+  new_sender stands absent is_quota sends d false there (Some v) is =
+      sender_stays log e n d (Some v) (at ch.senders d) (subst (λ o. SenderStands log n d o (at ch.senders d)) is (stands d)) (sent_moments-kept log e n d sends)
+
 -- an entry that registers a channel
 pub channels_registered :
     (configs : List Config) (log : List Entry) (e : Entry) (n c k : ℕ) (rate : Rate) (ch : Channels) → ChannelsStand configs log n ch → e.event.act ≡ act.Register c n rate
     → k ≡ capacity_for (slice_get configs n) rate → capacity_at ch c ≡ None → mailbox_size_at configs n + (ch.total + k) < 2 ^ 64
     → ((d : ℕ) → line (log ++ e ∷ []) (queue.Channel n d) ≡ line log (queue.Channel n d)) → IsQuota (quota_of rate)
-    → AdmitsNone configs log e n → ChannelsStand configs (log ++ e ∷ []) n (registered_with ch c k (quota_of rate))
-channels_registered configs log e n c k rate ch s is amount absent room lines is_quota admits =
+    → AdmitsNone configs log e n → SendsNone log e n → ChannelsStand configs (log ++ e ∷ []) n (registered_with ch c k (quota_of rate))
+channels_registered configs log e n c k rate ch s is amount absent room lines is_quota admits sends =
     let here : registers_at configs n e.event.act ≡ (c, k) ∷ [] =
     ap (registers_at configs n) is
     ∙ (ap (λ b. cond b ((c, capacity_for (slice_get configs n) rate) ∷ []) []) (same_number n) ∙ ap (λ j. (c, j) ∷ []) (sym amount))
@@ -101,14 +120,18 @@ channels_registered configs log e n c k rate ch s is amount absent room lines is
       room = room;
       waits = λ d. s.waits d ∙ sym (lines d);
       quotas = λ d.
-          let known : rate_in (rates (events_of (log ++ e ∷ [])) n) d ≡ elim (rate_in (rates (events_of log) n) d) [ None ↦ cond (d == c) (Some rate) None | Some v ↦ Some v ] =
-          ap (λ l. rate_in l d) (rates_registered log e n c rate is) ∙ lookup-last (rates (events_of log) n) c rate d
-          in
-          subst (λ r. QuotaStands configs (log ++ e ∷ []) n d r (at (insert_entry nat_cmp ch.quotas c (fresh (quota_of rate))) d)) (sym known)
+          subst (λ r. QuotaStands configs (log ++ e ∷ []) n d r (at (insert_entry nat_cmp ch.quotas c (fresh (quota_of rate))) d)) (sym (known d))
           (subst (λ o. QuotaStands configs (log ++ e ∷ []) n d (elim (rate_in (rates (events_of log) n) d) [ None ↦ cond (d == c) (Some rate) None | Some v ↦ Some v ]) o) (sym (at-inserted c d (fresh (quota_of rate)) ch.quotas))
           (new_quota configs log e n c rate ch s.quotas (no_rate_yet (s.capacities c)) is_quota admits d (d == c) refl (rate_in (rates (events_of log) n) d) refl));
+      senders = λ d.
+          subst (λ r. SenderStands (log ++ e ∷ []) n d r (at (insert_entry nat_cmp ch.senders c (fresh (quota_of rate))) d)) (sym (known d))
+          (subst (λ o. SenderStands (log ++ e ∷ []) n d (elim (rate_at log n d) [ None ↦ cond (d == c) (Some rate) None | Some v ↦ Some v ]) o) (sym (at-inserted c d (fresh (quota_of rate)) ch.senders))
+          (new_sender configs log e n c rate ch s.senders (no_rate_yet (s.capacities c)) is_quota sends d (d == c) refl (rate_at log n d) refl));
     }
   where
+    known : (d : ℕ) → rate_at (log ++ e ∷ []) n d ≡ elim (rate_at log n d) [ None ↦ cond (d == c) (Some rate) None | Some v ↦ Some v ]
+    known d = ap (λ l. rate_in l d) (rates_registered log e n c rate is) ∙ lookup-last (rates (events_of log) n) c rate d
+
     unknown : (o : Option Rate) → is_some o ≡ false → o ≡ None
     unknown None h = refl
     unknown (Some v) h = cc

@@ -14,7 +14,7 @@ use Rattle.p2p_net_channels.specs.declared.arrival.Arrived.{Arrived}
 use Rattle.p2p_net_channels.specs.declared.channels.Channels.{Channels}
 
 abbrev pub no_channels : Channels
-no_channels = record { capacities = []; total = 0; waiting = []; quotas = [] }
+no_channels = record { capacities = []; total = 0; waiting = []; quotas = []; senders = [] }
 
 -- the capacity of a channel, where it is registered
 abbrev pub capacity_at : Channels → ℕ → Option ℕ
@@ -26,15 +26,16 @@ registered_with ch c k quota = record {
   total = ch.total + k;
   waiting = ch.waiting;
   quotas = insert_entry nat_cmp ch.quotas c (fresh quota);
+  senders = insert_entry nat_cmp ch.senders c (fresh quota);
 }
 
 -- whether the quota of a channel admits one more of a connection at a moment
 abbrev pub may_admit : Channels → ℕ → ℕ → ℕ → Bool
-may_admit ch c conn now = passes_at ch.quotas c conn now
+may_admit ch c conn now = passes_at nat_cmp ch.quotas c conn now
 
 -- the channels once that was asked
 abbrev pub metered : ℕ → ℕ → ℕ → Channels → Channels
-metered c conn now ch = record ch { quotas = checked_at ch.quotas c conn now }
+metered c conn now ch = record ch { quotas = checked_at nat_cmp ch.quotas c conn now }
 
 -- whether a channel holds so many messages
 abbrev pub is_full : Channels → ℕ → ℕ → Bool

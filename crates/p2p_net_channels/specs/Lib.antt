@@ -1,3 +1,4 @@
 pub mod Arrivals
 pub mod Channels
+pub mod Senders
 pub mod Stands

@@ -1,10 +1,14 @@
 -- When the channels of a node stand for a log.
 use Rattle.std.specs.Prelude.{◌≡◌, ℕ, ◌+◌, ◌^◌, ◌<◌, List, [], ◌∷◌, ◌++◌, Option, Some, None}
+use Rattle.std.specs.Ordering.{nat_cmp}
+use Rattle.p2p_base.specs.declared.key.Key.{Key}
 use Rattle.p2p_log.specs.declared.config.Config.{Config}
 use Rattle.p2p_log.specs.declared.queue.Queue.TheVariants as queue
 use Rattle.p2p_log.specs.declared.entry.Entry.{Entry}
 use Rattle.p2p_log.specs.Lines.{line}
 use Rattle.p2p_log.specs.declared.event.Rate.{Rate}
+use Rattle.p2p_log_rules.specs.Admitting.{rate_at, sent_by, sent_moments}
+use Rattle.p2p_log_rules.specs.Tracking.{key_cmp}
 use Rattle.p2p_log_rules.specs.Facts.{events_of, channels, registers_at, capacity_in, rates, rate_in, sum_capacities}
 use Rattle.p2p_log_rules.specs.Listening.{quota_of}
 use Rattle.p2p_log_rules.specs.Metering.{messages, limit_at, admitted_by, admitted}
@@ -19,8 +23,14 @@ use Rattle.p2p_net_channels.specs.declared.channels.Channels.{Channels}
 -- what is kept for a channel of this rate, on each connection: nothing where it is not registered, and nothing was admitted there
 abbrev pub QuotaStands : List Config → List Entry → ℕ → ℕ → Option Rate → Option (KeptByKey ℕ) → Type 0
 QuotaStands configs log n c None None = (conn : ℕ) → admitted configs log n conn (messages c) ≡ []
-QuotaStands configs log n c (Some rate) (Some kept) = Meters log (quota_of rate) (λ conn. admitted configs log n conn (messages c)) kept
+QuotaStands configs log n c (Some rate) (Some kept) = Meters nat_cmp log (quota_of rate) (λ conn. admitted configs log n conn (messages c)) kept
 QuotaStands configs log n c _ _ = ⊥
+
+-- what is kept for a channel of this rate, on each key that the node sends to: nothing where it is not registered, and nothing was admitted there
+abbrev pub SenderStands : List Entry → ℕ → ℕ → Option Rate → Option (KeptByKey Key) → Type 0
+SenderStands log n c None None = (k : Key) → sent_moments log n c k ≡ []
+SenderStands log n c (Some rate) (Some kept) = Meters key_cmp log (quota_of rate) (sent_moments log n c) kept
+SenderStands log n c _ _ = ⊥
 
 pub record ChannelsStand (configs : List Config) (log : List Entry) (n : ℕ) (ch : Channels) : Type 0 where
   pub capacities : (c : ℕ) → capacity_at ch c ≡ capacity_in (channels configs log n) c
@@ -30,13 +40,20 @@ pub record ChannelsStand (configs : List Config) (log : List Entry) (n : ℕ) (c
   pub waits : HoldsLines (queue.Channel n) log ch.waiting
   -- each channel's quota counts what each connection admitted there
   pub quotas : (c : ℕ) → QuotaStands configs log n c (rate_in (rates (events_of log) n) c) (at ch.quotas c)
+  -- and what the node sent there to each key
+  pub senders : (c : ℕ) → SenderStands log n c (rate_at log n c) (at ch.senders c)
 
 -- an entry in which no connection admits a message
 abbrev pub AdmitsNone : List Config → List Entry → Entry → ℕ → Type 0
 AdmitsNone configs log e n = (conn c : ℕ) → admitted_by (limit_at configs n) n conn (messages c) log e ≡ []
+
+-- an entry in which the quota of no channel admits what the node sends
+abbrev pub SendsNone : List Entry → Entry → ℕ → Type 0
+SendsNone log e n = (c : ℕ) (k : Key) → sent_by n c log e (sent_moments log n c) k ≡ sent_moments log n c k
 
 -- an entry that leaves them alone
 pub record LeavesChannels (configs : List Config) (log : List Entry) (e : Entry) (n : ℕ) : Type 0 where
   pub registers : registers_at configs n e.event.act ≡ []
   pub lines : (c : ℕ) → line (log ++ e ∷ []) (queue.Channel n c) ≡ line log (queue.Channel n c)
   pub admits : AdmitsNone configs log e n
+  pub sends : SendsNone log e n

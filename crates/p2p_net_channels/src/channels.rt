@@ -1,20 +1,21 @@
 //! `Channels`, the channels of a node and what waits in them.
-ghost use Rattle.std.specs.Prelude.{◌≡◌, ◌+◌, ◌<◌, ◌^◌, ◌++◌, ◌∷◌, [], false, length, slice_get, Option, Some, None, IfOk, OnOk};
+ghost use Rattle.std.specs.Prelude.{◌≡◌, ◌+◌, ◌<◌, ◌^◌, ◌++◌, ◌∷◌, [], false, length, slice_get, Option, Some, None, IfOk, OnOk, if◌then◌else◌};
 ghost use Rattle.p2p_log_rules.specs.Effect.{oldest_read, read_row as read_row_of};
 ghost use Rattle.p2p_log.specs.Lines.{name_of};
 ghost use Rattle.p2p_net_queues.specs.Tables.{waiting};
 ghost use Rattle.p2p_net_channels.specs.Arrivals.{delivered};
 ghost use Rattle.p2p_net_channels.specs.Channels.{no_channels, capacity_at, registered_with, may_admit, metered, is_full as full_test, delivered_to, is_message as message_test, has_message_first, message_first, read_from};
+ghost use Rattle.p2p_net_channels.specs.Senders.{may_send, key_metered, keys_passed, keys_metered};
 
 use crate::arrival::Arrived;
-use p2p_base::Key;
+use p2p_base::{Key, List};
 use p2p_log::{Cause, End, Envelope, Item, Outcome, Queue, Reply};
 use p2p_log_rules::Row;
 use p2p_net_queues::{Deque, Table, Turn, only, taking};
 use p2p_runtime::{KeyedRateLimiter, Quota};
 use std::alloc::{AllocError, Global};
 
-/// The registered channels of a node, what each admits of each connection, and the messages that wait in each for its reader.
+/// The registered channels of a node, what each admits of each connection and to each key, and the messages that wait in each for its reader.
 #[derive(Drop)]
 pub struct Channels {
     /// How many messages each channel holds at most.
@@ -25,6 +26,8 @@ pub struct Channels {
     pub waiting: Table<Deque<Envelope>>,
     /// The quota of each channel, on each connection, by the names of connections.
     pub quotas: Table<KeyedRateLimiter<u64>>,
+    /// The quota of what the node sends on each channel, by the keys of those it sends to.
+    pub senders: Table<KeyedRateLimiter<Key>>,
 }
 
 /// Whether an item is a message for a reader.
@@ -73,6 +76,7 @@ impl Channels {
             total: 0,
             waiting: Table::new(alloc),
             quotas: Table::new(alloc),
+            senders: Table::new(alloc),
         }
     }
 
@@ -83,7 +87,7 @@ impl Channels {
         self.capacities.get(channel)
     }
 
-    /// Registers a channel of this capacity, which admits so much of each connection.
+    /// Registers a channel of this capacity, which admits so much of each connection and to each key.
     ///
     /// `Err` only where there is no memory. The channel may then be registered and not counted, and its node goes no further.
     pub fn register(
@@ -100,6 +104,8 @@ impl Channels {
         self.total += capacity;
         self.quotas
             .insert(channel, KeyedRateLimiter::new(alloc, quota))?;
+        self.senders
+            .insert(channel, KeyedRateLimiter::new(alloc, quota))?;
         Ok(())
     }
 
@@ -113,6 +119,45 @@ impl Channels {
     {
         let admits = self.quotas.check_at(channel, conn, now)?;
         Ok(admits)
+    }
+
+    /// Adds a key to these where the quota of a channel admits a message of the node to it at the moment `now`, in nanoseconds.
+    /// It counts then.
+    fn admit_key(
+        &mut self,
+        admitted: &mut List<Key>,
+        channel: u64,
+        key: Key,
+        now: u64,
+    ) -> Result<(), AllocError>
+        ensures admits { OnOk result (admitted.new ≡ admitted.old ++ (if may_send self.old channel key now then key ∷ [] else [])) }
+        ensures after { OnOk result (self.new ≡ key_metered channel key now self.old) }
+    {
+        if self.senders.check_at(channel, key, now)? {
+            admitted.push(key)?;
+        }
+        Ok(())
+    }
+
+    /// The keys, in order, to which the quota of a channel admits a message of the node at the moment `now`, in nanoseconds:
+    /// none where the channel is not registered. Each that is admitted counts at once, before the next.
+    ///
+    /// `Err` only where there is no memory. Its node goes no further then.
+    pub fn admit_keys(
+        &mut self,
+        alloc: Global,
+        channel: u64,
+        keys: List<Key>,
+        now: u64,
+    ) -> Result<List<Key>, AllocError>
+        ensures admits { IfOk result (λ l. l ≡ keys_passed self.old channel keys now) }
+        ensures after { OnOk result (self.new ≡ keys_metered channel keys now self.old) }
+    {
+        let mut admitted = List::empty(alloc);
+        for key in keys.into_inner() {
+            self.admit_key(&mut admitted, channel, key, now)?;
+        }
+        Ok(admitted)
     }
 
     /// Whether a channel holds so many messages.

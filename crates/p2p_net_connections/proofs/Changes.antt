@@ -54,9 +54,9 @@ holds_kept configs log e n cs s none = holds_frame (queue.Held n) log e cs.held 
 -- and no ping is admitted
 pub pings_kept :
     (configs : List Config) (log : List Entry) (e : Entry) (n : ℕ) (cs : Connections) → ConnectionsStand configs log n cs → ((conn : ℕ) → admitted_by (limit_at configs n) n conn pings log e ≡ [])
-    → Meters (log ++ e ∷ []) (ping_quota (ping_frequency_at configs n)) (λ conn. admitted configs (log ++ e ∷ []) n conn pings) cs.pings
+    → Meters nat_cmp (log ++ e ∷ []) (ping_quota (ping_frequency_at configs n)) (λ conn. admitted configs (log ++ e ∷ []) n conn pings) cs.pings
 pings_kept configs log e n cs s none =
-    meters_frame log e (ping_quota (ping_frequency_at configs n)) (λ conn. admitted configs log n conn pings) (λ conn. admitted configs (log ++ e ∷ []) n conn pings) cs.pings s.pings
+    meters_frame nat_cmp log e (ping_quota (ping_frequency_at configs n)) (λ conn. admitted configs log n conn pings) (λ conn. admitted configs (log ++ e ∷ []) n conn pings) cs.pings s.pings
     (λ conn. admitted-kept configs log e n conn pings (none conn))
 
 -- ---- all of them
@@ -75,7 +75,7 @@ connections_new configs n = record {
   pinged = λ conn. refl;
   waits = holds_none (queue.Ready n);
   holds = holds_none (queue.Held n);
-  pings = meters_new [] (ping_quota (ping_frequency_at configs n)) (λ conn. admitted configs [] n conn pings) (is_ping_quota (ping_frequency_at configs n)) (λ conn. refl);
+  pings = meters_new nat_cmp [] (ping_quota (ping_frequency_at configs n)) (λ conn. admitted configs [] n conn pings) (is_ping_quota (ping_frequency_at configs n)) (λ conn. refl);
 }
 
 -- none begins, and these answers wait

@@ -2,6 +2,7 @@
 use Rattle.std.proofs.Common.{◌≡◌, ℕ, ◌≤◌, cond, List, [], ◌∷◌, ◌++◌, ap, sym, ◌∙◌}
 use Rattle.std.specs.Prelude.{◌==◌, ◌&&◌, Bool}
 use Rattle.std.specs.List.{list_any}
+use Rattle.std.specs.Ordering.{nat_cmp}
 use Rattle.p2p_log.specs.declared.config.Config.{Config}
 use Rattle.p2p_log.specs.declared.queue.Queue.TheVariants as queue
 use Rattle.p2p_log.specs.declared.item.Envelope.{Envelope}
@@ -14,7 +15,7 @@ use Rattle.p2p_runtime.specs.QuotaKeys.{KeptByKey}
 use Rattle.p2p_net_queues.specs.Lines.{HoldsLines}
 use Rattle.p2p_net_queues.specs.Meters.{Meters, checked}
 use Rattle.p2p_net_queues.proofs.Holding.{holds_frame}
-use Rattle.p2p_net_queues.proofs.Meters.{admitted-append, passes_is, meters_checked}
+use Rattle.p2p_net_queues.proofs.Meters.{admitted-append, passes_is, numbers_checked}
 use Rattle.p2p_net_connections.specs.Connections.{may_ping, ping_metered}
 use Rattle.p2p_net_connections.specs.Stands.{ConnectionsStand, SpawnsNone, BeginsNone}
 use Rattle.p2p_net_connections.specs.declared.connections.Connections.{Connections}
@@ -25,7 +26,7 @@ use Rattle.p2p_net_connections.proofs.Pings.{pinged-kept}
 received :
     (configs : List Config) (log : List Entry) (e : Entry) (n : ℕ) (cs : Connections) (w : List (ℕ × List Envelope)) (kept : KeptByKey ℕ) → ConnectionsStand configs log n cs → SpawnsNone log e n → BeginsNone log e n
     → ((conn : ℕ) → line (log ++ e ∷ []) (queue.Ready n conn) ≡ line log (queue.Ready n conn)) → HoldsLines (queue.Held n) (log ++ e ∷ []) w
-    → Meters (log ++ e ∷ []) (ping_quota (ping_frequency_at configs n)) (λ conn. admitted configs (log ++ e ∷ []) n conn pings) kept → ConnectionsStand configs (log ++ e ∷ []) n (record cs { held = w; pings = kept })
+    → Meters nat_cmp (log ++ e ∷ []) (ping_quota (ping_frequency_at configs n)) (λ conn. admitted configs (log ++ e ∷ []) n conn pings) kept → ConnectionsStand configs (log ++ e ∷ []) n (record cs { held = w; pings = kept })
 received configs log e n cs w kept s spawns none lines holds counts = record {
   spawned = λ conn. s.spawned conn ∙ sym (spawns conn);
   begun = λ conn. s.begun conn ∙ sym (begun-kept log e n conn (none.no_begin conn));
@@ -50,10 +51,10 @@ pub connections_metered :
     → ((d : ℕ) → admitted_by (limit_at configs n) n d pings log e ≡ cond ((d == conn) && may_ping cs conn now) (now ∷ []) [])
     → HoldsLines (queue.Held n) (log ++ e ∷ []) w → ConnectionsStand configs (log ++ e ∷ []) n (record (ping_metered conn now cs) { held = w })
 connections_metered configs log e n conn now cs w s spawns none lines late is_then adds holds =
-    received configs log e n cs w (checked cs.pings conn now) s spawns none lines holds
-    (meters_checked log e (ping_quota (ping_frequency_at configs n)) (λ d. admitted configs log n d pings) (λ d. admitted configs (log ++ e ∷ []) n d pings) cs.pings conn now s.pings late is_then
+    received configs log e n cs w (checked nat_cmp cs.pings conn now) s spawns none lines holds
+    (numbers_checked log e (ping_quota (ping_frequency_at configs n)) (λ d. admitted configs log n d pings) (λ d. admitted configs (log ++ e ∷ []) n d pings) cs.pings conn now s.pings late is_then
     (λ d. admitted-append configs log e n d pings ∙ ap (λ l. admitted configs log n d pings ++ l) (adds d)))
 
 -- the quota of pings admits what it does by the log
 pub may_ping_is : (configs : List Config) (log : List Entry) (n conn now : ℕ) (cs : Connections) → ConnectionsStand configs log n cs → latest_moment (events_of log) ≤ now → may_ping cs conn now ≡ may_pass configs log n conn now pings
-may_ping_is configs log n conn now cs s late = passes_is log (ping_quota (ping_frequency_at configs n)) (λ d. admitted configs log n d pings) cs.pings conn now s.pings late
+may_ping_is configs log n conn now cs s late = passes_is nat_cmp log (ping_quota (ping_frequency_at configs n)) (λ d. admitted configs log n d pings) cs.pings conn now s.pings late

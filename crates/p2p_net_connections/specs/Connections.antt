@@ -95,8 +95,8 @@ without_held conn cs = record cs { held = popped_at cs.held conn }
 
 -- whether the quota of pings admits one more of a connection at a moment
 abbrev pub may_ping : Connections → ℕ → ℕ → Bool
-may_ping cs conn now = passes cs.pings conn now
+may_ping cs conn now = passes nat_cmp cs.pings conn now
 
 -- the connections once that was asked
 abbrev pub ping_metered : ℕ → ℕ → Connections → Connections
-ping_metered conn now cs = record cs { pings = checked cs.pings conn now }
+ping_metered conn now cs = record cs { pings = checked nat_cmp cs.pings conn now }

@@ -1,5 +1,6 @@
 -- When the connections of a node stand for a log.
 use Rattle.std.specs.Prelude.{◌≡◌, ℕ, false, List, [], ◌∷◌, ◌++◌, is_some}
+use Rattle.std.specs.Ordering.{nat_cmp}
 use Rattle.p2p_log.specs.declared.config.Config.{Config}
 use Rattle.p2p_log.specs.declared.queue.Queue.TheVariants as queue
 use Rattle.p2p_log.specs.declared.entry.Entry.{Entry}
@@ -22,7 +23,7 @@ pub record ConnectionsStand (configs : List Config) (log : List Entry) (n : ℕ)
   pub waits : HoldsLines (queue.Ready n) log cs.answers
   -- what waits for their quotas, and the quota of pings counts what each of them admitted
   pub holds : HoldsLines (queue.Held n) log cs.held
-  pub pings : Meters log (ping_quota (ping_frequency_at configs n)) (λ conn. admitted configs log n conn pings) cs.pings
+  pub pings : Meters nat_cmp log (ping_quota (ping_frequency_at configs n)) (λ conn. admitted configs log n conn pings) cs.pings
 
 -- an entry in which its spawner makes no connection
 abbrev pub SpawnsNone : List Entry → Entry → ℕ → Type 0

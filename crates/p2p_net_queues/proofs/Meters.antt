@@ -1,9 +1,10 @@
 -- What is kept of quotas after one more entry, and what it admits.
-use Rattle.std.proofs.Common.{◌≡◌, ℕ, ◌≤◌, Bool, true, false, cond, max, List, [], ◌∷◌, ◌++◌, Result, Ok, Err, Option, Some, None, unwrap_or, refl, ap, sym, subst, ◌∙◌, arith, eqb-true, append-nil}
+use Rattle.std.proofs.Common.{◌≡◌, ℕ, ◌≤◌, Bool, true, false, cond, max, List, [], ◌∷◌, ◌++◌, Result, Ok, Err, Option, Some, None, refl, ap, sym, subst, ◌∙◌, arith, eqb-true, append-nil, true≢false}
 use Rattle.std.specs.Prelude.{◌==◌, ◌&&◌, is_ok}
 use Rattle.std.specs.Option.{option_map}
-use Rattle.std.specs.Map.{lookup}
-use Rattle.std.specs.BTreeMap.{is_at}
+use Rattle.std.specs.declared.cmp.Ordering.{Ordering}
+use Rattle.std.specs.BTreeMap.{is_at, insert_entry}
+use Rattle.std.specs.Cmp.{IsTotalOrder, eq_by_cmp_equiv, nat_cmp_total}
 use Rattle.std.specs.Ordering.{nat_cmp}
 use Rattle.p2p_log.specs.declared.config.Config.{Config}
 use Rattle.p2p_log.specs.declared.event.Event.{Event}
@@ -14,13 +15,13 @@ use Rattle.p2p_log_rules.proofs.Facts.{events_of-append, history_from-append}
 use Rattle.p2p_runtime.specs.QuotaLaw.{Rate as Quota, admits}
 use Rattle.p2p_runtime.specs.QuotaKept.{IsArrivalOf}
 use Rattle.p2p_runtime.specs.QuotaStep.{IsQuota, step}
-use Rattle.p2p_runtime.specs.QuotaKeys.{KeptByKey, arrival_at}
+use Rattle.p2p_runtime.specs.QuotaKeys.{KeptByKey, StandsForEach, arrival_at, with_admission}
 use Rattle.p2p_runtime.specs.QuotaCheck.{told_of, arrivals_after}
 use Rattle.p2p_runtime.proofs.QuotaChecks.{passed_step, refused_step, IsArrivalOf-on}
-use Rattle.p2p_runtime.proofs.QuotaEach.{nothing_stands}
-use Rattle.p2p_net_queues.specs.Meters.{fresh, passes, checked, Meters, checked_on, checked_at}
+use Rattle.p2p_runtime.proofs.QuotaEach.{nothing_stands, passed_key, refused_key}
+use Rattle.p2p_net_queues.specs.Meters.{fresh, passes, checked, MetersUntil, Meters, checked_on, checked_at}
 use Rattle.p2p_net_queues.specs.Tables.{at}
-use Rattle.p2p_net_queues.proofs.Tables.{lookup-insert_entry, lookup-set, same_name}
+use Rattle.p2p_net_queues.proofs.Tables.{lookup-insert_key, lookup-set, same_name}
 
 -- ---- moments, and what was admitted, with one more entry
 
@@ -50,118 +51,143 @@ passes_one rate arrival past now quota stands = by (step rate arrival now) refl
     by (Ok next) is = sym (passed_step rate arrival past now next quota stands is).0
     by (Err free) is = sym (refused_step rate arrival past now free quota stands is).0
 
--- the arrival time that these hold for a connection
-abbrev arrival_in : List (ℕ × ℕ) → ℕ → ℕ
-arrival_in arrivals conn = unwrap_or (lookup (is_at (nat_cmp conn)) arrivals) 0
+module _ {K : Type 0} (cmp : K → K → Ordering) where
+  -- no check was later than a later moment
+  pub meters_later : (moment now : ℕ) (quota : Quota) (past later : K → List ℕ) (kept : KeptByKey K) → MetersUntil cmp moment quota past kept → moment ≤ now → ((key : K) → later key ≡ past key) → MetersUntil cmp now quota later kept
+  meters_later moment now quota past later kept m le same = record {
+    is_quota = m.is_quota;
+    quota_is = m.quota_is;
+    stands = record {
+      moment = refl;
+      arrivals = λ key. subst (λ l. IsArrivalOf kept.rate (arrival_at cmp kept key) l kept.latest) (sym (same key)) (m.stands.arrivals key);
+    };
+    timely = let timely : kept.latest ≤ moment = m.timely in omega arith;
+  }
 
--- that of a connection stands for one more, where it was the one that passed
-passed_one : (rate : Quota) (next : ℕ) (past : List ℕ) (now : ℕ) (found : Option ℕ) (here : Bool) → (here ≡ true → IsArrivalOf rate next (past ++ now ∷ []) now) → IsArrivalOf rate (unwrap_or found 0) past now
-    → IsArrivalOf rate (unwrap_or (cond here (Some next) found) 0) (past ++ cond (here && true) (now ∷ []) []) now
-passed_one rate next past now found true passed stands = passed refl
-passed_one rate next past now found false passed stands = subst (λ l. IsArrivalOf rate (unwrap_or found 0) l now) (sym (append-nil past)) stands
+  module _ (now : ℕ) (quota : Quota) (past : K → List ℕ) (kept : KeptByKey K) (key : K) (m : MetersUntil cmp now quota past kept) where
+    -- a check that is not before the others counts as at its moment
+    counts_at : max kept.latest now ≡ now
+    counts_at = let timely : kept.latest ≤ now = m.timely in omega arith
 
--- and for what it stood for, where none passed
-refused_one : (rate : Quota) (arrival : ℕ) (past : List ℕ) (now : ℕ) (here : Bool) → IsArrivalOf rate arrival past now → IsArrivalOf rate arrival (past ++ cond (here && false) (now ∷ []) []) now
-refused_one rate arrival past now true stands = subst (λ l. IsArrivalOf rate arrival l now) (sym (append-nil past)) stands
-refused_one rate arrival past now false stands = subst (λ l. IsArrivalOf rate arrival l now) (sym (append-nil past)) stands
+    -- what is kept stands for the same at such a moment
+    stands_at : IsArrivalOf kept.rate (arrival_at cmp kept key) (past key) now
+    stands_at = IsArrivalOf-on kept.rate (arrival_at cmp kept key) (past key) kept.latest now (m.stands.arrivals key) m.timely
 
-module _ (rate : Quota) (arrivals : List (ℕ × ℕ)) (past : ℕ → List ℕ) (conn now : ℕ) (quota : IsQuota rate) (stands : (q : ℕ) → IsArrivalOf rate (arrival_in arrivals q) (past q) now) where
-  -- the connection that was checked
-  passed_there : (next q : ℕ) → step rate (arrival_in arrivals conn) now ≡ Ok next → (q == conn) ≡ true → IsArrivalOf rate next (past q ++ now ∷ []) now
-  passed_there next q is here =
-      subst (λ c. IsArrivalOf rate next (past c ++ now ∷ []) now) (sym (eqb-true q conn here))
-      (passed_step rate (arrival_in arrivals conn) (past conn) now next quota (stands conn) is).1
+    -- its rate is a quota
+    rate_is_quota : IsQuota kept.rate
+    rate_is_quota = subst IsQuota (sym m.quota_is) m.is_quota
 
-  -- all of them, after the check of one
-  arrivals_checked : (o : Result ℕ ℕ) → step rate (arrival_in arrivals conn) now ≡ o → (q : ℕ)
-      → IsArrivalOf rate (arrival_in (arrivals_after nat_cmp arrivals conn o) q) (past q ++ cond ((q == conn) && is_ok (told_of o)) (now ∷ []) []) now
-  arrivals_checked (Ok next) is q =
-      subst (λ f. IsArrivalOf rate (unwrap_or f 0) (past q ++ cond ((q == conn) && true) (now ∷ []) []) now)
-      (sym (lookup-insert_entry conn q next arrivals ∙ ap (λ b. cond b (Some next) (lookup (is_at (nat_cmp q)) arrivals)) (same_name q conn)))
-      (passed_one rate next (past q) now (lookup (is_at (nat_cmp q)) arrivals) (q == conn) (passed_there next q is) (stands q))
-  arrivals_checked (Err free) is q = refused_one rate (arrival_in arrivals q) (past q) now (q == conn) (stands q)
+    -- it admits what the quota does
+    pub passes_until : passes cmp kept key now ≡ admits quota (past key) now
+    passes_until =
+        ap (λ t. is_ok (told_of (step kept.rate (arrival_at cmp kept key) t))) counts_at
+        ∙ (passes_one kept.rate (arrival_at cmp kept key) (past key) now rate_is_quota stands_at
+        ∙ ap (λ r. admits r (past key) now) m.quota_is)
+
+    -- what is kept after the check stands for these
+    after : (later : K → List ℕ) → StandsForEach cmp (checked cmp kept key now) later (max kept.latest now) → MetersUntil cmp now quota later (checked cmp kept key now)
+    after later stands = record {
+      is_quota = m.is_quota;
+      quota_is = m.quota_is;
+      stands = record { moment = refl; arrivals = stands.arrivals };
+      timely = let timely : kept.latest ≤ now = m.timely in omega arith;
+    }
+
+    module _ (total : IsTotalOrder cmp) where
+      -- once it passed
+      pub passed_until : passes cmp kept key now ≡ true → MetersUntil cmp now quota (with_admission cmp past key now) (checked cmp kept key now)
+      passed_until passed =
+          after (with_admission cmp past key now)
+          (subst (λ t. StandsForEach cmp (checked cmp kept key now) (with_admission cmp past key t) (max kept.latest now)) counts_at
+          (by (step kept.rate (arrival_at cmp kept key) (max kept.latest now)) refl passed))
+        where
+          by : (o : Result ℕ ℕ) → step kept.rate (arrival_at cmp kept key) (max kept.latest now) ≡ o → is_ok (told_of o) ≡ true
+              → StandsForEach cmp (record { rate = kept.rate; arrivals = arrivals_after cmp kept.arrivals key o; latest = max kept.latest now }) (with_admission cmp past key (max kept.latest now)) (max kept.latest now)
+          by (Ok next) is ok =
+              (passed_key cmp total kept.rate kept.arrivals (insert_entry cmp kept.arrivals key next) (max kept.latest now) next key rate_is_quota (sym is)
+              (λ q. lookup-insert_key total key q next kept.arrivals) past kept.latest kept.latest (omega arith) (record { moment = refl; arrivals = m.stands.arrivals })).1
+          by (Err free) is ok = absurd (true≢false (sym ok))
+
+      -- once it was refused
+      pub refused_until : passes cmp kept key now ≡ false → MetersUntil cmp now quota past (checked cmp kept key now)
+      refused_until refused = after past (by (step kept.rate (arrival_at cmp kept key) (max kept.latest now)) refl refused)
+        where
+          by : (o : Result ℕ ℕ) → step kept.rate (arrival_at cmp kept key) (max kept.latest now) ≡ o → is_ok (told_of o) ≡ false
+              → StandsForEach cmp (record { rate = kept.rate; arrivals = arrivals_after cmp kept.arrivals key o; latest = max kept.latest now }) past (max kept.latest now)
+          by (Ok next) is ok = absurd (true≢false ok)
+          by (Err free) is ok =
+              (refused_key cmp total kept.rate kept.arrivals (max kept.latest now) free key rate_is_quota (sym is) past kept.latest kept.latest (omega arith)
+              (record { moment = refl; arrivals = m.stands.arrivals })).2
 
 -- ---- what is kept, and a log
 
--- a quota that admitted nothing
-pub meters_new : (log : List Entry) (quota : Quota) (past : ℕ → List ℕ) → IsQuota quota → ((conn : ℕ) → past conn ≡ []) → Meters log quota past (fresh quota)
-meters_new log quota past is_quota none = record {
-  is_quota = is_quota;
-  quota_is = refl;
-  stands = record { moment = refl; arrivals = λ conn. subst (λ l. IsArrivalOf quota 0 l 0) (sym (none conn)) (nothing_stands quota 0) };
-  timely = omega arith;
-}
+module _ {K : Type 0} (cmp : K → K → Ordering) where
+  -- a quota that admitted nothing
+  pub meters_new : (log : List Entry) (quota : Quota) (past : K → List ℕ) → IsQuota quota → ((key : K) → past key ≡ []) → Meters cmp log quota past (fresh quota)
+  meters_new log quota past is_quota none = record {
+    is_quota = is_quota;
+    quota_is = refl;
+    stands = record { moment = refl; arrivals = λ key. subst (λ l. IsArrivalOf quota 0 l 0) (sym (none key)) (nothing_stands quota 0) };
+    timely = omega arith;
+  }
 
--- no check was later than a longer log
-still_timely : (log : List Entry) (e : Entry) (latest : ℕ) → latest ≤ latest_moment (events_of log) → latest ≤ latest_moment (events_of (log ++ e ∷ []))
-still_timely log e latest le = let more = latest_moment-entry log e in omega arith
+  -- an entry in which it admits nothing
+  pub meters_frame : (log : List Entry) (e : Entry) (quota : Quota) (past later : K → List ℕ) (kept : KeptByKey K) → Meters cmp log quota past kept → ((key : K) → later key ≡ past key) → Meters cmp (log ++ e ∷ []) quota later kept
+  meters_frame log e quota past later kept m same =
+      meters_later cmp (latest_moment (events_of log)) (latest_moment (events_of (log ++ e ∷ []))) quota past later kept m (let more = latest_moment-entry log e in omega arith) same
 
--- an entry in which it admits nothing
-pub meters_frame : (log : List Entry) (e : Entry) (quota : Quota) (past later : ℕ → List ℕ) (kept : KeptByKey ℕ) → Meters log quota past kept → ((conn : ℕ) → later conn ≡ past conn) → Meters (log ++ e ∷ []) quota later kept
-meters_frame log e quota past later kept m same = record {
-  is_quota = m.is_quota;
-  quota_is = m.quota_is;
-  stands = record {
-    moment = refl;
-    arrivals = λ conn. subst (λ l. IsArrivalOf kept.rate (arrival_at nat_cmp kept conn) l kept.latest) (sym (same conn)) (m.stands.arrivals conn);
-  };
-  timely = still_timely log e kept.latest m.timely;
-}
+  -- no check was later than a moment that is not before the log
+  pub meters_at : (log : List Entry) (quota : Quota) (past : K → List ℕ) (kept : KeptByKey K) (now : ℕ) → Meters cmp log quota past kept → latest_moment (events_of log) ≤ now → MetersUntil cmp now quota past kept
+  meters_at log quota past kept now m late = meters_later cmp (latest_moment (events_of log)) now quota past past kept m late (λ key. refl)
 
--- a check that is not before the log counts as at its moment
-counts_at : (log : List Entry) (quota : Quota) (past : ℕ → List ℕ) (kept : KeptByKey ℕ) (now : ℕ) → Meters log quota past kept → latest_moment (events_of log) ≤ now → max kept.latest now ≡ now
-counts_at log quota past kept now m late = let timely : kept.latest ≤ latest_moment (events_of log) = m.timely in omega arith
+  -- an entry at whose moment it was checked
+  pub meters_entry : (log : List Entry) (e : Entry) (quota : Quota) (past later : K → List ℕ) (kept : KeptByKey K) (now : ℕ) → e.event.at ≡ now → MetersUntil cmp now quota past kept → ((key : K) → later key ≡ past key) → Meters cmp (log ++ e ∷ []) quota later kept
+  meters_entry log e quota past later kept now is_then m same =
+      meters_later cmp now (latest_moment (events_of (log ++ e ∷ []))) quota past later kept m (let more = latest_moment-entry log e in omega arith) same
 
--- what is kept stands for the same at such a moment
-stands_at : (log : List Entry) (quota : Quota) (past : ℕ → List ℕ) (kept : KeptByKey ℕ) (now : ℕ) → Meters log quota past kept → latest_moment (events_of log) ≤ now
-    → (conn : ℕ) → IsArrivalOf kept.rate (arrival_at nat_cmp kept conn) (past conn) now
-stands_at log quota past kept now m late conn =
-    let timely : kept.latest ≤ latest_moment (events_of log) = m.timely in
-    IsArrivalOf-on kept.rate (arrival_at nat_cmp kept conn) (past conn) kept.latest now (m.stands.arrivals conn) (omega arith)
+  -- it admits what the quota does, by the log
+  pub passes_is : (log : List Entry) (quota : Quota) (past : K → List ℕ) (kept : KeptByKey K) (key : K) (now : ℕ) → Meters cmp log quota past kept → latest_moment (events_of log) ≤ now
+      → passes cmp kept key now ≡ admits quota (past key) now
+  passes_is log quota past kept key now m late = passes_until cmp now quota past kept key (meters_at log quota past kept now m late)
 
--- its rate is a quota
-rate_is_quota : (log : List Entry) (quota : Quota) (past : ℕ → List ℕ) (kept : KeptByKey ℕ) → Meters log quota past kept → IsQuota kept.rate
-rate_is_quota log quota past kept m = subst IsQuota (sym m.quota_is) m.is_quota
+  -- an entry at whose moment it was asked, and that admitted where it passed
+  pub meters_checked : IsTotalOrder cmp → (log : List Entry) (e : Entry) (quota : Quota) (past later : K → List ℕ) (kept : KeptByKey K) (key : K) (now : ℕ) → Meters cmp log quota past kept → latest_moment (events_of log) ≤ now → e.event.at ≡ now
+      → ((q : K) → later q ≡ cond (passes cmp kept key now) (with_admission cmp past key now q) (past q)) → Meters cmp (log ++ e ∷ []) quota later (checked cmp kept key now)
+  meters_checked total log e quota past later kept key now m late is_then adds = by (passes cmp kept key now) refl adds
+    where
+      before : MetersUntil cmp now quota past kept
+      before = meters_at log quota past kept now m late
 
--- it admits what the quota does, by the log
-pub passes_is : (log : List Entry) (quota : Quota) (past : ℕ → List ℕ) (kept : KeptByKey ℕ) (conn now : ℕ) → Meters log quota past kept → latest_moment (events_of log) ≤ now
-    → passes kept conn now ≡ admits quota (past conn) now
-passes_is log quota past kept conn now m late =
-    ap (λ t. is_ok (told_of (step kept.rate (arrival_at nat_cmp kept conn) t))) (counts_at log quota past kept now m late)
-    ∙ (passes_one kept.rate (arrival_at nat_cmp kept conn) (past conn) now (rate_is_quota log quota past kept m) (stands_at log quota past kept now m late conn)
-    ∙ ap (λ r. admits r (past conn) now) m.quota_is)
+      by : (b : Bool) → passes cmp kept key now ≡ b → ((q : K) → later q ≡ cond b (with_admission cmp past key now q) (past q)) → Meters cmp (log ++ e ∷ []) quota later (checked cmp kept key now)
+      by true is same = meters_entry log e quota (with_admission cmp past key now) later (checked cmp kept key now) now is_then (passed_until cmp now quota past kept key before total is) same
+      by false is same = meters_entry log e quota past later (checked cmp kept key now) now is_then (refused_until cmp now quota past kept key before total is) same
 
--- an entry at whose moment it was asked, and that admitted where it passed
-pub meters_checked : (log : List Entry) (e : Entry) (quota : Quota) (past later : ℕ → List ℕ) (kept : KeptByKey ℕ) (conn now : ℕ) → Meters log quota past kept → latest_moment (events_of log) ≤ now → e.event.at ≡ now
-    → ((c : ℕ) → later c ≡ past c ++ cond ((c == conn) && passes kept conn now) (now ∷ []) []) → Meters (log ++ e ∷ []) quota later (checked kept conn now)
-meters_checked log e quota past later kept conn now m late is_then adds = record {
-  is_quota = m.is_quota;
-  quota_is = m.quota_is;
-  stands = record {
-    moment = refl;
-    arrivals = λ c.
-        subst (λ l. IsArrivalOf kept.rate (arrival_at nat_cmp (checked kept conn now) c) l (max kept.latest now)) (sym (adds c))
-        (subst (stands_for c) (sym (counts_at log quota past kept now m late))
-        (arrivals_checked kept.rate kept.arrivals past conn now (rate_is_quota log quota past kept m) (stands_at log quota past kept now m late)
-        (step kept.rate (arrival_at nat_cmp kept conn) now) refl c));
-  };
-  timely = let more = latest_moment-entry log e in let timely : kept.latest ≤ latest_moment (events_of log) = m.timely in omega arith;
-}
+-- where the keys are numbers
+pub numbers_checked : (log : List Entry) (e : Entry) (quota : Quota) (past later : ℕ → List ℕ) (kept : KeptByKey ℕ) (conn now : ℕ) → Meters nat_cmp log quota past kept → latest_moment (events_of log) ≤ now → e.event.at ≡ now
+    → ((c : ℕ) → later c ≡ past c ++ cond ((c == conn) && passes nat_cmp kept conn now) (now ∷ []) []) → Meters nat_cmp (log ++ e ∷ []) quota later (checked nat_cmp kept conn now)
+numbers_checked log e quota past later kept conn now m late is_then adds =
+    meters_checked nat_cmp nat_cmp_total log e quota past later kept conn now m late is_then
+    (λ c. adds c ∙ (one_more (past c) (c == conn) (passes nat_cmp kept conn now) ∙ ap (λ here. cond (passes nat_cmp kept conn now) (cond here (past c ++ now ∷ []) (past c)) (past c)) (same_number c)))
   where
-    stands_for : ℕ → ℕ → Type 0
-    stands_for c t =
-        IsArrivalOf kept.rate (arrival_in (arrivals_after nat_cmp kept.arrivals conn (step kept.rate (arrival_at nat_cmp kept conn) t)) c)
-        (past c ++ cond ((c == conn) && is_ok (told_of (step kept.rate (arrival_at nat_cmp kept conn) t))) (now ∷ []) []) t
+    one_more : (l : List ℕ) (here passed : Bool) → l ++ cond (here && passed) (now ∷ []) [] ≡ cond passed (cond here (l ++ now ∷ []) l) l
+    one_more l true true = refl
+    one_more l true false = append-nil l
+    one_more l false true = append-nil l
+    one_more l false false = append-nil l
 
--- ---- one quota for each key
+    same_number : (c : ℕ) → (c == conn) ≡ is_at (nat_cmp conn) c
+    same_number c = sym (same_name c conn) ∙ (eq_by_cmp_equiv nat_cmp_total).symm c conn
 
-pub at-checked_at : (m : List (ℕ × KeptByKey ℕ)) (k q conn now : ℕ) → at (checked_at m k conn now) q ≡ cond (q == k) (option_map (λ kept. checked kept conn now) (at m k)) (at m q)
-at-checked_at m k q conn now = by (at m k) refl
-  where
-    none_at : (b : Bool) → (q == k) ≡ b → at m k ≡ None → at m q ≡ cond b None (at m q)
-    none_at true here none = ap (at m) (eqb-true q k here) ∙ none
-    none_at false there none = refl
+-- ---- one quota for each key of a table
 
-    by : (o : Option (KeptByKey ℕ)) → at m k ≡ o → at (checked_on o m k conn now) q ≡ cond (q == k) (option_map (λ kept. checked kept conn now) o) (at m q)
-    by None is = none_at (q == k) refl is
-    by (Some kept) is = lookup-set k q (checked kept conn now) kept m is ∙ ap (λ b. cond b (Some (checked kept conn now)) (at m q)) (same_name q k)
+module _ {K : Type 0} (cmp : K → K → Ordering) where
+  pub at-checked_at : (m : List (ℕ × KeptByKey K)) (k q : ℕ) (who : K) (now : ℕ) → at (checked_at cmp m k who now) q ≡ cond (q == k) (option_map (λ kept. checked cmp kept who now) (at m k)) (at m q)
+  at-checked_at m k q who now = by (at m k) refl
+    where
+      none_at : (b : Bool) → (q == k) ≡ b → at m k ≡ None → at m q ≡ cond b None (at m q)
+      none_at true here none = ap (at m) (eqb-true q k here) ∙ none
+      none_at false there none = refl
+
+      by : (o : Option (KeptByKey K)) → at m k ≡ o → at (checked_on cmp o m k who now) q ≡ cond (q == k) (option_map (λ kept. checked cmp kept who now) o) (at m q)
+      by None is = none_at (q == k) refl is
+      by (Some kept) is = lookup-set k q (checked cmp kept who now) kept m is ∙ ap (λ b. cond b (Some (checked cmp kept who now)) (at m q)) (same_name q k)

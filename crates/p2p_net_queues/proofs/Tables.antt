@@ -1,6 +1,8 @@
 -- What a table gives after a change.
 use Rattle.std.proofs.Common.{◌≡◌, ℕ, zero, suc, Bool, true, false, cond, List, [], ◌∷◌, ◌++◌, drop, refl, ap, sym, ◌∙◌, arith, Option, Some, None}
 use Rattle.std.specs.Prelude.{◌==◌, ◌&&◌}
+use Rattle.std.specs.Cmp.{IsTotalOrder, eq_by_cmp_equiv}
+use Rattle.std.specs.declared.cmp.Ordering.{Ordering}
 use Rattle.std.specs.declared.cmp.Ordering.TheVariants.{Less, Equal, Greater}
 use Rattle.std.specs.Map.{lookup, set_value}
 use Rattle.std.specs.BTreeMap.{is_at, insert_entry}
@@ -20,6 +22,21 @@ same_key q k x h = grind (arith, nat_tests)
 
 other_key : (q k x : ℕ) → is_eq (nat_cmp k x) ≡ false → (is_eq (nat_cmp q x) && is_eq (nat_cmp q k)) ≡ false
 other_key q k x h = grind (arith, nat_tests)
+
+-- of keys in any order
+differs : (a b : Bool) → (b ≡ true → false ≡ a) → (a && b) ≡ false
+differs true true h = sym (h refl)
+differs true false h = refl
+differs false b h = refl
+
+module _ {K : Type 0} {cmp : K → K → Ordering} (total : IsTotalOrder cmp) where
+  same_before : (q k x : K) → cmp k x ≡ Equal → is_eq (cmp q x) ≡ is_eq (cmp k q)
+  same_before q k x h =
+      let laws = eq_by_cmp_equiv total in
+      laws.symm q x ∙ sym (laws.congr k x q (ap is_eq h))
+
+  one_at_most : (q k x : K) → cmp k x ≡ Greater → (is_eq (cmp q x) && is_eq (cmp k q)) ≡ false
+  one_at_most q k x h = differs (is_eq (cmp q x)) (is_eq (cmp k q)) (λ same. sym (ap is_eq h) ∙ (eq_by_cmp_equiv total).congr k q x same)
 
 module _ {V : Type 0} where
   over : (a b : Bool) (v w rest : Option V) → a ≡ b → cond a v rest ≡ cond b v (cond a w rest)
@@ -44,6 +61,20 @@ module _ {V : Type 0} where
             ap (λ r. cond (is_eq (nat_cmp q e.0)) (Some e.1) r) (lookup-insert_entry k q v es)
             ∙ swap (is_eq (nat_cmp q e.0)) (is_eq (nat_cmp q k)) (Some v) (Some e.1) rest (not_both q k e.0 h)
       ]) refl
+
+  -- the same of keys in any order
+  module _ {K : Type 0} {cmp : K → K → Ordering} (total : IsTotalOrder cmp) where
+    pub lookup-insert_key : (k q : K) (v : V) (es : List (K × V)) → lookup (is_at (cmp q)) (insert_entry cmp es k v) ≡ cond (is_at (cmp k) q) (Some v) (lookup (is_at (cmp q)) es)
+    lookup-insert_key k q v [] = ap (λ b. cond b (Some v) None) ((eq_by_cmp_equiv total).symm q k)
+    lookup-insert_key k q v (e ∷ es) =
+        let rest = lookup (is_at (cmp q)) es in
+        (elim (cmp k e.0) as (λ o. cmp k e.0 ≡ o → lookup (is_at (cmp q)) (match_ordering o ((k, v) ∷ e ∷ es) ((e.0, v) ∷ es) (e ∷ insert_entry cmp es k v)) ≡ cond (is_at (cmp k) q) (Some v) (lookup (is_at (cmp q)) (e ∷ es))) [
+          | Less ↦ λ h. ap (λ b. cond b (Some v) (lookup (is_at (cmp q)) (e ∷ es))) ((eq_by_cmp_equiv total).symm q k)
+          | Equal ↦ λ h. over (is_eq (cmp q e.0)) (is_eq (cmp k q)) (Some v) (Some e.1) rest (same_before total q k e.0 h)
+          | Greater ↦ λ h.
+              ap (λ r. cond (is_eq (cmp q e.0)) (Some e.1) r) (lookup-insert_key k q v es)
+              ∙ swap (is_eq (cmp q e.0)) (is_eq (cmp k q)) (Some v) (Some e.1) rest (one_at_most total q k e.0 h)
+        ]) refl
 
   -- the first entry of the key
   pub lookup-set : (k q : ℕ) (v w : V) (es : List (ℕ × V)) → lookup (is_at (nat_cmp k)) es ≡ Some w → lookup (is_at (nat_cmp q)) (set_value (is_at (nat_cmp k)) es v) ≡ cond (is_at (nat_cmp q) k) (Some v) (lookup (is_at (nat_cmp q)) es)

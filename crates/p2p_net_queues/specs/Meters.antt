@@ -1,5 +1,6 @@
--- Quotas that are kept for connections, by their names, and when what is kept stands for what a log tells.
+-- Quotas that are kept for keys, as the names of connections, and when what is kept stands for what a log tells.
 use Rattle.std.specs.Prelude.{◌≡◌, ◌≤◌, ℕ, Bool, false, List, [], Option, Some, None, is_ok}
+use Rattle.std.specs.declared.cmp.Ordering.{Ordering}
 use Rattle.std.specs.Map.{set_value}
 use Rattle.std.specs.BTreeMap.{is_at}
 use Rattle.std.specs.Ordering.{nat_cmp}
@@ -12,38 +13,43 @@ use Rattle.p2p_runtime.specs.QuotaCheck.{check_answer, after_check}
 use Rattle.p2p_net_queues.specs.Tables.{at}
 
 -- what is kept of a quota that admitted nothing
-abbrev pub fresh : Quota → KeptByKey ℕ
+abbrev pub fresh : {K : Type 0} → Quota → KeptByKey K
 fresh quota = record { rate = quota; arrivals = []; latest = 0 }
 
--- whether it admits one more of a connection at a moment
-abbrev pub passes : KeptByKey ℕ → ℕ → ℕ → Bool
-passes kept conn now = is_ok (check_answer nat_cmp kept conn now)
+module _ {K : Type 0} (cmp : K → K → Ordering) where
+  -- whether it admits one more of a key at a moment
+  abbrev pub passes : KeptByKey K → K → ℕ → Bool
+  passes kept key now = is_ok (check_answer cmp kept key now)
 
--- what is kept once it was asked that
-abbrev pub checked : KeptByKey ℕ → ℕ → ℕ → KeptByKey ℕ
-checked kept conn now = after_check nat_cmp kept conn now
+  -- what is kept once it was asked that
+  abbrev pub checked : KeptByKey K → K → ℕ → KeptByKey K
+  checked kept key now = after_check cmp kept key now
 
--- what is kept goes by this quota and stands for these admissions of each connection, and no check was later than the log
-pub record Meters (log : List Entry) (quota : Quota) (past : ℕ → List ℕ) (kept : KeptByKey ℕ) : Type 0 where
-  pub is_quota : IsQuota quota
-  pub quota_is : kept.rate ≡ quota
-  pub stands : StandsForEach nat_cmp kept past kept.latest
-  pub timely : kept.latest ≤ latest_moment (events_of log)
+  -- what is kept goes by this quota and stands for these admissions of each key, and no check was later than this moment
+  pub record MetersUntil (moment : ℕ) (quota : Quota) (past : K → List ℕ) (kept : KeptByKey K) : Type 0 where
+    pub is_quota : IsQuota quota
+    pub quota_is : kept.rate ≡ quota
+    pub stands : StandsForEach cmp kept past kept.latest
+    pub timely : kept.latest ≤ moment
 
--- ---- one quota for each key of a table
+  -- the same, and no check was later than the log
+  abbrev pub Meters : List Entry → Quota → (K → List ℕ) → KeptByKey K → Type 0
+  Meters log quota past kept = MetersUntil (latest_moment (events_of log)) quota past kept
 
-abbrev pub passes_on : Option (KeptByKey ℕ) → ℕ → ℕ → Bool
-passes_on None conn now = false
-passes_on (Some kept) conn now = passes kept conn now
+  -- ---- one quota for each key of a table
 
--- whether the quota of a key admits one more of a connection at a moment: it does not where there is none
-abbrev pub passes_at : List (ℕ × KeptByKey ℕ) → ℕ → ℕ → ℕ → Bool
-passes_at m k conn now = passes_on (at m k) conn now
+  abbrev pub passes_on : Option (KeptByKey K) → K → ℕ → Bool
+  passes_on None who now = false
+  passes_on (Some kept) who now = passes kept who now
 
-abbrev pub checked_on : Option (KeptByKey ℕ) → List (ℕ × KeptByKey ℕ) → ℕ → ℕ → ℕ → List (ℕ × KeptByKey ℕ)
-checked_on None m k conn now = m
-checked_on (Some kept) m k conn now = set_value (is_at (nat_cmp k)) m (checked kept conn now)
+  -- whether the quota at a key of the table admits one more of another key at a moment: it does not where there is none
+  abbrev pub passes_at : List (ℕ × KeptByKey K) → ℕ → K → ℕ → Bool
+  passes_at m k who now = passes_on (at m k) who now
 
--- the table once the quota of a key was asked that
-abbrev pub checked_at : List (ℕ × KeptByKey ℕ) → ℕ → ℕ → ℕ → List (ℕ × KeptByKey ℕ)
-checked_at m k conn now = checked_on (at m k) m k conn now
+  abbrev pub checked_on : Option (KeptByKey K) → List (ℕ × KeptByKey K) → ℕ → K → ℕ → List (ℕ × KeptByKey K)
+  checked_on None m k who now = m
+  checked_on (Some kept) m k who now = set_value (is_at (nat_cmp k)) m (checked kept who now)
+
+  -- the table once the quota at a key was asked that
+  abbrev pub checked_at : List (ℕ × KeptByKey K) → ℕ → K → ℕ → List (ℕ × KeptByKey K)
+  checked_at m k who now = checked_on (at m k) m k who now

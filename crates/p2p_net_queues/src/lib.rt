@@ -1,4 +1,5 @@
-//! What the queues of nodes and links are made of: tables of deques, boards of names, and the rows that record what moves.
+//! What the queues of nodes and links are made of: tables of deques and of quotas, boards of names, and the rows that record
+//! what moves.
 #![tactic(auto)]
 
 pub mod board;

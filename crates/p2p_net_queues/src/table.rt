@@ -152,18 +152,18 @@ impl<T: Drop> Table<Deque<T>> {
     }
 }
 
-impl Table<KeyedRateLimiter<u64>> {
-    /// Whether the quota of a key admits one more of a connection at the moment `now`, in nanoseconds: it does not where there is
-    /// none. What is admitted counts from then on.
+impl<K: Ord + Copy> Table<KeyedRateLimiter<K>> {
+    /// Whether the quota at a key of the table admits one more of `who` at the moment `now`, in nanoseconds: it does not where
+    /// there is none. What is admitted counts from then on.
     ///
     /// `Err` only where there is no memory. The node that owns the table goes no further then.
-    pub fn check_at(&mut self, key: u64, conn: u64, now: u64) -> Result<bool, AllocError>
-        ensures admits { IfOk result (λ b. b ≡ passes_at self.old key conn now) }
-        ensures after { OnOk result (self.new ≡ checked_at self.old key conn now) }
+    pub fn check_at(&mut self, key: u64, who: K, now: u64) -> Result<bool, AllocError>
+        ensures admits { IfOk result (λ b. b ≡ passes_at K.cmp self.old key who now) }
+        ensures after { OnOk result (self.new ≡ checked_at K.cmp self.old key who now) }
     {
         match self.tree.get_mut(&key) {
             Some(limiter) => {
-                let answer = limiter.check_key(&conn, now)?;
+                let answer = limiter.check_key(&who, now)?;
                 Ok(answer.is_ok())
             }
             None => Ok(false),

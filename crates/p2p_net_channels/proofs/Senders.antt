@@ -1,0 +1,179 @@
+-- The channels of a node after it sends, for which the quota of one of them was asked for each key.
+use Rattle.std.proofs.Common.{◌≡◌, ℕ, ◌≤◌, Bool, true, false, cond, List, [], ◌∷◌, ◌++◌, Option, Some, None, refl, ap, sym, subst, ◌∙◌, arith, eqb-true}
+use Rattle.std.specs.Prelude.{◌==◌, ◌&&◌}
+use Rattle.std.specs.Cmp.{IsTotalOrder, nat_cmp_total}
+use Rattle.std.specs.Option.{option_map}
+use Rattle.std.proofs.lemmas.Bool.Decides.{nat_tests}
+use Rattle.p2p_base.specs.declared.key.Key.{Key}
+use Rattle.p2p_log.specs.declared.config.Config.{Config}
+use Rattle.p2p_log.specs.declared.event.Act.{Act}
+use Rattle.p2p_log.specs.declared.event.Act.TheVariants as act
+use Rattle.p2p_log.specs.declared.event.Rate.{Rate}
+use Rattle.p2p_log.specs.declared.event.Recipients.{Recipients}
+use Rattle.p2p_log.specs.declared.queue.Queue.TheVariants as queue
+use Rattle.p2p_log.specs.declared.entry.Entry.{Entry}
+use Rattle.p2p_log.specs.Copies.{keys_of_recipients}
+use Rattle.p2p_log.specs.Lines.{line}
+use Rattle.p2p_log_rules.specs.Facts.{events_of, latest_moment, registers_at, capacity_in, sum_capacities, taken}
+use Rattle.p2p_log_rules.specs.Admitting.{admitted_keys, moments_after, keys_by, moments_by, rate_at, acted_moments, sent_moments, keys_admitted}
+use Rattle.p2p_log_rules.specs.Listening.{quota_of}
+use Rattle.p2p_log_rules.specs.Metering.{messages, limit_at, admits_one, steps_receiver}
+use Rattle.p2p_log_rules.specs.Tracking.{key_cmp}
+use Rattle.p2p_runtime.specs.QuotaLaw.{Rate as Quota}
+use Rattle.p2p_runtime.specs.QuotaKeys.{KeptByKey, with_admission}
+use Rattle.p2p_net_queues.specs.Meters.{passes, checked, MetersUntil}
+use Rattle.p2p_net_queues.specs.Tables.{at}
+use Rattle.p2p_net_queues.proofs.Holding.{holds_frame}
+use Rattle.p2p_net_queues.proofs.Meters.{meters_later, passes_until, passed_until, refused_until, meters_at, meters_entry}
+use Rattle.p2p_net_queues.proofs.Tables.{lookup-set, same_name}
+use Rattle.p2p_net_channels.specs.Channels.{capacity_at}
+use Rattle.p2p_net_channels.specs.Senders.{keys_passing, kept_after, passed_on, keys_passed, senders_on, keys_metered}
+use Rattle.p2p_net_channels.specs.Stands.{SenderStands, AdmitsNone, ChannelsStand}
+use Rattle.p2p_net_channels.specs.declared.channels.Channels.{Channels}
+use Rattle.p2p_net_channels.proofs.Changes.{channels-kept}
+use Rattle.p2p_net_channels.proofs.Quotas.{quota_stays, same_rates}
+use Rattle.p2p_net_channels.proofs.Sending.{sent_moments-append, sender_stays, same_sender_rates}
+
+-- keys are in order
+key_order : IsTotalOrder key_cmp
+key_order = record {
+  antisymm = λ x y. nat_cmp_total.antisymm x.0 y.0;
+  trans = λ x y z. nat_cmp_total.trans x.0 y.0 z.0;
+  congr = λ x y z. nat_cmp_total.congr x.0 y.0 z.0;
+}
+
+-- ---- one quota, asked at one moment for each of some keys
+
+module _ (now : ℕ) (quota : Quota) where
+  -- it admits what it does by the law
+  passing_is : (keys : List Key) (past : Key → List ℕ) (kept : KeptByKey Key) → MetersUntil key_cmp now quota past kept → keys_passing kept now keys ≡ admitted_keys quota now keys past
+  passing_is [] past kept m = refl
+  passing_is (k ∷ ks) past kept m =
+      by (λ later stands. passing_is ks later (checked key_cmp kept k now) stands) (passes key_cmp kept k now) refl
+      ∙ ap (λ b. cond b (k ∷ admitted_keys quota now ks (with_admission key_cmp past k now)) (admitted_keys quota now ks past)) (passes_until key_cmp now quota past kept k m)
+    where
+      by : ((later : Key → List ℕ) → MetersUntil key_cmp now quota later (checked key_cmp kept k now) → keys_passing (checked key_cmp kept k now) now ks ≡ admitted_keys quota now ks later) → (b : Bool) → passes key_cmp kept k now ≡ b
+          → cond b (k ∷ keys_passing (checked key_cmp kept k now) now ks) (keys_passing (checked key_cmp kept k now) now ks)
+          ≡ cond b (k ∷ admitted_keys quota now ks (with_admission key_cmp past k now)) (admitted_keys quota now ks past)
+      by rest true h = ap (λ l. k ∷ l) (rest (with_admission key_cmp past k now) (passed_until key_cmp now quota past kept k m key_order h))
+      by rest false h = rest past (refused_until key_cmp now quota past kept k m key_order h)
+
+  -- what is kept after that stands for the moments after it
+  after_is : (keys : List Key) (past : Key → List ℕ) (kept : KeptByKey Key) → MetersUntil key_cmp now quota past kept → MetersUntil key_cmp now quota (λ k. moments_after quota now keys past k) (kept_after kept now keys)
+  after_is [] past kept m = m
+  after_is (j ∷ ks) past kept m = by (λ later stands. after_is ks later (checked key_cmp kept j now) stands) (passes key_cmp kept j now) refl
+    where
+      same_moments : (later : Key → List ℕ) → MetersUntil key_cmp now quota later (kept_after (checked key_cmp kept j now) now ks)
+          → ((k : Key) → moments_after quota now (j ∷ ks) past k ≡ later k) → MetersUntil key_cmp now quota (λ k. moments_after quota now (j ∷ ks) past k) (kept_after (checked key_cmp kept j now) now ks)
+      same_moments later stands same = meters_later key_cmp now now quota later (λ k. moments_after quota now (j ∷ ks) past k) (kept_after (checked key_cmp kept j now) now ks) stands (omega arith) same
+
+      told : (b : Bool) → passes key_cmp kept j now ≡ b → (k : Key)
+          → moments_after quota now (j ∷ ks) past k ≡ cond b (moments_after quota now ks (with_admission key_cmp past j now) k) (moments_after quota now ks past k)
+      told b h k =
+          ap (λ t. cond t (moments_after quota now ks (with_admission key_cmp past j now) k) (moments_after quota now ks past k)) (sym (passes_until key_cmp now quota past kept j m) ∙ h)
+
+      by : ((later : Key → List ℕ) → MetersUntil key_cmp now quota later (checked key_cmp kept j now) → MetersUntil key_cmp now quota (λ k. moments_after quota now ks later k) (kept_after (checked key_cmp kept j now) now ks)) → (b : Bool) → passes key_cmp kept j now ≡ b
+          → MetersUntil key_cmp now quota (λ k. moments_after quota now (j ∷ ks) past k) (kept_after (checked key_cmp kept j now) now ks)
+      by rest true h =
+          same_moments (λ k. moments_after quota now ks (with_admission key_cmp past j now) k)
+          (rest (with_admission key_cmp past j now) (passed_until key_cmp now quota past kept j m key_order h)) (told true h)
+      by rest false h =
+          same_moments (λ k. moments_after quota now ks past k)
+          (rest past (refused_until key_cmp now quota past kept j m key_order h)) (told false h)
+
+-- ---- one channel
+
+-- the quota of a channel admits the keys that it does by the log
+pub keys_passed_is :
+    (configs : List Config) (log : List Entry) (n c k now : ℕ) (keys : List Key) (ch : Channels) → ChannelsStand configs log n ch → latest_moment (events_of log) ≤ now → capacity_at ch c ≡ Some k
+    → keys_passed ch c keys now ≡ keys_admitted log n c now keys
+keys_passed_is configs log n c k now keys ch s late registered = by (rate_at log n c) (at ch.senders c) (s.senders c)
+  where
+    by : (r : Option Rate) (o : Option (KeptByKey Key)) → SenderStands log n c r o → passed_on o keys now ≡ keys_by r now keys (sent_moments log n c)
+    by (Some rate) (Some kept) h = passing_is now (quota_of rate) keys (sent_moments log n c) kept (meters_at key_cmp log (quota_of rate) (sent_moments log n c) kept now h late)
+    by None None h = refl
+    by (Some rate) None h = absurd h
+    by None (Some kept) h = absurd h
+
+-- what each channel keeps, once the quota of one was asked for these keys
+at-senders_on : (m : List (ℕ × KeptByKey Key)) (c q : ℕ) (keys : List Key) (now : ℕ)
+    → at (senders_on (at m c) m c keys now) q ≡ cond (q == c) (option_map (λ kept. kept_after kept now keys) (at m c)) (at m q)
+at-senders_on m c q keys now = by (at m c) refl
+  where
+    none_at : (b : Bool) → (q == c) ≡ b → at m c ≡ None → at m q ≡ cond b None (at m q)
+    none_at true here none = ap (at m) (eqb-true q c here) ∙ none
+    none_at false there none = refl
+
+    by : (o : Option (KeptByKey Key)) → at m c ≡ o → at (senders_on o m c keys now) q ≡ cond (q == c) (option_map (λ kept. kept_after kept now keys) o) (at m q)
+    by None is = none_at (q == c) refl is
+    by (Some kept) is = lookup-set c q (kept_after kept now keys) kept m is ∙ ap (λ b. cond b (Some (kept_after kept now keys)) (at m q)) (same_name q c)
+
+-- ---- the channels
+
+same_number : (n : ℕ) → (n == n) ≡ true
+same_number n = grind (arith, nat_tests)
+
+other_way : (c d : ℕ) → (c == d) ≡ (d == c)
+other_way c d = grind (arith, nat_tests)
+
+module _ (log : List Entry) (e : Entry) (n c now : ℕ) (bytes : List ℕ) (priority : Bool) (to : Recipients) (is : e.event.act ≡ act.Send bytes c n priority to) (is_then : e.event.at ≡ now) where
+  -- the moments after the entry
+  moments_sent : (d : ℕ) (b : Bool) → (d == c) ≡ b → (k : Key)
+      → sent_moments (log ++ e ∷ []) n d k ≡ cond b (moments_by (rate_at log n d) now (keys_of_recipients to) (sent_moments log n d) k) (sent_moments log n d k)
+  moments_sent d b test k =
+      sent_moments-append log e n d k
+      ∙ (ap (λ t. acted_moments n d (rate_at log n d) t e.event.act (sent_moments log n d) k) is_then
+      ∙ (ap (λ a. acted_moments n d (rate_at log n d) now a (sent_moments log n d) k) is
+      ∙ ap (λ t. cond t (moments_by (rate_at log n d) now (keys_of_recipients to) (sent_moments log n d) k) (sent_moments log n d k))
+      (ap (λ t. t && (c == d)) (same_number n) ∙ (other_way c d ∙ test))))
+
+  module _ (late : latest_moment (events_of log) ≤ now) where
+    -- what the channel that was asked keeps
+    sender_checked :
+        (r : Option Rate) (o : Option (KeptByKey Key)) → SenderStands log n c r o
+        → ((k : Key) → sent_moments (log ++ e ∷ []) n c k ≡ moments_by r now (keys_of_recipients to) (sent_moments log n c) k)
+        → SenderStands (log ++ e ∷ []) n c r (option_map (λ kept. kept_after kept now (keys_of_recipients to)) o)
+    sender_checked None None h same = λ k. same k ∙ h k
+    sender_checked (Some rate) (Some kept) h same =
+        meters_entry key_cmp log e (quota_of rate) (λ k. moments_after (quota_of rate) now (keys_of_recipients to) (sent_moments log n c) k) (sent_moments (log ++ e ∷ []) n c) (kept_after kept now (keys_of_recipients to)) now is_then
+        (after_is now (quota_of rate) (keys_of_recipients to) (sent_moments log n c) kept (meters_at key_cmp log (quota_of rate) (sent_moments log n c) kept now h late)) same
+    sender_checked None (Some kept) h same = absurd h
+    sender_checked (Some rate) None h same = absurd h
+
+    -- what each channel keeps
+    senders_checked :
+        (m : List (ℕ × KeptByKey Key)) → ((d : ℕ) → SenderStands log n d (rate_at log n d) (at m d))
+        → (d : ℕ) → SenderStands (log ++ e ∷ []) n d (rate_at log n d) (at (senders_on (at m c) m c (keys_of_recipients to) now) d)
+    senders_checked m stands d =
+        subst (λ o. SenderStands (log ++ e ∷ []) n d (rate_at log n d) o) (sym (at-senders_on m c d (keys_of_recipients to) now)) (by (d == c) refl)
+      where
+        here : (p : ℕ) → p ≡ c → SenderStands (log ++ e ∷ []) n p (rate_at log n p) (option_map (λ kept. kept_after kept now (keys_of_recipients to)) (at m c))
+        here p same =
+            subst (λ p. SenderStands (log ++ e ∷ []) n p (rate_at log n p) (option_map (λ kept. kept_after kept now (keys_of_recipients to)) (at m c))) (sym same)
+            (sender_checked (rate_at log n c) (at m c) (stands c) (moments_sent c true (same_number c)))
+
+        by : (b : Bool) → (d == c) ≡ b → SenderStands (log ++ e ∷ []) n d (rate_at log n d) (cond b (option_map (λ kept. kept_after kept now (keys_of_recipients to)) (at m c)) (at m d))
+        by true test = here d (eqb-true d c test)
+        by false test = sender_stays log e n d (rate_at log n d) (at m d) (stands d) (moments_sent d false test)
+
+-- the node sends on a channel, whose quota was asked for each key
+pub channels_sent :
+    (configs : List Config) (log : List Entry) (e : Entry) (n c now : ℕ) (bytes : List ℕ) (priority : Bool) (to : Recipients) (ch : Channels) → ChannelsStand configs log n ch
+    → e.event.act ≡ act.Send bytes c n priority to → e.event.at ≡ now → latest_moment (events_of log) ≤ now
+    → ((d : ℕ) → line (log ++ e ∷ []) (queue.Channel n d) ≡ line log (queue.Channel n d)) → ChannelsStand configs (log ++ e ∷ []) n (keys_metered c (keys_of_recipients to) now ch)
+channels_sent configs log e n c now bytes priority to ch s is is_then late lines = record {
+  capacities = λ d. s.capacities d ∙ ap (λ l. capacity_in l d) (sym (channels-kept configs log e n none));
+  total = s.total ∙ ap sum_capacities (sym (channels-kept configs log e n none));
+  room = s.room;
+  waits = holds_frame (queue.Channel n) log e ch.waiting s.waits lines;
+  quotas = λ d. same_rates configs log e n d (at ch.quotas d) none (quota_stays configs log e n d (rate_at log n d) (at ch.quotas d) (s.quotas d) (λ conn. admits_none conn d));
+  senders = λ d.
+      same_sender_rates configs log e n d (at (senders_on (at ch.senders c) ch.senders c (keys_of_recipients to) now) d) none
+      (senders_checked log e n c now bytes priority to is is_then late ch.senders s.senders d);
+}
+  where
+    none : registers_at configs n e.event.act ≡ []
+    none = ap (registers_at configs n) is
+
+    admits_none : AdmitsNone configs log e n
+    admits_none conn d = ap (λ (a : Act). cond (steps_receiver n conn a && admits_one (limit_at configs n) (messages d) (taken log e) e.puts) (e.event.at ∷ []) []) is
