@@ -1,6 +1,6 @@
 -- The calls of a node: registering, starting, sending and reading.
-use Rattle.std.proofs.Common.{◌≡◌, ℕ, ◌+◌, ◌*◌, ◌^◌, ◌<◌, Bool, true, false, cond, List, [], ◌∷◌, ◌++◌, length, refl, ap, sym, subst, ◌∙◌, arith, Option, Some, None}
-use Rattle.std.specs.Prelude.{filter, flat_map, slice_get, is_some, nat_le, nat_lt, not, ◌&&◌}
+use Rattle.std.proofs.Common.{◌≡◌, ℕ, ◌+◌, ◌*◌, ◌^◌, ◌<◌, true, false, cond, List, [], ◌∷◌, ◌++◌, length, refl, ap, sym, subst, ◌∙◌, arith, Option, Some, None}
+use Rattle.std.specs.Prelude.{filter, flat_map, slice_get, is_some, nat_lt, not, ◌&&◌}
 use Rattle.std.proofs.lemmas.Bool.{and_parts, not-true}
 use Rattle.std.proofs.lemmas.Bool.Decides.{nat_tests}
 use Rattle.p2p_log.specs.declared.config.Config.{Config}
@@ -12,14 +12,11 @@ use Rattle.p2p_log.specs.declared.item.Envelope.{Envelope}
 use Rattle.p2p_log.specs.declared.entry.Entry.{Entry}
 use Rattle.p2p_log.specs.declared.entry.Reply.TheVariants as reply
 use Rattle.p2p_log.specs.declared.event.Rate.{Rate}
-use Rattle.p2p_log.specs.declared.event.Recipients.{Recipients}
 use Rattle.p2p_log.specs.declared.event.Act.TheVariants as act
-use Rattle.p2p_log.specs.Copies.{keys_of_recipients}
 use Rattle.p2p_log.specs.Lines.{line, name_of, placed, stands_in, ended_item}
 use Rattle.p2p_log_rules.specs.declared.row.Row.{Row}
-use Rattle.p2p_log_rules.specs.Frames.{frame_of}
 use Rattle.p2p_log_rules.specs.Facts.{events_of, has_started, registered, registers_at, capacity_for, channels, capacity_in, sum_capacities, is_up}
-use Rattle.p2p_log_rules.specs.Effect.{only, row, effect, entry_of, start_row, sent_row, send_row, read_row, oldest_read, recv_row, mailbox_size_at, router_capacity, limit_at, fitting_row}
+use Rattle.p2p_log_rules.specs.Effect.{only, row, effect, entry_of, start_row, read_row, oldest_read, recv_row, mailbox_size_at, router_capacity}
 use Rattle.p2p_log_rules.specs.Listening.{quota_of}
 use Rattle.p2p_log_rules.specs.Valid.{fits_usize, is_quota, may_register, may_act}
 use Rattle.p2p_runtime.specs.QuotaStep.{IsQuota}
@@ -40,12 +37,12 @@ use Rattle.p2p_net_dialer.specs.Stands.{DialerStands}
 use Rattle.p2p_net_dialer.proofs.Changes.{dialer_starts}
 use Rattle.p2p_net.specs.Places as place
 use Rattle.p2p_net.specs.Ready.{capacity_by}
-use Rattle.p2p_net.specs.Acts.{Registers, Starts, SendsBy, SendsOn, Sends, ReadsOn, Reads}
+use Rattle.p2p_net.specs.Acts.{Registers, Starts, ReadsOn, Reads}
 use Rattle.p2p_net.specs.Stands.{RouterStands, NodeStands}
 use Rattle.p2p_net.specs.declared.node.Node.{Node}
 use Rattle.p2p_net.proofs.EachPart.{with_parts, each_part, not_among}
 use Rattle.p2p_net.proofs.Frames.{links_kept}
-use Rattle.p2p_net.proofs.Receivers.{admits_apart}
+use Rattle.p2p_net.proofs.Receivers.{admits_apart, sends_apart}
 use Rattle.p2p_net.proofs.Routers.{RouterStands-moved, is_unbound-before}
 use Rattle.p2p_net.proofs.Performing.{asked, Performs, stays_performs, line-still}
 
@@ -93,7 +90,7 @@ register_performs configs log at seed n c rate x y l links r s t valid d kept =
           each_part configs log ev n x y (place.channels ∷ place.router ∷ []) s (subst (λ z. z ≡ with_parts (place.channels ∷ place.router ∷ []) x z) (sym parts) refl)
           (λ p out. not_among (place.channels ∷ place.router ∷ []) p n n out) (
             subst (ChannelsStand configs (log ++ e ∷ []) n) (sym chan_is)
-                (channels_registered configs log e n c k rate x.channels chan refl amount (chan.capacities c ∙ absent) room (λ f. line-kept_all log e (queue.Channel n f) refl refl refl) (quota_is rate named.1) (admits_apart configs log e n (act.Register c n rate) refl (λ d. refl))),
+                (channels_registered configs log e n c k rate x.channels chan refl amount (chan.capacities c ∙ absent) room (λ f. line-kept_all log e (queue.Channel n f) refl refl refl) (quota_is rate named.1) (admits_apart configs log e n (act.Register c n rate) refl (λ d. refl)) (sends_apart log e n (act.Register c n rate) refl refl)),
             (
               RouterStands-moved configs log e n x.router y.router rout
                   (sub.stands configs log e rout.stands (is_unbound-before configs log n x.router rout early)
@@ -151,73 +148,6 @@ start_performs configs log at seed n x y l links r s t d kept =
       linked = subst (LinksStand (log ++ e ∷ [])) (sym kept) (links_kept configs log ev l t refl);
     }
 
--- ---- send
-
-limit_of : (configs : List Config) (log : List Entry) (n : ℕ) (x : Node) → NodeStands configs log n x → x.config.max_message_size ≡ limit_at configs n
-limit_of configs log n x s = sym (ap (λ (o : Option Config). elim o [ None ↦ 0 | Some c ↦ c.max_message_size ]) s.own.config)
-
--- on a registered channel, by whether the message is longer than the node lets it be
-send_by : (configs : List Config) (log : List Entry) (at seed n c k : ℕ) (bytes : List ℕ) (priority : Bool) (to : Recipients) (b : Bool) (x y : Node) (l links : Links) (r : Row) → NodeStands configs log n x → LinksStand log l
-    → capacity_at x.channels c ≡ Some k → nat_lt x.config.max_message_size (length bytes) ≡ b → SendsBy b (length log) c priority bytes to x y r → links ≡ l → Performs configs log (asked at seed (act.Send bytes c n priority to)) n y links r
-unfolding effect row
-send_by configs log at seed n c k bytes priority to true x y l links r s t has long d kept =
-    let chan : ChannelsStand configs log n x.channels = s.each place.channels in
-    let limit : x.config.max_message_size ≡ limit_at configs n = limit_of configs log n x s in
-    let full = nat_le (router_capacity configs log n) (length (line log (queue.Router n))) in
-    let sent : Row = sent_row (is_up log n) full n (length log) c priority (frame_of c bytes) (keys_of_recipients to) in
-    let is : send_row configs log bytes c n priority to ≡ only (reply.MessageTooLarge (length bytes) (limit_at configs n)) =
-    ap (λ (o : Option ℕ). elim o [ None ↦ only reply.Gone | Some _ ↦ fitting_row (nat_lt (limit_at configs n) (length bytes)) (length bytes) (limit_at configs n) sent ]) (sym (chan.capacities c) ∙ has)
-    ∙ ap (λ b. fitting_row b (length bytes) (limit_at configs n) sent) (ap (λ m. nat_lt m (length bytes)) (sym limit) ∙ long)
-    in
-    stays_performs configs log (asked at seed (act.Send bytes c n priority to)) n x y l links r (reply.MessageTooLarge (length bytes) (limit_at configs n)) s t is refl
-    (d.0 ∙ ap (λ m. only (reply.MessageTooLarge (length bytes) m)) limit) d.1 kept
-send_by configs log at seed n c k bytes priority to false x y l links r s t has short d kept =
-    let ev = asked at seed (act.Send bytes c n priority to) in
-    let e = effect configs log ev in
-    let chan : ChannelsStand configs log n x.channels = s.each place.channels in
-    let rout : RouterStands configs log n x.router = s.each place.router in
-    let parts : y ≡ record x { router = y.router } = d.0 in
-    let calls = d.1 in
-    let at_number : x.router.number ≡ n = rout.number in
-    let keys = keys_of_recipients to in
-    let sent = λ (m : ℕ). sent_row (is_up log m) (nat_le (router_capacity configs log m) (length (line log (queue.Router m)))) m (length log) c priority (frame_of c bytes) keys in
-    let limit : x.config.max_message_size ≡ limit_at configs n = limit_of configs log n x s in
-    let is : sent n ≡ send_row configs log bytes c n priority to =
-    sym
-    (ap (λ (o : Option ℕ). elim o [ None ↦ only reply.Gone | Some _ ↦ fitting_row (nat_lt (limit_at configs n) (length bytes)) (length bytes) (limit_at configs n) (sent n) ]) (sym (chan.capacities c) ∙ has)
-    ∙ ap (λ b. fitting_row b (length bytes) (limit_at configs n) (sent n)) (ap (λ m. nat_lt m (length bytes)) (sym limit) ∙ short))
-    in
-    let row_is : r ≡ send_row configs log bytes c n priority to = calls.row configs log rout.stands ∙ (ap sent at_number ∙ is) in
-    record {
-      row_is = row_is;
-      node =
-          each_part configs log ev n x y (place.router ∷ []) s (subst (λ z. z ≡ with_parts (place.router ∷ []) x z) (sym parts) refl)
-          (λ p out. not_among (place.router ∷ []) p n n out) (
-            RouterStands-moved configs log e n x.router y.router rout
-                (subst (λ (z : Row). StandsFor configs (log ++ entry_of ev z ∷ []) y.router) row_is (calls.stands configs log ev to rout.stands refl (ap (λ j. act.Send bytes c j priority to) (sym at_number))))
-                (ap (λ (z : Router). z.number) calls.rest) (ap (λ (z : Router). z.peers) calls.rest),
-            tt,
-          );
-      linked = subst (LinksStand (log ++ e ∷ [])) (sym kept) (links_kept configs log ev l t refl);
-    }
-
-send_on : (configs : List Config) (log : List Entry) (at seed n c : ℕ) (bytes : List ℕ) (priority : Bool) (to : Recipients) (o : Option ℕ) (x y : Node) (l links : Links) (r : Row) → NodeStands configs log n x → LinksStand log l
-    → capacity_at x.channels c ≡ o → SendsOn o (length log) c priority bytes to x y r → links ≡ l → Performs configs log (asked at seed (act.Send bytes c n priority to)) n y links r
-unfolding effect row
-send_on configs log at seed n c bytes priority to None x y l links r s t has d kept =
-    let chan : ChannelsStand configs log n x.channels = s.each place.channels in
-    let full = nat_le (router_capacity configs log n) (length (line log (queue.Router n))) in
-    let is : send_row configs log bytes c n priority to ≡ only reply.Gone =
-    ap (λ (o : Option ℕ). elim o [ None ↦ only reply.Gone | Some _ ↦ fitting_row (nat_lt (limit_at configs n) (length bytes)) (length bytes) (limit_at configs n) (sent_row (is_up log n) full n (length log) c priority (frame_of c bytes) (keys_of_recipients to)) ]) (sym (chan.capacities c) ∙ has)
-    in
-    stays_performs configs log (asked at seed (act.Send bytes c n priority to)) n x y l links r reply.Gone s t is refl d.0 d.1 kept
-send_on configs log at seed n c bytes priority to (Some k) x y l links r s t has d kept =
-    send_by configs log at seed n c k bytes priority to (nat_lt x.config.max_message_size (length bytes)) x y l links r s t has refl d kept
-
-pub send_performs : (configs : List Config) (log : List Entry) (at seed n c : ℕ) (bytes : List ℕ) (priority : Bool) (to : Recipients) (x y : Node) (l links : Links) (r : Row) → NodeStands configs log n x → LinksStand log l
-    → Sends (length log) c priority bytes to x y r → links ≡ l → Performs configs log (asked at seed (act.Send bytes c n priority to)) n y links r
-send_performs configs log at seed n c bytes priority to x y l links r s t d kept = send_on configs log at seed n c bytes priority to (capacity_at x.channels c) x y l links r s t refl d kept
-
 -- ---- recv
 
 -- the row of a reader is that of its channel
@@ -229,20 +159,20 @@ recv_is configs log n c k ch s has =
 read_stands : (configs : List Config) (log : List Entry) (e : Entry) (n c : ℕ) (ch : Channels) (xs : List Envelope) → ChannelsStand configs log n ch → waiting ch.waiting c ≡ xs → e.event.act ≡ act.Recv c n
     → e.takes ≡ (oldest_read xs).takes → e.puts ≡ (oldest_read xs).puts → e.ends ≡ (oldest_read xs).ends → ChannelsStand configs (log ++ e ∷ []) n (taken_on (message_first (slice_get xs 0)) c ch)
 read_stands configs log e n c ch [] s is acts takes puts ends =
-    channels_moved configs log e n ch ch.waiting s (ap (registers_at configs n) acts) (admits_apart configs log e n (act.Recv c n) acts (λ d. refl))
+    channels_moved configs log e n ch ch.waiting s (ap (registers_at configs n) acts) (admits_apart configs log e n (act.Recv c n) acts (λ d. refl)) (sends_apart log e n (act.Recv c n) acts refl)
     (λ f. s.waits f ∙ sym (line-still log e e.reply (queue.Channel n f) (record { reply = refl; takes = takes; puts = puts; ends = ends })))
 read_stands configs log e n c ch (y ∷ ys) s is acts takes puts ends = read_first configs log e n c ch y ys s is acts y.item refl takes puts ends
   where
     still : (configs : List Config) (log : List Entry) (e : Entry) (n c : ℕ) (ch : Channels) → ChannelsStand configs log n ch → e.event.act ≡ act.Recv c n → e.takes ≡ [] → e.puts ≡ [] → e.ends ≡ [] → ChannelsStand configs (log ++ e ∷ []) n ch
     still configs log e n c ch s acts takes puts ends =
-        channels_moved configs log e n ch ch.waiting s (ap (registers_at configs n) acts) (admits_apart configs log e n (act.Recv c n) acts (λ d. refl))
+        channels_moved configs log e n ch ch.waiting s (ap (registers_at configs n) acts) (admits_apart configs log e n (act.Recv c n) acts (λ d. refl)) (sends_apart log e n (act.Recv c n) acts refl)
         (λ f. s.waits f ∙ sym (line-still log e e.reply (queue.Channel n f) (record { reply = refl; takes = takes; puts = puts; ends = ends })))
 
     read_first : (configs : List Config) (log : List Entry) (e : Entry) (n c : ℕ) (ch : Channels) (y : Envelope) (ys : List Envelope) → ChannelsStand configs log n ch → waiting ch.waiting c ≡ y ∷ ys → e.event.act ≡ act.Recv c n
         → (i : Item) → y.item ≡ i → e.takes ≡ (read_row (name_of y) i).takes → e.puts ≡ (read_row (name_of y) i).puts → e.ends ≡ (read_row (name_of y) i).ends
         → ChannelsStand configs (log ++ e ∷ []) n (taken_on (cond (is_message i) (Some y) None) c ch)
     read_first configs log e n c ch y ys s is acts (item.Message bytes copy from) it takes puts ends =
-        channels_moved configs log e n ch (popped_at ch.waiting c) s (ap (registers_at configs n) acts) (admits_apart configs log e n (act.Recv c n) acts (λ d. refl))
+        channels_moved configs log e n ch (popped_at ch.waiting c) s (ap (registers_at configs n) acts) (admits_apart configs log e n (act.Recv c n) acts (λ d. refl)) (sends_apart log e n (act.Recv c n) acts refl)
         (holds_taken (queue.Channel n) (same_channel n) log e c y ys ch.waiting s.waits
         (record { first = sym (s.waits c) ∙ is; gone = ap (λ t. t ++ flat_map ended_item e.ends) takes ∙ ap (λ d. name_of y ∷ flat_map ended_item d) ends })
         (λ f. ap (λ p. filter (stands_in (queue.Channel n f)) (placed (length log) 0 p)) puts))

@@ -22,6 +22,7 @@ pub mod LinkedNodes
 pub mod Listening
 pub mod Meetings
 pub mod Nodes
+pub mod Offering
 pub mod Performing
 pub mod Readying
 pub mod Receivers

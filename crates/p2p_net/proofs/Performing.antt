@@ -40,7 +40,7 @@ use Rattle.p2p_net.specs.Places.{Part, router, channels, connections, tracker, d
 use Rattle.p2p_net.specs.Stands.{PartStands, NodeStands, WorldStands}
 use Rattle.p2p_net.specs.declared.node.Node.{Node}
 use Rattle.p2p_net.proofs.ActKinds.{registers_unless, starts_unless}
-use Rattle.p2p_net.proofs.Receivers.{receives_nothing, admits_nothing}
+use Rattle.p2p_net.proofs.Receivers.{receives_nothing, admits_nothing, sends_at, sends_apart}
 use Rattle.p2p_net.proofs.Routers.{RouterStands-idle}
 
 -- an event with this act
@@ -60,12 +60,13 @@ pub record Simulates (configs : List Config) (log : List Entry) (ev : Event) (no
 
 -- ---- acts that move nothing
 
--- whether an act with this reply registers, starts and begins nothing, and leaves the trackers alone
+-- whether an act with this reply registers, starts, begins and sends nothing, and leaves the trackers alone
 abbrev pub is_quiet : Act → Reply → Bool
 is_quiet (act.Register c n rate) r = false
 is_quiet (act.Start n) r = false
 is_quiet (act.SendStep conn n) reply.Ok = false
 is_quiet (act.SendStep conn n) r = true
+is_quiet (act.Send bytes c n priority to) r = false
 is_quiet (act.Ask what n) r = false
 is_quiet (act.Answer e) r = false
 is_quiet (act.Tracker n) r = false
@@ -101,6 +102,11 @@ quiet_begins n conn (act.SendStep d m) _ h = and_false ((m == n) && (d == conn))
     and_false true = refl
     and_false false = refl
 quiet_begins n conn _ r h = refl
+
+-- nothing is sent
+quiet_sends : (n : ℕ) (a : Act) (r : Reply) → is_quiet a r ≡ true → sends_at n a ≡ false
+quiet_sends n (act.Send bytes c m priority to) r h = cc
+quiet_sends n _ r h = refl
 
 quiet_tracks : (n : ℕ) (a : Act) (r : Reply) → is_quiet a r ≡ true → steps_tracker n a ≡ false
 quiet_tracks n (act.Tracker m) r h = cc
@@ -198,6 +204,7 @@ part_still channels configs log e n x a rep s is q h =
       registers = ap (registers_at configs n) is ∙ quiet_registers configs n a rep q;
       lines = λ c. line-still log e rep (queue.Channel n c) h;
       admits = admits_nothing configs log e n (taken-none log e h.takes);
+      sends = sends_apart log e n a is (quiet_sends n a rep q);
     })
 part_still connections configs log e n x a rep s is q h =
     connections_frame configs log e n x.connections s

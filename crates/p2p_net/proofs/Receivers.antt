@@ -1,6 +1,6 @@
--- Entries in which no connection of a node admits anything.
+-- Entries in which no connection of a node admits anything, and in which the node sends nothing.
 use Rattle.std.proofs.Common.{◌≡◌, ℕ, Bool, true, false, cond, List, [], ◌∷◌, ◌++◌, refl, ap, ◌∙◌, arith}
-use Rattle.std.specs.Prelude.{◌&&◌}
+use Rattle.std.specs.Prelude.{◌==◌, ◌&&◌}
 use Rattle.std.proofs.lemmas.Bool.Decides.{nat_tests}
 use Rattle.p2p_log.specs.declared.config.Config.{Config}
 use Rattle.p2p_log.specs.declared.queue.Queue.TheVariants as queue
@@ -8,9 +8,11 @@ use Rattle.p2p_log.specs.declared.entry.Entry.{Entry}
 use Rattle.p2p_log.specs.declared.event.Act.{Act}
 use Rattle.p2p_log.specs.declared.event.Act.TheVariants as act
 use Rattle.p2p_log.specs.Lines.{line}
+use Rattle.p2p_log.specs.Copies.{keys_of_recipients}
+use Rattle.p2p_log_rules.specs.Admitting.{acted_moments, moments_by, rate_at, sent_moments}
 use Rattle.p2p_log_rules.specs.Facts.{taken}
 use Rattle.p2p_log_rules.specs.Metering.{Metered, pings, messages, limit_at, admits_one, admitted_by, steps_receiver}
-use Rattle.p2p_net_channels.specs.Stands.{AdmitsNone}
+use Rattle.p2p_net_channels.specs.Stands.{AdmitsNone, SendsNone}
 use Rattle.p2p_net_connections.specs.Stands.{ReceivesNone}
 use Rattle.p2p_net.specs.Places.{channels, connections, at, names}
 
@@ -63,3 +65,24 @@ receives_nothing configs log e n none held = record { held = held; no_ping = λ 
 
 pub admits_nothing : (configs : List Config) (log : List Entry) (e : Entry) (n : ℕ) → taken log e ≡ [] → AdmitsNone configs log e n
 admits_nothing configs log e n none conn c = admits-untaken (limit_at configs n) n conn (messages c) log e none
+
+-- ---- sends
+
+-- whether an act is a send of the node
+abbrev pub sends_at : ℕ → Act → Bool
+sends_at n (act.Send bytes c m priority to) = m == n
+sends_at n _ = false
+
+pub sends_apart : (log : List Entry) (e : Entry) (n : ℕ) (a : Act) → e.event.act ≡ a → sends_at n a ≡ false → SendsNone log e n
+sends_apart log e n a is none c k = ap (λ b. acted_moments n c (rate_at log n c) e.event.at b (sent_moments log n c) k) is ∙ by a none
+  where
+    by : (b : Act) → sends_at n b ≡ false → acted_moments n c (rate_at log n c) e.event.at b (sent_moments log n c) k ≡ sent_moments log n c k
+    by (act.Send bytes d m priority to) h = ap (λ b. cond (b && (d == c)) (moments_by (rate_at log n c) e.event.at (keys_of_recipients to) (sent_moments log n c) k) (sent_moments log n c k)) h
+    by _ h = refl
+
+sends_elsewhere : (log : List Entry) (n : ℕ) (a : Act) → names log a (at channels n) ≡ false → sends_at n a ≡ false
+sends_elsewhere log n (act.Send bytes c m priority to) h = grind (arith, nat_tests)
+sends_elsewhere log n _ h = refl
+
+pub sends_unnamed : (log : List Entry) (e : Entry) (n : ℕ) (a : Act) → e.event.act ≡ a → names log a (at channels n) ≡ false → SendsNone log e n
+sends_unnamed log e n a is h = sends_apart log e n a is (sends_elsewhere log n a h)

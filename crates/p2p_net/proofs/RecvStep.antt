@@ -34,7 +34,7 @@ use Rattle.p2p_net_channels.specs.declared.arrival.Arriving.TheVariants as arriv
 use Rattle.p2p_net_channels.specs.declared.channels.Channels.{Channels}
 use Rattle.p2p_net_channels.specs.Arrivals.{arrival_in, held_arrival, held_item, delivered}
 use Rattle.p2p_net_channels.specs.Channels.{capacity_at, is_full, message_put, delivered_to, may_admit, metered}
-use Rattle.p2p_net_channels.specs.Stands.{ChannelsStand}
+use Rattle.p2p_net_channels.specs.Stands.{ChannelsStand, SendsNone}
 use Rattle.p2p_net_connections.specs.Connections.{runs_on, may_ping, ping_metered}
 use Rattle.p2p_net_connections.specs.Stands.{ConnectionsStand, BeginsNone, SpawnsNone}
 use Rattle.p2p_net_connections.specs.declared.connections.Connections.{Connections}
@@ -54,6 +54,7 @@ use Rattle.p2p_net.proofs.EachPart.{with_parts, each_part, not_among-links}
 use Rattle.p2p_net.proofs.Frames.{begins_unsent}
 use Rattle.p2p_net.proofs.Halves.{half_is}
 use Rattle.p2p_net.proofs.Performing.{asked, Performs, stays_performs, IsStill, line-still, links_still}
+use Rattle.p2p_net.proofs.Receivers.{sends_apart}
 use Rattle.p2p_net.proofs.Taking.{stepped_as, link_channel, link_held, channel_link, held_link, Takes, takes_first, line_off, line_aside, not-not, other-none, passed_holds, passed_takes, passed_ends, passed_aside, held_aside, admits_of, admits_idle, message_channels, other_channels, delivered_waits, unheld_holds, held_holds}
 
 -- ---- what comes of a step
@@ -111,6 +112,9 @@ module _ (configs : List Config) (log : List Entry) (at seed conn n : ℕ) (half
   spawns_none : (due : Row) → SpawnsNone log (made due) n
   spawns_none due = connections_of-unmade log (made due) n refl
 
+  sends_none : (due : Row) → SendsNone log (made due) n
+  sends_none due = sends_apart log (made due) n (act.RecvStep conn n) refl refl
+
   -- ---- what its quota admits
 
   -- how a message moves the channels and how a ping moves the connections, by what their quotas say
@@ -147,23 +151,23 @@ module _ (configs : List Config) (log : List Entry) (at seed conn n : ℕ) (half
       → ChannelsStand configs (log ++ made (delivered full n from m (taken_row (name_of f))) ∷ []) n (delivered_to full (length log) 0 n from m (metered m.channel conn at x.channels))
   passed_channels p f fs true from m h apart says =
       let due = delivered true n from m (taken_row (name_of f)) in
-      message_channels configs log n conn at (made due) late x.channels chan refl m.channel x.channels.waiting (messages_admitted due p f fs m true h refl says) refl
-      (delivered_waits configs log n conn at (made due) late x.channels chan refl p f fs true from m (takes_first log (made due) (limit_at configs n) p f fs (messages m.channel) h) apart refl)
+      message_channels configs log n conn at (made due) late x.channels chan refl (sends_none due) m.channel x.channels.waiting (messages_admitted due p f fs m true h refl says) refl
+      (delivered_waits configs log n conn at (made due) late x.channels chan refl (sends_none due) p f fs true from m (takes_first log (made due) (limit_at configs n) p f fs (messages m.channel) h) apart refl)
   passed_channels p f fs false from m h apart says =
       let due = delivered false n from m (taken_row (name_of f)) in
-      message_channels configs log n conn at (made due) late x.channels chan refl m.channel (pushed_at x.channels.waiting m.channel (message_put (length log) 0 n from m)) (messages_admitted due p f fs m true h refl says) refl
-      (delivered_waits configs log n conn at (made due) late x.channels chan refl p f fs false from m (takes_first log (made due) (limit_at configs n) p f fs (messages m.channel) h) apart refl)
+      message_channels configs log n conn at (made due) late x.channels chan refl (sends_none due) m.channel (pushed_at x.channels.waiting m.channel (message_put (length log) 0 n from m)) (messages_admitted due p f fs m true h refl says) refl
+      (delivered_waits configs log n conn at (made due) late x.channels chan refl (sends_none due) p f fs false from m (takes_first log (made due) (limit_at configs n) p f fs (messages m.channel) h) apart refl)
 
   -- the channels once a message was asked of, and no channel changed
   asked_channels : (due : Row) (c : ℕ) → ((d q : ℕ) → admitted_by (limit_at configs n) n d (messages q) log (made due) ≡ cond ((d == conn) && ((q == c) && may_admit x.channels c conn at)) (at ∷ []) [])
       → ((q : ℕ) → line (log ++ made due ∷ []) (queue.Channel n q) ≡ line log (queue.Channel n q)) → ChannelsStand configs (log ++ made due ∷ []) n (metered c conn at x.channels)
   asked_channels due c admits lines =
-      message_channels configs log n conn at (made due) late x.channels chan refl c x.channels.waiting admits refl (holds_frame (queue.Channel n) log (made due) x.channels.waiting chan.waits lines)
+      message_channels configs log n conn at (made due) late x.channels chan refl (sends_none due) c x.channels.waiting admits refl (holds_frame (queue.Channel n) log (made due) x.channels.waiting chan.waits lines)
 
   -- the channels beside a ping
   beside_ping : (due : Row) → ((d q : ℕ) → admitted_by (limit_at configs n) n d (messages q) log (made due) ≡ []) → ((q : ℕ) → line (log ++ made due ∷ []) (queue.Channel n q) ≡ line log (queue.Channel n q))
       → ChannelsStand configs (log ++ made due ∷ []) n x.channels
-  beside_ping due none lines = other_channels configs log n conn at (made due) late x.channels chan refl none lines
+  beside_ping due none lines = other_channels configs log n conn at (made due) late x.channels chan refl (sends_none due) none lines
 
   -- the connections beside a message, by what is held then
   beside_message : (due : Row) (w : List (ℕ × List Envelope)) → ((d : ℕ) → admitted_by (limit_at configs n) n d pings log (made due) ≡ []) → ((c : ℕ) → line (log ++ made due ∷ []) (queue.Ready n c) ≡ line log (queue.Ready n c))

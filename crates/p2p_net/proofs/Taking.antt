@@ -29,7 +29,7 @@ use Rattle.p2p_net_channels.specs.declared.arrival.Arrived.{Arrived}
 use Rattle.p2p_net_channels.specs.declared.channels.Channels.{Channels}
 use Rattle.p2p_net_channels.specs.Arrivals.{delivered}
 use Rattle.p2p_net_channels.specs.Channels.{message_put, delivered_to, may_admit, metered}
-use Rattle.p2p_net_channels.specs.Stands.{ChannelsStand}
+use Rattle.p2p_net_channels.specs.Stands.{ChannelsStand, SendsNone}
 use Rattle.p2p_net_channels.proofs.Changes.{channels_frame, same_channel}
 use Rattle.p2p_net_channels.proofs.Metering.{channels_metered}
 use Rattle.p2p_net_connections.specs.Stands.{ConnectionsStand}
@@ -151,13 +151,13 @@ module _ (configs : List Config) (log : List Entry) (n conn at : ℕ) (e : Entry
 
   -- ---- the channels
 
-  module _ (ch : Channels) (s : ChannelsStand configs log n ch) (registers : registers_at configs n e.event.act ≡ []) where
+  module _ (ch : Channels) (s : ChannelsStand configs log n ch) (registers : registers_at configs n e.event.act ≡ []) (sends : SendsNone log e n) where
     -- a message came whose quota says this, by what the entry admits and which messages wait then
     pub message_channels : (c : ℕ) (w : List (ℕ × List Envelope)) → ((d q : ℕ) → admitted_by limit n d (messages q) log e ≡ cond ((d == conn) && ((q == c) && may_admit ch c conn at)) (at ∷ []) [])
         → e.event.at ≡ at → HoldsLines (queue.Channel n) (log ++ e ∷ []) w → ChannelsStand configs (log ++ e ∷ []) n (record (metered c conn at ch) { waiting = w })
     message_channels c w admits moment waits =
         channels_metered configs log e n c conn at ch w s registers late moment
-        (λ d q. admits d q ∙ ap (λ b. cond b (at ∷ []) []) (over (d == conn) (q == c) (may_admit ch c conn at))) waits
+        (λ d q. admits d q ∙ ap (λ b. cond b (at ∷ []) []) (over (d == conn) (q == c) (may_admit ch c conn at))) sends waits
       where
         over : (a b z : Bool) → (a && (b && z)) ≡ (b && (a && z))
         over true true z = refl
@@ -167,7 +167,7 @@ module _ (configs : List Config) (log : List Entry) (n conn at : ℕ) (e : Entry
 
     -- no message came
     pub other_channels : ((d q : ℕ) → admitted_by limit n d (messages q) log e ≡ []) → ((q : ℕ) → line (log ++ e ∷ []) (queue.Channel n q) ≡ line log (queue.Channel n q)) → ChannelsStand configs (log ++ e ∷ []) n ch
-    other_channels none lines = channels_frame configs log e n ch s (record { registers = registers; lines = lines; admits = none })
+    other_channels none lines = channels_frame configs log e n ch s (record { registers = registers; lines = lines; admits = none; sends = sends })
 
     -- the messages that wait once one was delivered, by whether its channel is full
     pub delivered_waits : (p : Queue) (f : Envelope) (fs : List Envelope) (full : Bool) (from : Key) (m : Arrived) → TakesFirst log e p f fs → ((q : ℕ) → same_queue p (queue.Channel n q) ≡ false)

@@ -181,7 +181,7 @@ reads-named configs log _ q h = refl
 
 writes-named : (configs : List Config) (log : List Entry) (a : Act) (q : Queue) → names log a (home q) ≡ false → writes configs log a q ≡ false
 writes-named configs log (act.Start n) q h = router_queue n q (first_false (same_place (at router n) (home q)) (same_place (at dialer n) (home q) || false) h)
-writes-named configs log (act.Send bytes c n priority to) q h = router_queue n q (first_false (same_place (at router n) (home q)) false h)
+writes-named configs log (act.Send bytes c n priority to) q h = router_queue n q (second_of_two (same_place (at channels n) (home q)) (same_place (at router n) (home q)) h)
 writes-named configs log (act.Router n) q h =
     router_kinds n q (first_false (same_place (at router n) (home q)) (same_place (at connections n) (home q) || false) h)
     (first_false (same_place (at connections n) (home q)) false (second_false (same_place (at router n) (home q)) (same_place (at connections n) (home q) || false) h))

@@ -19,6 +19,7 @@ use Rattle.p2p_net_queues.specs.Rows.{taken_row}
 use Rattle.p2p_net_queues.specs.Tables as table
 use Rattle.p2p_net_queues.specs.Tables.{waiting}
 use Rattle.p2p_net_channels.specs.Channels.{capacity_at, registered_with, read_from}
+use Rattle.p2p_net_channels.specs.Senders.{keys_passed, keys_metered}
 use Rattle.p2p_net_connections.specs.Connections.{answered, spawned_with}
 use Rattle.p2p_net_links.specs.declared.links.Links.{Links}
 use Rattle.p2p_net_dialer.specs.Attempts.{Tries, Resolves, AnswersDial}
@@ -60,18 +61,28 @@ abbrev pub Starts : ℕ → ℕ → Node → Node → Row → Type 0
 Starts k at old new r =
     (new ≡ record old { router = new.router; dialing = started old.config at old.dialing }) × routing.Starts k (old.config.mailbox_size + old.channels.total) old.router new.router r
 
--- by whether the message is longer than the node lets it be
-abbrev pub SendsBy : Bool → ℕ → ℕ → Bool → List ℕ → Recipients → Node → Node → Row → Type 0
-SendsBy true k c priority bytes to old new r = Stays old new r (only (reply.MessageTooLarge (length bytes) old.config.max_message_size))
-SendsBy false k c priority bytes to old new r =
-    (new ≡ record old { router = new.router }) × routing.Sends k c priority bytes (keys_of_recipients to) old.router new.router r
+-- to these keys, by whether the message is longer than the node lets it be
+abbrev pub SendsBy : Bool → ℕ → ℕ → Bool → List ℕ → List Key → Node → Node → Row → Type 0
+SendsBy true k c priority bytes keys old new r = Stays old new r (only (reply.MessageTooLarge (length bytes) old.config.max_message_size))
+SendsBy false k c priority bytes keys old new r =
+    (new ≡ record old { router = new.router }) × routing.Sends k c priority bytes keys old.router new.router r
 
-abbrev pub SendsOn : Option ℕ → ℕ → ℕ → Bool → List ℕ → Recipients → Node → Node → Row → Type 0
-SendsOn None k c priority bytes to old new r = Stays old new r (only reply.Gone)
-SendsOn (Some capacity) k c priority bytes to old new r = SendsBy (nat_lt old.config.max_message_size (length bytes)) k c priority bytes to old new r
+-- by what the channel's quota admits of those that it is for
+abbrev pub SendsAdmitted : List Key → List Key → ℕ → ℕ → Bool → List ℕ → Node → Node → Row → Type 0
+SendsAdmitted (j ∷ js) [] k c priority bytes old new r = Stays old new r (only (reply.Sent []))
+SendsAdmitted to keys k c priority bytes old new r = SendsBy (nat_lt old.config.max_message_size (length bytes)) k c priority bytes keys old new r
 
-abbrev pub Sends : ℕ → ℕ → Bool → List ℕ → Recipients → Node → Node → Row → Type 0
-Sends k c priority bytes to old new r = SendsOn (capacity_at old.channels c) k c priority bytes to old new r
+-- the node once the quota of a channel was asked for these keys
+abbrev pub offered : ℕ → List Key → ℕ → Node → Node
+offered c keys at x = record x { channels = keys_metered c keys at x.channels }
+
+abbrev pub SendsOn : Option ℕ → ℕ → ℕ → ℕ → Bool → List ℕ → List Key → Node → Node → Row → Type 0
+SendsOn None k c at priority bytes to old new r = Stays old new r (only reply.Gone)
+SendsOn (Some capacity) k c at priority bytes to old new r =
+    SendsAdmitted to (keys_passed old.channels c to at) k c priority bytes (offered c to at old) new r
+
+abbrev pub Sends : ℕ → ℕ → ℕ → Bool → List ℕ → Recipients → Node → Node → Row → Type 0
+Sends k c at priority bytes to old new r = SendsOn (capacity_at old.channels c) k c at priority bytes (keys_of_recipients to) old new r
 
 abbrev pub ReadsOn : Option ℕ → ℕ → Node → Node → Row → Type 0
 ReadsOn None c old new r = Stays old new r (only reply.Gone)
@@ -221,7 +232,7 @@ TellsAttempt old new = (new.dialing.actor ≡ old.dialing.actor) × (new ≡ rec
 abbrev pub NodeDoes : ℕ → ℕ → ℕ → ℕ → Act → Node → Node → Links → Links → Row → Type 0
 NodeDoes k n at seed (act.Register c m rate) old new l links r = Registers c rate old new r × (links ≡ l)
 NodeDoes k n at seed (act.Start m) old new l links r = Starts k at old new r × (links ≡ l)
-NodeDoes k n at seed (act.Send bytes c m priority to) old new l links r = Sends k c priority bytes to old new r × (links ≡ l)
+NodeDoes k n at seed (act.Send bytes c m priority to) old new l links r = Sends k c at priority bytes to old new r × (links ≡ l)
 NodeDoes k n at seed (act.Router m) old new l links r = Routes k n old new r × (links ≡ l)
 NodeDoes k n at seed (act.SendStep conn m) old new l links r = SendSteps k n conn at old new l links r
 NodeDoes k n at seed (act.RecvStep conn m) old new l links r = RecvSteps k n conn at old new l links r

@@ -71,7 +71,7 @@ and_links ps = links ∷ ps
 abbrev pub parts_named : Act → List Part
 parts_named (act.Register c n rate) = channels ∷ router ∷ []
 parts_named (act.Start n) = router ∷ dialer ∷ []
-parts_named (act.Send bytes c n priority to) = router ∷ []
+parts_named (act.Send bytes c n priority to) = channels ∷ router ∷ []
 parts_named (act.Router n) = router ∷ connections ∷ []
 parts_named (act.SendStep conn n) = connections ∷ router ∷ tracker ∷ []
 parts_named (act.RecvStep conn n) = channels ∷ connections ∷ []

@@ -276,7 +276,7 @@ impl Node {
                 priority,
                 to,
                 ..
-            } => Ok(self.send(turn, *channel, bytes, *priority, to)?),
+            } => Ok(self.send(turn, event.at, *channel, bytes, *priority, to)?),
             Act::Router { .. } => Ok(self.route(turn)?),
             Act::SendStep { conn, .. } => Ok(self.send_step(turn, links, *conn, event.at)?),
             Act::RecvStep { conn, .. } => Ok(self.recv_step(turn, links, *conn, event.at)?),
