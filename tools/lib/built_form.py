@@ -5,19 +5,6 @@ MEETINGS = ('dialer', 'listener')
 CHANGES = ('track', 'overwrite', 'block')
 
 
-def copy_count(events):
-    """How many copies a script asks for: each of its messages one for each key that it is for."""
-    return sum(len(event.said['to']) for event in events if event.act == 'send')
-
-
-def register_faults(events):
-    copies = copy_count(events)
-    for event in events:
-        if event.act == 'register' and event.said['quota'] < copies:
-            yield event.fault('quota', 'the script asks for %d copies, more than this burst of %d; '
-                              'the quotas of senders do not act yet' % (copies, event.said['quota']))
-
-
 def is_too_long(event, configurations):
     """Whether a message is longer than its own node lets it be, which tells so."""
     node = event.said['node']
@@ -89,4 +76,4 @@ def connection_faults(script):
 
 def built_faults(script):
     """What of a script goes beyond the form that is built."""
-    return sorted([*register_faults(script.events), *connection_faults(script)], key=lambda fault: fault.at)
+    return sorted(connection_faults(script), key=lambda fault: fault.at)

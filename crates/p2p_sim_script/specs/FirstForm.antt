@@ -1,27 +1,16 @@
--- The scripts of the first form: no more copies than the least burst. Where a connection's sending half takes a step, each
--- message is on a channel that each node registers, and no longer than any node takes, unless it is too long for its own; no
--- node is asked to change its peers once it has met some, and no link loses an end.
-use Rattle.std.specs.Prelude.{ℕ, Bool, true, false, not, ◌==◌, ◌&&◌, ◌||◌, nat_lt, nat_le, List, [], flat_map, length, Some, None, slice_get}
+-- The scripts of the first form. Where the sending half of a connection takes a step, each message is on a channel that each node
+-- registers, and no longer than any node takes, unless it is too long for its own; no node is asked to change its peers once it
+-- has met some; and no link loses an end. A script without such a step is of the form, whatever it asks.
+use Rattle.std.specs.Prelude.{ℕ, Bool, true, false, not, ◌==◌, ◌&&◌, ◌||◌, nat_lt, nat_le, List, length, Some, None, slice_get}
 use Rattle.std.specs.List.{list_any, list_all, range_with_len}
-use Rattle.p2p_base.specs.declared.key.Key.{Key}
 use Rattle.p2p_log.specs.declared.config.Config.{Config}
 use Rattle.p2p_log.specs.declared.event.Event.{Event}
 use Rattle.p2p_log.specs.declared.event.Act.{Act}
 use Rattle.p2p_log.specs.declared.event.Act.TheVariants as act
-use Rattle.p2p_log.specs.Copies.{keys_of_recipients}
 use Rattle.p2p_sim_script.specs.KeptLinks.{keeps_links}
 use Rattle.p2p_sim_script.specs.KeptPeers.{keeps_peers}
 
 -- ---- the script
-
--- whom an act sends to, a key for each copy
-abbrev pub keys_asked : Act → List Key
-keys_asked (act.Send bytes channel node priority to) = keys_of_recipients to
-keys_asked _ = []
-
--- whom the script sends to, a key for each copy
-abbrev pub copies_asked : List Event → List Key
-copies_asked script = flat_map (λ e. keys_asked e.act) script
 
 abbrev pub registers : ℕ → ℕ → Act → Bool
 registers channel node (act.Register c n quota) = (c == channel) && (n == node)
@@ -40,7 +29,7 @@ steps _ = false
 abbrev pub has_steps : List Event → Bool
 has_steps script = list_any (λ e. steps e.act) script
 
--- ---- an act, of a script in which a connection may begin, with this count of copies and these channels registered at nodes
+-- ---- an act, of a script in which a connection may begin, with these channels registered at nodes
 
 -- no longer than the least that a node takes
 abbrev pub is_short : List Config → List ℕ → Bool
@@ -59,22 +48,22 @@ abbrev pub message_fits : List Config → (ℕ → ℕ → Bool) → ℕ → ℕ
 message_fits configs registered channel node bytes =
     (is_too_long configs node bytes || is_short configs bytes) && is_on_each registered (length configs) channel
 
-abbrev pub act_fits : List Config → Bool → ℕ → (ℕ → ℕ → Bool) → Act → Bool
-act_fits configs stepped count registered (act.Register channel node quota) = nat_le count quota.burst
-act_fits configs stepped count registered (act.Send bytes channel node priority to) =
-    not stepped || message_fits configs registered channel node bytes
-act_fits configs stepped count registered _ = true
+abbrev pub act_fits : List Config → (ℕ → ℕ → Bool) → Act → Bool
+act_fits configs registered (act.Send bytes channel node priority to) = message_fits configs registered channel node bytes
+act_fits configs registered _ = true
 
 -- ---- all of it
 
-abbrev pub event_fits : List Config → Bool → ℕ → (ℕ → ℕ → Bool) → Event → Bool
-event_fits configs stepped count registered e = act_fits configs stepped count registered e.act
+abbrev pub event_fits : List Config → (ℕ → ℕ → Bool) → Event → Bool
+event_fits configs registered e = act_fits configs registered e.act
+
+-- whether each message of the script fits
+abbrev pub keeps_messages : List Config → List Event → Bool
+keeps_messages configs script = list_all (event_fits configs (is_registered script)) script
 
 -- what a script keeps to in which a connection may begin
 abbrev pub keeps_connections : List Config → List Event → Bool
-keeps_connections configs script = keeps_peers script && keeps_links configs script
+keeps_connections configs script = keeps_messages configs script && keeps_peers script && keeps_links configs script
 
 abbrev pub is_first_form : List Config → List Event → Bool
-is_first_form configs script =
-    list_all (event_fits configs (has_steps script) (length (copies_asked script)) (is_registered script)) script
-    && (not (has_steps script) || keeps_connections configs script)
+is_first_form configs script = not (has_steps script) || keeps_connections configs script

@@ -8,22 +8,18 @@ use crate::kept_links::keeps_links;
 use crate::kept_peers::keeps_peers;
 use crate::pairs::{add, is_in};
 use bytes::Bytes;
-use p2p_base::Key;
-use p2p_log::{Act, Config, Event, Recipients};
+use p2p_log::{Act, Config, Event};
 use std::alloc::{AllocError, Global};
 use std::collections::BTreeSet;
-use std::slice::from_ref;
 
-/// Whether the script is one of the first form: it asks for no more copies than the least burst that it registers, a message
-/// to a list of keys for as many as the list has. Where the sending half of a connection takes a step, each message is on a
+/// Whether the script is one of the first form. Where the sending half of a connection takes a step, each message is on a
 /// channel that each node registers, before or after, and no longer than any node takes, unless it is too long for its own; no
 /// node is asked to track, to overwrite or to block peers after the first step of its dialer or its listener, so that no
 /// connection is killed; and no link loses an end once keys were exchanged over it, since a node dials or listens, and the
-/// spawners' mailboxes hold all.
+/// spawners' mailboxes hold all. A script without such a step is of the form, whatever it asks.
 ///
-/// Takes time in proportion to the length of the script with its lists, to the count of nodes, and for each message to that
-/// count, but for the logarithm of the count of registered channels and of nodes. `AllocError` comes where there was no memory
-/// for those.
+/// Takes time in proportion to the length of the script, to the count of nodes, and for each message to that count, but for the
+/// logarithm of the count of registered channels and of nodes. `AllocError` comes where there was no memory for those.
 pub fn is_first_form(
     alloc: Global,
     configs: &[Config],
@@ -31,13 +27,7 @@ pub fn is_first_form(
 ) -> Result<bool, AllocError>
     ensures { IfOk result (λ b. b ≡ form.is_first_form configs.now script.now) }
 {
-    let registered = registered_pairs(alloc, script)?;
-    let stepped = has_steps(script);
-    let count = copies_asked(alloc, script)?.len();
-    Ok(
-        all_fit(configs, stepped, count, &registered, script)
-            && (!stepped || keeps_connections(alloc, configs, script)?),
-    )
+    Ok(!has_steps(script) || keeps_connections(alloc, configs, script)?)
 }
 
 fn keeps_connections(
@@ -47,30 +37,18 @@ fn keeps_connections(
 ) -> Result<bool, AllocError>
     ensures { IfOk result (λ b. b ≡ form.keeps_connections configs.now script.now) }
 {
-    Ok(keeps_peers(alloc, script)? && keeps_links(alloc, configs, script)?)
+    Ok(
+        keeps_messages(alloc, configs, script)?
+            && keeps_peers(alloc, script)?
+            && keeps_links(alloc, configs, script)?,
+    )
 }
 
-// A key for each copy that the script asks for.
-fn copies_asked(alloc: Global, script: &[Event]) -> Result<Vec<Key>, AllocError>
-    ensures { IfOk result (λ keys. keys.items ≡ form.copies_asked script.now) }
+fn keeps_messages(alloc: Global, configs: &[Config], script: &[Event]) -> Result<bool, AllocError>
+    ensures { IfOk result (λ b. b ≡ form.keeps_messages configs.now script.now) }
 {
-    let mut keys = Vec::new(alloc);
-    for event in script {
-        keys.extend_from_slice(keys_asked(&event.act))?;
-    }
-    Ok(keys)
-}
-
-fn keys_asked(act: &Act) -> &[Key]
-    ensures { result.now ≡ form.keys_asked act.now }
-{
-    match act {
-        Act::Send { to, .. } => match to {
-            Recipients::One(key) => from_ref(key),
-            Recipients::Some(keys) => keys.as_slice(),
-        },
-        _ => &[],
-    }
+    let registered = registered_pairs(alloc, script)?;
+    Ok(all_fit(configs, &registered, script))
 }
 
 fn has_steps(script: &[Event]) -> bool
@@ -105,35 +83,24 @@ fn note_register(pairs: &mut BTreeSet<(u64, u64)>, act: &Act) -> Result<(), Allo
     }
 }
 
-fn all_fit(
-    configs: &[Config],
-    stepped: bool,
-    count: usize,
-    registered: &BTreeSet<(u64, u64)>,
-    script: &[Event],
-) -> bool
-    ensures { result ≡ list_all (form.event_fits configs.now stepped count (has registered.now)) script.now }
+fn all_fit(configs: &[Config], registered: &BTreeSet<(u64, u64)>, script: &[Event]) -> bool
+    ensures { result ≡ list_all (form.event_fits configs.now (has registered.now)) script.now }
 {
-    script.iter().all(|event| act_fits(configs, stepped, count, registered, &event.act))
+    script
+        .iter()
+        .all(|event| act_fits(configs, registered, &event.act))
 }
 
-fn act_fits(
-    configs: &[Config],
-    stepped: bool,
-    count: usize,
-    registered: &BTreeSet<(u64, u64)>,
-    act: &Act,
-) -> bool
-    ensures { result ≡ form.act_fits configs.now stepped count (has registered.now) act.now }
+fn act_fits(configs: &[Config], registered: &BTreeSet<(u64, u64)>, act: &Act) -> bool
+    ensures { result ≡ form.act_fits configs.now (has registered.now) act.now }
 {
     match act {
-        Act::Register { quota, .. } => count <= quota.burst as usize,
         Act::Send {
             bytes,
             channel,
             node,
             ..
-        } => !stepped || message_fits(configs, registered, *channel, *node, bytes),
+        } => message_fits(configs, registered, *channel, *node, bytes),
         _ => true,
     }
 }
