@@ -4,8 +4,8 @@
 //! Of `p2p_router` are `router` and `lists`, over the stand of `routing`; of `p2p_net_queues` is `queues`, of `p2p_net_router`
 //! `routers`, of `p2p_net_channels` and `p2p_net_links` `parts`, and of `p2p_net_channels` and `p2p_net_connections` `meters`. Of
 //! `p2p_net` are `world` and, with the parts of these names, `tracker`, `dialer`, `attempts`, `listener`, `handshakes`,
-//! `finishing`, `spawning`, `connecting`, `pinging` and `holding`: they are scripts, which `scripts` and, of `pinging` and
-//! `holding`, `moments` run, `paths` has the events by which two nodes get a connection, and `seen` has what an event shows.
+//! `finishing`, `spawning`, `connecting`, `pinging`, `holding` and `sending`: they are scripts, which `scripts` and, of the last
+//! three, `moments` run, `paths` has the events by which two nodes get a connection, and `seen` has what an event shows.
 #![tactic(auto)]
 
 #[cfg(test)]
@@ -46,6 +46,8 @@ mod routing;
 mod scripts;
 #[cfg(test)]
 mod seen;
+#[cfg(test)]
+mod sending;
 #[cfg(test)]
 mod spawning;
 #[cfg(test)]

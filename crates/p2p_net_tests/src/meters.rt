@@ -1,5 +1,6 @@
 //! What the quotas of a node's connections admit, and what waits for them, by the parts that keep both.
 use bytes::Bytes;
+use p2p_base::{Key, List};
 use p2p_log::{Item, Queue, Reply};
 use p2p_net_channels::Channels;
 use p2p_net_connections::Connections;
@@ -50,6 +51,56 @@ fn first_other_message(alloc: Global) -> Result<Option<usize>, AllocError> {
 #[test]
 fn a_registered_channel_admits_a_message_of_each_connection_by_its_quota(rt: HostRuntime) {
     assert_eq!(rt; first_other_message(rt.alloc()), Ok(None));
+}
+
+// ---- what is sent
+
+// The channel 5 alone, which admits two messages to each key, and one more each 10 nanoseconds.
+fn of_two(alloc: Global) -> Result<Channels, AllocError> {
+    let Some(quota) = Quota::new(2, 10) else {
+        return Err(AllocError);
+    };
+    let mut channels = Channels::new(alloc);
+    channels.register(alloc, 5, 1, quota)?;
+    Ok(channels)
+}
+
+// On which channel a message is sent, to which keys and when, and which of them are admitted.
+const SENDS: &[(u64, &[Key], u64, &[Key])] = &[
+    (6, &[Key(1), Key(2)], 0, &[]),
+    (5, &[], 0, &[]),
+    (5, &[Key(1), Key(2)], 0, &[Key(1), Key(2)]),
+    (5, &[Key(2), Key(1), Key(2), Key(1)], 0, &[Key(2), Key(1)]),
+    (5, &[Key(1), Key(2)], 0, &[]),
+    (5, &[Key(1), Key(3), Key(2)], 9, &[Key(3)]),
+    (5, &[Key(2)], 10, &[Key(2)]),
+    (5, &[Key(3), Key(2), Key(1), Key(3)], 10, &[Key(3), Key(1)]),
+    (5, &[Key(1), Key(2), Key(3)], 18, &[]),
+    (5, &[Key(1), Key(2), Key(3)], 19, &[Key(3)]),
+    (5, &[Key(2), Key(1)], 20, &[Key(2), Key(1)]),
+    (5, &[Key(2), Key(1), Key(2)], 20, &[]),
+    (5, &[Key(2), Key(2), Key(2)], 1000, &[Key(2), Key(2)]),
+    (5, &[Key(1), Key(2), Key(1)], 1009, &[Key(1), Key(1)]),
+    (5, &[Key(1), Key(2)], 1010, &[Key(2)]),
+    (6, &[Key(2)], 1010, &[]),
+];
+
+// The place of the first send of which other keys are admitted. `None` where each finds what is written.
+fn first_other_send(alloc: Global) -> Result<Option<usize>, AllocError> {
+    let mut channels = of_two(alloc)?;
+    for (i, row) in SENDS.iter().enumerate() {
+        let keys = List::from_slice(alloc, row.1)?;
+        let admitted = channels.admit_keys(alloc, row.0, keys, row.2)?;
+        if admitted.as_slice() != row.3 {
+            return Ok(Some(i));
+        }
+    }
+    Ok(None)
+}
+
+#[test]
+fn a_registered_channel_admits_a_message_to_each_key_by_its_quota(rt: HostRuntime) {
+    assert_eq!(rt; first_other_send(rt.alloc()), Ok(None));
 }
 
 // ---- pings

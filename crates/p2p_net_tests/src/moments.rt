@@ -1,6 +1,7 @@
 //! Scripts of connections with moments: what is asked of which node and when, what each event shows, and what it ends.
 use crate::scripts::{Do, ask, ask_each, dialing_with_room};
-use crate::seen::{Ends, Put, Puts, Said, Seen, newest, newest_ends};
+use crate::seen::{Ends, Put, Puts, Said, Seen, newest, newest_ends, newest_is_sent_to};
+use p2p_base::Key;
 use p2p_net::{Cause, Config, End, Fate, Outcome, RunError, Side, World};
 use std::alloc::{AllocError, Global};
 
@@ -11,8 +12,21 @@ pub enum Shown {
     Pending,
     // It took an item and put none.
     Taken,
-    // A message for one peer waits for its router.
+    // A message for one peer waits for its router, or for so many.
     Asked,
+    AskedFor(usize),
+    // No copy of a message was accepted, it is so long and may be so long, or there is no such channel.
+    Refused,
+    TooLong(usize, usize),
+    Gone,
+    // The one copy of this send is dropped, since its node has not started, or since there is no connection with its key.
+    Unbound(u64),
+    Lost(u64),
+    // A channel is registered, which holds so many messages.
+    Room(usize),
+    // The subscription of a channel waits for its router, or its router lists no peer.
+    Subscribed,
+    Listed(u64),
     // At this node this connection begins, and the tracker and then the router are told of it and of the key of its peer.
     Begun(u64, u64, u64),
     // The router of this node answers this connection, and lists one peer in place of the list that this event put.
@@ -56,6 +70,15 @@ fn seen_of(shown: Shown) -> Seen {
         Shown::Pending => Seen(Said::Pending, 0, Puts::Nothing),
         Shown::Taken => moved(1, Puts::Nothing),
         Shown::Asked => Seen(Said::Sent(1), 0, Puts::One(Put::Content)),
+        Shown::AskedFor(keys) => Seen(Said::Sent(keys), 0, Puts::One(Put::Content)),
+        Shown::Refused => Seen(Said::Sent(0), 0, Puts::Nothing),
+        Shown::TooLong(size, limit) => Seen(Said::TooLong(size, limit), 0, Puts::Nothing),
+        Shown::Gone => Seen(Said::Gone, 0, Puts::Nothing),
+        Shown::Unbound(_) => Seen(Said::Sent(1), 0, Puts::Nothing),
+        Shown::Lost(_) => moved(1, Puts::Nothing),
+        Shown::Room(messages) => Seen(Said::Capacity(messages), 0, Puts::Nothing),
+        Shown::Subscribed => moved(0, Puts::One(Put::Subscribe)),
+        Shown::Listed(node) => one_put(Put::Peers(node, 0)),
         Shown::Begun(node, conn, key) => moved(
             0,
             Puts::Two(Put::Connect(node, conn, key), Put::Ready(node, conn, key)),
@@ -85,10 +108,16 @@ fn seen_of(shown: Shown) -> Seen {
 
 const DROPPED: Outcome = Outcome::Dropped(Cause::MailboxFull);
 
+const UNBOUND: Outcome = Outcome::Dropped(Cause::Unbound);
+
+const LOST: Outcome = Outcome::Dropped(Cause::NoConnection);
+
 // The end that it makes.
 fn ends_of(shown: Shown) -> Ends {
     match shown {
         Shown::Dropped(send) => Ends::One(End::Copy(send, 0, DROPPED)),
+        Shown::Unbound(send) => Ends::One(End::Copy(send, 0, UNBOUND)),
+        Shown::Lost(send) => Ends::One(End::Copy(send, 0, LOST)),
         Shown::Read(_, _, send) => Ends::One(End::Copy(send, 0, Outcome::Delivered)),
         Shown::Answered(_, _, list) => Ends::One(End::Item(list, 0)),
         _ => Ends::Nothing,
@@ -172,6 +201,24 @@ pub fn first_other_fate(
     for (i, step) in script.iter().enumerate() {
         ask(alloc, &mut world, step.0, step.1, step.2)?;
         if world.report().fate(send, 0) != step.3 {
+            return Ok(Some(i));
+        }
+    }
+    Ok(None)
+}
+
+// The place of the first event of a script that does not accept a message for these keys alone, in this order. `None` where
+// each does.
+pub fn first_other_keys(
+    alloc: Global,
+    configs: &[Config],
+    before: Result<Vec<(u64, Do)>, AllocError>,
+    script: &[(u64, u64, Do, &'static [Key])],
+) -> Result<Option<usize>, RunError> {
+    let mut world = world_after(alloc, configs, before)?;
+    for (i, step) in script.iter().enumerate() {
+        ask(alloc, &mut world, step.0, step.1, step.2)?;
+        if !newest_is_sent_to(world.report().log.as_slice(), step.3) {
             return Ok(Some(i));
         }
     }

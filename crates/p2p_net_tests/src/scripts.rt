@@ -3,7 +3,7 @@
 use crate::seen::{Seen, newest, newest_take};
 use bytes::Bytes;
 use p2p_address::{Address, IpAddr, SocketAddr};
-use p2p_base::{Key, Map};
+use p2p_base::{Key, List, Map};
 use p2p_flow::AddressableTrackedPeers;
 use p2p_net::{Act, Asked, Config, Event, Rate, Recipients, RunError, World};
 use std::alloc::{AllocError, Global};
@@ -66,6 +66,9 @@ pub enum Do {
     SendFirst(u64, u8),
     // or on this one, without priority,
     SendOn(u64, u64, u8),
+    // the peers of these keys, on the channel 7, a message of this byte or one of two bytes,
+    SendTo(&'static [Key], u8),
+    SendLong(&'static [Key]),
     // or takes a message from the channel 7 or from this one.
     Recv,
     RecvOn(u64),
@@ -170,6 +173,17 @@ fn send(
     })
 }
 
+// It sends the peers of these keys a message of these bytes on the channel 7.
+fn send_to(alloc: Global, node: u64, keys: &[Key], bytes: &[u8]) -> Result<Act, AllocError> {
+    Ok(Act::Send {
+        bytes: Bytes::copy_from_slice(alloc, bytes)?,
+        channel: 7,
+        node,
+        priority: false,
+        to: Recipients::Some(List::from_slice(alloc, keys)?),
+    })
+}
+
 // What a node is asked.
 fn act(alloc: Global, node: u64, what: Do) -> Result<Act, AllocError> {
     match what {
@@ -187,6 +201,8 @@ fn act(alloc: Global, node: u64, what: Do) -> Result<Act, AllocError> {
         Do::Send(key, byte) => Ok(send(alloc, node, 7, key, byte, false)?),
         Do::SendFirst(key, byte) => Ok(send(alloc, node, 7, key, byte, true)?),
         Do::SendOn(channel, key, byte) => Ok(send(alloc, node, channel, key, byte, false)?),
+        Do::SendTo(keys, byte) => Ok(send_to(alloc, node, keys, &[byte])?),
+        Do::SendLong(keys) => Ok(send_to(alloc, node, keys, &[1, 2])?),
         Do::Recv => Ok(Act::Recv { channel: 7, node }),
         Do::RecvOn(channel) => Ok(Act::Recv { channel, node }),
         Do::Router => Ok(Act::Router { node }),

@@ -17,6 +17,10 @@ pub enum Said {
     Gone,
     // For how many peers a message was accepted.
     Sent(usize),
+    // How long a message is, and how long it may be.
+    TooLong(usize, usize),
+    // How many messages a channel holds.
+    Capacity(usize),
     // The key of a sender, and the one byte of its message.
     Message(u64, u8),
     Told(Feedback),
@@ -78,7 +82,8 @@ pub enum Put {
     // The tracker or the router of this node is told of this connection and of the key of its peer,
     Connect(u64, u64, u64),
     Ready(u64, u64, u64),
-    // its router answers it, and lists so many peers.
+    // a channel is subscribed, its router answers it, and lists so many peers.
+    Subscribe,
     Answer(u64, u64),
     Peers(u64, usize),
     // A message waits for its router, at this node for this connection, without priority or with it, at this link in this
@@ -115,6 +120,8 @@ pub fn said_by(reply: &Reply) -> Said {
         Reply::Pending => Said::Pending,
         Reply::Gone => Said::Gone,
         Reply::Sent(keys) => Said::Sent(keys.len()),
+        Reply::MessageTooLarge { size, limit } => Said::TooLong(*size, *limit),
+        Reply::Capacity(messages) => Said::Capacity(*messages),
         Reply::Message { bytes, from } => message_of(*from, bytes.as_slice()),
         Reply::Feedback(told) => Said::Told(*told),
         Reply::PeerSetTooLarge { count, limit } => Said::TooLarge(*count, *limit),
@@ -123,7 +130,6 @@ pub fn said_by(reply: &Reply) -> Said {
         Reply::Update(update) => Said::Update(update.index, update.all.primary.len()),
         Reply::Blocked(keys) => Said::Blocked(keys.len()),
         Reply::Gates(told) => Said::Gates(*told),
-        _ => Said::Other,
     }
 }
 
@@ -160,6 +166,7 @@ fn put_for_connection(put: &(Queue, Item)) -> Put {
         (Queue::Router(node), Item::Ready { conn, key }) => Put::Ready(*node, *conn, key.0),
         (Queue::Ready { node, conn }, Item::Answer) => Put::Answer(*node, *conn),
         (Queue::Peers { node, .. }, Item::Peers(keys)) => Put::Peers(*node, keys.len()),
+        (Queue::Router(_), Item::Subscribe(_)) => Put::Subscribe,
         (Queue::Router(_), Item::Content { .. }) => Put::Content,
         (Queue::Low { node, conn }, Item::Frame { .. }) => Put::Waiting(*node, *conn),
         (Queue::High { node, conn }, Item::Frame { .. }) => Put::WaitingFirst(*node, *conn),
@@ -220,6 +227,26 @@ pub fn newest(log: &[Entry]) -> Seen {
             puts_of(entry.puts.as_slice()),
         ),
         None => Seen(Said::Other, 0, Puts::Nothing),
+    }
+}
+
+// Whether these puts are one message for these keys, or none where there is no key.
+fn puts_for(puts: &[(Queue, Item)], keys: &[Key]) -> bool {
+    match puts {
+        [] => keys.is_empty(),
+        [(_, Item::Content { to, .. })] => to.as_slice() == keys,
+        _ => false,
+    }
+}
+
+// Whether the newest of these entries accepted a message for these keys, in this order, and put it for the same.
+pub fn newest_is_sent_to(log: &[Entry], keys: &[Key]) -> bool {
+    match log.last() {
+        Some(entry) => match &entry.reply {
+            Reply::Sent(to) => to.as_slice() == keys && puts_for(entry.puts.as_slice(), keys),
+            _ => false,
+        },
+        None => false,
     }
 }
 
