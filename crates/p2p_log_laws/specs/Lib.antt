@@ -1,3 +1,4 @@
+pub mod Admitted
 pub mod BulkEnds
 pub mod Causes
 pub mod Delivered

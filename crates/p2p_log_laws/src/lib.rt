@@ -11,6 +11,7 @@ pub mod handshakes;
 pub mod leading;
 pub mod moving;
 pub mod order;
+pub mod sends;
 pub mod worked;
 
 pub use causes::each_drop_shows_its_cause;
@@ -22,4 +23,5 @@ pub use handshakes::handshakes_have_one_answer;
 pub use leading::connections_lead_to_their_peers;
 pub use moving::{bulk_ends_are_whole, flow_keeps_order};
 pub use order::delivered_in_order;
+pub use sends::sends_are_admitted;
 pub use worked::worked_rows;

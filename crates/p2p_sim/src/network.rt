@@ -15,7 +15,7 @@ use p2p_base::List;
 use p2p_log::{Config, Event};
 use p2p_log_laws::{
     connections_lead_to_their_peers, delivered_in_order, each_drop_shows_its_cause, fates_are_true,
-    handshakes_have_one_answer, node_grants, one_end, only_sent_is_delivered,
+    handshakes_have_one_answer, node_grants, one_end, only_sent_is_delivered, sends_are_admitted,
 };
 use p2p_net::{RunError as WorldError, World};
 use p2p_sim_command::{Program, Refusal, RunError};
@@ -47,11 +47,12 @@ impl Program for Network {
     }
 }
 
-// Each copy has its end, each grant its holder or its release, each handshake one answer, and each connection its peer, in each
-// lawful log.
+// Each send is for those whom its quota admits, each copy has its end, each grant its holder or its release, each handshake one
+// answer, and each connection its peer, in each lawful log.
 fn account()
     ensures { (configs : List OneConfig) (script : List OneEvent) (log : List Entry) → IsLawful configs script log → IsAccounted configs log }
 {
+    sends_are_admitted();
     one_end();
     only_sent_is_delivered();
     delivered_in_order();
