@@ -241,7 +241,7 @@ module _ (w : Words) (n name : ℕ) where
     same_named m h k = grind (arith, nat_tests)
 
     kinds_silent : EachKind n Silent
-    kinds_silent = record { kill = λ conn. refl; update = λ e u. refl; blocked = λ e keys. refl; heard = λ ips. refl; answer = λ e o. refl }
+    kinds_silent = record { kill = λ conn any. refl; update = λ e u. refl; blocked = λ e keys. refl; heard = λ ips. refl; answer = λ e o. refl }
 
     none_put : (xs : List (Queue × Item)) (b : Bool) → Each Silent xs → count_by (is_for w n name) xs + 0 ≤ one b
     none_put xs b silent = none (count_by (is_for w n name) xs) (one b) (count_by-none (is_for w n name) xs silent)

@@ -72,7 +72,7 @@ module _ (n name : ℕ) where
   all_unasked xs h = Each-weaker (Silent exchanges n name) Unasked silent_unasked xs h
 
   kinds_unasked : EachKind n Unasked
-  kinds_unasked = record { kill = λ conn. refl; update = λ e u. refl; blocked = λ e keys. refl; heard = λ ips. refl; answer = λ e o. refl }
+  kinds_unasked = record { kill = λ conn any. refl; update = λ e u. refl; blocked = λ e keys. refl; heard = λ ips. refl; answer = λ e o. refl }
 
   module _ (configs : List Config) (log : List Entry) (at seed : ℕ) where
     out_of_reach : (a : Act) (r : Row) → Shape configs log a r → writes configs log a (queue.Tracker n) ≡ false → Each Unasked r.puts

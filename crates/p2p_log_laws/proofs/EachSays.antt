@@ -123,7 +123,7 @@ module _ (configs : List Config) (log : List Entry) where
 
     module _ (n : ℕ) where
       kinds_say : EachKind n P
-      kinds_say = record { kill = λ conn. tt; update = λ e u. tt; blocked = λ e keys. tt; heard = λ ips. tt; answer = λ e o. tt }
+      kinds_say = record { kill = λ conn any. tt; update = λ e u. tt; blocked = λ e keys. tt; heard = λ ips. tt; answer = λ e o. tt }
 
       module _ (rules : Rules Key) (us bs : List ℕ) (calls : List (Call Key)) where
         granted_says : (h : ℕ) (key : Key) → IsPeer log h key → (b : Bool) → Says configs log (queue.Handshake n h) (item.Listen (cond b (Some key) None))

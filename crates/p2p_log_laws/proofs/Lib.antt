@@ -47,6 +47,7 @@ pub mod HandshakeShape
 pub mod HeldCalls
 pub mod HeldPeers
 pub mod Holding
+pub mod Killing
 pub mod Leads
 pub mod Leaving
 pub mod Ledger

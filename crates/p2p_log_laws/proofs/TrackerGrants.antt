@@ -52,7 +52,7 @@ turn_of grants frees = cond grants (true ∷ []) (cond frees (false ∷ []) [])
 
 module _ (n : ℕ) (key : Key) (rules : Rules Key) where
   kinds_plain : EachKind n (Plain n key)
-  kinds_plain = record { kill = λ conn. (refl, refl); update = λ e u. (refl, refl); blocked = λ e keys. (refl, refl); heard = λ ips. (refl, refl); answer = λ e o. (refl, refl) }
+  kinds_plain = record { kill = λ conn any. (refl, refl); update = λ e u. (refl, refl); blocked = λ e keys. (refl, refl); heard = λ ips. (refl, refl); answer = λ e o. (refl, refl) }
 
   -- what these puts grant, where this key is held before and after, and a release of it is taken or not
   pub record Turn (xs : List Put) (frees before after : Bool) : Type 0 where

@@ -131,7 +131,7 @@ IsTold n x = IsQuiet x × (in_tracker n x.0 ≡ true)
 
 kinds_told : (n : ℕ) → EachKind n (IsTold n)
 kinds_told n = record {
-  kill = λ conn. ((refl, refl), eq-eqb n n refl);
+  kill = λ conn any. ((refl, refl), eq-eqb n n refl);
   update = λ e u. ((refl, refl), eq-eqb n n refl);
   blocked = λ e keys. ((refl, refl), eq-eqb n n refl);
   heard = λ ips. ((refl, refl), eq-eqb n n refl);

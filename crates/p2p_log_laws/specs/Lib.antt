@@ -5,6 +5,7 @@ pub mod Delivered
 pub mod Fates
 pub mod Flow
 pub mod Grants
+pub mod Kills
 pub mod Leading
 pub mod Leaving
 pub mod NodeGrants

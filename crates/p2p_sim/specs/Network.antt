@@ -10,6 +10,7 @@ use Rattle.p2p_base.specs.declared.key.Key.{Key}
 use Rattle.p2p_log_laws.specs.Grants.{GrantsAlternate, HasOneHolder, EachIsReleased}
 use Rattle.p2p_log_laws.specs.NodeGrants.{granting}
 use Rattle.p2p_log_laws.specs.OneAnswer.{HasOneAnswer}
+use Rattle.p2p_log_laws.specs.Kills.{EachKillShowsItsCause}
 use Rattle.p2p_log_laws.specs.Leading.{ConnectionsAreOne, ConnectionsLead, EndsMeet}
 use Rattle.p2p_log_laws.specs.OneEnd.{EachHasOneEnd, NothingElseEnds}
 use Rattle.p2p_log_laws.specs.Delivered.{EachIsDelivery, EachDeliveredIsRead}
@@ -58,8 +59,8 @@ pub record HasRunScript (configs : List Config) (script : List Event) (world : W
 -- end: delivered once, or waiting in a queue, or dropped; what is delivered was sent, is read, and in order; each drop shows its
 -- cause; the fate of each copy, which the report tells, is true; each key that is reserved at a node is held by one thing there, or
 -- its one release waits; each handshake waits for one answer at a time, is told once how the exchange over its link ended, and asks
--- for its peer once after that; and each connection that a spawner made leads to the peer that is reserved for it, is the only one of
--- its node that does, and meets the one of its peer
+-- for its peer once after that; each connection that a spawner made leads to the peer that is reserved for it, is the only one of
+-- its node that does, and meets the one of its peer; and each kill of a connection shows its cause
 pub record IsAccounted (configs : List Config) (log : List Entry) : Type 0 where
   pub admitted : EachIsAdmitted configs log
   pub one_end : EachHasOneEnd log
@@ -82,6 +83,7 @@ pub record IsAccounted (configs : List Config) (log : List Entry) : Type 0 where
   pub leads : ConnectionsLead configs log
   pub once : ConnectionsAreOne log
   pub ends : EndsMeet configs log
+  pub kills : EachKillShowsItsCause configs log
 
 -- the tree says a script, the world ran it, and the text is the report of the world's log, in which each copy has its end
 pub record RunsTree (tree : Data) (world : WorldView) (text : List ℕ) : Type 0 where
