@@ -1,4 +1,5 @@
 pub mod Admitted
+pub mod Beginning
 pub mod BulkEnds
 pub mod Causes
 pub mod Delivered

@@ -2,6 +2,7 @@
 //! functions that state the laws.
 #![tactic(auto)]
 
+pub mod beginning;
 pub mod causes;
 pub mod delivery;
 pub mod ends;
@@ -15,6 +16,7 @@ pub mod order;
 pub mod sends;
 pub mod worked;
 
+pub use beginning::connections_begin_reserved;
 pub use causes::each_drop_shows_its_cause;
 pub use delivery::only_sent_is_delivered;
 pub use ends::one_end;

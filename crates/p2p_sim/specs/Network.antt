@@ -16,6 +16,7 @@ use Rattle.p2p_log_laws.specs.OneEnd.{EachHasOneEnd, NothingElseEnds}
 use Rattle.p2p_log_laws.specs.Delivered.{EachIsDelivery, EachDeliveredIsRead}
 use Rattle.p2p_log_laws.specs.Order.{AreDeliveredInOrder, AreDeliveredInOrderOverOne, AreDeliveredInOrderOfConnections, EachWentOver}
 use Rattle.p2p_log_laws.specs.Admitted.{EachIsAdmitted}
+use Rattle.p2p_log_laws.specs.Beginning.{EachBeginsReserved}
 use Rattle.p2p_log_laws.specs.Causes.{EachDropShowsItsCause}
 use Rattle.p2p_log_laws.specs.Fates.{EachHasFate, WaitingIsTrue, DroppedIsTrue, DeliveredIsTrue}
 use Rattle.p2p_sim_script.specs.Form.{script_of}
@@ -60,7 +61,7 @@ pub record HasRunScript (configs : List Config) (script : List Event) (world : W
 -- cause; the fate of each copy, which the report tells, is true; each key that is reserved at a node is held by one thing there, or
 -- its one release waits; each handshake waits for one answer at a time, is told once how the exchange over its link ended, and asks
 -- for its peer once after that; each connection that a spawner made leads to the peer that is reserved for it, is the only one of
--- its node that does, and meets the one of its peer; and each kill of a connection shows its cause
+-- its node that does, meets the one of its peer, and begins while its key is reserved; and each kill of one shows its cause
 pub record IsAccounted (configs : List Config) (log : List Entry) : Type 0 where
   pub admitted : EachIsAdmitted configs log
   pub one_end : EachHasOneEnd log
@@ -83,6 +84,7 @@ pub record IsAccounted (configs : List Config) (log : List Entry) : Type 0 where
   pub leads : ConnectionsLead configs log
   pub once : ConnectionsAreOne log
   pub ends : EndsMeet configs log
+  pub begins : EachBeginsReserved configs log
   pub kills : EachKillShowsItsCause configs log
 
 -- the tree says a script, the world ran it, and the text is the report of the world's log, in which each copy has its end

@@ -14,9 +14,9 @@ ghost use Rattle.p2p_sim_command.specs.declared.program.RunError.TheVariants as 
 use p2p_base::List;
 use p2p_log::{Config, Event};
 use p2p_log_laws::{
-    connections_lead_to_their_peers, delivered_in_order, each_drop_shows_its_cause,
-    each_kill_shows_its_cause, fates_are_true, handshakes_have_one_answer, node_grants, one_end,
-    only_sent_is_delivered, sends_are_admitted,
+    connections_begin_reserved, connections_lead_to_their_peers, delivered_in_order,
+    each_drop_shows_its_cause, each_kill_shows_its_cause, fates_are_true,
+    handshakes_have_one_answer, node_grants, one_end, only_sent_is_delivered, sends_are_admitted,
 };
 use p2p_net::{RunError as WorldError, World};
 use p2p_sim_command::{Program, Refusal, RunError};
@@ -62,6 +62,7 @@ fn account()
     node_grants();
     handshakes_have_one_answer();
     connections_lead_to_their_peers();
+    connections_begin_reserved();
     each_kill_shows_its_cause();
 }
 

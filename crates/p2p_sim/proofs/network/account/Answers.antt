@@ -3,6 +3,7 @@ use Rattle.p2p_sim.proofs.network.account.Goals as goal
 pub returns : goal.returns
 returns c = λ configs script log lawful.
     record {
+      admitted = c.sends_are_admitted.ensures configs script log lawful;
       one_end = c.one_end.ensures.copies configs script log lawful;
       nothing_else = c.one_end.ensures.nothing_else configs script log lawful;
       delivery = c.only_sent_is_delivered.ensures.sent configs script log lawful;
@@ -23,4 +24,6 @@ returns c = λ configs script log lawful.
       ends = c.connections_lead_to_their_peers.ensures.ends configs script log lawful;
       once = c.connections_lead_to_their_peers.ensures.once configs script log lawful;
       answered = λ n name. c.handshakes_have_one_answer.ensures configs script log n name lawful;
+      begins = c.connections_begin_reserved.ensures configs script log lawful;
+      kills = c.each_kill_shows_its_cause.ensures configs script log lawful;
     }
