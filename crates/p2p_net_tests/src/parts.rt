@@ -100,7 +100,7 @@ enum Flying {
 }
 
 // What the row of a batch shows, and the three oldest frames in flight after it.
-type Written = (Seen, [Flying; 3]);
+type Written = (Seen, Flying, Flying, Flying);
 
 // Takes the oldest frame in flight.
 fn landed(links: &mut Links) -> Result<Flying, AllocError> {
@@ -141,7 +141,7 @@ fn batch(alloc: Global, ping: bool, one: bool) -> Result<Written, AllocError> {
     let first = landed(&mut links)?;
     let second = landed(&mut links)?;
     let third = landed(&mut links)?;
-    Ok((seen, [first, second, third]))
+    Ok((seen, first, second, third))
 }
 
 const PING: Put = Put::Pinged(9, Side::In);
@@ -149,37 +149,45 @@ const PING: Put = Put::Pinged(9, Side::In);
 const MESSAGE: Put = Put::Written(9, Side::In);
 
 // With a ping, with a message, and what that shows.
-const BATCHES: &[(bool, bool, Seen, [Flying; 3])] = &[
+const BATCHES: &[(bool, bool, Seen, Flying, Flying, Flying)] = &[
     (
         false,
         false,
         Seen(Said::Idle, 0, Puts::Nothing),
-        [Flying::Nothing, Flying::Nothing, Flying::Nothing],
+        Flying::Nothing,
+        Flying::Nothing,
+        Flying::Nothing,
     ),
     (
         true,
         false,
         Seen(Said::Ok, 0, Puts::One(PING)),
-        [Flying::Ping, Flying::Nothing, Flying::Nothing],
+        Flying::Ping,
+        Flying::Nothing,
+        Flying::Nothing,
     ),
     (
         false,
         true,
         Seen(Said::Ok, 1, Puts::One(MESSAGE)),
-        [Flying::Message((1, 0)), Flying::Nothing, Flying::Nothing],
+        Flying::Message((1, 0)),
+        Flying::Nothing,
+        Flying::Nothing,
     ),
     (
         true,
         true,
         Seen(Said::Ok, 1, Puts::Two(PING, MESSAGE)),
-        [Flying::Ping, Flying::Message((1, 0)), Flying::Nothing],
+        Flying::Ping,
+        Flying::Message((1, 0)),
+        Flying::Nothing,
     ),
 ];
 
 // The place of the first batch that shows another thing. `None` where each shows what is written.
 fn first_other_batch(alloc: Global) -> Result<Option<usize>, AllocError> {
     for (i, row) in BATCHES.iter().enumerate() {
-        if batch(alloc, row.0, row.1)? != (row.2, row.3) {
+        if batch(alloc, row.0, row.1)? != (row.2, row.3, row.4, row.5) {
             return Ok(Some(i));
         }
     }
