@@ -37,11 +37,10 @@ fn keeps_connections(
 ) -> Result<bool, AllocError>
     ensures { IfOk result (λ b. b ≡ form.keeps_connections configs.now script.now) }
 {
-    Ok(
-        keeps_messages(alloc, configs, script)?
-            && keeps_peers(alloc, script)?
-            && keeps_links(alloc, configs, script)?,
-    )
+    if !keeps_messages(alloc, configs, script)? || !keeps_peers(alloc, script)? {
+        return Ok(false);
+    }
+    Ok(keeps_links(alloc, configs, script)?)
 }
 
 fn keeps_messages(alloc: Global, configs: &[Config], script: &[Event]) -> Result<bool, AllocError>
