@@ -14,10 +14,11 @@ use Rattle.p2p_log.specs.declared.event.Recipients.TheVariants as recipients
 use Rattle.p2p_log.specs.Lines.{same_name, live}
 use Rattle.p2p_log.specs.Sending.{sending_of, sending_at, keys_sent}
 
--- whom a message is for, in order
-abbrev pub keys_of_recipients : Recipients → List Key
-keys_of_recipients (recipients.One k) = k ∷ []
-keys_of_recipients (recipients.Some ks) = ks
+-- whom a message is for, in order, where these are all
+abbrev pub keys_of_recipients : List Key → Recipients → List Key
+keys_of_recipients all recipients.All = all
+keys_of_recipients all (recipients.One k) = k ∷ []
+keys_of_recipients all (recipients.Some ks) = ks
 
 -- the keys for whom an act with this reply sends
 abbrev pub accepted_by : Act → Reply → List Key

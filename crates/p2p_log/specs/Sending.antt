@@ -1,6 +1,8 @@
 -- Which entries are accepted sends, and what each of them sent.
 use Rattle.std.specs.Prelude.{ℕ, Bool, List, [], Option, Some, None, slice_get}
 use Rattle.p2p_base.specs.declared.key.Key.{Key}
+use Rattle.p2p_base.specs.declared.outcome.Feedback.TheVariants as feedback
+use Rattle.p2p_base.specs.declared.outcome.Unreliable.TheVariants.{Outcome}
 use Rattle.p2p_log.specs.declared.entry.Entry.{Entry}
 use Rattle.p2p_log.specs.declared.entry.Reply.{Reply}
 use Rattle.p2p_log.specs.declared.entry.Reply.TheVariants as reply
@@ -24,6 +26,8 @@ pub record Sending : Type 0 where
 -- what an act with this reply sends: the one place that knows which acts send
 abbrev pub sending_of : Act → Reply → Option Sending
 sending_of (act.Send bytes c n priority to) (reply.Sent keys) =
+    Some (record { by = Node n; channel = c; priority = priority; bytes = bytes; keys = keys })
+sending_of (act.SendChecked bytes check priority) (reply.Outcome (Outcome feedback.Ok) n c keys) =
     Some (record { by = Node n; channel = c; priority = priority; bytes = bytes; keys = keys })
 sending_of _ _ = None
 

@@ -4,7 +4,7 @@ use crate::event::Event;
 use crate::item::Item;
 use crate::queue::Queue;
 use bytes::Bytes;
-use p2p_base::{Feedback, Key, List, Set};
+use p2p_base::{Feedback, Key, List, Set, Unreliable};
 use p2p_flow::{PeerSetUpdate, TrackedPeers};
 use p2p_gates_rules::Reply as GatesReply;
 
@@ -23,14 +23,35 @@ pub enum Reply {
     Capacity(usize),
     /// The message was accepted for these recipients.
     Sent(List<Key>),
+    /// The quota admits these keys, and a message to them may be sent.
+    Checked(List<Key>),
+    /// The quota admits none of the keys. Each has a moment from which it is admitted again; this is the latest of them, in
+    /// nanoseconds.
+    Retry(u128),
+    /// What the router's mailbox made of a message to the keys that a check admitted, on this channel of this node.
+    Outcome {
+        outcome: Unreliable,
+        node: u64,
+        channel: u64,
+        keys: List<Key>,
+    },
     /// A message, and the key of its sender.
-    Message { bytes: Bytes, from: Key },
+    Message {
+        bytes: Bytes,
+        from: Key,
+    },
     /// The message has this many bytes, and this many it may have.
-    MessageTooLarge { size: usize, limit: usize },
+    MessageTooLarge {
+        size: usize,
+        limit: usize,
+    },
     /// What the tracker's mailbox made of a question.
     Feedback(Feedback),
     /// The set has this many keys, and this many it may have.
-    PeerSetTooLarge { count: usize, limit: usize },
+    PeerSetTooLarge {
+        count: usize,
+        limit: usize,
+    },
     /// The peers of the set, or none where no set of that index is kept.
     PeerSet(Option<TrackedPeers<Key>>),
     /// What a subscription to peer sets is told next.

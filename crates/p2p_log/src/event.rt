@@ -17,6 +17,8 @@ pub struct Rate {
 /// Whom a message is for.
 #[derive(Drop)]
 pub enum Recipients {
+    /// Each peer of the newest list that the channel was told of.
+    All,
     /// One peer.
     One(Key),
     /// These peers, in order; one that is named twice is meant twice.
@@ -43,6 +45,18 @@ pub enum Act {
         node: u64,
         priority: bool,
         to: Recipients,
+    },
+    /// Asks the quota of a channel for these peers. What it admits waits for one message, which names this event.
+    Check {
+        channel: u64,
+        node: u64,
+        to: Recipients,
+    },
+    /// Sends bytes to those whom the check of this event admitted, on its channel.
+    SendChecked {
+        bytes: Bytes,
+        check: u64,
+        priority: bool,
     },
     /// One step of a node's router.
     Router {
@@ -144,16 +158,18 @@ impl Recipients {
         ensures { IfOk result (λ r. r ≡ self.now) }
     {
         match self {
+            Recipients::All => Ok(Recipients::All),
             Recipients::One(key) => Ok(Recipients::One(*key)),
             Recipients::Some(keys) => Ok(Recipients::Some(keys.try_clone(alloc)?)),
         }
     }
 
-    /// The keys, in order.
-    pub fn keys(&self, alloc: Global) -> Result<List<Key>, AllocError>
-        ensures { IfOk result (λ keys. keys ≡ keys_of_recipients self.now) }
+    /// The keys, in order, where these are all.
+    pub fn keys(&self, alloc: Global, all: List<Key>) -> Result<List<Key>, AllocError>
+        ensures { IfOk result (λ keys. keys ≡ keys_of_recipients all self.now) }
     {
         match self {
+            Recipients::All => Ok(all),
             Recipients::One(key) => Ok(List::from_slice(alloc, &[*key])?),
             Recipients::Some(keys) => Ok(keys.try_clone(alloc)?),
         }
@@ -188,6 +204,20 @@ impl Act {
                 node: *node,
                 priority: *priority,
                 to: to.try_clone(alloc)?,
+            }),
+            Act::Check { channel, node, to } => Ok(Act::Check {
+                channel: *channel,
+                node: *node,
+                to: to.try_clone(alloc)?,
+            }),
+            Act::SendChecked {
+                bytes,
+                check,
+                priority,
+            } => Ok(Act::SendChecked {
+                bytes: bytes.clone()?,
+                check: *check,
+                priority: *priority,
             }),
             Act::Router { node } => Ok(Act::Router { node: *node }),
             Act::SendStep { conn, node } => Ok(Act::SendStep {

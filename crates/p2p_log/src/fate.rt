@@ -11,7 +11,7 @@ use crate::event::Act;
 use crate::item::Item;
 use crate::queue::Queue;
 use crate::report::{Fate, Report};
-use p2p_base::Key;
+use p2p_base::{Feedback, Key, Unreliable};
 
 impl Entry {
     /// The keys for whom a send was accepted, one for each copy. None where the entry is of no accepted send.
@@ -20,6 +20,14 @@ impl Entry {
     {
         match (&self.event.act, &self.reply) {
             (Act::Send { .. }, Reply::Sent(keys)) => keys.as_slice(),
+            (
+                Act::SendChecked { .. },
+                Reply::Outcome {
+                    outcome: Unreliable::Outcome(Feedback::Ok),
+                    keys,
+                    ..
+                },
+            ) => keys.as_slice(),
             _ => &[],
         }
     }

@@ -1,5 +1,6 @@
 pub mod Attempts
 pub mod Calls
+pub mod Checking
 pub mod Connections
 pub mod Facts
 pub mod Handshakes

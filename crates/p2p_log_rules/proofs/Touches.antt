@@ -12,11 +12,14 @@ use Rattle.p2p_log.specs.declared.event.Event.{Event}
 use Rattle.p2p_log.specs.declared.asked.Asked.TheVariants as ask
 use Rattle.p2p_log.specs.declared.event.Act.{Act}
 use Rattle.p2p_log.specs.declared.event.Act.TheVariants as act
+use Rattle.p2p_log.specs.declared.event.Recipients.{Recipients}
+use Rattle.p2p_log.specs.declared.event.Recipients.TheVariants as recipients
 use Rattle.p2p_log_rules.specs.declared.row.Row.{Row}
 use Rattle.p2p_log.specs.QueueCode.{same_queue}
 use Rattle.p2p_log.specs.Lines.{stands_in, line}
 use Rattle.p2p_log_rules.specs.declared.row.Half.{Half}
 use Rattle.p2p_log_rules.specs.declared.row.Opening.{Opening}
+use Rattle.p2p_log_rules.specs.Checking.{checking_node}
 use Rattle.p2p_log_rules.specs.Connections.{half_at}
 use Rattle.p2p_log_rules.specs.Links.{openings_of}
 use Rattle.p2p_log_rules.specs.Reading.{reading_of}
@@ -95,8 +98,19 @@ is_told_to _ e q = false
 abbrev pub is_among : List Queue → Queue → Bool
 is_among qs q = list_any (λ p. same_queue p q) qs
 
+-- the list of peers that waits for a channel, for what asks its quota for all
+abbrev pub are_all : Recipients → Bool
+are_all recipients.All = true
+are_all _ = false
+
+abbrev pub in_lists : Recipients → ℕ → ℕ → Queue → Bool
+in_lists to n c (queue.Peers m d) = are_all to && ((m == n) && (d == c))
+in_lists to n c _ = false
+
 -- the queues from which an act takes, after these entries
 abbrev pub reads : List Config → List Entry → Act → Queue → Bool
+reads configs log (act.Send bytes c n priority to) q = in_lists to n c q
+reads configs log (act.Check c n to) q = in_lists to n c q
 reads configs log (act.Router n) q = same_queue (queue.Router n) q
 reads configs log (act.SendStep conn n) q = in_half (half_at log n conn) n conn q
 reads configs log (act.RecvStep conn n) q = in_held n conn q || in_link (half_at log n conn) q
@@ -114,6 +128,7 @@ reads configs log a q = elim (reading_of configs log a) [ None ↦ false | Some 
 abbrev pub writes : List Config → List Entry → Act → Queue → Bool
 writes configs log (act.Start n) q = same_queue (queue.Router n) q
 writes configs log (act.Send bytes c n priority to) q = same_queue (queue.Router n) q
+writes configs log (act.SendChecked bytes check priority) q = same_queue (queue.Router (checking_node log check)) q
 writes configs log (act.Router n) q = in_router n q
 writes configs log (act.SendStep conn n) q = in_mailboxes n q || in_half (half_at log n conn) n conn q
 writes configs log (act.RecvStep conn n) q = in_held n conn q || in_channels n q

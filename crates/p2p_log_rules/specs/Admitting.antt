@@ -1,14 +1,15 @@
 -- What the quota of a channel admits of what its node sends, by the log: it counts each key apart.
-use Rattle.std.specs.Prelude.{ℕ, ◌==◌, ◌&&◌, cond, List, [], ◌∷◌, Option, Some, None}
+use Rattle.std.specs.Prelude.{ℕ, max, ◌==◌, ◌&&◌, cond, List, [], ◌∷◌, Option, Some, None}
 use Rattle.p2p_base.specs.declared.key.Key.{Key}
-use Rattle.p2p_runtime.specs.QuotaLaw.{Rate as Quota, admits}
+use Rattle.p2p_runtime.specs.QuotaLaw.{Rate as Quota, admits, retry}
 use Rattle.p2p_runtime.specs.QuotaKeys.{with_admission}
 use Rattle.p2p_log.specs.declared.entry.Entry.{Entry}
 use Rattle.p2p_log.specs.declared.event.Rate.{Rate}
 use Rattle.p2p_log.specs.declared.event.Act.{Act}
 use Rattle.p2p_log.specs.declared.event.Act.TheVariants as act
+use Rattle.p2p_log.specs.declared.event.Recipients.{Recipients}
 use Rattle.p2p_log.specs.Copies.{keys_of_recipients}
-use Rattle.p2p_log_rules.specs.Facts.{events_of, rates, rate_in, state_from}
+use Rattle.p2p_log_rules.specs.Facts.{events_of, rates, rate_in, state_from, peers_told}
 use Rattle.p2p_log_rules.specs.Listening.{quota_of}
 use Rattle.p2p_log_rules.specs.Tracking.{key_cmp}
 
@@ -18,6 +19,12 @@ module _ (quota : Quota) (at : ℕ) where
   admitted_keys [] past = []
   admitted_keys (k ∷ ks) past =
       cond (admits quota (past k) at) (k ∷ admitted_keys ks (with_admission key_cmp past k at)) (admitted_keys ks past)
+
+  -- the latest of the moments from which those are admitted that it refuses, where it refuses some
+  abbrev pub latest_retry : List Key → (Key → List ℕ) → ℕ
+  latest_retry [] past = 0
+  latest_retry (k ∷ ks) past =
+      cond (admits quota (past k) at) (latest_retry ks (with_admission key_cmp past k at)) (max (retry quota (past k)) (latest_retry ks past))
 
   -- the moments at which it admitted each, after that
   abbrev pub moments_after : List Key → (Key → List ℕ) → Key → List ℕ
@@ -30,6 +37,10 @@ abbrev pub keys_by : Option Rate → ℕ → List Key → (Key → List ℕ) →
 keys_by None at keys past = []
 keys_by (Some rate) at keys past = admitted_keys (quota_of rate) at keys past
 
+abbrev pub retry_by : Option Rate → ℕ → List Key → (Key → List ℕ) → ℕ
+retry_by None at keys past = 0
+retry_by (Some rate) at keys past = latest_retry (quota_of rate) at keys past
+
 abbrev pub moments_by : Option Rate → ℕ → List Key → (Key → List ℕ) → Key → List ℕ
 moments_by None at keys past k = past k
 moments_by (Some rate) at keys past k = moments_after (quota_of rate) at keys past k
@@ -38,18 +49,32 @@ moments_by (Some rate) at keys past k = moments_after (quota_of rate) at keys pa
 abbrev pub rate_at : List Entry → ℕ → ℕ → Option Rate
 rate_at log n c = rate_in (rates (events_of log) n) c
 
--- after an act, at a moment
-abbrev pub acted_moments : ℕ → ℕ → Option Rate → ℕ → Act → (Key → List ℕ) → Key → List ℕ
-acted_moments n c rate at (act.Send bytes d m priority to) past k = cond ((m == n) && (d == c)) (moments_by rate at (keys_of_recipients to) past k) (past k)
-acted_moments n c rate at _ past k = past k
+-- for whom an act asks the quota of a channel of a node, where it does
+abbrev pub asked_for : ℕ → ℕ → Act → Option Recipients
+asked_for n c (act.Send bytes d m priority to) = cond ((m == n) && (d == c)) (Some to) None
+asked_for n c (act.Check d m to) = cond ((m == n) && (d == c)) (Some to) None
+asked_for n c _ = None
+
+-- once it was asked for these at a moment, where those are all
+abbrev pub asked_moments : Option Rate → ℕ → List Key → Option Recipients → (Key → List ℕ) → Key → List ℕ
+asked_moments rate at all None past k = past k
+asked_moments rate at all (Some to) past k = moments_by rate at (keys_of_recipients all to) past k
 
 abbrev pub sent_by : ℕ → ℕ → List Entry → Entry → (Key → List ℕ) → Key → List ℕ
-sent_by n c before e past = acted_moments n c (rate_at before n c) e.event.at e.event.act past
+sent_by n c before e past = asked_moments (rate_at before n c) e.event.at (peers_told before n c) (asked_for n c e.event.act) past
 
 -- the moments at which the quota of a channel of a node admitted each key, oldest first
 unfoldable pub sent_moments : List Entry → ℕ → ℕ → Key → List ℕ
 sent_moments log n c = state_from (sent_by n c) [] log (λ k. [])
 
+-- whom a message on a channel of a node is offered to: all are those of the newest list that the channel was told of
+abbrev pub offered : List Entry → ℕ → ℕ → Recipients → List Key
+offered log n c to = keys_of_recipients (peers_told log n c) to
+
 -- the keys of these that it admits at a moment
 abbrev pub keys_admitted : List Entry → ℕ → ℕ → ℕ → List Key → List Key
 keys_admitted log n c at keys = keys_by (rate_at log n c) at keys (sent_moments log n c)
+
+-- the latest of the moments from which those of these are admitted that it refuses at a moment
+abbrev pub retry_moment : List Entry → ℕ → ℕ → ℕ → List Key → ℕ
+retry_moment log n c at keys = retry_by (rate_at log n c) at keys (sent_moments log n c)

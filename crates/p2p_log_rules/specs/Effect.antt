@@ -1,6 +1,8 @@
 -- The effect of an event: the one entry that it makes, given the configurations and the entries before it.
 use Rattle.std.specs.Prelude.{ℕ, ◌+◌, ◌-◌, Bool, true, false, cond, nat_le, nat_lt, List, [], ◌∷◌, ◌++◌, map, filter, length, take, count_by, Option, Some, None, slice_get}
 use Rattle.p2p_base.specs.declared.key.Key.{Key}
+use Rattle.p2p_base.specs.declared.outcome.Feedback.TheVariants as feedback
+use Rattle.p2p_base.specs.declared.outcome.Unreliable.TheVariants.{Outcome, Rejected}
 use Rattle.p2p_log.specs.declared.config.Config.{Config}
 use Rattle.p2p_log.specs.declared.queue.Queue.{Queue}
 use Rattle.p2p_log.specs.declared.queue.Queue.TheVariants as queue
@@ -11,21 +13,23 @@ use Rattle.p2p_log.specs.declared.item.Item.TheVariants as item
 use Rattle.p2p_log.specs.declared.item.Envelope.{Envelope}
 use Rattle.p2p_log.specs.declared.end.End.{End}
 use Rattle.p2p_log.specs.declared.end.End.TheVariants as end
-use Rattle.p2p_log.specs.declared.end.Outcome.{Outcome}
+use Rattle.p2p_log.specs.declared.end.Outcome.{Outcome as How}
 use Rattle.p2p_log.specs.declared.end.Outcome.TheVariants as outcome
 use Rattle.p2p_log.specs.declared.end.Cause.TheVariants as cause
 use Rattle.p2p_log.specs.declared.entry.Entry.{Entry}
+use Rattle.p2p_log.specs.declared.entry.Reply.{Reply}
 use Rattle.p2p_log.specs.declared.entry.Reply.TheVariants as reply
+use Rattle.p2p_log_rules.specs.declared.row.Checked.{Checked}
 use Rattle.p2p_log_rules.specs.declared.row.Half.{Half}
 use Rattle.p2p_log_rules.specs.declared.row.Row.{Row}
 use Rattle.p2p_log.specs.declared.event.Act.{Act}
 use Rattle.p2p_log.specs.declared.event.Act.TheVariants as act
 use Rattle.p2p_log.specs.declared.event.Rate.{Rate}
 use Rattle.p2p_log.specs.declared.event.Recipients.{Recipients}
+use Rattle.p2p_log.specs.declared.event.Recipients.TheVariants as recipients
 use Rattle.p2p_log.specs.declared.event.Event.{Event}
 use Rattle.p2p_log.specs.QueueCode.{same_queue}
 use Rattle.p2p_log.specs.Lines.{line, live, name_of, stands_in, stays}
-use Rattle.p2p_log.specs.Copies.{keys_of_recipients}
 use Rattle.p2p_log_rules.specs.Facts.{is_up, channels, capacity_in, capacity_for, sum_capacities, subscribers, routes, with_route, keys_in, route_to}
 use Rattle.p2p_log_rules.specs.Connections.{half_at, is_begun, is_running}
 use Rattle.p2p_log_rules.specs.Frames.{frame_of, message_in, is_ping_in}
@@ -33,7 +37,8 @@ pub use Rattle.p2p_log_rules.specs.Metering.{limit_at}
 use Rattle.p2p_log_rules.specs.Metering.{Metered, pings, messages, may_pass}
 use Rattle.p2p_log_rules.specs.Pings.{ping_frame, ping_is_due}
 pub use Rattle.p2p_log_rules.specs.Rows.{only, takes_oldest, mailbox_size_at, overwritten, ring_ends}
-use Rattle.p2p_log_rules.specs.Admitting.{keys_admitted}
+use Rattle.p2p_log_rules.specs.Admitting.{offered, keys_admitted, retry_moment}
+use Rattle.p2p_log_rules.specs.Checking.{checking_node, checked_at}
 use Rattle.p2p_log_rules.specs.Attempting.{attempt_row, resolve_row, refuse_row, connect_row}
 use Rattle.p2p_log_rules.specs.Dialing.{dialer_row}
 use Rattle.p2p_log_rules.specs.Handshaking.{handshake_row}
@@ -54,7 +59,7 @@ start_row configs log n =
     record { reply = reply.Ok; takes = []; puts = map (λ c. (queue.Router n, item.Subscribe c.0)) (channels configs log n); ends = [] }
 
 -- each copy of the send, from this place on, ends so
-abbrev pub copies_end : ℕ → ℕ → List Key → Outcome → List End
+abbrev pub copies_end : ℕ → ℕ → List Key → How → List End
 copies_end send p [] o = []
 copies_end send p (k ∷ ks) o = end.Copy send p o ∷ copies_end send (p + 1) ks o
 
@@ -62,13 +67,23 @@ copies_end send p (k ∷ ks) o = end.Copy send p o ∷ copies_end send (p + 1) k
 abbrev pub router_capacity : List Config → List Entry → ℕ → ℕ
 router_capacity configs log n = mailbox_size_at configs n + sum_capacities (channels configs log n)
 
--- send on a registered channel, by whether the node has started and the router's mailbox is full
-abbrev pub sent_row : Bool → Bool → ℕ → ℕ → ℕ → Bool → List ℕ → List Key → Row
-sent_row false full n send c priority frame to =
-    record { reply = reply.Sent to; takes = []; puts = []; ends = copies_end send 0 to (outcome.Dropped cause.Unbound) }
-sent_row true true n send c priority frame to = only (reply.Sent [])
-sent_row true false n send c priority frame to =
-    record { reply = reply.Sent to; takes = []; puts = (queue.Router n, item.Content c frame priority send to) ∷ []; ends = [] }
+-- what a message comes to that is accepted with one reply and refused with another, by whether the node has started and the
+-- router's mailbox is full
+abbrev pub sent_row : Reply → Reply → Bool → Bool → ℕ → ℕ → ℕ → Bool → List ℕ → List Key → Row
+sent_row accepted refused false full n send c priority frame to =
+    record { reply = accepted; takes = []; puts = []; ends = copies_end send 0 to (outcome.Dropped cause.Unbound) }
+sent_row accepted refused true true n send c priority frame to = only refused
+sent_row accepted refused true false n send c priority frame to =
+    record { reply = accepted; takes = []; puts = (queue.Router n, item.Content c frame priority send to) ∷ []; ends = [] }
+
+-- what takes the list of peers that waits for a channel: what asks its quota for all
+abbrev pub takes_list : List Entry → ℕ → ℕ → Recipients → List (ℕ × ℕ)
+takes_list log n c recipients.All = map name_of (take 1 (line log (queue.Peers n c)))
+takes_list log n c _ = []
+
+-- a row that takes nothing, with these
+abbrev pub taking : List (ℕ × ℕ) → Row → Row
+taking names r = record r { takes = names }
 
 -- and by whether the message is longer than the node lets it be
 abbrev pub fitting_row : Bool → ℕ → ℕ → Row → Row
@@ -80,19 +95,49 @@ abbrev pub admitted_row : List Key → List Key → Row → Row
 admitted_row (k ∷ ks) [] sent = only (reply.Sent [])
 admitted_row to keys sent = sent
 
+-- a message to these keys, which the quota of its channel admitted
+abbrev pub send_to_row : List Config → List Entry → Reply → Reply → List ℕ → ℕ → ℕ → Bool → List Key → Row
+send_to_row configs log accepted refused bytes c n priority keys =
+    fitting_row (nat_lt (limit_at configs n) (length bytes)) (length bytes) (limit_at configs n)
+    (sent_row accepted refused (is_up log n) (nat_le (router_capacity configs log n) (length (line log (queue.Router n)))) n (length log) c priority (frame_of c bytes) keys)
+
 -- send to these keys of those that it is for
 abbrev pub send_keys_row : List Config → List Entry → List ℕ → ℕ → ℕ → Bool → List Key → List Key → Row
 send_keys_row configs log bytes c n priority to keys =
-    admitted_row to keys
-    (fitting_row (nat_lt (limit_at configs n) (length bytes)) (length bytes) (limit_at configs n)
-    (sent_row (is_up log n) (nat_le (router_capacity configs log n) (length (line log (queue.Router n)))) n (length log) c priority (frame_of c bytes) keys))
+    admitted_row to keys (send_to_row configs log (reply.Sent keys) (reply.Sent []) bytes c n priority keys)
 
 abbrev pub send_row : List Config → List Entry → List ℕ → ℕ → ℕ → Bool → Recipients → ℕ → Row
 send_row configs log bytes c n priority to at =
     elim (capacity_in (channels configs log n) c) [
       | None ↦ only reply.Gone
-      | Some _ ↦ send_keys_row configs log bytes c n priority (keys_of_recipients to) (keys_admitted log n c at (keys_of_recipients to))
+      | Some _ ↦ taking (takes_list log n c to) (send_keys_row configs log bytes c n priority (offered log n c to) (keys_admitted log n c at (offered log n c to)))
     ]
+
+-- check: what the channel's quota admits of these keys, or where it admits none of them, when it does
+abbrev pub checked_row : List Key → List Key → ℕ → Row
+checked_row (k ∷ ks) [] retry = only (reply.Retry retry)
+checked_row to keys retry = only (reply.Checked keys)
+
+abbrev pub check_row : List Config → List Entry → ℕ → ℕ → Recipients → ℕ → Row
+check_row configs log c n to at =
+    elim (capacity_in (channels configs log n) c) [
+      | None ↦ only reply.Gone
+      | Some _ ↦
+          taking (takes_list log n c to)
+          (checked_row (offered log n c to) (keys_admitted log n c at (offered log n c to)) (retry_moment log n c at (offered log n c to)))
+    ]
+
+-- send_checked: to the keys that a check of a node admitted, on its channel, where no message was sent to them yet
+abbrev pub spent_row : List Config → List Entry → List ℕ → ℕ → Bool → Option Checked → Row
+spent_row configs log bytes n priority None = only reply.Gone
+spent_row configs log bytes n priority (Some checked) =
+    send_to_row configs log
+    (reply.Outcome (Outcome feedback.Ok) n checked.channel checked.keys) (reply.Outcome Rejected n checked.channel checked.keys)
+    bytes checked.channel n priority checked.keys
+
+abbrev pub send_checked_row : List Config → List Entry → List ℕ → ℕ → Bool → Row
+send_checked_row configs log bytes check priority =
+    let n = checking_node log check in spent_row configs log bytes n priority (checked_at log n check)
 
 -- recv: the oldest message of the channel
 abbrev pub read_row : ℕ × ℕ → Item → Row
@@ -325,6 +370,8 @@ unfoldable pub row : List Config → List Entry → ℕ → ℕ → Act → Row
 row configs log at seed (act.Register c n rate) = register_row configs n rate
 row configs log at seed (act.Start n) = start_row configs log n
 row configs log at seed (act.Send bytes c n priority to) = send_row configs log bytes c n priority to at
+row configs log at seed (act.Check c n to) = check_row configs log c n to at
+row configs log at seed (act.SendChecked bytes check priority) = send_checked_row configs log bytes check priority
 row configs log at seed (act.Router n) = router_row configs log n
 row configs log at seed (act.SendStep conn n) = send_step_row configs log conn n at
 row configs log at seed (act.RecvStep conn n) = recv_step_row configs log conn n at

@@ -1,5 +1,6 @@
 pub mod Admitting
 pub mod Attempting
+pub mod Checking
 pub mod Connections
 pub mod Dialing
 pub mod Effect

@@ -75,6 +75,15 @@ dials_node n (Some v) = elim v.act [ act.Dialer m ↦ m == n | _ ↦ false ]
 abbrev pub names_dialer : List Event → ℕ → ℕ → Bool
 names_dialer events n e = dials_node n (slice_get events e)
 
+-- the node at which an act checks, where it does
+abbrev pub checked_by : Act → Option ℕ
+checked_by (act.Check c n to) = Some n
+checked_by _ = None
+
+abbrev pub checked_of : Option Event → Option ℕ
+checked_of None = None
+checked_of (Some v) = checked_by v.act
+
 -- whether an act links an attempt of a node that is there to another that is
 abbrev pub links_nodes : List Config → Act → Bool
 links_nodes configs (act.Connect e from n to) = nat_lt n (length configs) && nat_lt to (length configs)
@@ -133,6 +142,8 @@ abbrev pub may_act : List Config → List Event → Act → Bool
 may_act configs events (act.Register c n rate) = nat_lt n (length configs) && may_register configs events c n rate
 may_act configs events (act.Start n) = nat_lt n (length configs) && not (has_started events n)
 may_act configs events (act.Send bytes c n priority to) = nat_lt n (length configs)
+may_act configs events (act.Check c n to) = nat_lt n (length configs)
+may_act configs events (act.SendChecked bytes check priority) = is_node configs (checked_of (slice_get events check))
 may_act configs events (act.Router n) = nat_lt n (length configs)
 may_act configs events (act.SendStep conn n) = nat_lt n (length configs) && names_spawner events n conn
 may_act configs events (act.RecvStep conn n) = nat_lt n (length configs) && names_spawner events n conn

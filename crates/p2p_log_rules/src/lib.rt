@@ -4,4 +4,4 @@
 
 pub mod row;
 
-pub use row::{Half, ListeningEnd, Opening, Row};
+pub use row::{Checked, Half, ListeningEnd, Opening, Row};

@@ -35,3 +35,12 @@ pub enum ListeningEnd {
     /// The handshake of this name.
     Handshake(u64),
 }
+
+/// What a check of a node admitted, for one message.
+#[derive(Drop)]
+pub struct Checked {
+    /// On this channel.
+    pub channel: u64,
+    /// To these keys, in order.
+    pub keys: List<Key>,
+}
