@@ -1,96 +1,144 @@
--- Each send is accepted for those whom its channel's quota admits.
+-- Each message is accepted for those whom its channel's quota admits.
 use Rattle.std.proofs.Common.{◌≡◌, ℕ, Bool, true, false, List, [], ◌∷◌, length, ◌⊎◌, inl, inr, refl, ap, sym, subst, Option, Some, None}
-use Rattle.std.specs.Prelude.{nat_lt, nat_le, take}
+use Rattle.std.specs.Prelude.{nat_lt, nat_le, take, slice_get}
 use Rattle.p2p_base.specs.declared.key.Key.{Key}
+use Rattle.p2p_base.specs.declared.outcome.Feedback.TheVariants as feedback
+use Rattle.p2p_base.specs.declared.outcome.Unreliable.TheVariants.{Outcome, Rejected}
 use Rattle.p2p_log.specs.declared.config.Config.{Config}
 use Rattle.p2p_log.specs.declared.queue.Queue.TheVariants as queue
 use Rattle.p2p_log.specs.declared.entry.Entry.{Entry}
+use Rattle.p2p_log.specs.declared.entry.Reply.{Reply}
 use Rattle.p2p_log.specs.declared.entry.Reply.TheVariants as reply
 use Rattle.p2p_log.specs.declared.event.Event.{Event}
 use Rattle.p2p_log.specs.declared.event.Act.{Act}
 use Rattle.p2p_log.specs.declared.event.Act.TheVariants as act
 use Rattle.p2p_log.specs.declared.event.Recipients.{Recipients}
-use Rattle.p2p_log.specs.Copies.{accepted_by, keys_of_recipients}
+use Rattle.p2p_log.specs.Copies.{accepted, accepted_by}
 use Rattle.p2p_log.specs.Lines.{line}
 use Rattle.p2p_log.specs.Sending.{sending_at, sending_in, keys_sent}
+use Rattle.p2p_log_rules.specs.declared.row.Checked.{Checked}
 use Rattle.p2p_log_rules.specs.declared.row.Row.{Row}
-use Rattle.p2p_log_rules.specs.Admitting.{keys_admitted}
-use Rattle.p2p_log_rules.specs.Effect.{only, row, effect, limit_at, router_capacity, sent_row, fitting_row, admitted_row, send_keys_row, send_row}
+use Rattle.p2p_log_rules.specs.Admitting.{offered, keys_admitted}
+use Rattle.p2p_log_rules.specs.Checking.{checking_node, checked_at}
+use Rattle.p2p_log_rules.specs.Effect.{only, row, effect, limit_at, router_capacity, sent_row, fitting_row, admitted_row, taking, takes_list, send_to_row, send_keys_row, send_row, spent_row, send_checked_row}
 use Rattle.p2p_log_rules.specs.Facts.{channels, capacity_in, is_up}
 use Rattle.p2p_log_rules.specs.Frames.{frame_of}
 use Rattle.p2p_log_rules.specs.Lawful.{IsLawful}
-use Rattle.p2p_log_laws.specs.Admitted.{EachIsAdmitted, IsRefused}
-use Rattle.p2p_log_laws.specs.Admitted.IsRefused.{Unregistered, TooLong, MailboxFull}
+use Rattle.p2p_log_laws.specs.Admitted.{EachIsAdmitted, EachIsChecked, IsRefused, IsTurnedAway}
+use Rattle.p2p_log_laws.specs.Admitted.IsTurnedAway.{TooLong, MailboxFull}
 use Rattle.p2p_log_laws.proofs.Prefixes.{entry_due}
 
-module _ (configs : List Config) (before : List Entry) (bytes : List ℕ) (n channel : ℕ) (priority : Bool) (to : Recipients) where
-  -- for whom a send is accepted whose row is this
-  abbrev for_whom : Row → List Key
-  for_whom r = accepted_by (act.Send bytes channel n priority to) r.reply
-
-  -- that is for these keys, or it is refused
+module _ (configs : List Config) (before : List Entry) (a : Act) (bytes : List ℕ) (n channel : ℕ) (priority : Bool) where
+  -- a message whose row is this is for these keys, or it is turned away
   abbrev IsFor : List Key → Row → Type 0
-  IsFor keys r = (for_whom r ≡ keys) ⊎ ((for_whom r ≡ []) × IsRefused configs before n channel bytes)
+  IsFor keys r = (accepted_by a r.reply ≡ keys) ⊎ ((accepted_by a r.reply ≡ []) × IsTurnedAway configs before n bytes)
 
-  abbrev sent : Bool → Bool → List Key → Row
-  sent up full keys = sent_row up full n (length before) channel priority (frame_of channel bytes) keys
+  module _ (accepted_with refused_with : Reply) (keys : List Key) (takes : accepted_by a accepted_with ≡ keys) (refuses : accepted_by a refused_with ≡ [])
+      (too_long : (size limit : ℕ) → accepted_by a (reply.MessageTooLarge size limit) ≡ []) where
+    abbrev sent : Bool → Bool → Row
+    sent up full = sent_row accepted_with refused_with up full n (length before) channel priority (frame_of channel bytes) keys
 
-  by_start : (up full : Bool) (keys : List Key) → nat_le (router_capacity configs before n) (length (line before (queue.Router n))) ≡ full → IsFor keys (sent up full keys)
-  by_start false full keys is = inl refl
-  by_start true true keys is = inr (refl, MailboxFull is)
-  by_start true false keys is = inl refl
+    by_start : (up full : Bool) → nat_le (router_capacity configs before n) (length (line before (queue.Router n))) ≡ full → IsFor keys (sent up full)
+    by_start false full is = inl takes
+    by_start true true is = inr (refuses, MailboxFull is)
+    by_start true false is = inl takes
 
-  by_size : (long up full : Bool) (keys : List Key) → nat_lt (limit_at configs n) (length bytes) ≡ long → nat_le (router_capacity configs before n) (length (line before (queue.Router n))) ≡ full
-      → IsFor keys (fitting_row long (length bytes) (limit_at configs n) (sent up full keys))
-  by_size true up full keys long is = inr (refl, TooLong long)
-  by_size false up full keys long is = by_start up full keys is
+    by_size : (long up full : Bool) → nat_lt (limit_at configs n) (length bytes) ≡ long → nat_le (router_capacity configs before n) (length (line before (queue.Router n))) ≡ full
+        → IsFor keys (fitting_row long (length bytes) (limit_at configs n) (sent up full))
+    by_size true up full long is = inr (too_long (length bytes) (limit_at configs n), TooLong long)
+    by_size false up full long is = by_start up full is
 
-  by_keys : (asked keys : List Key) (r : Row) → IsFor keys r → IsFor keys (admitted_row asked keys r)
-  by_keys [] keys r is = is
-  by_keys (k ∷ ks) [] r is = inl refl
-  by_keys (k ∷ ks) (j ∷ js) r is = is
+    pub send_to_is_for : IsFor keys (send_to_row configs before accepted_with refused_with bytes channel n priority keys)
+    send_to_is_for = by_size (nat_lt (limit_at configs n) (length bytes)) (is_up before n) (nat_le (router_capacity configs before n) (length (line before (queue.Router n)))) refl refl
 
-  send_is_for : (at : ℕ) (o : Option ℕ) → capacity_in (channels configs before n) channel ≡ o
-      → IsFor (keys_admitted before n channel at (keys_of_recipients to)) (send_row configs before bytes channel n priority to at)
-  send_is_for at None is =
-      inr (ap (λ (o : Option ℕ). for_whom (elim o [ None ↦ only reply.Gone | Some _ ↦ due ])) is, Unregistered is)
+-- ---- send
+
+module _ (configs : List Config) (before : List Entry) (bytes : List ℕ) (n channel : ℕ) (priority : Bool) (to : Recipients) where
+  abbrev a_send : Act
+  a_send = act.Send bytes channel n priority to
+
+  abbrev Accepts : ℕ → Row → Type 0
+  Accepts at r =
+      (accepted_by a_send r.reply ≡ keys_admitted before n channel at (offered before n channel to)) ⊎ ((accepted_by a_send r.reply ≡ []) × IsRefused configs before n channel bytes)
+
+  by_keys : (asked keys : List Key) → IsFor configs before a_send bytes n channel priority keys (admitted_row asked keys (send_to_row configs before (reply.Sent keys) (reply.Sent []) bytes channel n priority keys))
+  by_keys [] keys = send_to_is_for configs before a_send bytes n channel priority (reply.Sent keys) (reply.Sent []) keys refl refl (λ size limit. refl)
+  by_keys (k ∷ ks) [] = inl refl
+  by_keys (k ∷ ks) (j ∷ js) = send_to_is_for configs before a_send bytes n channel priority (reply.Sent (j ∷ js)) (reply.Sent []) (j ∷ js) refl refl (λ size limit. refl)
+
+  send_accepts : (at : ℕ) (o : Option ℕ) → capacity_in (channels configs before n) channel ≡ o → Accepts at (send_row configs before bytes channel n priority to at)
+  send_accepts at o is = subst (λ (p : Option ℕ). Accepts at (elim p [ None ↦ only reply.Gone | Some _ ↦ due ])) (sym is) (by o is)
     where
-      due : Row
-      due = send_keys_row configs before bytes channel n priority (keys_of_recipients to) (keys_admitted before n channel at (keys_of_recipients to))
-  send_is_for at (Some capacity) is =
-      subst (λ (o : Option ℕ). IsFor admitted (elim o [ None ↦ only reply.Gone | Some _ ↦ due ])) (sym is)
-      (by_keys (keys_of_recipients to) admitted (fitting_row (nat_lt (limit_at configs n) (length bytes)) (length bytes) (limit_at configs n) (sent (is_up before n) full admitted))
-      (by_size (nat_lt (limit_at configs n) (length bytes)) (is_up before n) full admitted refl refl))
-    where
+      asked : List Key
+      asked = offered before n channel to
+
       admitted : List Key
-      admitted = keys_admitted before n channel at (keys_of_recipients to)
-
-      full : Bool
-      full = nat_le (router_capacity configs before n) (length (line before (queue.Router n)))
+      admitted = keys_admitted before n channel at asked
 
       due : Row
-      due = send_keys_row configs before bytes channel n priority (keys_of_recipients to) admitted
+      due = taking (takes_list before n channel to) (send_keys_row configs before bytes channel n priority asked admitted)
 
-  effect_is_for : (ev : Event) → ev.act ≡ act.Send bytes channel n priority to
-      → ((accepted_by (effect configs before ev).event.act (effect configs before ev).reply ≡ keys_admitted before n channel ev.at (keys_of_recipients to))
-      ⊎ ((accepted_by (effect configs before ev).event.act (effect configs before ev).reply ≡ []) × IsRefused configs before n channel bytes))
-  unfolding effect row
-  effect_is_for ev is =
-      subst (λ (a : Act). (accepted_by a (row configs before ev.at ev.seed a).reply ≡ keys_admitted before n channel ev.at (keys_of_recipients to)) ⊎ ((accepted_by a (row configs before ev.at ev.seed a).reply ≡ []) × IsRefused configs before n channel bytes)) (sym is)
-      (send_is_for ev.at (capacity_in (channels configs before n) channel) refl)
+      by : (p : Option ℕ) → capacity_in (channels configs before n) channel ≡ p → Accepts at (elim p [ None ↦ only reply.Gone | Some _ ↦ due ])
+      by None none = inr (refl, inl none)
+      by (Some capacity) some = elim (by_keys asked admitted) [ inl h ↦ inl h | inr h ↦ inr (h.0, inr h.1) ]
+
+  effect_accepts : (ev : Event) → ev.act ≡ a_send → Accepts ev.at (row configs before ev.at ev.seed ev.act)
+  unfolding row
+  effect_accepts ev is = subst (λ (b : Act). Accepts ev.at (row configs before ev.at ev.seed b)) (sym is) (send_accepts ev.at (capacity_in (channels configs before n) channel) refl)
 
 pub each_admitted : (configs : List Config) (script : List Event) (log : List Entry) → IsLawful configs script log → EachIsAdmitted configs log
 unfolding sending_at effect
 each_admitted configs script log lawful k n channel e bytes priority to here acts =
     let due = entry_due configs script log lawful k e here in
-    let before = take k log in
-    let says : (accepted_by e.event.act e.reply ≡ keys_admitted before n channel e.event.at (keys_of_recipients to)) ⊎ ((accepted_by e.event.act e.reply ≡ []) × IsRefused configs before n channel bytes) =
-    subst (λ (x : Entry). x.event.act ≡ act.Send bytes channel n priority to → (accepted_by x.event.act x.reply ≡ keys_admitted before n channel x.event.at (keys_of_recipients to)) ⊎ ((accepted_by x.event.act x.reply ≡ []) × IsRefused configs before n channel bytes)) (sym due.1)
-    (effect_of due.0) acts
-    in
-    subst (λ (o : Option Entry). (keys_sent (sending_in o) ≡ keys_admitted before n channel e.event.at (keys_of_recipients to)) ⊎ ((keys_sent (sending_in o) ≡ []) × IsRefused configs before n channel bytes)) (sym here) says
+    subst (λ (o : Option Entry). Wanted e.event.at (keys_sent (sending_in o))) (sym here)
+    (subst (λ (x : Entry). x.event.act ≡ act.Send bytes channel n priority to → Wanted x.event.at (accepted_by x.event.act x.reply)) (sym due.1) (of_effect due.0) acts)
   where
-    effect_of : (ev : Event) → (effect configs (take k log) ev).event.act ≡ act.Send bytes channel n priority to
-        → (accepted_by (effect configs (take k log) ev).event.act (effect configs (take k log) ev).reply ≡ keys_admitted (take k log) n channel (effect configs (take k log) ev).event.at (keys_of_recipients to))
-        ⊎ ((accepted_by (effect configs (take k log) ev).event.act (effect configs (take k log) ev).reply ≡ []) × IsRefused configs (take k log) n channel bytes)
-    effect_of ev is = effect_is_for configs (take k log) bytes n channel priority to ev is
+    Wanted : ℕ → List Key → Type 0
+    Wanted at keys = (keys ≡ keys_admitted (take k log) n channel at (offered (take k log) n channel to)) ⊎ ((keys ≡ []) × IsRefused configs (take k log) n channel bytes)
+
+    of_effect : (ev : Event) → (effect configs (take k log) ev).event.act ≡ act.Send bytes channel n priority to
+        → Wanted (effect configs (take k log) ev).event.at (accepted_by (effect configs (take k log) ev).event.act (effect configs (take k log) ev).reply)
+    of_effect ev is =
+        subst (λ (b : Act). Wanted ev.at (accepted_by b (row configs (take k log) ev.at ev.seed ev.act).reply)) (sym is) (effect_accepts configs (take k log) bytes n channel priority to ev is)
+
+-- ---- a message to those whom a check admitted
+
+module _ (configs : List Config) (before : List Entry) (bytes : List ℕ) (check : ℕ) (priority : Bool) where
+  abbrev a_checked : Act
+  a_checked = act.SendChecked bytes check priority
+
+  abbrev at_node : ℕ
+  at_node = checking_node before check
+
+  -- what it comes to, by what the check has
+  abbrev Spends : List Key → Type 0
+  Spends keys =
+      ((c : Checked) × (checked_at before at_node check ≡ Some c) × ((keys ≡ c.keys) ⊎ ((keys ≡ []) × IsTurnedAway configs before at_node bytes)))
+      ⊎ ((keys ≡ []) × (checked_at before at_node check ≡ None))
+
+  by_check : (o : Option Checked) → checked_at before at_node check ≡ o → Spends (accepted_by a_checked (spent_row configs before bytes at_node priority o).reply)
+  by_check None is = inr (refl, is)
+  by_check (Some c) is =
+      inl (
+        c,
+        is,
+        send_to_is_for configs before a_checked bytes at_node c.channel priority (reply.Outcome (Outcome feedback.Ok) at_node c.channel c.keys) (reply.Outcome Rejected at_node c.channel c.keys) c.keys
+            refl refl (λ size limit. refl),
+      )
+
+  effect_spends : (ev : Event) → ev.act ≡ a_checked → Spends (accepted_by a_checked (row configs before ev.at ev.seed ev.act).reply)
+  unfolding row
+  effect_spends ev is = subst (λ (b : Act). Spends (accepted_by a_checked (row configs before ev.at ev.seed b).reply)) (sym is) (by_check (checked_at before at_node check) refl)
+
+pub each_checked : (configs : List Config) (script : List Event) (log : List Entry) → IsLawful configs script log → EachIsChecked configs log
+unfolding sending_at effect
+each_checked configs script log lawful k check e bytes priority here acts =
+    let due = entry_due configs script log lawful k e here in
+    subst (λ (o : Option Entry). Spends configs (take k log) bytes check priority (keys_sent (sending_in o))) (sym here)
+    (subst (λ (x : Entry). x.event.act ≡ act.SendChecked bytes check priority → Spends configs (take k log) bytes check priority (accepted_by x.event.act x.reply)) (sym due.1) (of_effect due.0) acts)
+  where
+    of_effect : (ev : Event) → (effect configs (take k log) ev).event.act ≡ act.SendChecked bytes check priority
+        → Spends configs (take k log) bytes check priority (accepted_by (effect configs (take k log) ev).event.act (effect configs (take k log) ev).reply)
+    of_effect ev is =
+        subst (λ (b : Act). Spends configs (take k log) bytes check priority (accepted_by b (row configs (take k log) ev.at ev.seed ev.act).reply)) (sym is)
+        (effect_spends configs (take k log) bytes check priority ev is)

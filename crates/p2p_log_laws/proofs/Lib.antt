@@ -13,6 +13,7 @@ pub mod Bulk
 pub mod CallShapes
 pub mod CallTells
 pub mod Carried
+pub mod Checks
 pub mod Comes
 pub mod Coming
 pub mod ConnShapes
@@ -53,6 +54,7 @@ pub mod Leaving
 pub mod Ledger
 pub mod LineShape
 pub mod Linking
+pub mod Listed
 pub mod ListenerShape
 pub mod Marks
 pub mod Meeting
@@ -76,6 +78,7 @@ pub mod ReceiverShape
 pub mod RouterShape
 pub mod Routing
 pub mod Saying
+pub mod SendShapes
 pub mod Shape
 pub mod Shapes
 pub mod Showing

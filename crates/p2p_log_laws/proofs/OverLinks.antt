@@ -2,6 +2,8 @@
 use Rattle.std.proofs.Common.{◌≡◌, ℕ, Bool, List, Option, Some, None, ap, sym, subst, ◌∙◌, arith}
 use Rattle.std.specs.Prelude.{slice_get, take}
 use Rattle.std.proofs.lemmas.Option.{same_Some}
+use Rattle.p2p_base.specs.declared.outcome.Feedback.TheVariants as feedback
+use Rattle.p2p_base.specs.declared.outcome.Unreliable.TheVariants.{Outcome}
 use Rattle.p2p_log.specs.declared.config.Config.{Config}
 use Rattle.p2p_log.specs.declared.queue.Queue.{Queue}
 use Rattle.p2p_log.specs.declared.queue.Queue.TheVariants as queue
@@ -32,6 +34,7 @@ node_sends log n s h = of_entry (slice_get log n) h
   where
     of_act : (a : Act) (r : Reply) → sending_of a r ≡ Some s → (m : ℕ) × (s.by ≡ Node m)
     of_act (act.Send bytes c m priority to) (reply.Sent keys) k = (m, ap (λ (t : Sending). t.by) (sym (same_Some _ s k)))
+    of_act (act.SendChecked bytes check priority) (reply.Outcome (Outcome feedback.Ok) m c keys) k = (m, ap (λ (t : Sending). t.by) (sym (same_Some _ s k)))
     of_act _ _ k = absurd (cc)
 
     of_entry : (o : Option Entry) → sending_in o ≡ Some s → (m : ℕ) × (s.by ≡ Node m)

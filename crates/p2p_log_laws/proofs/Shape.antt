@@ -208,6 +208,11 @@ module _ (configs : List Config) (log : List Entry) (a : Act) (r : Reply) where
   pub Moved-nothing : Moved [] []
   Moved-nothing = (tt, λ p. IsSublist-nil (copies_from (length log) 0 (keys_sent (sending_of a r))))
 
+  -- what is put of the act alone, beside items that are taken
+  pub Moved-own : (taken : List Envelope) (puts : List (Queue × Item)) → Moved [] puts → Moved taken puts
+  Moved-own [] puts m = m
+  Moved-own (y ∷ taken) puts m = ([], puts, refl, tt, λ p. IsSublist-nil (copies_of y.item), Moved-own taken puts m)
+
   -- an item that is taken, and nothing else
   pub Moved-taken : (y : Envelope) → Moved (y ∷ []) []
   Moved-taken y = ([], [], refl, tt, λ p. IsSublist-nil (copies_of y.item), Moved-nothing)

@@ -5,10 +5,11 @@ use Rattle.p2p_log.specs.declared.entry.Entry.{Entry}
 use Rattle.p2p_log.specs.declared.event.Act.{Act}
 use Rattle.p2p_log.specs.declared.event.Act.TheVariants as act
 use Rattle.p2p_log_rules.specs.Effect.{row}
-use Rattle.p2p_log_laws.proofs.CallShapes.{register_shape, start_shape, send_shape, recv_shape}
+use Rattle.p2p_log_laws.proofs.CallShapes.{register_shape, start_shape, recv_shape}
 use Rattle.p2p_log_laws.proofs.ConnShapes.{send_step_shape}
 use Rattle.p2p_log_laws.proofs.ReceiverShape.{recv_step_shape}
 use Rattle.p2p_log_laws.proofs.RouterShape.{router_shape}
+use Rattle.p2p_log_laws.proofs.SendShapes.{send_shape, check_shape, send_checked_shape}
 use Rattle.p2p_log_laws.proofs.Shape.{Shape}
 use Rattle.p2p_log_laws.proofs.AttemptShape.{attempt_shape, resolve_shape, refuse_shape, connect_shape}
 use Rattle.p2p_log_laws.proofs.DialerShape.{dialer_shape}
@@ -24,6 +25,8 @@ unfolding row
 row_shape configs log at seed (act.Register c n rate) = register_shape configs log c n rate
 row_shape configs log at seed (act.Start n) = start_shape configs log n
 row_shape configs log at seed (act.Send bytes c n priority to) = send_shape configs log bytes c n priority to at
+row_shape configs log at seed (act.Check c n to) = check_shape configs log c n to at
+row_shape configs log at seed (act.SendChecked bytes check priority) = send_checked_shape configs log bytes check priority
 row_shape configs log at seed (act.Router n) = router_shape configs log n
 row_shape configs log at seed (act.SendStep conn n) = send_step_shape configs log conn n at
 row_shape configs log at seed (act.RecvStep conn n) = recv_step_shape configs log conn n at

@@ -1,27 +1,61 @@
--- For whom sends are accepted, by the quotas of their channels.
-use Rattle.std.specs.Prelude.{◌≡◌, ◌⊎◌, ℕ, Bool, true, nat_lt, nat_le, List, [], length, take, Some, None, slice_get}
+-- For whom messages are accepted, by the quotas of their channels.
+use Rattle.std.specs.Prelude.{◌≡◌, ◌⊎◌, ◌<◌, ℕ, Bool, true, nat_lt, nat_le, List, [], length, take, Some, None, slice_get}
 use Rattle.p2p_log.specs.declared.config.Config.{Config}
 use Rattle.p2p_log.specs.declared.queue.Queue.TheVariants as queue
 use Rattle.p2p_log.specs.declared.entry.Entry.{Entry}
 use Rattle.p2p_log.specs.declared.event.Act.TheVariants as act
 use Rattle.p2p_log.specs.declared.event.Recipients.{Recipients}
-use Rattle.p2p_log.specs.Copies.{accepted, keys_of_recipients}
+use Rattle.p2p_log.specs.Copies.{accepted}
 use Rattle.p2p_log.specs.Lines.{line}
-use Rattle.p2p_log_rules.specs.Admitting.{keys_admitted}
+use Rattle.p2p_log_rules.specs.declared.row.Checked.{Checked}
+use Rattle.p2p_log_rules.specs.Admitting.{offered, keys_admitted}
+use Rattle.p2p_log_rules.specs.Checking.{checking_node, checked_at}
 use Rattle.p2p_log_rules.specs.Effect.{limit_at, router_capacity}
 use Rattle.p2p_log_rules.specs.Facts.{channels, capacity_in}
 
--- why a message of a node is for nobody, whatever its quota admits
-pub data IsRefused (configs : List Config) (before : List Entry) (n channel : ℕ) (bytes : List ℕ) : Type 0 where
-  Unregistered : capacity_in (channels configs before n) channel ≡ None → IsRefused configs before n channel bytes
-  TooLong : nat_lt (limit_at configs n) (length bytes) ≡ true → IsRefused configs before n channel bytes
-  MailboxFull : nat_le (router_capacity configs before n) (length (line before (queue.Router n))) ≡ true → IsRefused configs before n channel bytes
+-- why a node takes no such message in, whomever it is for
+pub data IsTurnedAway (configs : List Config) (before : List Entry) (n : ℕ) (bytes : List ℕ) : Type 0 where
+  TooLong : nat_lt (limit_at configs n) (length bytes) ≡ true → IsTurnedAway configs before n bytes
+  MailboxFull : nat_le (router_capacity configs before n) (length (line before (queue.Router n))) ≡ true → IsTurnedAway configs before n bytes
 
--- each send is accepted for exactly those of its keys that its channel's quota admits at its moment, in their order, or for nobody
--- where it is refused
+-- why a message of a node is for nobody, whatever its quota admits
+abbrev pub IsRefused : List Config → List Entry → ℕ → ℕ → List ℕ → Type 0
+IsRefused configs before n channel bytes = (capacity_in (channels configs before n) channel ≡ None) ⊎ IsTurnedAway configs before n bytes
+
+-- each send is accepted for exactly those of the keys that it is offered to that its channel's quota admits at its moment, in their
+-- order, or for nobody where it is refused
 abbrev pub EachIsAdmitted : List Config → List Entry → Type 0
 EachIsAdmitted configs log =
     (k n channel : ℕ) (e : Entry) (bytes : List ℕ) (priority : Bool) (to : Recipients)
     → slice_get log k ≡ Some e → e.event.act ≡ act.Send bytes channel n priority to
-    → (accepted log k ≡ keys_admitted (take k log) n channel e.event.at (keys_of_recipients to))
+    → (accepted log k ≡ keys_admitted (take k log) n channel e.event.at (offered (take k log) n channel to))
     ⊎ ((accepted log k ≡ []) × IsRefused configs (take k log) n channel bytes)
+
+-- a check that waits for its message is the entry of its name, and has exactly those of the keys that it was asked for that its
+-- channel's quota admitted at its moment, in their order
+pub record IsCheckOf (log : List Entry) (n name : ℕ) (c : Checked) : Type 0 where
+  pub entry : Entry
+  pub here : slice_get log name ≡ Some entry
+  pub to : Recipients
+  pub asks : entry.event.act ≡ act.Check c.channel n to
+  pub admitted : c.keys ≡ keys_admitted (take name log) n c.channel entry.event.at (offered (take name log) n c.channel to)
+
+abbrev pub ChecksAreAdmitted : List Entry → Type 0
+ChecksAreAdmitted log = (n name : ℕ) (c : Checked) → checked_at log n name ≡ Some c → IsCheckOf log n name c
+
+-- a message to those whom a check admitted is accepted for exactly these, or for nobody where it is turned away, or where the check
+-- waits no more
+abbrev pub EachIsChecked : List Config → List Entry → Type 0
+EachIsChecked configs log =
+    (k check : ℕ) (e : Entry) (bytes : List ℕ) (priority : Bool)
+    → slice_get log k ≡ Some e → e.event.act ≡ act.SendChecked bytes check priority
+    → ((c : Checked) × (checked_at (take k log) (checking_node (take k log) check) check ≡ Some c)
+    × ((accepted log k ≡ c.keys) ⊎ ((accepted log k ≡ []) × IsTurnedAway configs (take k log) (checking_node (take k log) check) bytes)))
+    ⊎ ((accepted log k ≡ []) × (checked_at (take k log) (checking_node (take k log) check) check ≡ None))
+
+-- no two messages are accepted for what one check admitted
+abbrev pub ChecksAreSpentOnce : List Entry → Type 0
+ChecksAreSpentOnce log =
+    (j k check : ℕ) (d e : Entry) (said more : List ℕ) (one other : Bool)
+    → check < j → j < k → slice_get log j ≡ Some d → d.event.act ≡ act.SendChecked said check one
+    → slice_get log k ≡ Some e → e.event.act ≡ act.SendChecked more check other → accepted log k ≡ []

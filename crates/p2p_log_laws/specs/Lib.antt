@@ -9,6 +9,7 @@ pub mod Grants
 pub mod Kills
 pub mod Leading
 pub mod Leaving
+pub mod Listed
 pub mod NodeGrants
 pub mod OneAnswer
 pub mod OneEnd
