@@ -15,6 +15,7 @@ use Rattle.p2p_net_queues.proofs.Holding.{holds_frame}
 use Rattle.p2p_net_queues.specs.Tables.{at}
 use Rattle.p2p_net_channels.specs.Stands.{AdmitsNone, SendsNone, ChannelsStand, LeavesChannels}
 use Rattle.p2p_net_channels.specs.declared.channels.Channels.{Channels}
+use Rattle.p2p_net_channels.proofs.Checks.{checks_stay}
 use Rattle.p2p_net_channels.proofs.Quotas.{same_rates, quota_stays}
 use Rattle.p2p_net_channels.proofs.Sending.{senders_stay}
 
@@ -35,6 +36,7 @@ channels_moved configs log e n ch w s none admits sends waits = record {
   waits = waits;
   quotas = λ c. same_rates configs log e n c (at ch.quotas c) none (quota_stays configs log e n c (rate_in (rates (events_of log) n) c) (at ch.quotas c) (s.quotas c) (λ conn. admits conn c));
   senders = senders_stay configs log e n ch.senders s.senders none sends;
+  checks = checks_stay log e n ch.checks s.checks sends;
 }
 
 -- an entry that leaves them alone

@@ -1,5 +1,6 @@
 mod Admitted
 pub mod Changes
+pub mod Checks
 pub mod Metering
 pub mod Quotas
 pub mod Registering

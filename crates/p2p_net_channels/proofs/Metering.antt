@@ -19,6 +19,7 @@ use Rattle.p2p_net_queues.proofs.Meters.{admitted-append, admitted-kept, numbers
 use Rattle.p2p_net_channels.specs.Channels.{may_admit, metered}
 use Rattle.p2p_net_channels.specs.Stands.{QuotaStands, SendsNone, ChannelsStand}
 use Rattle.p2p_net_channels.specs.declared.channels.Channels.{Channels}
+use Rattle.p2p_net_channels.proofs.Checks.{checks_stay}
 use Rattle.p2p_net_channels.proofs.Changes.{channels-kept}
 use Rattle.p2p_net_channels.proofs.Quotas.{quota_stays, same_rates}
 use Rattle.p2p_net_channels.proofs.Sending.{senders_stay}
@@ -73,4 +74,5 @@ channels_metered configs log e n c conn now ch w s none late is_then adds sends 
   waits = waits;
   quotas = λ q. same_rates configs log e n q (at (checked_at nat_cmp ch.quotas c conn now) q) none (quotas_checked configs log e n c conn now late is_then ch s.quotas adds q);
   senders = senders_stay configs log e n ch.senders s.senders none sends;
+  checks = checks_stay log e n ch.checks s.checks sends;
 }

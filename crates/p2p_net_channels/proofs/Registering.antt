@@ -25,6 +25,7 @@ use Rattle.p2p_net_queues.proofs.Tables.{lookup-insert_entry, at-inserted}
 use Rattle.p2p_net_channels.specs.Channels.{capacity_at, registered_with}
 use Rattle.p2p_net_channels.specs.Stands.{QuotaStands, SenderStands, AdmitsNone, SendsNone, ChannelsStand}
 use Rattle.p2p_net_channels.specs.declared.channels.Channels.{Channels}
+use Rattle.p2p_net_channels.proofs.Checks.{checks_stay}
 use Rattle.p2p_net_channels.proofs.Changes.{channels-append}
 use Rattle.p2p_net_channels.proofs.Quotas.{rates-append, same_known, admitted_none, quota_stays}
 use Rattle.p2p_net_channels.proofs.Sending.{sent_moments-kept, sent_none, sender_stays}
@@ -127,6 +128,7 @@ channels_registered configs log e n c k rate ch s is amount absent room lines is
           subst (λ r. SenderStands (log ++ e ∷ []) n d r (at (insert_entry nat_cmp ch.senders c (fresh (quota_of rate))) d)) (sym (known d))
           (subst (λ o. SenderStands (log ++ e ∷ []) n d (elim (rate_at log n d) [ None ↦ cond (d == c) (Some rate) None | Some v ↦ Some v ]) o) (sym (at-inserted c d (fresh (quota_of rate)) ch.senders))
           (new_sender configs log e n c rate ch s.senders (no_rate_yet (s.capacities c)) is_quota sends d (d == c) refl (rate_at log n d) refl));
+      checks = checks_stay log e n ch.checks s.checks sends;
     }
   where
     known : (d : ℕ) → rate_at (log ++ e ∷ []) n d ≡ elim (rate_at log n d) [ None ↦ cond (d == c) (Some rate) None | Some v ↦ Some v ]

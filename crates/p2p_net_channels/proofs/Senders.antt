@@ -1,33 +1,33 @@
--- The channels of a node after it sends, for which the quota of one of them was asked for each key.
-use Rattle.std.proofs.Common.{◌≡◌, ℕ, ◌≤◌, Bool, true, false, cond, List, [], ◌∷◌, ◌++◌, Option, Some, None, refl, ap, sym, subst, ◌∙◌, arith, eqb-true}
-use Rattle.std.specs.Prelude.{◌==◌, ◌&&◌}
+-- What the quota of a channel admits of what its node sends, when it admits the rest, and the channels after it was asked.
+use Rattle.std.proofs.Common.{◌≡◌, ℕ, ◌≤◌, max, Bool, true, false, cond, List, [], ◌∷◌, ◌++◌, Result, Ok, Err, Option, Some, None, refl, ap, sym, subst, ◌∙◌, arith, eqb-true}
+use Rattle.std.specs.Prelude.{◌==◌, is_ok}
 use Rattle.std.specs.Cmp.{IsTotalOrder, nat_cmp_total}
 use Rattle.std.specs.Option.{option_map}
 use Rattle.std.proofs.lemmas.Bool.Decides.{nat_tests}
 use Rattle.p2p_base.specs.declared.key.Key.{Key}
 use Rattle.p2p_log.specs.declared.config.Config.{Config}
-use Rattle.p2p_log.specs.declared.event.Act.{Act}
-use Rattle.p2p_log.specs.declared.event.Act.TheVariants as act
 use Rattle.p2p_log.specs.declared.event.Rate.{Rate}
 use Rattle.p2p_log.specs.declared.event.Recipients.{Recipients}
 use Rattle.p2p_log.specs.declared.queue.Queue.TheVariants as queue
 use Rattle.p2p_log.specs.declared.entry.Entry.{Entry}
 use Rattle.p2p_log.specs.Copies.{keys_of_recipients}
 use Rattle.p2p_log.specs.Lines.{line}
-use Rattle.p2p_log_rules.specs.Facts.{events_of, latest_moment, registers_at, capacity_in, sum_capacities, taken}
-use Rattle.p2p_log_rules.specs.Admitting.{admitted_keys, moments_after, keys_by, moments_by, rate_at, acted_moments, sent_moments, keys_admitted}
+use Rattle.p2p_log_rules.specs.Facts.{events_of, latest_moment, registers_at, capacity_in, sum_capacities, peers_told}
+use Rattle.p2p_log_rules.specs.Admitting.{admitted_keys, latest_retry, moments_after, keys_by, retry_by, moments_by, rate_at, asked_for, asked_moments, sent_moments, offered, keys_admitted, retry_moment}
+use Rattle.p2p_log_rules.specs.Checking.{checked_at}
 use Rattle.p2p_log_rules.specs.Listening.{quota_of}
-use Rattle.p2p_log_rules.specs.Metering.{messages, limit_at, admits_one, steps_receiver}
 use Rattle.p2p_log_rules.specs.Tracking.{key_cmp}
-use Rattle.p2p_runtime.specs.QuotaLaw.{Rate as Quota}
+use Rattle.p2p_log_rules.specs.declared.row.Checked.{Checked}
+use Rattle.p2p_runtime.specs.QuotaLaw.{Rate as Quota, retry}
+use Rattle.p2p_runtime.specs.QuotaCheck.{check_answer}
 use Rattle.p2p_runtime.specs.QuotaKeys.{KeptByKey, with_admission}
 use Rattle.p2p_net_queues.specs.Meters.{passes, checked, MetersUntil}
 use Rattle.p2p_net_queues.specs.Tables.{at}
 use Rattle.p2p_net_queues.proofs.Holding.{holds_frame}
-use Rattle.p2p_net_queues.proofs.Meters.{meters_later, passes_until, passed_until, refused_until, meters_at, meters_entry}
+use Rattle.p2p_net_queues.proofs.Meters.{meters_later, passes_until, told_until, passed_until, refused_until, meters_at, meters_entry}
 use Rattle.p2p_net_queues.proofs.Tables.{lookup-set, same_name}
 use Rattle.p2p_net_channels.specs.Channels.{capacity_at}
-use Rattle.p2p_net_channels.specs.Senders.{keys_passing, kept_after, passed_on, keys_passed, senders_on, keys_metered}
+use Rattle.p2p_net_channels.specs.Senders.{moment_told, keys_passing, keys_retry, kept_after, passed_on, keys_passed, retry_on, retry_told, senders_on, keys_metered}
 use Rattle.p2p_net_channels.specs.Stands.{SenderStands, AdmitsNone, ChannelsStand}
 use Rattle.p2p_net_channels.specs.declared.channels.Channels.{Channels}
 use Rattle.p2p_net_channels.proofs.Changes.{channels-kept}
@@ -57,6 +57,31 @@ module _ (now : ℕ) (quota : Quota) where
           ≡ cond b (k ∷ admitted_keys quota now ks (with_admission key_cmp past k now)) (admitted_keys quota now ks past)
       by rest true h = ap (λ l. k ∷ l) (rest (with_admission key_cmp past k now) (passed_until key_cmp now quota past kept k m key_order h))
       by rest false h = rest past (refused_until key_cmp now quota past kept k m key_order h)
+
+  none_first : (rest : ℕ) → max 0 rest ≡ rest
+  none_first rest = omega arith
+
+  -- the latest moment that it tells is the law's
+  retry_is : (keys : List Key) (past : Key → List ℕ) (kept : KeptByKey Key) → MetersUntil key_cmp now quota past kept → keys_retry kept now keys ≡ latest_retry quota now keys past
+  retry_is [] past kept m = refl
+  retry_is (k ∷ ks) past kept m =
+      by (λ later stands. retry_is ks later (checked key_cmp kept k now) stands) (check_answer key_cmp kept k now) refl
+    where
+      by_law : (b : Bool) → passes key_cmp kept k now ≡ b → latest_retry quota now (k ∷ ks) past ≡ cond b (latest_retry quota now ks (with_admission key_cmp past k now)) (max (retry quota (past k)) (latest_retry quota now ks past))
+      by_law b h =
+          ap (λ t. cond t (latest_retry quota now ks (with_admission key_cmp past k now)) (max (retry quota (past k)) (latest_retry quota now ks past)))
+          (sym (passes_until key_cmp now quota past kept k m) ∙ h)
+
+      by : ((later : Key → List ℕ) → MetersUntil key_cmp now quota later (checked key_cmp kept k now) → keys_retry (checked key_cmp kept k now) now ks ≡ latest_retry quota now ks later) → (o : Result (Unit {0}) ℕ) → check_answer key_cmp kept k now ≡ o
+          → max (moment_told o) (keys_retry (checked key_cmp kept k now) now ks) ≡ latest_retry quota now (k ∷ ks) past
+      by rest (Ok u) is =
+          let h : passes key_cmp kept k now ≡ true = ap is_ok is in
+          none_first (keys_retry (checked key_cmp kept k now) now ks)
+          ∙ (rest (with_admission key_cmp past k now) (passed_until key_cmp now quota past kept k m key_order h) ∙ sym (by_law true h))
+      by rest (Err from) is =
+          let h : passes key_cmp kept k now ≡ false = ap is_ok is in
+          ap (λ t. max t (keys_retry (checked key_cmp kept k now) now ks)) (told_until key_cmp now quota past kept k m from is)
+          ∙ (ap (λ t. max (retry quota (past k)) t) (rest past (refused_until key_cmp now quota past kept k m key_order h)) ∙ sym (by_law false h))
 
   -- what is kept after that stands for the moments after it
   after_is : (keys : List Key) (past : Key → List ℕ) (kept : KeptByKey Key) → MetersUntil key_cmp now quota past kept → MetersUntil key_cmp now quota (λ k. moments_after quota now keys past k) (kept_after kept now keys)
@@ -95,6 +120,18 @@ keys_passed_is configs log n c k now keys ch s late registered = by (rate_at log
     by (Some rate) None h = absurd h
     by None (Some kept) h = absurd h
 
+-- and the latest of the moments from which it admits the others is the law's
+pub retry_told_is :
+    (configs : List Config) (log : List Entry) (n c k now : ℕ) (keys : List Key) (ch : Channels) → ChannelsStand configs log n ch → latest_moment (events_of log) ≤ now → capacity_at ch c ≡ Some k
+    → retry_told ch c keys now ≡ retry_moment log n c now keys
+retry_told_is configs log n c k now keys ch s late registered = by (rate_at log n c) (at ch.senders c) (s.senders c)
+  where
+    by : (r : Option Rate) (o : Option (KeptByKey Key)) → SenderStands log n c r o → retry_on o keys now ≡ retry_by r now keys (sent_moments log n c)
+    by (Some rate) (Some kept) h = retry_is now (quota_of rate) keys (sent_moments log n c) kept (meters_at key_cmp log (quota_of rate) (sent_moments log n c) kept now h late)
+    by None None h = refl
+    by (Some rate) None h = absurd h
+    by None (Some kept) h = absurd h
+
 -- what each channel keeps, once the quota of one was asked for these keys
 at-senders_on : (m : List (ℕ × KeptByKey Key)) (c q : ℕ) (keys : List Key) (now : ℕ)
     → at (senders_on (at m c) m c keys now) q ≡ cond (q == c) (option_map (λ kept. kept_after kept now keys) (at m c)) (at m q)
@@ -113,67 +150,81 @@ at-senders_on m c q keys now = by (at m c) refl
 same_number : (n : ℕ) → (n == n) ≡ true
 same_number n = grind (arith, nat_tests)
 
-other_way : (c d : ℕ) → (c == d) ≡ (d == c)
-other_way c d = grind (arith, nat_tests)
+-- once the quota was asked for these, or not
+asked_by : (b : Bool) (rate : Option Rate) (now : ℕ) (all : List Key) (to : Recipients) (past : Key → List ℕ) (k : Key)
+    → asked_moments rate now all (cond b (Some to) None) past k ≡ cond b (moments_by rate now (keys_of_recipients all to) past k) (past k)
+asked_by true rate now all to past k = refl
+asked_by false rate now all to past k = refl
 
-module _ (log : List Entry) (e : Entry) (n c now : ℕ) (bytes : List ℕ) (priority : Bool) (to : Recipients) (is : e.event.act ≡ act.Send bytes c n priority to) (is_then : e.event.at ≡ now) where
+module _ (log : List Entry) (e : Entry) (n c now : ℕ) (to : Recipients) (asks : (d : ℕ) → asked_for n d e.event.act ≡ cond (d == c) (Some to) None) (is_then : e.event.at ≡ now) where
   -- the moments after the entry
   moments_sent : (d : ℕ) (b : Bool) → (d == c) ≡ b → (k : Key)
-      → sent_moments (log ++ e ∷ []) n d k ≡ cond b (moments_by (rate_at log n d) now (keys_of_recipients to) (sent_moments log n d) k) (sent_moments log n d k)
+      → sent_moments (log ++ e ∷ []) n d k ≡ cond b (moments_by (rate_at log n d) now (offered log n d to) (sent_moments log n d) k) (sent_moments log n d k)
   moments_sent d b test k =
       sent_moments-append log e n d k
-      ∙ (ap (λ t. acted_moments n d (rate_at log n d) t e.event.act (sent_moments log n d) k) is_then
-      ∙ (ap (λ a. acted_moments n d (rate_at log n d) now a (sent_moments log n d) k) is
-      ∙ ap (λ t. cond t (moments_by (rate_at log n d) now (keys_of_recipients to) (sent_moments log n d) k) (sent_moments log n d k))
-      (ap (λ t. t && (c == d)) (same_number n) ∙ (other_way c d ∙ test))))
+      ∙ (ap (λ t. asked_moments (rate_at log n d) t (peers_told log n d) (asked_for n d e.event.act) (sent_moments log n d) k) is_then
+      ∙ (ap (λ o. asked_moments (rate_at log n d) now (peers_told log n d) o (sent_moments log n d) k) (asks d ∙ ap (λ t. cond t (Some to) None) test)
+      ∙ asked_by b (rate_at log n d) now (peers_told log n d) to (sent_moments log n d) k))
 
   module _ (late : latest_moment (events_of log) ≤ now) where
     -- what the channel that was asked keeps
     sender_checked :
         (r : Option Rate) (o : Option (KeptByKey Key)) → SenderStands log n c r o
-        → ((k : Key) → sent_moments (log ++ e ∷ []) n c k ≡ moments_by r now (keys_of_recipients to) (sent_moments log n c) k)
-        → SenderStands (log ++ e ∷ []) n c r (option_map (λ kept. kept_after kept now (keys_of_recipients to)) o)
+        → ((k : Key) → sent_moments (log ++ e ∷ []) n c k ≡ moments_by r now (offered log n c to) (sent_moments log n c) k)
+        → SenderStands (log ++ e ∷ []) n c r (option_map (λ kept. kept_after kept now (offered log n c to)) o)
     sender_checked None None h same = λ k. same k ∙ h k
     sender_checked (Some rate) (Some kept) h same =
-        meters_entry key_cmp log e (quota_of rate) (λ k. moments_after (quota_of rate) now (keys_of_recipients to) (sent_moments log n c) k) (sent_moments (log ++ e ∷ []) n c) (kept_after kept now (keys_of_recipients to)) now is_then
-        (after_is now (quota_of rate) (keys_of_recipients to) (sent_moments log n c) kept (meters_at key_cmp log (quota_of rate) (sent_moments log n c) kept now h late)) same
+        meters_entry key_cmp log e (quota_of rate) (λ k. moments_after (quota_of rate) now (offered log n c to) (sent_moments log n c) k) (sent_moments (log ++ e ∷ []) n c) (kept_after kept now (offered log n c to)) now is_then
+        (after_is now (quota_of rate) (offered log n c to) (sent_moments log n c) kept (meters_at key_cmp log (quota_of rate) (sent_moments log n c) kept now h late)) same
     sender_checked None (Some kept) h same = absurd h
     sender_checked (Some rate) None h same = absurd h
 
     -- what each channel keeps
     senders_checked :
         (m : List (ℕ × KeptByKey Key)) → ((d : ℕ) → SenderStands log n d (rate_at log n d) (at m d))
-        → (d : ℕ) → SenderStands (log ++ e ∷ []) n d (rate_at log n d) (at (senders_on (at m c) m c (keys_of_recipients to) now) d)
+        → (d : ℕ) → SenderStands (log ++ e ∷ []) n d (rate_at log n d) (at (senders_on (at m c) m c (offered log n c to) now) d)
     senders_checked m stands d =
-        subst (λ o. SenderStands (log ++ e ∷ []) n d (rate_at log n d) o) (sym (at-senders_on m c d (keys_of_recipients to) now)) (by (d == c) refl)
+        subst (λ o. SenderStands (log ++ e ∷ []) n d (rate_at log n d) o) (sym (at-senders_on m c d (offered log n c to) now)) (by (d == c) refl)
       where
-        here : (p : ℕ) → p ≡ c → SenderStands (log ++ e ∷ []) n p (rate_at log n p) (option_map (λ kept. kept_after kept now (keys_of_recipients to)) (at m c))
+        here : (p : ℕ) → p ≡ c → SenderStands (log ++ e ∷ []) n p (rate_at log n p) (option_map (λ kept. kept_after kept now (offered log n c to)) (at m c))
         here p same =
-            subst (λ p. SenderStands (log ++ e ∷ []) n p (rate_at log n p) (option_map (λ kept. kept_after kept now (keys_of_recipients to)) (at m c))) (sym same)
+            subst (λ p. SenderStands (log ++ e ∷ []) n p (rate_at log n p) (option_map (λ kept. kept_after kept now (offered log n c to)) (at m c))) (sym same)
             (sender_checked (rate_at log n c) (at m c) (stands c) (moments_sent c true (same_number c)))
 
-        by : (b : Bool) → (d == c) ≡ b → SenderStands (log ++ e ∷ []) n d (rate_at log n d) (cond b (option_map (λ kept. kept_after kept now (keys_of_recipients to)) (at m c)) (at m d))
+        by : (b : Bool) → (d == c) ≡ b → SenderStands (log ++ e ∷ []) n d (rate_at log n d) (cond b (option_map (λ kept. kept_after kept now (offered log n c to)) (at m c)) (at m d))
         by true test = here d (eqb-true d c test)
         by false test = sender_stays log e n d (rate_at log n d) (at m d) (stands d) (moments_sent d false test)
 
--- the node sends on a channel, whose quota was asked for each key
-pub channels_sent :
-    (configs : List Config) (log : List Entry) (e : Entry) (n c now : ℕ) (bytes : List ℕ) (priority : Bool) (to : Recipients) (ch : Channels) → ChannelsStand configs log n ch
-    → e.event.act ≡ act.Send bytes c n priority to → e.event.at ≡ now → latest_moment (events_of log) ≤ now
-    → ((d : ℕ) → line (log ++ e ∷ []) (queue.Channel n d) ≡ line log (queue.Channel n d)) → ChannelsStand configs (log ++ e ∷ []) n (keys_metered c (keys_of_recipients to) now ch)
-channels_sent configs log e n c now bytes priority to ch s is is_then late lines = record {
-  capacities = λ d. s.capacities d ∙ ap (λ l. capacity_in l d) (sym (channels-kept configs log e n none));
-  total = s.total ∙ ap sum_capacities (sym (channels-kept configs log e n none));
-  room = s.room;
-  waits = holds_frame (queue.Channel n) log e ch.waiting s.waits lines;
-  quotas = λ d. same_rates configs log e n d (at ch.quotas d) none (quota_stays configs log e n d (rate_at log n d) (at ch.quotas d) (s.quotas d) (λ conn. admits_none conn d));
-  senders = λ d.
-      same_sender_rates configs log e n d (at (senders_on (at ch.senders c) ch.senders c (keys_of_recipients to) now) d) none
-      (senders_checked log e n c now bytes priority to is is_then late ch.senders s.senders d);
-}
+-- an entry of a node that registers no channel, and in which no connection admits a message
+module _
+    (configs : List Config) (log : List Entry) (e : Entry) (n : ℕ) (ch : Channels) (m : List (ℕ × Checked)) (s : ChannelsStand configs log n ch)
+    (none : registers_at configs n e.event.act ≡ []) (admits_none : AdmitsNone configs log e n)
+    (lines : (d : ℕ) → line (log ++ e ∷ []) (queue.Channel n d) ≡ line log (queue.Channel n d))
+    (checks : (name : ℕ) → at m name ≡ checked_at (log ++ e ∷ []) n name)
   where
-    none : registers_at configs n e.event.act ≡ []
-    none = ap (registers_at configs n) is
+    -- with these quotas of what the node sends
+    with_senders : (senders : List (ℕ × KeptByKey Key)) → ((d : ℕ) → SenderStands (log ++ e ∷ []) n d (rate_at log n d) (at senders d)) → ChannelsStand configs (log ++ e ∷ []) n (record ch { senders = senders; checks = m })
+    with_senders senders stands = record {
+      capacities = λ d. s.capacities d ∙ ap (λ l. capacity_in l d) (sym (channels-kept configs log e n none));
+      total = s.total ∙ ap sum_capacities (sym (channels-kept configs log e n none));
+      room = s.room;
+      waits = holds_frame (queue.Channel n) log e ch.waiting s.waits lines;
+      quotas = λ d. same_rates configs log e n d (at ch.quotas d) none (quota_stays configs log e n d (rate_at log n d) (at ch.quotas d) (s.quotas d) (λ conn. admits_none conn d));
+      senders = λ d. same_sender_rates configs log e n d (at senders d) none (stands d);
+      checks = checks;
+    }
 
-    admits_none : AdmitsNone configs log e n
-    admits_none conn d = ap (λ (a : Act). cond (steps_receiver n conn a && admits_one (limit_at configs n) (messages d) (taken log e) e.puts) (e.event.at ∷ []) []) is
+    -- the quota of a channel was asked for each key of those that a message is offered to
+    pub channels_asked : (c now : ℕ) (to : Recipients) → ((d : ℕ) → asked_for n d e.event.act ≡ cond (d == c) (Some to) None) → e.event.at ≡ now → latest_moment (events_of log) ≤ now
+        → ChannelsStand configs (log ++ e ∷ []) n (record (keys_metered c (offered log n c to) now ch) { checks = m })
+    channels_asked c now to asks is_then late =
+        with_senders (senders_on (at ch.senders c) ch.senders c (offered log n c to) now) (senders_checked log e n c now to asks is_then late ch.senders s.senders)
+
+    -- the quota of no channel was asked
+    pub channels_spent : ((d : ℕ) → asked_for n d e.event.act ≡ None) → ChannelsStand configs (log ++ e ∷ []) n (record ch { checks = m })
+    channels_spent asks = with_senders ch.senders (λ d. sender_stays log e n d (rate_at log n d) (at ch.senders d) (s.senders d) (unasked d))
+      where
+        unasked : (d : ℕ) (k : Key) → sent_moments (log ++ e ∷ []) n d k ≡ sent_moments log n d k
+        unasked d k =
+            sent_moments-append log e n d k
+            ∙ ap (λ o. asked_moments (rate_at log n d) e.event.at (peers_told log n d) o (sent_moments log n d) k) (asks d)

@@ -23,7 +23,7 @@ sent_moments-append log e n c k = ap (λ (f : Key → List ℕ). f k) (state_fro
 
 -- an entry in which it admits none
 pub sent_moments-kept : (log : List Entry) (e : Entry) (n c : ℕ) → SendsNone log e n → (k : Key) → sent_moments (log ++ e ∷ []) n c k ≡ sent_moments log n c k
-sent_moments-kept log e n c none k = sent_moments-append log e n c k ∙ none c k
+sent_moments-kept log e n c none k = sent_moments-append log e n c k ∙ none.moments c k
 
 -- no channels, and no log
 pub senders_new : (n c : ℕ) → SenderStands [] n c (rate_at [] n c) (at no_channels.senders c)

@@ -14,7 +14,7 @@ use Rattle.p2p_net_channels.specs.declared.arrival.Arrived.{Arrived}
 use Rattle.p2p_net_channels.specs.declared.channels.Channels.{Channels}
 
 abbrev pub no_channels : Channels
-no_channels = record { capacities = []; total = 0; waiting = []; quotas = []; senders = [] }
+no_channels = record { capacities = []; total = 0; waiting = []; quotas = []; senders = []; checks = [] }
 
 -- the capacity of a channel, where it is registered
 abbrev pub capacity_at : Channels → ℕ → Option ℕ
@@ -27,6 +27,7 @@ registered_with ch c k quota = record {
   waiting = ch.waiting;
   quotas = insert_entry nat_cmp ch.quotas c (fresh quota);
   senders = insert_entry nat_cmp ch.senders c (fresh quota);
+  checks = ch.checks;
 }
 
 -- whether the quota of a channel admits one more of a connection at a moment

@@ -8,6 +8,7 @@ use Rattle.p2p_log.specs.declared.entry.Entry.{Entry}
 use Rattle.p2p_log.specs.Lines.{line}
 use Rattle.p2p_log.specs.declared.event.Rate.{Rate}
 use Rattle.p2p_log_rules.specs.Admitting.{rate_at, sent_by, sent_moments}
+use Rattle.p2p_log_rules.specs.Checking.{checks_by, checked_at}
 use Rattle.p2p_log_rules.specs.Tracking.{key_cmp}
 use Rattle.p2p_log_rules.specs.Facts.{events_of, channels, registers_at, capacity_in, rates, rate_in, sum_capacities}
 use Rattle.p2p_log_rules.specs.Listening.{quota_of}
@@ -42,14 +43,17 @@ pub record ChannelsStand (configs : List Config) (log : List Entry) (n : ℕ) (c
   pub quotas : (c : ℕ) → QuotaStands configs log n c (rate_in (rates (events_of log) n) c) (at ch.quotas c)
   -- and what the node sent there to each key
   pub senders : (c : ℕ) → SenderStands log n c (rate_at log n c) (at ch.senders c)
+  -- what the node's checks admitted that waits for a message
+  pub checks : (name : ℕ) → at ch.checks name ≡ checked_at log n name
 
 -- an entry in which no connection admits a message
 abbrev pub AdmitsNone : List Config → List Entry → Entry → ℕ → Type 0
 AdmitsNone configs log e n = (conn c : ℕ) → admitted_by (limit_at configs n) n conn (messages c) log e ≡ []
 
--- an entry in which the quota of no channel admits what the node sends
-abbrev pub SendsNone : List Entry → Entry → ℕ → Type 0
-SendsNone log e n = (c : ℕ) (k : Key) → sent_by n c log e (sent_moments log n c) k ≡ sent_moments log n c k
+-- an entry in which the quota of no channel admits what the node sends, and that leaves alone what its checks admitted
+pub record SendsNone (log : List Entry) (e : Entry) (n : ℕ) : Type 0 where
+  pub moments : (c : ℕ) (k : Key) → sent_by n c log e (sent_moments log n c) k ≡ sent_moments log n c k
+  pub checks : (name : ℕ) → checks_by n log e (checked_at log n) name ≡ checked_at log n name
 
 -- an entry that leaves them alone
 pub record LeavesChannels (configs : List Config) (log : List Entry) (e : Entry) (n : ℕ) : Type 0 where

@@ -1,21 +1,25 @@
 //! `Channels`, the channels of a node and what waits in them.
-ghost use Rattle.std.specs.Prelude.{◌≡◌, ◌+◌, ◌<◌, ◌^◌, ◌++◌, ◌∷◌, [], false, length, slice_get, Option, Some, None, IfOk, OnOk, if◌then◌else◌};
+ghost use Rattle.std.specs.Prelude.{◌≡◌, ◌+◌, ◌<◌, ◌^◌, ◌++◌, ◌∷◌, [], false, max, length, slice_get, Option, Some, None, IfOk, OnOk, if◌then◌else◌};
+ghost use Rattle.std.specs.BTreeMap.{insert_entry};
+ghost use Rattle.std.specs.Ordering.{nat_cmp};
 ghost use Rattle.p2p_log_rules.specs.Effect.{oldest_read, read_row as read_row_of};
 ghost use Rattle.p2p_log.specs.Lines.{name_of};
-ghost use Rattle.p2p_net_queues.specs.Tables.{waiting};
+ghost use Rattle.p2p_net_queues.specs.Tables.{at, AreBut, waiting};
 ghost use Rattle.p2p_net_channels.specs.Arrivals.{delivered};
 ghost use Rattle.p2p_net_channels.specs.Channels.{no_channels, capacity_at, registered_with, may_admit, metered, is_full as full_test, delivered_to, is_message as message_test, has_message_first, message_first, read_from};
-ghost use Rattle.p2p_net_channels.specs.Senders.{may_send, key_metered, keys_passed, keys_metered};
+ghost use Rattle.p2p_net_channels.specs.Senders.{may_send, key_retry, key_metered, keys_passed, retry_told, keys_metered};
 
 use crate::arrival::Arrived;
+use crate::offer::Offer;
 use p2p_base::{Key, List};
 use p2p_log::{Cause, End, Envelope, Item, Outcome, Queue, Reply};
-use p2p_log_rules::Row;
+use p2p_log_rules::{Checked, Row};
 use p2p_net_queues::{Deque, Table, Turn, only, taking};
 use p2p_runtime::{KeyedRateLimiter, Quota};
 use std::alloc::{AllocError, Global};
 
-/// The registered channels of a node, what each admits of each connection and to each key, and the messages that wait in each for its reader.
+/// The registered channels of a node, what each admits of each connection and to each key, the messages that wait in each for its
+/// reader, and what the node's checks admitted.
 #[derive(Drop)]
 pub struct Channels {
     /// How many messages each channel holds at most.
@@ -28,6 +32,8 @@ pub struct Channels {
     pub quotas: Table<KeyedRateLimiter<u64>>,
     /// The quota of what the node sends on each channel, by the keys of those it sends to.
     pub senders: Table<KeyedRateLimiter<Key>>,
+    /// What each check admitted that waits for its message, under the number of the check's event.
+    pub checks: Table<Checked>,
 }
 
 /// Whether an item is a message for a reader.
@@ -77,6 +83,7 @@ impl Channels {
             waiting: Table::new(alloc),
             quotas: Table::new(alloc),
             senders: Table::new(alloc),
+            checks: Table::new(alloc),
         }
     }
 
@@ -118,46 +125,66 @@ impl Channels {
         ensures after { OnOk result (self.new ≡ metered channel conn now self.old) }
     {
         let admits = self.quotas.check_at(channel, conn, now)?;
-        Ok(admits)
+        Ok(admits.is_ok())
     }
 
-    /// Adds a key to these where the quota of a channel admits a message of the node to it at the moment `now`, in nanoseconds.
-    /// It counts then.
-    fn admit_key(
+    /// Asks the quota of a channel for a message of the node to a key at the moment `now`, in nanoseconds, and notes the answer.
+    /// A message that is admitted counts then.
+    fn offer_key(
         &mut self,
-        admitted: &mut List<Key>,
+        offer: &mut Offer,
         channel: u64,
         key: Key,
         now: u64,
     ) -> Result<(), AllocError>
-        ensures admits { OnOk result (admitted.new ≡ admitted.old ++ (if may_send self.old channel key now then key ∷ [] else [])) }
+        ensures admits { OnOk result (offer.new.admitted ≡ offer.old.admitted ++ (if may_send self.old channel key now then key ∷ [] else [])) }
+        ensures retry { OnOk result (offer.new.retry ≡ max offer.old.retry (key_retry self.old channel key now)) }
         ensures after { OnOk result (self.new ≡ key_metered channel key now self.old) }
     {
-        if self.senders.check_at(channel, key, now)? {
-            admitted.push(key)?;
-        }
+        let answer = self.senders.check_at(channel, key, now)?;
+        offer.note(key, answer)?;
         Ok(())
     }
 
-    /// The keys, in order, to which the quota of a channel admits a message of the node at the moment `now`, in nanoseconds:
-    /// none where the channel is not registered. Each that is admitted counts at once, before the next.
+    /// Asks the quota of a channel for a message of the node to each of these keys at the moment `now`, in nanoseconds, in order.
+    /// Each that is admitted counts at once, before the next. None is admitted where the channel is not registered.
     ///
     /// `Err` only where there is no memory. Its node goes no further then.
-    pub fn admit_keys(
+    pub fn offer(
         &mut self,
         alloc: Global,
         channel: u64,
         keys: List<Key>,
         now: u64,
-    ) -> Result<List<Key>, AllocError>
-        ensures admits { IfOk result (λ l. l ≡ keys_passed self.old channel keys now) }
+    ) -> Result<Offer, AllocError>
+        ensures admits { IfOk result (λ o. o.admitted ≡ keys_passed self.old channel keys now) }
+        ensures retry { IfOk result (λ o. o.retry ≡ retry_told self.old channel keys now) }
         ensures after { OnOk result (self.new ≡ keys_metered channel keys now self.old) }
     {
-        let mut admitted = List::empty(alloc);
+        let mut offer = Offer::new(alloc);
         for key in keys.into_inner() {
-            self.admit_key(&mut admitted, channel, key, now)?;
+            self.offer_key(&mut offer, channel, key, now)?;
         }
-        Ok(admitted)
+        Ok(offer)
+    }
+
+    /// Keeps what the check of this event admitted for one message.
+    ///
+    /// `Err` only where there is no memory. Its node goes no further then.
+    pub fn keep_check(&mut self, check: u64, checked: Checked) -> Result<(), AllocError>
+        ensures { OnOk result (self.new ≡ record self.old { checks = insert_entry nat_cmp self.old.checks check checked }) }
+    {
+        self.checks.insert(check, checked)?;
+        Ok(())
+    }
+
+    /// Takes what the check of this event admitted, where no message was sent to these yet. What the other checks admitted stays.
+    pub fn spend(&mut self, check: u64) -> Option<Checked>
+        ensures admitted { result ≡ at self.old.checks check }
+        ensures checks { AreBut check None self.old.checks self.new.checks }
+        ensures rest { self.new ≡ record self.old { checks = self.new.checks } }
+    {
+        self.checks.remove(check)
     }
 
     /// Whether a channel holds so many messages.

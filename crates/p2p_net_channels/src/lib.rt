@@ -3,6 +3,8 @@
 
 pub mod arrival;
 pub mod channels;
+pub mod offer;
 
 pub use arrival::{Arrived, Arriving, hold, open, reopen};
 pub use channels::Channels;
+pub use offer::Offer;

@@ -12,11 +12,11 @@ use Rattle.p2p_log.specs.declared.entry.Entry.{Entry}
 use Rattle.p2p_log_rules.specs.Facts.{events_of, latest_moment}
 use Rattle.p2p_log_rules.specs.Metering.{Metered, limit_at, admitted_by, admitted}
 use Rattle.p2p_log_rules.proofs.Facts.{events_of-append, history_from-append}
-use Rattle.p2p_runtime.specs.QuotaLaw.{Rate as Quota, admits}
+use Rattle.p2p_runtime.specs.QuotaLaw.{Rate as Quota, admits, retry}
 use Rattle.p2p_runtime.specs.QuotaKept.{IsArrivalOf}
 use Rattle.p2p_runtime.specs.QuotaStep.{IsQuota, step}
 use Rattle.p2p_runtime.specs.QuotaKeys.{KeptByKey, StandsForEach, arrival_at, with_admission}
-use Rattle.p2p_runtime.specs.QuotaCheck.{told_of, arrivals_after}
+use Rattle.p2p_runtime.specs.QuotaCheck.{told_of, arrivals_after, check_answer}
 use Rattle.p2p_runtime.proofs.QuotaChecks.{passed_step, refused_step, IsArrivalOf-on}
 use Rattle.p2p_runtime.proofs.QuotaEach.{nothing_stands, passed_key, refused_key}
 use Rattle.p2p_net_queues.specs.Meters.{fresh, passes, checked, MetersUntil, Meters, checked_on, checked_at}
@@ -51,6 +51,14 @@ passes_one rate arrival past now quota stands = by (step rate arrival now) refl
     by (Ok next) is = sym (passed_step rate arrival past now next quota stands is).0
     by (Err free) is = sym (refused_step rate arrival past now free quota stands is).0
 
+-- the moment that it tells is the law's
+told_one : (rate : Quota) (arrival : ℕ) (past : List ℕ) (now from : ℕ) → IsQuota rate → IsArrivalOf rate arrival past now → told_of (step rate arrival now) ≡ Err from → from ≡ retry rate past
+told_one rate arrival past now from quota stands told = by (step rate arrival now) refl told
+  where
+    by : (o : Result ℕ ℕ) → step rate arrival now ≡ o → told_of o ≡ Err from → from ≡ retry rate past
+    by (Ok next) is none = absurd (cc)
+    by (Err free) is same = let here : free ≡ from = cc in sym here ∙ (refused_step rate arrival past now free quota stands is).1
+
 module _ {K : Type 0} (cmp : K → K → Ordering) where
   -- no check was later than a later moment
   pub meters_later : (moment now : ℕ) (quota : Quota) (past later : K → List ℕ) (kept : KeptByKey K) → MetersUntil cmp moment quota past kept → moment ≤ now → ((key : K) → later key ≡ past key) → MetersUntil cmp now quota later kept
@@ -83,6 +91,13 @@ module _ {K : Type 0} (cmp : K → K → Ordering) where
         ap (λ t. is_ok (told_of (step kept.rate (arrival_at cmp kept key) t))) counts_at
         ∙ (passes_one kept.rate (arrival_at cmp kept key) (past key) now rate_is_quota stands_at
         ∙ ap (λ r. admits r (past key) now) m.quota_is)
+
+    -- where it refuses, it tells the moment that the quota does
+    pub told_until : (from : ℕ) → check_answer cmp kept key now ≡ Err from → from ≡ retry quota (past key)
+    told_until from refused =
+        told_one kept.rate (arrival_at cmp kept key) (past key) now from rate_is_quota stands_at
+        (sym (ap (λ t. told_of (step kept.rate (arrival_at cmp kept key) t)) counts_at) ∙ refused)
+        ∙ ap (λ r. retry r (past key)) m.quota_is
 
     -- what is kept after the check stands for these
     after : (later : K → List ℕ) → StandsForEach cmp (checked cmp kept key now) later (max kept.latest now) → MetersUntil cmp now quota later (checked cmp kept key now)

@@ -1,5 +1,5 @@
 -- Quotas that are kept for keys, as the names of connections, and when what is kept stands for what a log tells.
-use Rattle.std.specs.Prelude.{◌≡◌, ◌≤◌, ℕ, Bool, false, List, [], Option, Some, None, is_ok}
+use Rattle.std.specs.Prelude.{◌≡◌, ◌≤◌, ℕ, Bool, List, [], Result, Err, Option, Some, None, is_ok}
 use Rattle.std.specs.declared.cmp.Ordering.{Ordering}
 use Rattle.std.specs.Map.{set_value}
 use Rattle.std.specs.BTreeMap.{is_at}
@@ -38,9 +38,17 @@ module _ {K : Type 0} (cmp : K → K → Ordering) where
 
   -- ---- one quota for each key of a table
 
+  abbrev pub answer_on : Option (KeptByKey K) → K → ℕ → Result (Unit {0}) ℕ
+  answer_on None who now = Err 0
+  answer_on (Some kept) who now = check_answer cmp kept who now
+
+  -- what the quota at a key of the table answers where it is asked for one more of another key at a moment: that it admits it, or
+  -- the moment from which it does, which is 0 where there is none
+  abbrev pub answer_at : List (ℕ × KeptByKey K) → ℕ → K → ℕ → Result (Unit {0}) ℕ
+  answer_at m k who now = answer_on (at m k) who now
+
   abbrev pub passes_on : Option (KeptByKey K) → K → ℕ → Bool
-  passes_on None who now = false
-  passes_on (Some kept) who now = passes kept who now
+  passes_on o who now = is_ok (answer_on o who now)
 
   -- whether the quota at a key of the table admits one more of another key at a moment: it does not where there is none
   abbrev pub passes_at : List (ℕ × KeptByKey K) → ℕ → K → ℕ → Bool

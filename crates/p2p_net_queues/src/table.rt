@@ -3,7 +3,7 @@ ghost use Rattle.std.specs.Prelude.{◌≡◌, ◌==◌, ℕ, [], ◌∷◌, ◌
 ghost use Rattle.std.specs.BTreeMap.{insert_entry};
 ghost use Rattle.std.specs.Ordering.{nat_cmp};
 ghost use Rattle.std.specs.Option.{option_copied};
-ghost use Rattle.p2p_net_queues.specs.Meters.{passes_at, checked_at};
+ghost use Rattle.p2p_net_queues.specs.Meters.{answer_at, checked_at};
 ghost use Rattle.p2p_net_queues.specs.Tables.{at, waiting, pushed_at, popped_at, cleared_at, without_at};
 
 use crate::Deque;
@@ -153,20 +153,21 @@ impl<T: Drop> Table<Deque<T>> {
 }
 
 impl<K: Ord + Copy> Table<KeyedRateLimiter<K>> {
-    /// Whether the quota at a key of the table admits one more of `who` at the moment `now`, in nanoseconds: it does not where
-    /// there is none. What is admitted counts from then on.
+    /// Asks the quota at a key of the table for one more of `who` at the moment `now`, in nanoseconds. What is admitted counts
+    /// from then on. Where one is refused, the inner `Err` is the moment from which one is admitted, or 0 where there is no
+    /// quota.
     ///
     /// `Err` only where there is no memory. The node that owns the table goes no further then.
-    pub fn check_at(&mut self, key: u64, who: K, now: u64) -> Result<bool, AllocError>
-        ensures admits { IfOk result (λ b. b ≡ passes_at K.cmp self.old key who now) }
+    pub fn check_at(&mut self, key: u64, who: K, now: u64) -> Result<Result<(), u128>, AllocError>
+        ensures answer { IfOk result (λ a. a ≡ answer_at K.cmp self.old key who now) }
         ensures after { OnOk result (self.new ≡ checked_at K.cmp self.old key who now) }
     {
         match self.tree.get_mut(&key) {
             Some(limiter) => {
                 let answer = limiter.check_key(&who, now)?;
-                Ok(answer.is_ok())
+                Ok(answer)
             }
-            None => Ok(false),
+            None => Ok(Err(0)),
         }
     }
 }
