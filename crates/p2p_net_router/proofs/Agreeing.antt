@@ -75,11 +75,11 @@ module _ {T : Type 0} where
   pub Agrees-idle :
       (n : ℕ) (part : Envelope → T) (old new : Queue → List T) (items : List Envelope) (p : Queue)
       → filter (stands_in p) items ≡ [] → Agrees n part old items
-      → ((q : Queue) → new q ≡ cond (same_queue p q) (drop 1 (old q)) (old q))
+      → ((q : Queue) → is_routers n q ≡ true → new q ≡ cond (same_queue p q) (drop 1 (old q)) (old q))
       → Agrees n part new items
   Agrees-idle n part old new items p none h step =
       λ q own.
-      step q
+      step q own
       ∙ ((elim (same_queue p q) as (λ b. same_queue p q ≡ b → cond b (drop 1 (old q)) (old q) ≡ old q) [
         | true ↦ λ k.
             let empty : old q ≡ [] = h q own ∙ ap (map part) (line_same p q items k ∙ none) in

@@ -97,6 +97,7 @@ sound_asked size r q m peers names x s a =
       rings = s.rings;
       channels = s.channels;
       distinct = s.distinct;
+      numbered = s.numbered;
     }
 
 other_router : (n : ℕ) (q : Queue) (T : Type 0) → same_queue (queue.Router n) q ≡ false → (xs ys : List T) → xs ≡ xs ++ cond (same_queue (queue.Router n) q) ys []

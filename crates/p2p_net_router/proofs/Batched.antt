@@ -12,17 +12,21 @@ use Rattle.p2p_log_rules.specs.Effect.{mailbox_size_at}
 use Rattle.p2p_log.specs.Apart.{AreApart}
 use Rattle.p2p_log.proofs.Names.{AreApart-live_from}
 use Rattle.p2p_router.specs.Messenger.{is_bound}
-use Rattle.p2p_net_router.specs.Names.{is_routers, label, bare_item}
+use Rattle.p2p_net_router.specs.Names.{is_routers}
 use Rattle.p2p_net_router.specs.Batches.{batch_of, AreKept}
 use Rattle.p2p_net_router.specs.Holds.{Holds}
 use Rattle.p2p_net_router.specs.Stands.{StandsFor, HasPlaces, IsBeside, AreAway}
 use Rattle.p2p_net_router.specs.declared.router.Router.{Router}
-use Rattle.p2p_net_router.proofs.Beside.{moved_to, stands_moved}
+use Rattle.p2p_net_router.proofs.Beside.{moved_to, holds_same, stands_moved}
 use Rattle.p2p_net_router.proofs.Aside.{line_after, takes_alone}
 
 -- a kept router is the old one with other parts
 moved_to-kept : (old new : Router) → AreKept old new → moved_to old new.messenger new.actor new.peers new.names ≡ new
-moved_to-kept old new kept = sym (ap (λ k. record new { number = k }) kept.number ∙ ap (λ c. record new { number = old.number; channels = c }) kept.channels)
+moved_to-kept old new kept =
+    sym
+    (ap (λ k. record new { number = k }) kept.number
+    ∙ (ap (λ c. record new { number = old.number; channels = c }) kept.channels
+    ∙ ap (λ s. record new { number = old.number; channels = old.channels; subscriptions = s }) kept.numbers))
 
 names_taken : (batch : List Envelope) (taken : List ((ℕ × ℕ) × Item)) → taken ≡ map named batch → map (λ (t : (ℕ × ℕ) × Item). t.0) taken ≡ map name_of batch
 names_taken batch taken is = ap (map (λ (t : (ℕ × ℕ) × Item). t.0)) is ∙ map-map (λ (t : (ℕ × ℕ) × Item). t.0) named batch
@@ -44,13 +48,9 @@ batched configs log e old new batch taken s b kept is holds takes ends away =
     λ q own. line_after log e (map name_of batch) q gone (away q own)
     in
     subst (StandsFor configs (log ++ e ∷ [])) same
-    (stands_moved configs log e old new.messenger new.actor new.peers new.names s b kept.routes kept.subscriptions
+    (stands_moved configs log e old new.messenger new.actor new.peers new.names (live log) s b kept.routes kept.subscriptions
     (ap (λ m. is_bound m.binding) kept.messenger) (λ k places. subst (λ m. HasPlaces k m.binding) (sym kept.messenger) places)
-    (record {
-      sound = h.sound;
-      names = λ q own. h.names q own ∙ ap (map label) (sym (lines q own));
-      each = λ q own. h.each q own ∙ ap (map bare_item) (sym (lines q own));
-    }))
+    (holds_same size moved (filter (stays (map name_of batch)) (live log)) (live (log ++ e ∷ [])) h lines))
 
 -- the clauses of a batch say that the router stands for the log
 pub stands_batched :

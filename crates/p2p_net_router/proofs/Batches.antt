@@ -62,7 +62,7 @@ batch_beside n conn size items q apart high_away low_away =
     ∙ line_beside size (queue.High n conn) q items high apart refl high_away))
 
 pub AreKept-refl : (r : Router) → AreKept r r
-AreKept-refl r = record { number = refl; messenger = refl; channels = refl; peers = refl; subscriptions = refl; routes = refl }
+AreKept-refl r = record { number = refl; messenger = refl; channels = refl; peers = refl; numbers = refl; subscriptions = refl; routes = refl }
 
 pub AreKept-trans : (a b c : Router) → AreKept a b → AreKept b c → AreKept a c
 AreKept-trans a b c f g = record {
@@ -70,6 +70,7 @@ AreKept-trans a b c f g = record {
   messenger = g.messenger ∙ f.messenger;
   channels = g.channels ∙ f.channels;
   peers = g.peers ∙ f.peers;
+  numbers = g.numbers ∙ f.numbers;
   subscriptions = g.subscriptions ∙ f.subscriptions;
   routes = g.routes ∙ f.routes;
 }
@@ -185,6 +186,7 @@ AreKept-taken old new rest links = record {
   messenger = ap (λ (r : Router). r.messenger) rest;
   channels = ap (λ (r : Router). r.channels) rest;
   peers = ap (λ (r : Router). r.peers) rest;
+  numbers = ap (λ (r : Router). r.subscriptions) rest;
   subscriptions = ap (λ (r : Router). r.actor.subscriptions) rest;
   routes = links;
 }

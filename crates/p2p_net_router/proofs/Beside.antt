@@ -25,7 +25,7 @@ use Rattle.p2p_net_queues.specs.declared.board.Board.{Board}
 use Rattle.p2p_net_router.specs.Names.{is_routers, label, bare_item}
 use Rattle.p2p_net_router.specs.Items.{channel_of}
 use Rattle.p2p_net_router.specs.Holds.{Holds, routes_in}
-use Rattle.p2p_net_router.specs.Stands.{StandsFor, HasPlaces, IsBeside, AreAway, IsReadied}
+use Rattle.p2p_net_router.specs.Stands.{StandsOver, StandsFor, HasPlaces, IsBeside, AreAway, IsReadied}
 use Rattle.p2p_net_router.specs.declared.router.Router.{Router}
 use Rattle.p2p_net_router.specs.declared.name.Name.{Name}
 
@@ -37,15 +37,25 @@ or-false : (b : Bool) → (b || false) ≡ b
 or-false true = refl
 or-false false = refl
 
+-- the router holds other items that are the same in its queues
+pub holds_same :
+    (size : ℕ) (r : Router) (items more : List Envelope) → Holds size r items
+    → ((q : Queue) → is_routers r.number q ≡ true → filter (stands_in q) more ≡ filter (stands_in q) items) → Holds size r more
+holds_same size r items more h same = record {
+  sound = h.sound;
+  names = λ q own. h.names q own ∙ ap (map label) (sym (same q own));
+  each = λ q own. h.each q own ∙ ap (map bare_item) (sym (same q own));
+}
+
 -- the router moved what the entry says
 pub stands_moved :
-    (configs : List Config) (log : List Entry) (e : Entry) (r : Router) (desk : Desk Key) (actor : Routes Key) (peers : BTreeMap ℕ Key) (names : Board Name)
-    → StandsFor configs log r → IsBeside configs log e r.number
+    (configs : List Config) (log : List Entry) (e : Entry) (r : Router) (desk : Desk Key) (actor : Routes Key) (peers : BTreeMap ℕ Key) (names : Board Name) (items : List Envelope)
+    → StandsOver configs log r items → IsBeside configs log e r.number
     → routes_in actor.links ≡ routes_in r.actor.links → actor.subscriptions ≡ r.actor.subscriptions
     → is_bound desk.binding ≡ is_bound r.messenger.binding → ((k : ℕ) → HasPlaces k r.messenger.binding → HasPlaces k desk.binding)
     → Holds (mailbox_size_at configs r.number) (moved_to r desk actor peers names) (live (log ++ e ∷ []))
     → StandsFor configs (log ++ e ∷ []) (moved_to r desk actor peers names)
-stands_moved configs log e r desk actor peers names s b links subs bound places h =
+stands_moved configs log e r desk actor peers names items s b links subs bound places h =
     let n = r.number in
     let same : channels configs (log ++ e ∷ []) n ≡ channels configs log n =
     ap (λ v. registered configs v n) (events_of-append log e)
@@ -76,12 +86,8 @@ pub stands_beside :
     (configs : List Config) (log : List Entry) (e : Entry) (r : Router)
     → StandsFor configs log r → IsBeside configs log e r.number → LinesStay log e r.number → StandsFor configs (log ++ e ∷ []) r
 stands_beside configs log e r s b lines =
-    stands_moved configs log e r r.messenger r.actor r.peers r.names s b refl refl refl (λ k h. h)
-    (record {
-      sound = s.holds.sound;
-      names = λ q own. s.holds.names q own ∙ ap (map label) (sym (lines q own));
-      each = λ q own. s.holds.each q own ∙ ap (map bare_item) (sym (lines q own));
-    })
+    stands_moved configs log e r r.messenger r.actor r.peers r.names (live log) s b refl refl refl (λ k h. h)
+    (holds_same (mailbox_size_at configs r.number) r (live log) (live (log ++ e ∷ [])) s.holds lines)
 
 -- ---- lines that an entry leaves alone
 
@@ -149,9 +155,5 @@ readied_stands configs log e r desk peers names place conn key s b g bound place
     ap (filter (stands_in q)) whole
     ∙ line_readied q (live log) (length log) g.before g.after (queue.Router r.number, item.Ready conn key) place g.long (g.away q own).0 (g.away q own).1
     in
-    stands_moved configs log e r desk r.actor peers names s b refl refl bound places
-    (record {
-      sound = h.sound;
-      names = λ q own. h.names q own ∙ ap (map label) (sym (lines q own));
-      each = λ q own. h.each q own ∙ ap (map bare_item) (sym (lines q own));
-    })
+    stands_moved configs log e r desk r.actor peers names (live log) s b refl refl bound places
+    (holds_same (mailbox_size_at configs r.number) (moved_to r desk r.actor peers names) (live log ++ x ∷ []) (live (log ++ e ∷ [])) h lines)

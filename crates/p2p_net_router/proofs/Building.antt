@@ -103,6 +103,6 @@ Agrees-ended n c cs old new items apart h step =
     in
     subst (Agrees n label new) (sym whole)
     ((elim (filter (stands_in p) kept) as (λ line. filter (stands_in p) kept ≡ line → Agrees n label new (filter (stays (flat_map ended_item (overwritten line))) kept)) [
-      | [] ↦ λ e. subst (Agrees n label new) (sym (filter_stays-nil kept)) (Agrees-idle n label old new kept p e h step)
+      | [] ↦ λ e. subst (Agrees n label new) (sym (filter_stays-nil kept)) (Agrees-idle n label old new kept p e h (λ q own. step q))
       | x ∷ rest ↦ λ e. Agrees-pop n label old new kept p x rest (AreApart-filter (stays gone) items apart) e h (λ q own. step q)
     ]) refl)

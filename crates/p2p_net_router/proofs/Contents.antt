@@ -56,7 +56,7 @@ use Rattle.p2p_net_router.proofs.Others.{copied_adds}
 use Rattle.p2p_net_router.proofs.Rings.{IsTold, told_all-told}
 use Rattle.p2p_net_router.proofs.Routed.{IsRouted, sound_stepped}
 use Rattle.p2p_net_router.proofs.Steps.{later_messages, oldest_item, is_oldest, known_first, once_first, subscriptions_first}
-use Rattle.p2p_net_router.proofs.Telling.{copies_ends}
+use Rattle.p2p_net_router.proofs.Noting.{copies_ends}
 use Rattle.p2p_net_router.proofs.Told.{stepped_to, same_router, map-cond}
 
 -- ---- the links of a router that spreads

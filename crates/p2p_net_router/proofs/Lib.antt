@@ -12,9 +12,13 @@ pub mod Ended
 pub mod First
 pub mod Kept
 pub mod Linking
+pub mod Listed
+pub mod Noting
 pub mod Numbers
 pub mod Others
+pub mod Over
 pub mod Overwritten
+pub mod Peered
 pub mod Readying
 pub mod Rings
 pub mod Routed
@@ -26,5 +30,4 @@ pub mod Steps
 pub mod Subscribed
 pub mod Taken
 pub mod Taking
-pub mod Telling
 pub mod Told

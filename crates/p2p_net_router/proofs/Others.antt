@@ -26,7 +26,7 @@ use Rattle.p2p_net_router.specs.Oldest.{without, told_row}
 use Rattle.p2p_net_router.proofs.Beside.{filter-first_away}
 use Rattle.p2p_net_router.proofs.Ended.{ended_lines}
 use Rattle.p2p_net_router.proofs.Standing.{told_none}
-use Rattle.p2p_net_router.proofs.Telling.{after_row, apart_without}
+use Rattle.p2p_net_router.proofs.Noting.{after_row, apart_without}
 
 same_node : (n : ℕ) → (n == n) ≡ true
 same_node n = grind (arith, nat_tests)

@@ -5,7 +5,7 @@ use Rattle.std.specs.List.{list_any, AllByRecursion}
 use Rattle.std.proofs.Math.ListN.{length-set}
 use Rattle.std.proofs.lemmas.Bool.Decides.{nat_tests}
 use Rattle.std.proofs.lemmas.Bool.{false≢true}
-use Rattle.p2p_base.specs.Queue.{Queue, pushed_on, empty_queue}
+use Rattle.p2p_base.specs.Queue.{Queue, pushed_on, without_oldest, empty_queue}
 use Rattle.p2p_base.specs.declared.key.Key.{Key}
 use Rattle.p2p_router.specs.Messenger.{Desk, lists_of, told_one, told_all, is_heard}
 use Rattle.p2p_net_router.specs.Items.{channel_of, lists_in}
@@ -31,6 +31,14 @@ IsRing-pushed l keys h = record {
   unclosed = h.unclosed;
 }
 
+fewer : {T : Type 0} (xs : List T) → length xs ≤ 1 → length (drop 1 xs) ≤ 1
+fewer [] le = omega arith
+fewer (x ∷ xs) le = omega (arith, le)
+
+-- a ring of which the list was taken
+pub IsRing-popped : (l : Queue (List Key)) → IsRing l → IsRing (without_oldest l)
+IsRing-popped l h = record { one = h.one; within = fewer l.items h.within; unclosed = h.unclosed }
+
 -- what holds of all, holds of one, and of all once one was set
 pub AllByRecursion-at : {X : Type 0} (P : X → Type 0) (xs : List X) (i : ℕ) (d : X) → AllByRecursion P xs → i < length xs → P (slice_index_or xs i d)
 AllByRecursion-at P [] i d h lt = absurd (omega arith)
@@ -42,7 +50,7 @@ AllByRecursion-set P [] i v h p = tt
 AllByRecursion-set P (x ∷ xs) zero v h p = (p, h.1)
 AllByRecursion-set P (x ∷ xs) (suc i) v h p = (h.0, AllByRecursion-set P xs i v h.1 p)
 
-none_at : (p : ℕ → Bool) (ks : List ℕ) (i : ℕ) → list_any p ks ≡ false → i < length ks → p (channel_of ks i) ≡ false
+pub none_at : (p : ℕ → Bool) (ks : List ℕ) (i : ℕ) → list_any p ks ≡ false → i < length ks → p (channel_of ks i) ≡ false
 none_at p [] i h lt = absurd (omega arith)
 none_at p (k ∷ ks) zero h lt = (elim (p k) as (λ b. (b || list_any p ks) ≡ false → b ≡ false) [ true ↦ λ e. e | false ↦ λ e. refl ]) h
 none_at p (k ∷ ks) (suc i) h lt = none_at p ks i ((elim (p k) as (λ b. (b || list_any p ks) ≡ false → list_any p ks ≡ false) [ true ↦ λ e. absurd (false≢true (sym e)) | false ↦ λ e. e ]) h) (omega arith)
@@ -68,6 +76,31 @@ lists_in-set (k ∷ ks) (m ∷ ms) (suc s) l c lt long distinct =
     let other : (k == channel_of ks s) ≡ false = none_at (λ d. k == d) ks s distinct.0 le in
     ap (λ x. cond (k == c) m.items x) (lists_in-set ks ms s l c (omega arith) (omega (arith, long)) distinct.1)
     ∙ two_choices (k == c) (channel_of ks s == c) m.items l.items (lists_in ks ms c) (λ e. grind (arith, nat_tests))
+
+-- the lists of each channel are those of its subscription
+pub lists_in-at :
+    (channels : List ℕ) (lists : List (Queue (List Key))) (s c : ℕ)
+    → length channels ≡ length lists → AreDistinct channels → s < length channels → channel_of channels s ≡ c
+    → lists_in channels lists c ≡ (slice_index_or lists s (empty_queue 1)).items
+lists_in-at [] ls s c long distinct lt at = absurd (omega arith)
+lists_in-at (k ∷ ks) [] s c long distinct lt at = absurd (omega (arith, long))
+lists_in-at (k ∷ ks) (l ∷ ls) zero c long distinct lt at =
+    let own : (k == c) ≡ true = grind (arith, nat_tests) in
+    ap (λ b. cond b l.items (lists_in ks ls c)) own
+lists_in-at (k ∷ ks) (l ∷ ls) (suc s) c long distinct lt at =
+    let le : s < length ks = omega arith in
+    let other : (k == c) ≡ false = ap (λ d. k == d) (sym at) ∙ none_at (λ d. k == d) ks s distinct.0 le in
+    ap (λ b. cond b l.items (lists_in ks ls c)) other ∙ lists_in-at ks ls s c (omega (arith, long)) distinct.1 le at
+
+-- a channel without a subscription has none
+pub lists_in-none : (channels : List ℕ) (lists : List (Queue (List Key))) (c : ℕ) → list_any (λ d. d == c) channels ≡ false → lists_in channels lists c ≡ []
+lists_in-none [] ls c h = refl
+lists_in-none (k ∷ ks) [] c h = refl
+lists_in-none (k ∷ ks) (l ∷ ls) c h =
+    (elim (k == c) as (λ b. (b || list_any (λ d. d == c) ks) ≡ false → cond b l.items (lists_in ks ls c) ≡ []) [
+      | true ↦ λ e. absurd (false≢true (sym e))
+      | false ↦ λ e. lists_in-none ks ls c e
+    ]) h
 
 -- whether one of these subscriptions is the channel's
 abbrev pub tells : List ℕ → List ℕ → ℕ → Bool

@@ -67,6 +67,7 @@ sound_stepped size old desk actor names keys ss s bound t known once linked subs
   rings = t.rings;
   channels = s.channels ∙ sym t.long;
   distinct = s.distinct;
+  numbered = s.numbered;
 }
 
 -- ---- one more entry

@@ -1,6 +1,6 @@
 -- A router that was handed content.
 use Rattle.std.proofs.Common.{◌≡◌, ℕ, ◌+◌, ◌≤◌, Bool, true, false, List, [], ◌∷◌, ◌++◌, length, refl, ap, sym, subst, ◌∙◌, arith, append-nil, if◌then◌else◌, Some, None}
-use Rattle.std.specs.Prelude.{filter, flat_map, map, nat_le, nat_lt, not, ◌||◌}
+use Rattle.std.specs.Prelude.{filter, flat_map, map, nat_le, nat_lt, not}
 use Rattle.std.proofs.lemmas.Bool.Decides.{nat_tests}
 use Rattle.std.proofs.lemmas.Bool.{false≢true}
 use Rattle.std.proofs.lemmas.List.{length-map}
@@ -20,10 +20,7 @@ use Rattle.p2p_router.specs.declared.messenger.Binding.{Binding}
 use Rattle.p2p_router.specs.declared.messenger.Binding.TheVariants.{Unbound, Bound, Closed}
 use Rattle.p2p_log.specs.declared.config.Config.{Config}
 use Rattle.p2p_log.specs.declared.entry.Entry.{Entry}
-use Rattle.p2p_log.specs.declared.entry.Reply.TheVariants as reply
-use Rattle.p2p_log.specs.declared.event.Event.{Event}
-use Rattle.p2p_log.specs.declared.event.Recipients.{Recipients as Whom}
-use Rattle.p2p_log.specs.declared.event.Act.TheVariants as act
+use Rattle.p2p_log.specs.declared.entry.Reply.{Reply}
 use Rattle.p2p_log.specs.declared.end.Cause.TheVariants as cause
 use Rattle.p2p_log.specs.declared.end.Outcome.TheVariants as outcome
 use Rattle.p2p_log.specs.declared.queue.Queue.{Queue}
@@ -32,10 +29,10 @@ use Rattle.p2p_log.specs.declared.item.Item.{Item}
 use Rattle.p2p_log.specs.declared.item.Item.TheVariants as item
 use Rattle.p2p_log.specs.declared.item.Envelope.{Envelope}
 use Rattle.p2p_log_rules.specs.declared.row.Row.{Row}
-use Rattle.p2p_log.specs.Lines.{ended_item, stays, placed, live, line, stands_in}
+use Rattle.p2p_log.specs.Lines.{ended_item, stays, placed, stands_in}
 use Rattle.p2p_log_rules.specs.Facts.{is_up}
 use Rattle.p2p_log_rules.specs.Frames.{frame_of}
-use Rattle.p2p_log_rules.specs.Effect.{only, entry_of, copies_end, sent_row, mailbox_size_at, router_capacity}
+use Rattle.p2p_log_rules.specs.Effect.{only, copies_end, sent_row, mailbox_size_at, router_capacity}
 use Rattle.p2p_log.proofs.Lines.{filter_stays-nil}
 use Rattle.p2p_net_queues.specs.declared.board.Board.{Board}
 use Rattle.p2p_net_queues.specs.Board.{held}
@@ -46,14 +43,14 @@ use Rattle.p2p_net_router.specs.Frames.{refuses, frame_taken_in}
 use Rattle.p2p_net_router.specs.Items.{key_cmp, message_item}
 use Rattle.p2p_net_router.specs.Sound.{IsSound, counted, told_times}
 use Rattle.p2p_net_router.specs.Holds.{Holds, after}
-use Rattle.p2p_net_router.specs.Stands.{StandsFor, HasPlaces}
+use Rattle.p2p_net_router.specs.Stands.{StandsOver, HasPlaces}
 use Rattle.p2p_net_router.specs.declared.router.Router.{Router}
 use Rattle.p2p_net_router.specs.declared.name.Name.{Name}
 use Rattle.p2p_net_router.proofs.Asked.{Holds-asked, bound_items}
 use Rattle.p2p_net_router.proofs.Building.{own_peers as own_queue}
-use Rattle.p2p_net_router.proofs.Kept.{rebound, stands_kept}
-use Rattle.p2p_net_router.proofs.Routed.{line_is}
-use Rattle.p2p_net_router.proofs.Telling.{NamesBuild-start}
+use Rattle.p2p_net_router.proofs.Kept.{rebound}
+use Rattle.p2p_net_router.proofs.Noting.{NamesBuild-start}
+use Rattle.p2p_net_router.proofs.Over.{over_rebound}
 
 -- ---- the mailbox
 
@@ -69,15 +66,15 @@ record HasRoom (b : Binding Key) (r : Bool) : Type 0 where
   is : b ≡ Bound q
   room_is : has_room q ≡ r
 
-refused : (b : Binding Key) → is_bound b ≡ true → refuses (content_answered b) ≡ true → HasRoom b false
-refused Unbound h r = absurd (false≢true h)
-refused (Bound q) h r = record { q = q; is = refl; room_is = no_room q r }
-refused Closed h r = absurd (false≢true h)
+full_mailbox : (b : Binding Key) → is_bound b ≡ true → refuses (content_answered b) ≡ true → HasRoom b false
+full_mailbox Unbound h r = absurd (false≢true h)
+full_mailbox (Bound q) h r = record { q = q; is = refl; room_is = no_room q r }
+full_mailbox Closed h r = absurd (false≢true h)
 
-accepted : (b : Binding Key) → is_bound b ≡ true → refuses (content_answered b) ≡ false → HasRoom b true
-accepted Unbound h r = absurd (false≢true h)
-accepted (Bound q) h r = record { q = q; is = refl; room_is = room q r }
-accepted Closed h r = absurd (false≢true h)
+open_mailbox : (b : Binding Key) → is_bound b ≡ true → refuses (content_answered b) ≡ false → HasRoom b true
+open_mailbox Unbound h r = absurd (false≢true h)
+open_mailbox (Bound q) h r = record { q = q; is = refl; room_is = room q r }
+open_mailbox Closed h r = absurd (false≢true h)
 
 room_or_full : (x size : ℕ) → nat_lt x size ≡ not (nat_le size x)
 room_or_full x size = grind (arith, nat_tests)
@@ -95,20 +92,20 @@ pub encoded_same : (e : EncodedData) (channel : ℕ) (bytes same : List ℕ) →
 encoded_same e channel bytes same c p b =
     ap (λ k. record { channel = k; payload = e.payload }) c ∙ ap (λ l. record { channel = channel; payload = l }) (p ∙ ap (frame_of channel) b)
 
--- the mailbox has room where the log has
+-- the mailbox has room where its items leave some
 log_room :
-    (configs : List Config) (log : List Entry) (r : Router) (q : Waiting (Message Key)) → StandsFor configs log r → r.messenger.binding ≡ Bound q
-    → has_room q ≡ not (nat_le (router_capacity configs log r.number) (length (line log (queue.Router r.number))))
-log_room configs log r q s bound =
+    (configs : List Config) (log : List Entry) (r : Router) (items : List Envelope) (q : Waiting (Message Key)) → StandsOver configs log r items → r.messenger.binding ≡ Bound q
+    → has_room q ≡ not (nat_le (router_capacity configs log r.number) (length (filter (stands_in (queue.Router r.number)) items)))
+log_room configs log r items q s bound =
+    let line = filter (stands_in (queue.Router r.number)) items in
     let places : q.capacity ≡ router_capacity configs log r.number = subst (HasPlaces (router_capacity configs log r.number)) bound s.places in
-    let long : length q.items ≡ length (line log (queue.Router r.number)) =
+    let long : length q.items ≡ length line =
     sym (length-map q.items (message_item r.channels.items))
     ∙ (ap (λ l. length (map (message_item r.channels.items) l)) (sym (bound_items r.messenger.binding q bound))
-    ∙ (ap length (s.holds.each (queue.Router r.number) (own_queue r.number))
-    ∙ (length-map (filter (stands_in (queue.Router r.number)) (live log)) bare_item ∙ ap length (sym (line_is log (queue.Router r.number))))))
+    ∙ (ap length (s.holds.each (queue.Router r.number) (own_queue r.number)) ∙ length-map line bare_item))
     in
     ap (nat_lt (length q.items)) places
-    ∙ (ap (λ k. nat_lt k (router_capacity configs log r.number)) long ∙ room_or_full (length (line log (queue.Router r.number))) (router_capacity configs log r.number))
+    ∙ (ap (λ k. nat_lt k (router_capacity configs log r.number)) long ∙ room_or_full (length line) (router_capacity configs log r.number))
 
 not-false : (b : Bool) → false ≡ not b → b ≡ true
 not-false true h = refl
@@ -120,46 +117,50 @@ not-true false h = refl
 
 -- ---- the row
 
+-- what a message comes to, by what stands in the router's queues
+abbrev pub sent_over : List Config → List Entry → Router → List Envelope → Reply → Reply → ℕ → ℕ → Bool → List ℕ → List Key → Row
+sent_over configs log r items accepted refused entry channel priority frame to =
+    sent_row accepted refused (is_up log r.number) (nat_le (router_capacity configs log r.number) (length (filter (stands_in (queue.Router r.number)) items)))
+    r.number entry channel priority frame to
+
 pub row_lost :
-    (configs : List Config) (log : List Entry) (r : Router) (entry channel : ℕ) (priority : Bool) (frame : List ℕ) (to : List Key) (row : Row) → StandsFor configs log r → is_bound r.messenger.binding ≡ false
-    → row ≡ record { reply = reply.Sent to; takes = []; puts = []; ends = copies_end entry 0 to (outcome.Dropped cause.Unbound) }
-    → row ≡ sent_row (is_up log r.number) (nat_le (router_capacity configs log r.number) (length (line log (queue.Router r.number)))) r.number entry channel priority frame to
-row_lost configs log r entry channel priority frame to row s none e =
-    e ∙ sym (ap (λ b. sent_row b (nat_le (router_capacity configs log r.number) (length (line log (queue.Router r.number)))) r.number entry channel priority frame to) (sym s.bound ∙ none))
+    (configs : List Config) (log : List Entry) (r : Router) (items : List Envelope) (accepted refused : Reply) (entry channel : ℕ) (priority : Bool) (frame : List ℕ) (to : List Key) (row : Row)
+    → StandsOver configs log r items → is_bound r.messenger.binding ≡ false
+    → row ≡ record { reply = accepted; takes = []; puts = []; ends = copies_end entry 0 to (outcome.Dropped cause.Unbound) }
+    → row ≡ sent_over configs log r items accepted refused entry channel priority frame to
+row_lost configs log r items accepted refused entry channel priority frame to row s none e =
+    let full = nat_le (router_capacity configs log r.number) (length (filter (stands_in (queue.Router r.number)) items)) in
+    e ∙ sym (ap (λ b. sent_row accepted refused b full r.number entry channel priority frame to) (sym s.bound ∙ none))
 
 pub row_refused :
-    (configs : List Config) (log : List Entry) (r : Router) (entry channel : ℕ) (priority : Bool) (frame : List ℕ) (to : List Key) (row : Row) → StandsFor configs log r
-    → is_bound r.messenger.binding ≡ true → refuses (content_answered r.messenger.binding) ≡ true → row ≡ only (reply.Sent [])
-    → row ≡ sent_row (is_up log r.number) (nat_le (router_capacity configs log r.number) (length (line log (queue.Router r.number)))) r.number entry channel priority frame to
-row_refused configs log r entry channel priority frame to row s up off e =
-    let full = nat_le (router_capacity configs log r.number) (length (line log (queue.Router r.number))) in
-    let h = refused r.messenger.binding up off in
+    (configs : List Config) (log : List Entry) (r : Router) (items : List Envelope) (accepted refused : Reply) (entry channel : ℕ) (priority : Bool) (frame : List ℕ) (to : List Key) (row : Row)
+    → StandsOver configs log r items → is_bound r.messenger.binding ≡ true → refuses (content_answered r.messenger.binding) ≡ true → row ≡ only refused
+    → row ≡ sent_over configs log r items accepted refused entry channel priority frame to
+row_refused configs log r items accepted refused entry channel priority frame to row s up off e =
+    let full = nat_le (router_capacity configs log r.number) (length (filter (stands_in (queue.Router r.number)) items)) in
+    let h = full_mailbox r.messenger.binding up off in
     e
     ∙ sym
-    (ap (λ b. sent_row b full r.number entry channel priority frame to) (sym s.bound ∙ up)
-    ∙ ap (λ b. sent_row true b r.number entry channel priority frame to) (not-false full (sym h.room_is ∙ log_room configs log r h.q s h.is)))
+    (ap (λ b. sent_row accepted refused b full r.number entry channel priority frame to) (sym s.bound ∙ up)
+    ∙ ap (λ b. sent_row accepted refused true b r.number entry channel priority frame to) (not-false full (sym h.room_is ∙ log_room configs log r items h.q s h.is)))
 
 abbrev pub sent_item : ℕ → ℕ → ℕ → Bool → List ℕ → List Key → Queue × Item
 sent_item n entry channel priority frame to = (queue.Router n, item.Content channel frame priority entry to)
 
 pub row_accepted :
-    (configs : List Config) (log : List Entry) (r : Router) (entry channel : ℕ) (priority : Bool) (frame : List ℕ) (to : List Key) (row : Row) → StandsFor configs log r
-    → is_bound r.messenger.binding ≡ true → refuses (content_answered r.messenger.binding) ≡ false
-    → row ≡ record (only (reply.Sent to)) { puts = sent_item r.number entry channel priority frame to ∷ [] }
-    → row ≡ sent_row (is_up log r.number) (nat_le (router_capacity configs log r.number) (length (line log (queue.Router r.number)))) r.number entry channel priority frame to
-row_accepted configs log r entry channel priority frame to row s up off e =
-    let full = nat_le (router_capacity configs log r.number) (length (line log (queue.Router r.number))) in
-    let h = accepted r.messenger.binding up off in
+    (configs : List Config) (log : List Entry) (r : Router) (items : List Envelope) (accepted refused : Reply) (entry channel : ℕ) (priority : Bool) (frame : List ℕ) (to : List Key) (row : Row)
+    → StandsOver configs log r items → is_bound r.messenger.binding ≡ true → refuses (content_answered r.messenger.binding) ≡ false
+    → row ≡ record (only accepted) { puts = sent_item r.number entry channel priority frame to ∷ [] }
+    → row ≡ sent_over configs log r items accepted refused entry channel priority frame to
+row_accepted configs log r items accepted refused entry channel priority frame to row s up off e =
+    let full = nat_le (router_capacity configs log r.number) (length (filter (stands_in (queue.Router r.number)) items)) in
+    let h = open_mailbox r.messenger.binding up off in
     e
     ∙ sym
-    (ap (λ b. sent_row b full r.number entry channel priority frame to) (sym s.bound ∙ up)
-    ∙ ap (λ b. sent_row true b r.number entry channel priority frame to) (not-true full (sym h.room_is ∙ log_room configs log r h.q s h.is)))
+    (ap (λ b. sent_row accepted refused b full r.number entry channel priority frame to) (sym s.bound ∙ up)
+    ∙ ap (λ b. sent_row accepted refused true b r.number entry channel priority frame to) (not-true full (sym h.room_is ∙ log_room configs log r items h.q s h.is)))
 
 -- ---- what the router then holds
-
-or-none : (b : Bool) → b ≡ (b || false)
-or-none true = refl
-or-none false = refl
 
 desk_same : (d e : Desk Key) (whom : Recipients Key) (channel : ℕ) (bytes : List ℕ) (priority : Bool)
     → e ≡ content_taken d whom channel bytes priority → in_mailbox (λ q. with_content q (message.Content whom (encoded_of channel bytes) priority)) d.binding ≡ d.binding → e ≡ d
@@ -167,26 +168,23 @@ desk_same d e whom channel bytes priority h k = h ∙ ap (λ b. record { binding
 
 -- nothing entered the mailbox
 sent_nothing :
-    (configs : List Config) (log : List Entry) (entry : ℕ) (event : Event) (r : Router) (desk : Desk Key) (row : Row) (bytes : List ℕ) (channel : ℕ) (priority : Bool) (whom : Whom)
-    → StandsFor configs log r → length log ≡ entry → event.act ≡ act.Send bytes channel r.number priority whom
-    → desk ≡ r.messenger → row.takes ≡ [] → row.puts ≡ [] → flat_map ended_item row.ends ≡ []
-    → StandsFor configs (log ++ entry_of event row ∷ []) (rebound r desk r.names)
-sent_nothing configs log entry event r desk row bytes channel priority whom s at is same t p e =
-    let whole : after entry row (live log) ≡ live log =
-    ap (λ g. filter (stays g) (live log) ++ placed entry 0 row.puts) (ap (λ l. l ++ flat_map ended_item row.ends) t ∙ e)
-    ∙ (ap (λ l. filter (stays []) (live log) ++ placed entry 0 l) p ∙ (append-nil (filter (stays []) (live log)) ∙ filter_stays-nil (live log)))
+    (configs : List Config) (log : List Entry) (entry : ℕ) (r : Router) (items : List Envelope) (desk : Desk Key) (row : Row)
+    → StandsOver configs log r items → desk ≡ r.messenger → row.takes ≡ [] → row.puts ≡ [] → flat_map ended_item row.ends ≡ []
+    → StandsOver configs log (rebound r desk r.names) (after entry row items)
+sent_nothing configs log entry r items desk row s same t p e =
+    let whole : after entry row items ≡ items =
+    ap (λ g. filter (stays g) items ++ placed entry 0 row.puts) (ap (λ l. l ++ flat_map ended_item row.ends) t ∙ e)
+    ∙ (ap (λ l. filter (stays []) items ++ placed entry 0 l) p ∙ (append-nil (filter (stays []) items) ∙ filter_stays-nil items))
     in
-    subst (λ (d : Desk Key). StandsFor configs (log ++ entry_of event row ∷ []) (rebound r d r.names)) (sym same)
-    (stands_kept configs log entry event (act.Send bytes channel r.number priority whom) r r.messenger r.names row s at is refl refl
-    (subst (Holds (mailbox_size_at configs r.number) r) (sym whole) s.holds) (s.bound ∙ or-none (is_up log r.number)) s.places)
+    subst (λ (d : Desk Key). StandsOver configs log (rebound r d r.names) (after entry row items)) (sym same) (subst (StandsOver configs log r) (sym whole) s)
 
 pub lost_stands :
-    (configs : List Config) (log : List Entry) (entry : ℕ) (event : Event) (r : Router) (row : Row) (bytes : List ℕ) (channel : ℕ) (priority : Bool) (whom : Whom) (keys : List Key)
-    → StandsFor configs log r → length log ≡ entry → event.act ≡ act.Send bytes channel r.number priority whom
-    → row ≡ record { reply = reply.Sent keys; takes = []; puts = []; ends = copies_end entry 0 keys (outcome.Dropped cause.Unbound) }
-    → StandsFor configs (log ++ entry_of event row ∷ []) (rebound r r.messenger r.names)
-lost_stands configs log entry event r row bytes channel priority whom keys s at is e =
-    sent_nothing configs log entry event r r.messenger row bytes channel priority whom s at is refl
+    (configs : List Config) (log : List Entry) (entry : ℕ) (r : Router) (items : List Envelope) (accepted : Reply) (row : Row) (keys : List Key)
+    → StandsOver configs log r items
+    → row ≡ record { reply = accepted; takes = []; puts = []; ends = copies_end entry 0 keys (outcome.Dropped cause.Unbound) }
+    → StandsOver configs log (rebound r r.messenger r.names) (after entry row items)
+lost_stands configs log entry r items accepted row keys s e =
+    sent_nothing configs log entry r items r.messenger row s refl
     (ap (λ (x : Row). x.takes) e) (ap (λ (x : Row). x.puts) e) (ap (λ (x : Row). flat_map ended_item x.ends) e ∙ ended_item-copies entry 0 keys (outcome.Dropped cause.Unbound))
 
 kept_refused : (b : Binding Key) (m : Message Key) → HasRoom b false → in_mailbox (λ q. with_content q m) b ≡ b
@@ -197,13 +195,13 @@ taken_in : (b : Binding Key) (m : Message Key) → (h : HasRoom b true) → in_m
 taken_in b m h = ap (in_mailbox (λ q. with_content q m)) h.is ∙ ap (λ t. Bound (if t then appended h.q m else h.q)) h.room_is
 
 pub refused_stands :
-    (configs : List Config) (log : List Entry) (entry : ℕ) (event : Event) (r : Router) (desk : Desk Key) (row : Row) (bytes : List ℕ) (channel : ℕ) (priority : Bool) (whom : Whom) (to : Recipients Key)
-    → StandsFor configs log r → length log ≡ entry → event.act ≡ act.Send bytes channel r.number priority whom
+    (configs : List Config) (log : List Entry) (entry : ℕ) (r : Router) (items : List Envelope) (desk : Desk Key) (refused : Reply) (row : Row) (bytes : List ℕ) (channel : ℕ) (priority : Bool) (to : Recipients Key)
+    → StandsOver configs log r items
     → desk ≡ content_taken r.messenger to channel bytes priority → is_bound r.messenger.binding ≡ true → refuses (content_answered r.messenger.binding) ≡ true
-    → row ≡ only (reply.Sent []) → StandsFor configs (log ++ entry_of event row ∷ []) (rebound r desk r.names)
-refused_stands configs log entry event r desk row bytes channel priority whom to s at is told up off e =
-    sent_nothing configs log entry event r desk row bytes channel priority whom s at is
-    (desk_same r.messenger desk to channel bytes priority told (kept_refused r.messenger.binding _ (refused r.messenger.binding up off)))
+    → row ≡ only refused → StandsOver configs log (rebound r desk r.names) (after entry row items)
+refused_stands configs log entry r items desk refused row bytes channel priority to s told up off e =
+    sent_nothing configs log entry r items desk row s
+    (desk_same r.messenger desk to channel bytes priority told (kept_refused r.messenger.binding _ (full_mailbox r.messenger.binding up off)))
     (ap (λ (x : Row). x.takes) e) (ap (λ (x : Row). x.puts) e) (ap (λ (x : Row). flat_map ended_item x.ends) e)
 
 once_kept :
@@ -216,30 +214,31 @@ once_kept size r q k s bound =
     omega (arith, h)
 
 pub accepted_stands :
-    (configs : List Config) (log : List Entry) (entry : ℕ) (event : Event) (r : Router) (desk : Desk Key) (names : Board Name) (before row : Row) (bytes : List ℕ) (channel : ℕ) (priority : Bool) (whom : Whom) (keys : List Key)
-    → StandsFor configs log r → length log ≡ entry → event.act ≡ act.Send bytes channel r.number priority whom
+    (configs : List Config) (log : List Entry) (entry : ℕ) (r : Router) (items : List Envelope) (desk : Desk Key) (names : Board Name) (accepted : Reply) (row : Row) (bytes : List ℕ) (channel : ℕ) (priority : Bool) (keys : List Key)
+    → StandsOver configs log r items
     → desk ≡ content_taken r.messenger (to.Some keys) channel bytes priority → is_bound r.messenger.binding ≡ true → refuses (content_answered r.messenger.binding) ≡ false
-    → before ≡ only (reply.Sent keys) → row ≡ record (only (reply.Sent keys)) { puts = sent_item r.number entry channel priority (frame_of channel bytes) keys ∷ [] }
-    → ((n : ℕ) (items : List Envelope) → NamesBuild n r.names items entry before → NamesBuild n names items entry row)
-    → StandsFor configs (log ++ entry_of event row ∷ []) (rebound r desk names)
-accepted_stands configs log entry event r desk names before row bytes channel priority whom keys s at is told up off e f named =
+    → row ≡ record (only accepted) { puts = sent_item r.number entry channel priority (frame_of channel bytes) keys ∷ [] }
+    → ((n : ℕ) (its : List Envelope) → NamesBuild n r.names its entry (only accepted) → NamesBuild n names its entry row)
+    → StandsOver configs log (rebound r desk names) (after entry row items)
+accepted_stands configs log entry r items desk names accepted row bytes channel priority keys s told up off f named =
     let n = r.number in
     let size = mailbox_size_at configs n in
-    let h = accepted r.messenger.binding up off in
+    let h = open_mailbox r.messenger.binding up off in
     let m : Message Key = message.Content (to.Some keys) (encoded_of channel bytes) priority in
     let x : Envelope = record { entry = entry; place = 0; queue = queue.Router n; item = item.Content channel (frame_of channel bytes) priority entry keys } in
-    let desk_now : desk ≡ record r.messenger { binding = Bound (appended h.q m) } =
+    let bound_desk : Desk Key = record r.messenger { binding = Bound (appended h.q m) } in
+    let desk_now : desk ≡ bound_desk =
     told ∙ ap (λ b. record { binding = b; waiting = r.messenger.waiting; lists = r.messenger.lists }) (taken_in r.messenger.binding m h)
     in
-    let whole : after entry row (live log) ≡ live log ++ x ∷ [] =
-    ap (λ (y : Row). after entry y (live log)) f ∙ ap (λ l. l ++ x ∷ []) (filter_stays-nil (live log))
+    let whole : after entry row items ≡ items ++ x ∷ [] =
+    ap (λ (y : Row). after entry y items) f ∙ ap (λ l. l ++ x ∷ []) (filter_stays-nil items)
     in
-    let agree : Agrees n label (held names) (live log ++ x ∷ []) =
-    subst (λ (y : Row). Agrees n label (held names) (live log ++ placed entry 0 y.puts)) f
-    (named n (live log) (NamesBuild-start n r.names (live log) entry before (ap (λ (y : Row). y.puts) e) s.holds.names))
+    let agree : Agrees n label (held names) (items ++ x ∷ []) =
+    subst (λ (y : Row). Agrees n label (held names) (items ++ placed entry 0 y.puts)) f
+    (named n items (NamesBuild-start n r.names items entry (only accepted) refl s.holds.names))
     in
-    let holds : Holds size (rebound r (record r.messenger { binding = Bound (appended h.q m) }) names) (live log ++ x ∷ []) =
-    Holds-asked size r h.q m r.peers names x (live log) s.holds
+    let holds : Holds size (rebound r bound_desk names) (items ++ x ∷ []) =
+    Holds-asked size r h.q m r.peers names x items s.holds
     (record {
       bound = h.is;
       there = refl;
@@ -252,7 +251,6 @@ accepted_stands configs log entry event r desk names before row bytes channel pr
       frames = λ b c. refl;
     }) agree
     in
-    subst (λ (d : Desk Key). StandsFor configs (log ++ entry_of event row ∷ []) (rebound r d names)) (sym desk_now)
-    (stands_kept configs log entry event (act.Send bytes channel n priority whom) r (record r.messenger { binding = Bound (appended h.q m) }) names row s at is refl refl
-    (subst (Holds size (rebound r (record r.messenger { binding = Bound (appended h.q m) }) names)) (sym whole) holds)
-    (sym up ∙ (s.bound ∙ or-none (is_up log n))) (subst (HasPlaces (router_capacity configs log n)) h.is s.places))
+    subst (λ (d : Desk Key). StandsOver configs log (rebound r d names) (after entry row items)) (sym desk_now)
+    (over_rebound configs log r bound_desk names items (after entry row items) s (sym up) (λ k g. subst (HasPlaces k) h.is g)
+    (subst (Holds size (rebound r bound_desk names)) (sym whole) holds))

@@ -27,7 +27,7 @@ use Rattle.p2p_net_router.specs.Oldest.{without, told_row}
 use Rattle.p2p_net_router.proofs.Agreeing.{answer_away}
 use Rattle.p2p_net_router.proofs.Ended.{is_told, told_channel, ended_lines}
 use Rattle.p2p_net_router.proofs.Rings.{tells}
-use Rattle.p2p_net_router.proofs.Telling.{after_row, apart_without}
+use Rattle.p2p_net_router.proofs.Noting.{after_row, apart_without}
 
 -- a list of peers for each of these channels
 placed_lists :

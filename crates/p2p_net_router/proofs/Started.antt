@@ -42,7 +42,7 @@ use Rattle.p2p_net_router.proofs.Contents.{placed_bare}
 use Rattle.p2p_net_router.proofs.Copying.{item_put}
 use Rattle.p2p_net_router.proofs.Kept.{rebound, stands_kept}
 use Rattle.p2p_net_router.proofs.Numbers.{channels_numbered}
-use Rattle.p2p_net_router.proofs.Telling.{NamesBuild-start}
+use Rattle.p2p_net_router.proofs.Noting.{NamesBuild-start}
 
 -- ---- the row
 
@@ -94,6 +94,7 @@ sound_started size places r names s none = record {
   rings = s.rings;
   channels = s.channels;
   distinct = s.distinct;
+  numbered = s.numbered;
 }
 
 -- all channels wait, in order

@@ -1,9 +1,9 @@
 -- A router before its start: with nothing, and with one more channel that wants lists of peers.
-use Rattle.std.proofs.Common.{◌≡◌, ℕ, zero, suc, ◌+◌, ◌≤◌, Bool, true, false, cond, List, [], ◌∷◌, ◌++◌, length, length-append, refl, ap, sym, subst, ◌∙◌, arith, append_assoc, append-nil, Some, None}
+use Rattle.std.proofs.Common.{◌≡◌, ℕ, zero, suc, ◌+◌, ◌<◌, ◌≤◌, Bool, true, false, cond, eqb-true, List, [], ◌∷◌, ◌++◌, length, length-append, refl, ap, sym, subst, ◌∙◌, arith, append_assoc, append-nil, Option, Some, None}
 use Rattle.std.specs.Prelude.{filter, flat_map, map, slice_get, ◌==◌, ◌||◌}
 use Rattle.std.specs.List.{AllByRecursion, list_any}
 use Rattle.std.specs.BTreeMap.{get}
-use Rattle.std.specs.Ordering.{nat_cmp}
+use Rattle.std.specs.Ordering.{nat_cmp, is_eq}
 use Rattle.std.proofs.lemmas.Bool.Decides.{nat_tests}
 use Rattle.std.proofs.lemmas.Bool.{false≢true}
 use Rattle.std.proofs.lemmas.List.{map-append}
@@ -25,7 +25,7 @@ use Rattle.p2p_log_rules.proofs.Facts.{events_of-append, has_started-append, reg
 use Rattle.p2p_log.proofs.Lines.{live-append, filter_stays-nil}
 use Rattle.p2p_net_queues.specs.Board.{held}
 use Rattle.p2p_net_router.specs.Items.{key_cmp, lists_in, message_item, messages_in, frame_item, frames_in, link_to, items_of, channel_of}
-use Rattle.p2p_net_router.specs.Sound.{IsSound, IsRing, IsKnown, AreDistinct, counted, told_times, subscription_in, numbers_from}
+use Rattle.p2p_net_router.specs.Sound.{IsSound, IsRing, IsKnown, IsNumber, AreDistinct, counted, told_times, subscription_in, numbers_from}
 use Rattle.p2p_net_router.specs.Holds.{Holds, routes_in}
 use Rattle.p2p_net_router.specs.Stands.{StandsFor, HasPlaces, IsRegistration}
 use Rattle.p2p_net_router.specs.declared.router.Router.{Router}
@@ -38,6 +38,7 @@ pub record IsFresh (r : Router) : Type 0 where
   pub messenger : r.messenger ≡ new_desk
   pub actor : r.actor ≡ new_routes
   pub channels : r.channels.items ≡ []
+  pub subscriptions : (c : ℕ) → get nat_cmp r.subscriptions c ≡ None
   pub peers : (conn : ℕ) → get nat_cmp r.peers conn ≡ None
   pub names : (q : Queue) → held r.names q ≡ []
 
@@ -64,6 +65,7 @@ sound_fresh size r h = record {
   rings = subst (λ (d : Desk Key). AllByRecursion IsRing d.lists) (sym h.messenger) tt;
   channels = ap length h.channels ∙ sym (ap (λ (d : Desk Key). length d.lists) h.messenger);
   distinct = subst AreDistinct (sym h.channels) tt;
+  numbered = λ c. subst (IsNumber r.channels.items c) (sym (h.subscriptions c)) (ap (list_any (λ d. d == c)) h.channels);
 }
 
 pub fresh_stands : (configs : List Config) (r : Router) → IsFresh r → StandsFor configs [] r
@@ -87,12 +89,12 @@ all_more : (ls : List (Waiting (List Key))) → AllByRecursion IsRing ls → All
 all_more [] h = (record { one = refl; within = omega arith; unclosed = refl }, tt)
 all_more (l ∷ ls) h = (h.0, all_more ls h.1)
 
-any_more : (c d : ℕ) (cs : List ℕ) → list_any (λ e. c == e) cs ≡ false → (c == d) ≡ false → list_any (λ e. c == e) (cs ++ d ∷ []) ≡ false
-any_more c d [] h e = ap (λ b. b || false) e
-any_more c d (x ∷ xs) h e =
-    (elim (c == x) as (λ b. (b || list_any (λ e. c == e) xs) ≡ false → (b || list_any (λ e. c == e) (xs ++ d ∷ [])) ≡ false) [
+any_more : (p : ℕ → Bool) (d : ℕ) (cs : List ℕ) → list_any p cs ≡ false → p d ≡ false → list_any p (cs ++ d ∷ []) ≡ false
+any_more p d [] h e = ap (λ b. b || false) e
+any_more p d (x ∷ xs) h e =
+    (elim (p x) as (λ b. (b || list_any p xs) ≡ false → (b || list_any p (xs ++ d ∷ [])) ≡ false) [
       | true ↦ λ k. absurd (false≢true (sym k))
-      | false ↦ λ k. any_more c d xs k e
+      | false ↦ λ k. any_more p d xs k e
     ]) h
 
 turned : (c d : ℕ) → (c == d) ≡ (d == c)
@@ -109,7 +111,7 @@ distinct_more : (d : ℕ) (cs : List ℕ) → AreDistinct cs → list_any (λ e.
 distinct_more d [] h e = (refl, tt)
 distinct_more d (c ∷ cs) h e =
     let f = first_other d c cs e in
-    (any_more c d cs h.0 (turned c d ∙ f.0), distinct_more d cs h.1 f.1)
+    (any_more (λ e. c == e) d cs h.0 (turned c d ∙ f.0), distinct_more d cs h.1 f.1)
 
 numbers_more : (a k : ℕ) → numbers_from a k ++ (a + k) ∷ [] ≡ numbers_from a (suc k)
 numbers_more a zero = ap (λ n. n ∷ []) (let e : a + 0 ≡ a = omega arith in e)
@@ -125,6 +127,40 @@ lists_more [] [] d c h = elim (d == c) as (λ b. cond {A = List (List Key)} b []
 lists_more [] (l ∷ ls) d c h = absurd (omega (arith, h))
 lists_more (k ∷ ks) [] d c h = absurd (omega (arith, h))
 lists_more (k ∷ ks) (l ∷ ls) d c h = ap (λ x. cond (k == c) l.items x) (lists_more ks ls d c (omega (arith, h)))
+
+-- ---- the numbers of subscriptions
+
+channel_front : (cs : List ℕ) (d s : ℕ) → s < length cs → channel_of (cs ++ d ∷ []) s ≡ channel_of cs s
+channel_front [] d s lt = absurd (omega arith)
+channel_front (c ∷ cs) d zero lt = refl
+channel_front (c ∷ cs) d (suc s) lt = channel_front cs d s (omega arith)
+
+channel_last : (cs : List ℕ) (d : ℕ) → channel_of (cs ++ d ∷ []) (length cs) ≡ d
+channel_last [] d = refl
+channel_last (c ∷ cs) d = channel_last cs d
+
+is_channel : (d c : ℕ) → is_eq (nat_cmp d c) ≡ (d == c)
+is_channel d c = grind (arith, nat_tests)
+
+-- another channel has the number that it had
+number_kept : (cs : List ℕ) (d c : ℕ) (o : Option ℕ) → (d == c) ≡ false → IsNumber cs c o → IsNumber (cs ++ d ∷ []) c o
+number_kept cs d c None other h = any_more (λ e. e == c) d cs h other
+number_kept cs d c (Some s) other h =
+    let long : length (cs ++ d ∷ []) ≡ length cs + 1 = length-append cs (d ∷ []) in
+    let lt = h.0 in
+    (omega (arith, long, lt), channel_front cs d s lt ∙ h.1)
+
+-- and the new one is numbered last
+number_more :
+    (cs : List ℕ) (d c n : ℕ) (o new : Option ℕ) → n ≡ length cs → new ≡ cond (is_eq (nat_cmp d c)) (Some n) o → IsNumber cs c o → IsNumber (cs ++ d ∷ []) c new
+number_more cs d c n o new last is h =
+    subst (IsNumber (cs ++ d ∷ []) c) (sym (is ∙ ap (λ b. cond b (Some n) o) (is_channel d c)))
+    ((elim (d == c) as (λ b. (d == c) ≡ b → IsNumber (cs ++ d ∷ []) c (cond b (Some n) o)) [
+      | true ↦ λ e.
+          let long : length (cs ++ d ∷ []) ≡ length cs + 1 = length-append cs (d ∷ []) in
+          (omega (arith, long, last), ap (channel_of (cs ++ d ∷ [])) last ∙ (channel_last cs d ∙ eqb-true d c e))
+      | false ↦ λ e. number_kept cs d c o e h
+    ]) refl)
 
 -- ---- a router with one more channel
 
@@ -142,14 +178,15 @@ pub record IsSubscribed (r new : Router) (d : ℕ) : Type 0 where
   pub unbound : r.messenger.binding ≡ Unbound
   pub desk : new.messenger ≡ record { binding = Unbound; waiting = r.messenger.waiting ++ length r.messenger.lists ∷ []; lists = r.messenger.lists ++ empty_queue 1 ∷ [] }
   pub more : new.channels.items ≡ r.channels.items ++ d ∷ []
-  pub rest : new ≡ record r { messenger = new.messenger; channels = new.channels }
+  pub numbers : (c : ℕ) → get nat_cmp new.subscriptions c ≡ cond (is_eq (nat_cmp d c)) (Some (length r.messenger.lists)) (get nat_cmp r.subscriptions c)
+  pub rest : new ≡ record r { messenger = new.messenger; channels = new.channels; subscriptions = new.subscriptions }
 
 subscribed_now :
     (m : Desk Key) → m.binding ≡ Unbound
     → subscribed m ≡ record { binding = Unbound; waiting = m.waiting ++ length m.lists ∷ []; lists = m.lists ++ empty_queue 1 ∷ [] }
 subscribed_now m none = ap (λ (d : Desk Key). subscribed d) (ap (λ b. record { binding = b; waiting = m.waiting; lists = m.lists }) none)
 
-sound_more : (size : ℕ) (r new : Router) (d : ℕ) → IsSound size r → IsSubscribed r new d → list_any (λ e. d == e) r.channels.items ≡ false → IsSound size (record r { messenger = new.messenger; channels = new.channels })
+sound_more : (size : ℕ) (r new : Router) (d : ℕ) → IsSound size r → IsSubscribed r new d → list_any (λ e. d == e) r.channels.items ≡ false → IsSound size (record r { messenger = new.messenger; channels = new.channels; subscriptions = new.subscriptions })
 sound_more size r new d s h apart =
     let binding : new.messenger.binding ≡ Unbound = ap (λ (m : Desk Key). m.binding) h.desk in
     let lists : new.messenger.lists ≡ r.messenger.lists ++ empty_queue 1 ∷ [] = ap (λ (m : Desk Key). m.lists) h.desk in
@@ -173,9 +210,12 @@ sound_more size r new d s h apart =
       rings = subst (AllByRecursion IsRing) (sym lists) (all_more r.messenger.lists s.rings);
       channels = ap length h.more ∙ (length-append r.channels.items (d ∷ []) ∙ (ap (λ k. k + 1) s.channels ∙ (let e : length r.messenger.lists + 1 ≡ suc (length r.messenger.lists) = omega arith in e) ∙ sym long));
       distinct = subst AreDistinct (sym h.more) (distinct_more d r.channels.items s.distinct apart);
+      numbered = λ c.
+          subst (λ l. IsNumber l c (get nat_cmp new.subscriptions c)) (sym h.more)
+          (number_more r.channels.items d c (length r.messenger.lists) (get nat_cmp r.subscriptions c) (get nat_cmp new.subscriptions c) (sym s.channels) (h.numbers c) (s.numbered c));
     }
 
-items_same : (size : ℕ) (r new : Router) (d : ℕ) → IsSound size r → IsSubscribed r new d → (q : Queue) → items_of (record r { messenger = new.messenger; channels = new.channels }) q ≡ items_of r q
+items_same : (size : ℕ) (r new : Router) (d : ℕ) → IsSound size r → IsSubscribed r new d → (q : Queue) → items_of (record r { messenger = new.messenger; channels = new.channels; subscriptions = new.subscriptions }) q ≡ items_of r q
 items_same size r new d s h (queue.Router n) =
     ap (λ b. map (message_item new.channels.items) (messages_in b)) (ap (λ (m : Desk Key). m.binding) h.desk)
     ∙ sym (ap (λ b. map (message_item r.channels.items) (messages_in b)) h.unbound)
@@ -199,7 +239,7 @@ pub subscribed_stands :
 subscribed_stands configs log e r new d s g h absent =
     let n = r.number in
     let size = mailbox_size_at configs n in
-    let whole : Router = record r { messenger = new.messenger; channels = new.channels } in
+    let whole : Router = record r { messenger = new.messenger; channels = new.channels; subscriptions = new.subscriptions } in
     let apart = ap (list_any (λ x. d == x)) s.registered ∙ none_registered (channels configs log n) d absent in
     let kept : live (log ++ e ∷ []) ≡ live log =
     live-append log e
@@ -240,7 +280,8 @@ subscribed_stands configs log e r new d s g h absent =
 
 pub is_subscribed :
     (r new : Router) (d : ℕ) → is_unbound r.messenger.binding ≡ true → new.messenger ≡ subscribed r.messenger → new.channels.items ≡ r.channels.items ++ d ∷ []
-    → new ≡ record r { messenger = new.messenger; channels = new.channels } → IsSubscribed r new d
-is_subscribed r new d unbound desk more rest =
+    → ((c : ℕ) → get nat_cmp new.subscriptions c ≡ cond (is_eq (nat_cmp d c)) (Some (length r.messenger.lists)) (get nat_cmp r.subscriptions c))
+    → new ≡ record r { messenger = new.messenger; channels = new.channels; subscriptions = new.subscriptions } → IsSubscribed r new d
+is_subscribed r new d unbound desk more numbers rest =
     let none = is_none r.messenger.binding unbound in
-    record { unbound = none; desk = desk ∙ subscribed_now r.messenger none; more = more; rest = rest }
+    record { unbound = none; desk = desk ∙ subscribed_now r.messenger none; more = more; numbers = numbers; rest = rest }

@@ -83,6 +83,7 @@ sound_taken size r conn key l priority names s h =
       rings = s.rings;
       channels = s.channels;
       distinct = s.distinct;
+      numbered = s.numbered;
     }
 
 same_turned : (a b : Bool) (n m c d : ℕ) → (n == m) ≡ true → ((c == d) && same_lane a b) ≡ same_queue (relay_queue a n c) (relay_queue b m d)

@@ -16,5 +16,6 @@ pub record AreKept (old new : Router) : Type 0 where
   pub messenger : new.messenger ≡ old.messenger
   pub channels : new.channels ≡ old.channels
   pub peers : new.peers ≡ old.peers
+  pub numbers : new.subscriptions ≡ old.subscriptions
   pub subscriptions : new.actor.subscriptions ≡ old.actor.subscriptions
   pub routes : routes_in new.actor.links ≡ routes_in old.actor.links

@@ -6,7 +6,9 @@ pub mod Holds
 pub mod Items
 pub mod Names
 pub mod Oldest
+pub mod Peers
 pub mod Relays
 pub mod Sound
 pub mod Stands
 pub mod Stepped
+pub mod Telling

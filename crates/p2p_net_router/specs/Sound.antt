@@ -1,5 +1,5 @@
 -- What a router keeps true of itself.
-use Rattle.std.specs.Prelude.{◌≡◌, ℕ, zero, suc, ◌+◌, ◌≤◌, Bool, false, ◌==◌, cond, List, [], ◌∷◌, ◌++◌, length, flat_map, Option, Some, None}
+use Rattle.std.specs.Prelude.{◌≡◌, ℕ, zero, suc, ◌+◌, ◌<◌, ◌≤◌, Bool, false, ◌==◌, cond, List, [], ◌∷◌, ◌++◌, length, flat_map, Option, Some, None}
 use Rattle.std.specs.List.{AllByRecursion, list_any}
 use Rattle.std.specs.BTreeMap.{BTreeMap, get}
 use Rattle.std.specs.Ordering.{nat_cmp}
@@ -15,7 +15,7 @@ use Rattle.p2p_router.specs.declared.link.Link.{Link}
 use Rattle.p2p_router.specs.declared.message.Message.{Message}
 use Rattle.p2p_router.specs.declared.message.Message.TheVariants as message
 use Rattle.p2p_net_router.specs.declared.router.Router.{Router}
-use Rattle.p2p_net_router.specs.Items.{key_cmp, messages_in}
+use Rattle.p2p_net_router.specs.Items.{key_cmp, channel_of, messages_in}
 
 -- recipients that are named
 abbrev pub AreNamed : Recipients Key → Type 0
@@ -80,6 +80,11 @@ abbrev pub AreDistinct : List ℕ → Type 0
 AreDistinct [] = Unit {0}
 AreDistinct (c ∷ cs) = (list_any (λ d. c == d) cs ≡ false) × AreDistinct cs
 
+-- the number of a channel's subscription is its place; a channel that is none of these has no subscription
+abbrev pub IsNumber : List ℕ → ℕ → Option ℕ → Type 0
+IsNumber channels c None = list_any (λ d. d == c) channels ≡ false
+IsNumber channels c (Some s) = (s < length channels) × (channel_of channels s ≡ c)
+
 pub record IsSound (size : ℕ) (r : Router) : Type 0 where
   -- what the router is told is known
   pub known : AllByRecursion (IsKnown size r.peers) (messages_in r.messenger.binding)
@@ -96,3 +101,5 @@ pub record IsSound (size : ℕ) (r : Router) : Type 0 where
   -- each has a channel of its own
   pub channels : length r.channels.items ≡ length r.messenger.lists
   pub distinct : AreDistinct r.channels.items
+  -- and the map knows them
+  pub numbered : (c : ℕ) → IsNumber r.channels.items c (get nat_cmp r.subscriptions c)

@@ -11,6 +11,7 @@ use Rattle.p2p_log.specs.declared.queue.Queue.{Queue}
 use Rattle.p2p_log.specs.declared.queue.Queue.TheVariants as queue
 use Rattle.p2p_log.specs.declared.item.Item.{Item}
 use Rattle.p2p_log.specs.declared.item.Item.TheVariants as item
+use Rattle.p2p_log.specs.declared.item.Envelope.{Envelope}
 use Rattle.p2p_log.specs.QueueCode.{same_queue}
 use Rattle.p2p_net_router.specs.Names.{is_routers}
 use Rattle.p2p_log.specs.declared.event.Rate.{Rate}
@@ -55,10 +56,15 @@ pub record IsReadied (e : Entry) (n place conn : ℕ) (key : Key) : Type 0 where
   pub long : length before ≡ place
   pub away : (q : Queue) → is_routers n q ≡ true → AreAway q before × AreAway q after
 
-pub record StandsFor (configs : List Config) (log : List Entry) (r : Router) : Type 0 where
-  pub holds : Holds (mailbox_size_at configs r.number) r (live log)
+-- a router has these items in its queues, and the rest is as the log says
+pub record StandsOver (configs : List Config) (log : List Entry) (r : Router) (items : List Envelope) : Type 0 where
+  pub holds : Holds (mailbox_size_at configs r.number) r items
   pub routes_are : routes_in r.actor.links ≡ routes log r.number
   pub told : channels_told r ≡ subscribers log r.number
   pub registered : r.channels.items ≡ map (λ (c : ℕ × ℕ). c.0) (channels configs log r.number)
   pub bound : is_bound r.messenger.binding ≡ is_up log r.number
   pub places : HasPlaces (router_capacity configs log r.number) r.messenger.binding
+
+-- and these are what stands there by the log
+abbrev pub StandsFor : List Config → List Entry → Router → Type 0
+StandsFor configs log r = StandsOver configs log r (live log)

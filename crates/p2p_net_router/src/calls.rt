@@ -4,7 +4,7 @@ ghost use Rattle.std.specs.Ordering.{nat_cmp, is_eq};
 ghost use Rattle.std.specs.BTreeMap.{get};
 ghost use Rattle.p2p_log_rules.specs.Frames.{frame_of};
 ghost use Rattle.p2p_log_rules.specs.Facts.{is_up};
-ghost use Rattle.p2p_log.specs.Lines.{line, stands_in, stays};
+ghost use Rattle.p2p_log.specs.Lines.{stands_in, stays};
 ghost use Rattle.p2p_log_rules.specs.Effect.{only as only_reply, entry_of, mailbox_size_at, copies_end, relay_queue, router_capacity, sent_row, start_row};
 ghost use Rattle.p2p_log.specs.Apart.{AreApart};
 ghost use Rattle.p2p_base.specs.Queue.{empty_queue};
@@ -16,12 +16,13 @@ ghost use Rattle.p2p_router.specs.Routing.{link_of};
 ghost use Rattle.p2p_net_router.specs.Items.{key_cmp};
 ghost use Rattle.p2p_net_router.specs.Frames.{refuses, frame_taken_in, frame_waiting, without_frame};
 ghost use Rattle.p2p_net_router.specs.Building.{NamesBuild, subscription};
-ghost use Rattle.p2p_net_router.specs.Holds.{Holds, IsStranger, frame_taken, frame_gone, routes_in};
-ghost use Rattle.p2p_net_router.specs.Stands.{StandsFor, HasPlaces, IsBeside, IsReadied};
+ghost use Rattle.p2p_net_router.specs.Holds.{Holds, IsStranger, after, frame_taken, frame_gone, routes_in};
+ghost use Rattle.p2p_net_router.specs.Stands.{StandsOver, StandsFor, HasPlaces, IsBeside, IsReadied};
+ghost use Rattle.p2p_net_router.specs.Telling.{accepted_reply, refused_reply};
 
 use crate::copies::lane;
 use crate::names::note;
-use crate::{Name, Router};
+use crate::{Name, Router, Telling};
 use bytes::Bytes;
 use p2p_base::{Key, List, Unreliable};
 use p2p_flow::{Recipients, Relay};
@@ -50,15 +51,15 @@ fn note_subscriptions(
 }
 
 /// The row of content that nobody takes: each copy ends.
-fn lost(alloc: Global, entry: u64, to: List<Key>) -> Result<Row, AllocError>
-    ensures { IfOk result (λ r. r ≡ record { reply = Reply.Sent to; takes = []; puts = []; ends = copies_end entry 0 to (Outcome.Dropped Cause.Unbound) }) }
+fn lost(turn: Turn, telling: Telling, channel: u64, to: List<Key>) -> Result<Row, AllocError>
+    ensures { IfOk result (λ r. r ≡ record { reply = accepted_reply telling turn.node channel to; takes = []; puts = []; ends = copies_end turn.entry 0 to (Outcome.Dropped Cause.Unbound) }) }
 {
     let unbound = Outcome::Dropped(Cause::Unbound);
-    let ends = end_copies(alloc, entry, to.as_slice(), unbound)?;
+    let ends = end_copies(turn.alloc, turn.entry, to.as_slice(), unbound)?;
     Ok(Row {
-        reply: Reply::Sent(to),
-        takes: List::empty(alloc),
-        puts: List::empty(alloc),
+        reply: telling.accepted(turn.node, channel, to),
+        takes: List::empty(turn.alloc),
+        puts: List::empty(turn.alloc),
         ends,
     })
 }
@@ -150,13 +151,14 @@ fn hand(
 fn note_sent(
     turn: Turn,
     names: &mut Board<Name>,
+    telling: Telling,
     channel: u64,
     priority: bool,
     frame: Bytes,
     to: List<Key>,
 ) -> Result<Row, AllocError>
-    ensures row { IfOk result (λ row. row ≡ record { reply = Reply.Sent to; takes = []; puts = (Queue.Router turn.node, Item.Content channel frame priority turn.entry to) ∷ []; ends = [] }) }
-    ensures names { IfOk result (λ row. (n : _) (items : _) → NamesBuild n names.old items turn.entry (only_reply (Reply.Sent to)) → NamesBuild n names.new items turn.entry row) }
+    ensures row { IfOk result (λ row. row ≡ record { reply = accepted_reply telling turn.node channel to; takes = []; puts = (Queue.Router turn.node, Item.Content channel frame priority turn.entry to) ∷ []; ends = [] }) }
+    ensures names { IfOk result (λ row. (n : _) (items : _) → NamesBuild n names.old items turn.entry (only_reply (accepted_reply telling turn.node channel to)) → NamesBuild n names.new items turn.entry row) }
 {
     let item = Item::Content {
         channel,
@@ -165,7 +167,8 @@ fn note_sent(
         send: turn.entry,
         to: to.try_clone(turn.alloc)?,
     };
-    let mut row = only(turn.alloc, Reply::Sent(to));
+    let reply = telling.accepted(turn.node, channel, to);
+    let mut row = only(turn.alloc, reply);
     note(turn, names, &mut row, Queue::Router(turn.node), item)?;
     Ok(row)
 }
@@ -248,33 +251,36 @@ impl Router {
 
     /// Hands a message for these keys to the messenger.
     ///
-    /// Without a mailbox all copies are lost; a full mailbox refuses the message, and the row then names no recipients.
+    /// Without a mailbox all copies are lost; a full mailbox refuses the message. The reply tells which, or for whom it was
+    /// accepted.
     ///
     /// `Err` only where there is no memory. The router may then have done a part of it, and its node goes no further.
     pub fn send(
         &mut self,
         turn: Turn,
+        telling: Telling,
         channel: u64,
         priority: bool,
         bytes: &Bytes,
         to: List<Key>,
     ) -> Result<Row, AllocError>
         requires { length bytes.now < 2 ^ 32 }
-        ensures row { IfOk result (λ row. (configs : _) (log : _) → StandsFor configs log self.old
-            → row ≡ sent_row (is_up log self.old.number) (nat_le (router_capacity configs log self.old.number) (length (line log (Queue.Router self.old.number))))
+        ensures row { IfOk result (λ row. (configs : _) (log : _) (items : _) → StandsOver configs log self.old items
+            → row ≡ sent_row (accepted_reply telling self.old.number channel to) (refused_reply telling self.old.number channel to) (is_up log self.old.number)
+            (nat_le (router_capacity configs log self.old.number) (length (filter (stands_in (Queue.Router self.old.number)) items)))
             self.old.number turn.entry channel priority (frame_of channel bytes.now) to) }
-        ensures stands { IfOk result (λ row. (configs : _) (log : _) (event : _) (whom : _) → StandsFor configs log self.old → length log ≡ turn.entry
-            → event.act ≡ Act.Send bytes.now channel self.old.number priority whom → StandsFor configs (log ++ entry_of event row ∷ []) self.new) }
+        ensures stands { IfOk result (λ row. (configs : _) (log : _) (items : _) → StandsOver configs log self.old items → length log ≡ turn.entry
+            → StandsOver configs log self.new (after turn.entry row items)) }
         ensures rest { OnOk result (self.new ≡ record self.old { messenger = self.new.messenger; names = self.new.names }) }
     {
-        let bound = self.messenger.bound();
-        if !bound {
-            return Ok(lost(turn.alloc, turn.entry, to)?);
-        }
         let turn = Turn {
             node: self.number,
             ..turn
         };
+        let bound = self.messenger.bound();
+        if !bound {
+            return Ok(lost(turn, telling, channel, to)?);
+        }
         match hand(
             turn.alloc,
             &mut self.messenger,
@@ -283,8 +289,19 @@ impl Router {
             bytes,
             &to,
         )? {
-            None => Ok(only(turn.alloc, Reply::Sent(List::empty(turn.alloc)))),
-            Some(frame) => Ok(note_sent(turn, &mut self.names, channel, priority, frame, to)?),
+            None => {
+                let reply = telling.refused(turn.alloc, turn.node, channel, to);
+                Ok(only(turn.alloc, reply))
+            }
+            Some(frame) => Ok(note_sent(
+                turn,
+                &mut self.names,
+                telling,
+                channel,
+                priority,
+                frame,
+                to,
+            )?),
         }
     }
 

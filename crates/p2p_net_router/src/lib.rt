@@ -10,8 +10,11 @@ mod copies;
 mod lists;
 mod name;
 mod names;
+mod peers;
 mod router;
 mod step;
+mod telling;
 
 pub use name::Name;
 pub use router::Router;
+pub use telling::Telling;

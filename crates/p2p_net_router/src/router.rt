@@ -36,6 +36,8 @@ pub struct Router {
     pub actor: Actor<Key>,
     /// The channel of each subscription.
     pub channels: Vec<u64>,
+    /// The number of each channel's subscription.
+    pub subscriptions: BTreeMap<u64, u64>,
     /// The peer of each connection that the router was told of.
     pub peers: BTreeMap<u64, Key>,
     /// The names of what stands in its queues.
@@ -48,6 +50,7 @@ fn empty(alloc: Global, number: u64) -> Router
     ensures messenger { result.messenger ≡ new_desk }
     ensures actor { result.actor ≡ new_routes }
     ensures channels { result.channels.items ≡ [] }
+    ensures subscriptions { (c : ℕ) → get nat_cmp result.subscriptions c ≡ None }
     ensures peers { (conn : ℕ) → get nat_cmp result.peers conn ≡ None }
     ensures names { (q : _) → held result.names q ≡ [] }
 {
@@ -56,6 +59,7 @@ fn empty(alloc: Global, number: u64) -> Router
         messenger: Messenger::unbound(alloc),
         actor: Actor::without_peers(alloc),
         channels: Vec::new(alloc),
+        subscriptions: BTreeMap::new(alloc),
         peers: BTreeMap::new(alloc),
         names: Board::new(alloc),
     }
@@ -78,12 +82,14 @@ impl Router {
     pub fn subscribe(&mut self, alloc: Global, channel: u64) -> Result<(), AllocError>
         ensures messenger { OnOk result (self.new.messenger ≡ subscribed self.old.messenger) }
         ensures channels { OnOk result (self.new.channels.items ≡ self.old.channels.items ++ channel ∷ []) }
-        ensures rest { OnOk result (self.new ≡ record self.old { messenger = self.new.messenger; channels = self.new.channels }) }
+        ensures subscriptions { OnOk result ((c : ℕ) → get nat_cmp self.new.subscriptions c ≡ (if is_eq (nat_cmp channel c) then Some (length self.old.messenger.lists) else get nat_cmp self.old.subscriptions c)) }
+        ensures rest { OnOk result (self.new ≡ record self.old { messenger = self.new.messenger; channels = self.new.channels; subscriptions = self.new.subscriptions }) }
         ensures stands { OnOk result ((configs : _) (log : _) (e : _) → StandsFor configs log self.old → IsTrue (is_unbound self.old.messenger.binding)
             → IsRegistration e self.old.number channel → capacity_in (channels configs log self.old.number) channel ≡ None → StandsFor configs (log ++ e ∷ []) self.new) }
     {
         self.channels.push(channel)?;
-        let _ = self.messenger.subscribe(alloc)?;
+        let number = self.messenger.subscribe(alloc)?;
+        self.subscriptions.insert(channel, number)?;
         Ok(())
     }
 

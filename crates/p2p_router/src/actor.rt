@@ -1,5 +1,5 @@
 //! `Actor`, the router itself: one message a step.
-ghost use Rattle.std.specs.Prelude.{◌≡◌, ◌↔◌, ◌≤◌, length, None, Some, IfOk, OnOk, OnErr, IsErr, IsTrue};
+ghost use Rattle.std.specs.Prelude.{◌≡◌, ◌↔◌, ◌≤◌, [], length, nat_lt, None, Some, IfOk, OnOk, OnErr, IsErr, IsTrue, if◌then◌else◌};
 ghost use Rattle.std.specs.Borrow.{sem};
 ghost use Rattle.std.specs.List.Sorted.{IsStrictlySortedBy};
 ghost use Rattle.std.specs.Map.{keys_of};
@@ -83,6 +83,16 @@ impl<P: PublicKey> Actor<P> {
         ensures ordered { IsStrictlySortedBy P.cmp (keys_of self.now.links) }
     {
         self.links.len()
+    }
+
+    /// The connected peers, in order of their keys, where more subscriptions than this many are told of them; otherwise none.
+    pub fn peers_told(&self, alloc: Global, past: u64) -> Result<List<P>, AllocError>
+        ensures { IfOk result (λ l. l ≡ (if nat_lt past (length self.now.subscriptions) then keys_of self.now.links else [])) }
+    {
+        if past as usize >= self.subscriptions.len() {
+            return Ok(List::empty(alloc));
+        }
+        Ok(List::new(peers_of(alloc, &self.links)?))
     }
 
     /// Takes the oldest message of the messenger's mailbox, and does what it says.

@@ -2,7 +2,7 @@
 ghost use Rattle.std.specs.Prelude.{◌≡◌, filter, length, IfOk, IfErr, IfNone, OnOk, OnErr, IsTrue};
 ghost use Rattle.std.specs.Borrow.{sem};
 ghost use Rattle.std.specs.Option.{option_copied_mut};
-ghost use Rattle.p2p_router.specs.Messenger.{new_desk, is_unbound, is_bound, is_closed, mailbox_of, bound_to, shut, message_waiting, message_taken, is_heard, told_one, told_all};
+ghost use Rattle.p2p_router.specs.Messenger.{new_desk, is_unbound, is_bound, is_closed, mailbox_of, bound_to, shut, message_waiting, message_taken, is_heard, told_one, told_all, list_waiting, list_taken};
 
 use crate::{Mailbox, Message};
 use bytes::Bytes;
@@ -127,6 +127,15 @@ impl<P: Drop> Messenger<P> {
     {
         self.binding = Binding::Closed;
         self.waiting.clear();
+    }
+
+    /// Takes the list that waits for a subscription. `None` exactly where none waits, also where there is no such subscription.
+    pub fn take_list(&mut self, subscription: u64) -> Option<List<P>>
+        ensures value { result ≡ list_waiting self.old subscription }
+        ensures after { self.new ≡ list_taken self.old subscription }
+    {
+        let list = self.lists.get_mut(subscription as usize)?;
+        list.try_recv()
     }
 
     // Removes the oldest message of the mailbox.

@@ -2,7 +2,7 @@ use Rattle.std.proofs.Common.{ap}
 use Rattle.p2p_log_rules.specs.declared.row.Row.{Row}
 use Rattle.p2p_net_router.specs.Names.{tag_of}
 use Rattle.p2p_net_router.specs.Oldest.{without, send_of}
-use Rattle.p2p_net_router.proofs.Telling.{row_taken, row_copied, names_copied, NamesBuild-start}
+use Rattle.p2p_net_router.proofs.Noting.{row_taken, row_copied, names_copied, NamesBuild-start}
 use Rattle.p2p_net_router.proofs.step.note_content.Goals as goal
 
 pub returns-clause-row : goal.returns-clause-row

@@ -4,7 +4,7 @@ use Rattle.p2p_log_rules.specs.declared.row.Row.{Row}
 use Rattle.p2p_net_router.specs.Items.{channel_of}
 use Rattle.p2p_net_router.specs.Oldest.{without}
 use Rattle.p2p_net_router.specs.Stepped.{answers_put}
-use Rattle.p2p_net_router.proofs.Telling.{row_taken, row_told, names_told, apart_without}
+use Rattle.p2p_net_router.proofs.Noting.{row_taken, row_told, names_told, apart_without}
 use Rattle.p2p_net_router.proofs.step.note_told.Goals as goal
 
 pub returns-clause-row : goal.returns-clause-row

@@ -5,7 +5,7 @@ use Rattle.p2p_net_queues.specs.Board.{held}
 use Rattle.p2p_net_router.specs.Names.{Agrees, label}
 use Rattle.p2p_net_router.specs.Items.{channel_of}
 use Rattle.p2p_net_router.specs.Stepped.{answers_put, listless}
-use Rattle.p2p_net_router.proofs.Telling.{row_listed, NamesBuild-answered, NamesBuild-start}
+use Rattle.p2p_net_router.proofs.Noting.{row_listed, NamesBuild-answered, NamesBuild-start}
 use Rattle.p2p_net_router.proofs.step.put_lists.Goals as goal
 
 pub returns-clause-row : goal.returns-clause-row

@@ -1,5 +1,5 @@
 use Rattle.std.proofs.Common.{◌∙◌}
-use Rattle.p2p_net_router.proofs.Telling.{took_row, took_send, took_names}
+use Rattle.p2p_net_router.proofs.Noting.{took_row, took_send, took_names}
 use Rattle.p2p_net_router.proofs.step.took.Goals as goal
 
 pub returns-clause-row : goal.returns-clause-row

@@ -5,4 +5,4 @@ pub returns-clause-stands : goal.returns-clause-stands
 returns-clause-stands c =
     λ configs.
     let e = c.empty.ensures in
-    fresh_stands configs c.empty.result (record { messenger = e.messenger; actor = e.actor; channels = e.channels; peers = e.peers; names = e.names })
+    fresh_stands configs c.empty.result (record { messenger = e.messenger; actor = e.actor; channels = e.channels; subscriptions = e.subscriptions; peers = e.peers; names = e.names })
