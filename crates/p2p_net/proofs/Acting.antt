@@ -16,6 +16,7 @@ use Rattle.p2p_log_rules.specs.Effect.{effect}
 use Rattle.p2p_log_rules.specs.Lawful.{IsLawful}
 use Rattle.p2p_log_rules.specs.Valid.{may_act}
 use Rattle.p2p_log_laws.proofs.HandshakeLaws.{each_handshake, asker_runs}
+use Rattle.p2p_log_laws.proofs.Listed.{lists_are_current}
 use Rattle.p2p_log_laws.proofs.OneConnection.{connections_are_one}
 use Rattle.p2p_net_links.specs.Stands.{LinksStand}
 use Rattle.p2p_net_links.specs.declared.links.Links.{Links}
@@ -36,6 +37,7 @@ use Rattle.p2p_net.proofs.Arrivals.{link_simulates}
 use Rattle.p2p_net.proofs.Exchanged.{finish_simulates}
 use Rattle.p2p_net.proofs.Resolving.{resolve_performs}
 use Rattle.p2p_net.proofs.Calling.{register_performs, start_performs, read_performs}
+use Rattle.p2p_net.proofs.Checking.{check_performs, send_checked_performs}
 use Rattle.p2p_net.proofs.Offering.{send_performs}
 use Rattle.p2p_net.proofs.Dialing.{dialer_performs}
 use Rattle.p2p_net.proofs.Handshaking.{handshake_performs}
@@ -59,7 +61,11 @@ node_performs : (configs : List Config) (log : List Entry) (moment seed : ℕ) (
     → Performs configs log (asked moment seed a) (node_of log a) y links r
 node_performs configs log moment seed (act.Register c n rate) x y l links r s t lawful valid late one d = register_performs configs log moment seed n c rate x y l links r s t valid d.0 d.1
 node_performs configs log moment seed (act.Start n) x y l links r s t lawful valid late one d = start_performs configs log moment seed n x y l links r s t d.0 d.1
-node_performs configs log moment seed (act.Send bytes c n priority to) x y l links r s t lawful valid late one d = send_performs configs log moment seed n c bytes priority to x y l links r s t late d.1 d.0
+node_performs configs log moment seed (act.Send bytes c n priority to) x y l links r s t lawful valid late one d =
+    send_performs configs log moment seed n c bytes priority to x y l links r s t (lists_are_current configs (events_of log) log lawful) late d.1 d.0
+node_performs configs log moment seed (act.Check c n to) x y l links r s t lawful valid late one d =
+    check_performs configs log moment seed n c to x y l links r s t (lists_are_current configs (events_of log) log lawful) late d.1 d.0
+node_performs configs log moment seed (act.SendChecked bytes check priority) x y l links r s t lawful valid late one d = send_checked_performs configs log moment seed check bytes priority x y l links r s t d.1 d.0
 node_performs configs log moment seed (act.Router n) x y l links r s t lawful valid late one d = route_performs configs log moment seed n x y l links r s t d.0 d.1
 node_performs configs log moment seed (act.SendStep conn n) x y l links r s t lawful valid late one d = send_step_performs configs log moment seed conn n x y l links r s t (connections_are_one configs (events_of log) log lawful) d
 node_performs configs log moment seed (act.RecvStep conn n) x y l links r s t lawful valid late one d = recv_step_performs configs log moment seed conn n x y l links r s t late d

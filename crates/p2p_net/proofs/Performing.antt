@@ -67,6 +67,8 @@ is_quiet (act.Start n) r = false
 is_quiet (act.SendStep conn n) reply.Ok = false
 is_quiet (act.SendStep conn n) r = true
 is_quiet (act.Send bytes c n priority to) r = false
+is_quiet (act.Check c n to) r = false
+is_quiet (act.SendChecked bytes check priority) r = false
 is_quiet (act.Ask what n) r = false
 is_quiet (act.Answer e) r = false
 is_quiet (act.Tracker n) r = false
@@ -104,9 +106,11 @@ quiet_begins n conn (act.SendStep d m) _ h = and_false ((m == n) && (d == conn))
 quiet_begins n conn _ r h = refl
 
 -- nothing is sent
-quiet_sends : (n : ℕ) (a : Act) (r : Reply) → is_quiet a r ≡ true → sends_at n a ≡ false
-quiet_sends n (act.Send bytes c m priority to) r h = cc
-quiet_sends n _ r h = refl
+quiet_sends : (log : List Entry) (n : ℕ) (a : Act) (r : Reply) → is_quiet a r ≡ true → sends_at log n a ≡ false
+quiet_sends log n (act.Send bytes c m priority to) r h = cc
+quiet_sends log n (act.Check c m to) r h = cc
+quiet_sends log n (act.SendChecked bytes check priority) r h = cc
+quiet_sends log n _ r h = refl
 
 quiet_tracks : (n : ℕ) (a : Act) (r : Reply) → is_quiet a r ≡ true → steps_tracker n a ≡ false
 quiet_tracks n (act.Tracker m) r h = cc
@@ -204,7 +208,7 @@ part_still channels configs log e n x a rep s is q h =
       registers = ap (registers_at configs n) is ∙ quiet_registers configs n a rep q;
       lines = λ c. line-still log e rep (queue.Channel n c) h;
       admits = admits_nothing configs log e n (taken-none log e h.takes);
-      sends = sends_apart log e n a is (quiet_sends n a rep q);
+      sends = sends_apart log e n a is (quiet_sends log n a rep q);
     })
 part_still connections configs log e n x a rep s is q h =
     connections_frame configs log e n x.connections s

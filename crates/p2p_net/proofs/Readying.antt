@@ -11,6 +11,7 @@ use Rattle.p2p_log.specs.declared.asked.Asked.TheVariants as ask
 use Rattle.p2p_log.specs.declared.event.Act.{Act}
 use Rattle.p2p_log.specs.declared.event.Act.TheVariants as act
 use Rattle.p2p_log_rules.specs.Facts.{events_of, has_started, is_up, key_at, registered, capacity_for, capacity_in}
+use Rattle.p2p_log_rules.specs.Checking.{node_checking, checking_node}
 use Rattle.p2p_log_rules.specs.Effect.{mailbox_size_at, limit_at}
 use Rattle.p2p_log_rules.specs.Valid.{fits, sizes_fit, gates_fit, is_quota, fits_usize}
 use Rattle.p2p_log_rules.specs.Valid as valid
@@ -30,7 +31,7 @@ use Rattle.p2p_net_queues.specs.Tables as table
 use Rattle.p2p_net_links.specs.Stands.{LinksStand}
 use Rattle.p2p_net.specs.Places.{asked_node, or_first, node_asked, linked_by, nodes_linked, node_of, other_of}
 use Rattle.p2p_net.proofs.LinkedNodes.{opening_made}
-use Rattle.p2p_net.specs.Ready.{is_started, capacity_by, may_register, names_spawner, asks_set, subscribes, may_ask, may_at, may_act, IsReady, MayPerform, names_dialer, names_listener, is_link, links_attempt}
+use Rattle.p2p_net.specs.Ready.{is_started, capacity_by, may_register, names_spawner, checks, asks_set, subscribes, may_ask, may_at, may_act, IsReady, MayPerform, names_dialer, names_listener, is_link, links_attempt}
 use Rattle.p2p_net.specs.Meetings.{meeting_of, MeetsThere}
 use Rattle.p2p_net.specs.Stands.{RouterStands, OwnStands, NodeStands, WorldStands}
 use Rattle.p2p_net.specs.declared.meeting.Ends.{Ends}
@@ -108,6 +109,17 @@ subscription_is configs (d ∷ ds) zero = by d.event.act
     by (act.Ask _ n) = and-false (nat_lt n (length configs))
     by _ = and-false (nat_lt 0 (length configs))
 subscription_is configs (d ∷ ds) (suc i) = subscription_is configs ds i
+
+-- a check names a node
+check_is : (configs : List Config) (log : List Entry) (e : ℕ)
+    → (nat_lt (checking_node log e) (length configs) && checks (slice_get log e)) ≡ valid.is_node configs (valid.checked_of (slice_get (events_of log) e))
+check_is configs [] e = and-false (nat_lt 0 (length configs))
+check_is configs (d ∷ ds) zero = by d.event.act
+  where
+    by : (a : Act) → (nat_lt (node_checking a) (length configs) && is_some (valid.checked_by a)) ≡ valid.is_node configs (valid.checked_by a)
+    by (act.Check c n to) = and-true (nat_lt n (length configs))
+    by _ = and-false (nat_lt 0 (length configs))
+check_is configs (d ∷ ds) (suc i) = check_is configs ds i
 
 dialed_is : (log : List Entry) (n e : ℕ) → names_dialer n (slice_get log e) ≡ valid.names_dialer (events_of log) n e
 dialed_is [] n e = refl
@@ -190,6 +202,11 @@ module _ (configs : List Config) (log : List Entry) (nodes : List Node) (links :
       there (nat_lt n (length nodes)) (may_at (slice_get nodes n) log (act.Start n)) (not (has_started (events_of log) n))
       (λ lt. asks (act.Start n) (not (has_started (events_of log) n)) lt (λ x t. ap (λ b. not b) (started_is configs log n x t)))
       ∙ ap (λ b. b && not (has_started (events_of log) n)) (counted n)
+  may_by (act.SendChecked bytes check priority) =
+      let n = checking_node log check in
+      there (nat_lt n (length nodes)) (may_at (slice_get nodes n) log (act.SendChecked bytes check priority)) (checks (slice_get log check))
+      (λ lt. asks (act.SendChecked bytes check priority) (checks (slice_get log check)) lt (λ x t. refl))
+      ∙ (ap (λ b. b && checks (slice_get log check)) (counted n) ∙ check_is configs log check)
   may_by (act.SendStep conn n) =
       there (nat_lt n (length nodes)) (may_at (slice_get nodes n) log (act.SendStep conn n)) (valid.names_spawner (events_of log) n conn)
       (λ lt. asks (act.SendStep conn n) (valid.names_spawner (events_of log) n conn) lt (λ x t. spawned_is log n conn))

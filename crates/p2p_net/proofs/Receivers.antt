@@ -1,16 +1,18 @@
 -- Entries in which no connection of a node admits anything, and in which the node sends nothing.
-use Rattle.std.proofs.Common.{◌≡◌, ℕ, Bool, true, false, cond, List, [], ◌∷◌, ◌++◌, refl, ap, ◌∙◌, arith}
+use Rattle.std.proofs.Common.{◌≡◌, ℕ, Bool, true, false, cond, List, [], ◌∷◌, ◌++◌, length, Option, Some, None, refl, ap, ◌∙◌, arith}
 use Rattle.std.specs.Prelude.{◌==◌, ◌&&◌}
 use Rattle.std.proofs.lemmas.Bool.Decides.{nat_tests}
 use Rattle.p2p_log.specs.declared.config.Config.{Config}
 use Rattle.p2p_log.specs.declared.queue.Queue.TheVariants as queue
 use Rattle.p2p_log.specs.declared.entry.Entry.{Entry}
+use Rattle.p2p_log.specs.declared.entry.Reply.{Reply}
 use Rattle.p2p_log.specs.declared.event.Act.{Act}
 use Rattle.p2p_log.specs.declared.event.Act.TheVariants as act
 use Rattle.p2p_log.specs.Lines.{line}
-use Rattle.p2p_log.specs.Copies.{keys_of_recipients}
-use Rattle.p2p_log_rules.specs.Admitting.{acted_moments, moments_by, rate_at, sent_moments}
-use Rattle.p2p_log_rules.specs.Facts.{taken}
+use Rattle.p2p_log_rules.specs.declared.row.Checked.{Checked}
+use Rattle.p2p_log_rules.specs.Admitting.{asked_for, asked_moments, rate_at, sent_moments}
+use Rattle.p2p_log_rules.specs.Checking.{checking_node, keys_checked, acted_checks, checked_at}
+use Rattle.p2p_log_rules.specs.Facts.{taken, peers_told, with_begun, with_named}
 use Rattle.p2p_log_rules.specs.Metering.{Metered, pings, messages, limit_at, admits_one, admitted_by, steps_receiver}
 use Rattle.p2p_net_channels.specs.Stands.{AdmitsNone, SendsNone}
 use Rattle.p2p_net_connections.specs.Stands.{ReceivesNone}
@@ -68,20 +70,34 @@ admits_nothing configs log e n none conn c = admits-untaken (limit_at configs n)
 
 -- ---- sends
 
--- whether an act is a send of the node
-abbrev pub sends_at : ℕ → Act → Bool
-sends_at n (act.Send bytes c m priority to) = m == n
-sends_at n _ = false
+-- whether an act offers a message of the node, or spends a check of it, after these entries
+abbrev pub sends_at : List Entry → ℕ → Act → Bool
+sends_at log n (act.Send bytes c m priority to) = m == n
+sends_at log n (act.Check c m to) = m == n
+sends_at log n (act.SendChecked bytes check priority) = checking_node log check == n
+sends_at log n _ = false
 
-pub sends_apart : (log : List Entry) (e : Entry) (n : ℕ) (a : Act) → e.event.act ≡ a → sends_at n a ≡ false → SendsNone log e n
-sends_apart log e n a is none c k = ap (λ b. acted_moments n c (rate_at log n c) e.event.at b (sent_moments log n c) k) is ∙ by a none
-  where
-    by : (b : Act) → sends_at n b ≡ false → acted_moments n c (rate_at log n c) e.event.at b (sent_moments log n c) k ≡ sent_moments log n c k
-    by (act.Send bytes d m priority to) h = ap (λ b. cond (b && (d == c)) (moments_by (rate_at log n c) e.event.at (keys_of_recipients to) (sent_moments log n c) k) (sent_moments log n c k)) h
-    by _ h = refl
+-- an act of another node asks no quota of this one
+unasked : (log : List Entry) (n c : ℕ) (a : Act) → sends_at log n a ≡ false → asked_for n c a ≡ None
+unasked log n c (act.Send bytes d m priority to) h = ap (λ b. cond (b && (d == c)) (Some to) None) h
+unasked log n c (act.Check d m to) h = ap (λ b. cond (b && (d == c)) (Some to) None) h
+unasked log n c _ h = refl
 
-sends_elsewhere : (log : List Entry) (n : ℕ) (a : Act) → names log a (at channels n) ≡ false → sends_at n a ≡ false
+unchecked : (log : List Entry) (n : ℕ) (a : Act) (r : Reply) (checks : ℕ → Option Checked) (name : ℕ) → sends_at log n a ≡ false → acted_checks n log a r checks name ≡ checks name
+unchecked log n (act.Check d m to) r checks name h = ap (λ b. cond b (with_begun (keys_checked d r) (length log) checks name) (checks name)) h
+unchecked log n (act.SendChecked bytes check priority) r checks name h = ap (λ b. cond b (with_named check None checks name) (checks name)) h
+unchecked log n _ r checks name h = refl
+
+pub sends_apart : (log : List Entry) (e : Entry) (n : ℕ) (a : Act) → e.event.act ≡ a → sends_at log n a ≡ false → SendsNone log e n
+sends_apart log e n a is none = record {
+  moments = λ c k. ap (λ o. asked_moments (rate_at log n c) e.event.at (peers_told log n c) o (sent_moments log n c) k) (ap (asked_for n c) is ∙ unasked log n c a none);
+  checks = λ name. ap (λ b. acted_checks n log b e.reply (checked_at log n) name) is ∙ unchecked log n a e.reply (checked_at log n) name none;
+}
+
+sends_elsewhere : (log : List Entry) (n : ℕ) (a : Act) → names log a (at channels n) ≡ false → sends_at log n a ≡ false
 sends_elsewhere log n (act.Send bytes c m priority to) h = grind (arith, nat_tests)
+sends_elsewhere log n (act.Check c m to) h = grind (arith, nat_tests)
+sends_elsewhere log n (act.SendChecked bytes check priority) h = grind (arith, nat_tests)
 sends_elsewhere log n _ h = refl
 
 pub sends_unnamed : (log : List Entry) (e : Entry) (n : ℕ) (a : Act) → e.event.act ≡ a → names log a (at channels n) ≡ false → SendsNone log e n

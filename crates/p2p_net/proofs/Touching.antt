@@ -1,6 +1,6 @@
 -- A queue of a place that an act does not name stays as it was.
-use Rattle.std.proofs.Common.{◌≡◌, ℕ, Bool, true, false, List, [], ◌∷◌, ◌++◌, refl, ◌∙◌, arith, Option, Some, None}
-use Rattle.std.specs.Prelude.{◌||◌, ◌==◌, slice_get}
+use Rattle.std.proofs.Common.{◌≡◌, ℕ, Bool, true, false, List, [], ◌∷◌, ◌++◌, refl, ap, ◌∙◌, arith, Option, Some, None}
+use Rattle.std.specs.Prelude.{◌||◌, ◌&&◌, ◌==◌, slice_get}
 use Rattle.std.specs.List.{list_any}
 use Rattle.std.proofs.lemmas.Bool.Decides.{nat_tests}
 use Rattle.p2p_log.specs.declared.config.Config.{Config}
@@ -11,15 +11,17 @@ use Rattle.p2p_log.specs.declared.event.Event.{Event}
 use Rattle.p2p_log.specs.declared.asked.Asked.TheVariants as ask
 use Rattle.p2p_log.specs.declared.event.Act.{Act}
 use Rattle.p2p_log.specs.declared.event.Act.TheVariants as act
+use Rattle.p2p_log.specs.declared.event.Recipients.{Recipients}
 use Rattle.p2p_log.specs.QueueCode.{same_queue}
 use Rattle.p2p_log.specs.Lines.{line}
 use Rattle.p2p_log.proofs.Queues.{same_queue-sym}
 use Rattle.p2p_log_rules.specs.declared.row.Opening.{Opening}
 use Rattle.p2p_log_rules.specs.Effect.{effect}
+use Rattle.p2p_log_rules.specs.Checking.{checking_node}
 use Rattle.p2p_log_rules.specs.Links.{openings_of}
 use Rattle.p2p_log_rules.specs.declared.row.Half.{Half}
 use Rattle.p2p_log_rules.specs.Connections.{half_at}
-use Rattle.p2p_log_rules.proofs.Touches.{in_router, in_mailboxes, in_half, in_link, in_held, in_channels, in_tracker, in_handshakes, in_ends, is_told_to, reads, writes, away}
+use Rattle.p2p_log_rules.proofs.Touches.{are_all, in_lists, in_router, in_mailboxes, in_half, in_link, in_held, in_channels, in_tracker, in_handshakes, in_ends, is_told_to, reads, writes, away}
 use Rattle.p2p_log_rules.specs.Tracking.{asked_by}
 use Rattle.p2p_log_laws.proofs.Untouched.{line-untouched}
 use Rattle.p2p_net.specs.Places.{home, names, at, router, channels, connections, tracker, dialer, listener, spawner, links, same_place, ends_named, asked_node, or_first, node_asked}
@@ -39,6 +41,17 @@ router_kinds n (queue.Ready m c) h k = grind (arith, nat_tests)
 router_kinds n (queue.High m c) h k = grind (arith, nat_tests)
 router_kinds n (queue.Low m c) h k = grind (arith, nat_tests)
 router_kinds n _ h k = refl
+
+list_kinds : (n c : ℕ) (to : Recipients) (q : Queue) → same_place (at router n) (home q) ≡ false → in_lists to n c q ≡ false
+list_kinds n c to (queue.Peers m d) h = ap (λ b. are_all to && (b && (d == c))) (other_router n m h) ∙ never (are_all to)
+  where
+    other_router : (n m : ℕ) → (n == m) ≡ false → (m == n) ≡ false
+    other_router n m h = grind (arith, nat_tests)
+
+    never : (b : Bool) → (b && false) ≡ false
+    never true = refl
+    never false = refl
+list_kinds n c to _ h = refl
 
 link_kinds : (o : Option Half) (q : Queue) → same_place links (home q) ≡ false → in_link o q ≡ false
 link_kinds o (queue.Link e s) h = cc
@@ -153,6 +166,8 @@ ends_queue (Some o) q h =
     (handshake_kinds o.to q (second_of_two (same_place (at dialer o.node) (home q)) (same_place (at tracker o.to) (home q)) h))
 
 reads-named : (configs : List Config) (log : List Entry) (a : Act) (q : Queue) → names log a (home q) ≡ false → reads configs log a q ≡ false
+reads-named configs log (act.Send bytes c n priority to) q h = list_kinds n c to q (second_of_two (same_place (at channels n) (home q)) (same_place (at router n) (home q)) h)
+reads-named configs log (act.Check c n to) q h = list_kinds n c to q (second_of_two (same_place (at channels n) (home q)) (same_place (at router n) (home q)) h)
 reads-named configs log (act.Router n) q h = router_queue n q (first_false (same_place (at router n) (home q)) (same_place (at connections n) (home q) || false) h)
 reads-named configs log (act.SendStep conn n) q h =
     let rest = second_false (same_place links (home q)) (same_place (at connections n) (home q) || (same_place (at router n) (home q) || (same_place (at tracker n) (home q) || false))) h in
@@ -182,6 +197,8 @@ reads-named configs log _ q h = refl
 writes-named : (configs : List Config) (log : List Entry) (a : Act) (q : Queue) → names log a (home q) ≡ false → writes configs log a q ≡ false
 writes-named configs log (act.Start n) q h = router_queue n q (first_false (same_place (at router n) (home q)) (same_place (at dialer n) (home q) || false) h)
 writes-named configs log (act.Send bytes c n priority to) q h = router_queue n q (second_of_two (same_place (at channels n) (home q)) (same_place (at router n) (home q)) h)
+writes-named configs log (act.SendChecked bytes check priority) q h =
+    let n = checking_node log check in router_queue n q (second_of_two (same_place (at channels n) (home q)) (same_place (at router n) (home q)) h)
 writes-named configs log (act.Router n) q h =
     router_kinds n q (first_false (same_place (at router n) (home q)) (same_place (at connections n) (home q) || false) h)
     (first_false (same_place (at connections n) (home q)) false (second_false (same_place (at router n) (home q)) (same_place (at connections n) (home q) || false) h))

@@ -1,15 +1,13 @@
 -- What each act comes to, and what it makes of a node and of the links. No log: of the router's calls the log is a matter of its own.
-use Rattle.std.specs.Prelude.{◌≡◌, ℕ, ◌+◌, Bool, true, false, ◌&&◌, List, [], ◌∷◌, ◌++◌, drop, length, nat_lt, Option, Some, None, slice_get, if◌then◌else◌}
+use Rattle.std.specs.Prelude.{◌≡◌, ℕ, ◌+◌, Bool, true, false, ◌&&◌, [], ◌∷◌, ◌++◌, drop, Option, Some, None, slice_get, if◌then◌else◌}
 use Rattle.p2p_base.specs.declared.key.Key.{Key}
 use Rattle.p2p_log.specs.declared.queue.Queue.{Queue}
 use Rattle.p2p_log.specs.declared.queue.Queue.TheVariants as queue
 use Rattle.p2p_log.specs.declared.item.Item.{Item}
 use Rattle.p2p_log.specs.declared.entry.Reply.TheVariants as reply
 use Rattle.p2p_log.specs.declared.event.Rate.{Rate}
-use Rattle.p2p_log.specs.declared.event.Recipients.{Recipients}
 use Rattle.p2p_log.specs.declared.event.Act.{Act}
 use Rattle.p2p_log.specs.declared.event.Act.TheVariants as act
-use Rattle.p2p_log.specs.Copies.{keys_of_recipients}
 use Rattle.p2p_log.specs.QueueCode.{same_queue}
 use Rattle.p2p_log_rules.specs.declared.row.Row.{Row}
 use Rattle.p2p_log_rules.specs.Effect.{only, oldest_read}
@@ -19,7 +17,6 @@ use Rattle.p2p_net_queues.specs.Rows.{taken_row}
 use Rattle.p2p_net_queues.specs.Tables as table
 use Rattle.p2p_net_queues.specs.Tables.{waiting}
 use Rattle.p2p_net_channels.specs.Channels.{capacity_at, registered_with, read_from}
-use Rattle.p2p_net_channels.specs.Senders.{keys_passed, keys_metered}
 use Rattle.p2p_net_connections.specs.Connections.{answered, spawned_with}
 use Rattle.p2p_net_links.specs.declared.links.Links.{Links}
 use Rattle.p2p_net_dialer.specs.Attempts.{Tries, Resolves, AnswersDial}
@@ -44,6 +41,7 @@ use Rattle.p2p_net_spawner.specs.Spawning.{taken_by, without_first}
 use Rattle.p2p_net_spawner.specs.declared.spawning.Taken.{Taken}
 use Rattle.p2p_net.specs.Connecting.{Stays, SendSteps}
 use Rattle.p2p_net.specs.Ready.{is_started, capacity_by}
+use Rattle.p2p_net.specs.Offering.{Sends, Checks, SendsChecked}
 use Rattle.p2p_net.specs.Receiving.{RecvSteps}
 use Rattle.p2p_tracker_directory.specs.declared.metadata.Metadata.{Metadata}
 use Rattle.p2p_net.specs.Routing as routing
@@ -60,29 +58,6 @@ Registers c rate old new r =
 abbrev pub Starts : ℕ → ℕ → Node → Node → Row → Type 0
 Starts k at old new r =
     (new ≡ record old { router = new.router; dialing = started old.config at old.dialing }) × routing.Starts k (old.config.mailbox_size + old.channels.total) old.router new.router r
-
--- to these keys, by whether the message is longer than the node lets it be
-abbrev pub SendsBy : Bool → ℕ → ℕ → Bool → List ℕ → List Key → Node → Node → Row → Type 0
-SendsBy true k c priority bytes keys old new r = Stays old new r (only (reply.MessageTooLarge (length bytes) old.config.max_message_size))
-SendsBy false k c priority bytes keys old new r =
-    (new ≡ record old { router = new.router }) × routing.Sends k c priority bytes keys old.router new.router r
-
--- by what the channel's quota admits of those that it is for
-abbrev pub SendsAdmitted : List Key → List Key → ℕ → ℕ → Bool → List ℕ → Node → Node → Row → Type 0
-SendsAdmitted (j ∷ js) [] k c priority bytes old new r = Stays old new r (only (reply.Sent []))
-SendsAdmitted to keys k c priority bytes old new r = SendsBy (nat_lt old.config.max_message_size (length bytes)) k c priority bytes keys old new r
-
--- the node once the quota of a channel was asked for these keys
-abbrev pub offered : ℕ → List Key → ℕ → Node → Node
-offered c keys at x = record x { channels = keys_metered c keys at x.channels }
-
-abbrev pub SendsOn : Option ℕ → ℕ → ℕ → ℕ → Bool → List ℕ → List Key → Node → Node → Row → Type 0
-SendsOn None k c at priority bytes to old new r = Stays old new r (only reply.Gone)
-SendsOn (Some capacity) k c at priority bytes to old new r =
-    SendsAdmitted to (keys_passed old.channels c to at) k c priority bytes (offered c to at old) new r
-
-abbrev pub Sends : ℕ → ℕ → ℕ → Bool → List ℕ → Recipients → Node → Node → Row → Type 0
-Sends k c at priority bytes to old new r = SendsOn (capacity_at old.channels c) k c at priority bytes (keys_of_recipients to) old new r
 
 abbrev pub ReadsOn : Option ℕ → ℕ → Node → Node → Row → Type 0
 ReadsOn None c old new r = Stays old new r (only reply.Gone)
@@ -233,6 +208,8 @@ abbrev pub NodeDoes : ℕ → ℕ → ℕ → ℕ → Act → Node → Node → 
 NodeDoes k n at seed (act.Register c m rate) old new l links r = Registers c rate old new r × (links ≡ l)
 NodeDoes k n at seed (act.Start m) old new l links r = Starts k at old new r × (links ≡ l)
 NodeDoes k n at seed (act.Send bytes c m priority to) old new l links r = Sends k c at priority bytes to old new r × (links ≡ l)
+NodeDoes k n at seed (act.Check c m to) old new l links r = Checks k c at to old new r × (links ≡ l)
+NodeDoes k n at seed (act.SendChecked bytes check priority) old new l links r = SendsChecked k check priority bytes old new r × (links ≡ l)
 NodeDoes k n at seed (act.Router m) old new l links r = Routes k n old new r × (links ≡ l)
 NodeDoes k n at seed (act.SendStep conn m) old new l links r = SendSteps k n conn at old new l links r
 NodeDoes k n at seed (act.RecvStep conn m) old new l links r = RecvSteps k n conn at old new l links r

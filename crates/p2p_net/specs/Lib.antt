@@ -5,6 +5,7 @@ pub mod Events
 pub mod Finishing
 pub mod Linking
 pub mod Meetings
+pub mod Offering
 pub mod Places
 pub mod Ready
 pub mod Receiving

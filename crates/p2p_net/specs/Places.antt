@@ -8,6 +8,7 @@ use Rattle.p2p_log.specs.declared.entry.Entry.{Entry}
 use Rattle.p2p_log.specs.declared.event.Act.{Act}
 use Rattle.p2p_log.specs.declared.event.Act.TheVariants as act
 use Rattle.p2p_log_rules.specs.declared.row.Opening.{Opening}
+use Rattle.p2p_log_rules.specs.Checking.{checking_node}
 use Rattle.p2p_log_rules.specs.Links.{openings_of}
 use Rattle.p2p_net.specs.declared.meeting.Ends.{Ends}
 
@@ -72,6 +73,8 @@ abbrev pub parts_named : Act → List Part
 parts_named (act.Register c n rate) = channels ∷ router ∷ []
 parts_named (act.Start n) = router ∷ dialer ∷ []
 parts_named (act.Send bytes c n priority to) = channels ∷ router ∷ []
+parts_named (act.Check c n to) = channels ∷ router ∷ []
+parts_named (act.SendChecked bytes check priority) = channels ∷ router ∷ []
 parts_named (act.Router n) = router ∷ connections ∷ []
 parts_named (act.SendStep conn n) = connections ∷ router ∷ tracker ∷ []
 parts_named (act.RecvStep conn n) = channels ∷ connections ∷ []
@@ -131,6 +134,8 @@ abbrev pub node_of : List Entry → Act → ℕ
 node_of log (act.Register c n rate) = n
 node_of log (act.Start n) = n
 node_of log (act.Send bytes c n priority to) = n
+node_of log (act.Check c n to) = n
+node_of log (act.SendChecked bytes check priority) = checking_node log check
 node_of log (act.Router n) = n
 node_of log (act.SendStep conn n) = n
 node_of log (act.RecvStep conn n) = n

@@ -5,7 +5,7 @@ use Rattle.p2p_log.specs.declared.entry.Entry.{Entry}
 use Rattle.p2p_log.specs.declared.event.Event.{Event}
 use Rattle.p2p_log.specs.declared.event.Act.{Act}
 use Rattle.p2p_log.specs.declared.event.Act.TheVariants as act
-use Rattle.p2p_log_rules.specs.Valid.{fits_usize, is_quota, set_asked_by, subscribed_by}
+use Rattle.p2p_log_rules.specs.Valid.{fits_usize, is_quota, checked_by, set_asked_by, subscribed_by}
 use Rattle.p2p_router.specs.Messenger.{is_unbound, is_bound}
 use Rattle.p2p_net_channels.specs.Channels.{capacity_at}
 use Rattle.p2p_net_queues.specs.Tables as table
@@ -63,6 +63,11 @@ abbrev pub links_attempt : Option Entry → Bool
 links_attempt None = false
 links_attempt (Some e) = is_link e.event.act
 
+-- whether this entry is of a check
+abbrev pub checks : Option Entry → Bool
+checks None = false
+checks (Some e) = is_some (checked_by e.event.act)
+
 -- whether this entry is of a question for a peer set
 abbrev pub asks_set : Option Entry → Bool
 asks_set None = false
@@ -77,6 +82,7 @@ subscribes (Some e) = is_some (subscribed_by e.event.act)
 abbrev pub may_ask : List Entry → Node → Act → Bool
 may_ask log x (act.Register c n rate) = may_register x c rate
 may_ask log x (act.Start n) = not (is_started x)
+may_ask log x (act.SendChecked bytes check priority) = checks (slice_get log check)
 may_ask log x (act.SendStep conn n) = names_spawner n (slice_get log conn)
 may_ask log x (act.RecvStep conn n) = names_spawner n (slice_get log conn)
 may_ask log x (act.Answer e) = asks_set (slice_get log e)

@@ -1,5 +1,5 @@
 -- What the calls of a node's router come to, for every log that it stands for.
-use Rattle.std.specs.Prelude.{◌≡◌, ℕ, Bool, nat_le, List, [], ◌∷◌, ◌++◌, length, map, IsTrue, true, false, None, Some, if◌then◌else◌}
+use Rattle.std.specs.Prelude.{◌≡◌, ℕ, Bool, nat_le, List, [], ◌∷◌, ◌++◌, length, map, filter, take, IsTrue, true, false, Option, None, Some, if◌then◌else◌}
 use Rattle.std.specs.BTreeMap.{get}
 use Rattle.std.specs.Ordering.{nat_cmp, is_eq}
 use Rattle.p2p_base.specs.declared.key.Key.{Key}
@@ -11,8 +11,7 @@ use Rattle.p2p_log.specs.declared.item.Envelope.{Envelope}
 use Rattle.p2p_log.specs.declared.entry.Entry.{Entry}
 use Rattle.p2p_log.specs.declared.event.Event.{Event}
 use Rattle.p2p_log.specs.declared.event.Act.TheVariants as act
-use Rattle.p2p_log.specs.declared.event.Recipients.{Recipients}
-use Rattle.p2p_log.specs.Lines.{live, line, named}
+use Rattle.p2p_log.specs.Lines.{name_of, stays, stands_in, live, line, named}
 use Rattle.p2p_log.specs.Apart.{AreApart}
 use Rattle.p2p_log_rules.specs.declared.row.Row.{Row}
 use Rattle.p2p_log_rules.specs.Frames.{frame_of}
@@ -20,14 +19,17 @@ use Rattle.p2p_log_rules.specs.Facts.{channels, capacity_in, is_up}
 use Rattle.p2p_log_rules.specs.Effect.{entry_of, mailbox_size_at, router_capacity, start_row, sent_row, route_oldest}
 use Rattle.p2p_router.specs.Messenger.{is_unbound}
 use Rattle.p2p_net_router.specs.Batches.{batch_of, AreKept}
-use Rattle.p2p_net_router.specs.Holds.{Holds, Adds, IsStranger}
+use Rattle.p2p_net_router.specs.Holds.{Holds, Adds, IsStranger, after}
 use Rattle.p2p_net_router.specs.Names.{is_routers}
-use Rattle.p2p_net_router.specs.Stands.{StandsFor, IsBeside, IsRegistration, IsReadied, AreAway}
+use Rattle.p2p_net_router.specs.Peers.{names_taken}
+use Rattle.p2p_net_router.specs.Stands.{StandsFor, StandsOver, IsBeside, IsRegistration, IsReadied, AreAway}
+use Rattle.p2p_net_router.specs.Telling.{accepted_reply, refused_reply}
 use Rattle.p2p_net_router.specs.declared.router.Router.{Router}
+use Rattle.p2p_net_router.specs.declared.telling.Telling.{Telling}
 
 -- a channel wants the lists of peers
 pub record Subscribes (channel : ℕ) (old new : Router) : Type 0 where
-  pub rest : new ≡ record old { messenger = new.messenger; channels = new.channels }
+  pub rest : new ≡ record old { messenger = new.messenger; channels = new.channels; subscriptions = new.subscriptions }
   pub stands : (configs : List Config) (log : List Entry) (e : Entry) → StandsFor configs log old → IsTrue (is_unbound old.messenger.binding)
       → IsRegistration e old.number channel → capacity_in (channels configs log old.number) channel ≡ None → StandsFor configs (log ++ e ∷ []) new
 
@@ -45,14 +47,23 @@ pub record Readies (entry place conn size : ℕ) (key : Key) (old new : Router) 
   pub stands : (configs : List Config) (log : List Entry) (e : Entry) → StandsFor configs log old → length log ≡ entry → size ≡ mailbox_size_at configs old.number
       → IsStranger old conn key → IsBeside configs log e old.number → IsReadied e old.number place conn key → StandsFor configs (log ++ e ∷ []) new
 
+-- the list of peers that waits for a channel is taken, which has this name
+pub record TakesList (c : ℕ) (old new : Router) (o : Option (ℕ × ℕ)) : Type 0 where
+  pub name : (configs : List Config) (log : List Entry) (items : List Envelope) → StandsOver configs log old items
+      → names_taken o ≡ map name_of (take 1 (filter (stands_in (queue.Peers old.number c)) items))
+  pub stands : (configs : List Config) (log : List Entry) (items : List Envelope) → StandsOver configs log old items → AreApart items
+      → StandsOver configs log new (filter (stays (names_taken o)) items)
+  pub rest : new ≡ record old { messenger = record old.messenger { lists = new.messenger.lists }; names = new.names }
+
 -- a message for these keys is handed to it
-pub record Sends (entry c : ℕ) (priority : Bool) (bytes : List ℕ) (to : List Key) (old new : Router) (r : Row) : Type 0 where
+pub record Sends (entry : ℕ) (tells : Telling) (c : ℕ) (priority : Bool) (bytes : List ℕ) (to : List Key) (old new : Router) (r : Row) : Type 0 where
   pub rest : new ≡ record old { messenger = new.messenger; names = new.names }
-  pub row : (configs : List Config) (log : List Entry) → StandsFor configs log old
-      → r ≡ sent_row (is_up log old.number) (nat_le (router_capacity configs log old.number) (length (line log (queue.Router old.number))))
+  pub row : (configs : List Config) (log : List Entry) (items : List Envelope) → StandsOver configs log old items
+      → r ≡ sent_row (accepted_reply tells old.number c to) (refused_reply tells old.number c to)
+      (is_up log old.number) (nat_le (router_capacity configs log old.number) (length (filter (stands_in (queue.Router old.number)) items)))
       old.number entry c priority (frame_of c bytes) to
-  pub stands : (configs : List Config) (log : List Entry) (event : Event) (whom : Recipients) → StandsFor configs log old → length log ≡ entry
-      → event.act ≡ act.Send bytes c old.number priority whom → StandsFor configs (log ++ entry_of event r ∷ []) new
+  pub stands : (configs : List Config) (log : List Entry) (items : List Envelope) → StandsOver configs log old items → length log ≡ entry
+      → StandsOver configs log new (after entry r items)
 
 -- it takes one step
 pub record Steps (entry : ℕ) (old new : Router) (r : Row) : Type 0 where

@@ -1,16 +1,13 @@
-//! The calls of a node: registering a channel, starting, sending and reading.
-ghost use Rattle.std.specs.Prelude.{◌≡◌, ◌+◌, ◌<◌, ◌≤◌, ◌^◌, true, length, nat_lt, IfOk, OnOk, IsTrue};
-ghost use Rattle.p2p_log.specs.Copies.{keys_of_recipients};
+//! The calls of a node: registering a channel, starting and reading.
+ghost use Rattle.std.specs.Prelude.{◌≡◌, ◌+◌, ◌<◌, ◌≤◌, ◌^◌, true, IfOk, OnOk, IsTrue};
 ghost use Rattle.p2p_log_rules.specs.Effect.{oldest_read};
 ghost use Rattle.p2p_log_rules.specs.Valid.{is_quota};
 ghost use Rattle.p2p_router.specs.Messenger.{is_unbound};
 ghost use Rattle.p2p_net.specs.Ready.{capacity_by};
-ghost use Rattle.p2p_net.specs.Acts.{Registers, Starts, SendsBy, Sends, Reads};
+ghost use Rattle.p2p_net.specs.Acts.{Registers, Starts, Reads};
 
 use crate::node::Node;
-use bytes::Bytes;
-use p2p_base::{Key, List};
-use p2p_log::{Rate, Recipients, Reply};
+use p2p_log::{Rate, Reply};
 use p2p_log_rules::Row;
 use p2p_net_queues::{Turn, only};
 use p2p_runtime::Quota;
@@ -51,51 +48,6 @@ impl Node {
         let row = self.router.start(turn, places)?;
         self.dialing.start(turn.alloc, &self.config, at);
         Ok(row)
-    }
-
-    /// Sends a message on a channel to those keys that its quota admits at the moment `at`, in nanoseconds, where it is no
-    /// longer than the node lets it be.
-    pub(crate) fn send(
-        &mut self,
-        turn: Turn,
-        at: u64,
-        channel: u64,
-        bytes: &Bytes,
-        priority: bool,
-        to: &Recipients,
-    ) -> Result<Row, AllocError>
-        ensures does { IfOk result (λ r. Sends turn.entry channel at priority bytes.now to.now self.old self.new r) }
-        ensures failed { OnOk result (self.new.failed ≡ self.old.failed) }
-    {
-        if self.channels.capacity(channel).is_none() {
-            return Ok(only(turn.alloc, Reply::Gone));
-        }
-        let offered = to.keys(turn.alloc)?;
-        let is_empty = offered.is_empty();
-        let keys = self.channels.admit_keys(turn.alloc, channel, offered, at)?;
-        if !is_empty && keys.is_empty() {
-            return Ok(only(turn.alloc, Reply::Sent(keys)));
-        }
-        Ok(self.send_to(turn, channel, bytes, priority, keys)?)
-    }
-
-    /// Sends a message on a channel to these keys, where it is no longer than the node lets it be.
-    fn send_to(
-        &mut self,
-        turn: Turn,
-        channel: u64,
-        bytes: &Bytes,
-        priority: bool,
-        keys: List<Key>,
-    ) -> Result<Row, AllocError>
-        ensures does { IfOk result (λ r. SendsBy (nat_lt self.old.config.max_message_size (length bytes.now)) turn.entry channel priority bytes.now keys self.old self.new r) }
-        ensures failed { OnOk result (self.new.failed ≡ self.old.failed) }
-    {
-        let (size, limit) = (bytes.len(), self.config.max_message_size as usize);
-        if size > limit {
-            return Ok(only(turn.alloc, Reply::MessageTooLarge { size, limit }));
-        }
-        Ok(self.router.send(turn, channel, priority, bytes, keys)?)
     }
 
     /// Takes the oldest message of a channel.

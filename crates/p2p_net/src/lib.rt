@@ -11,6 +11,7 @@ mod finishing;
 mod linking;
 mod meeting;
 mod node;
+mod offers;
 mod receiving;
 mod spawning;
 mod steps;

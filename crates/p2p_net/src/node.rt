@@ -2,6 +2,7 @@
 ghost use Rattle.std.specs.Prelude.{◌≡◌, ◌*◌, ◌<◌, ◌^◌, ℕ, [], IfOk, OnOk, IfErr, true, false, None, slice_get};
 ghost use Rattle.std.specs.Ordering.{nat_cmp};
 ghost use Rattle.std.specs.BTreeMap as tree;
+ghost use Rattle.p2p_log_rules.specs.Checking.{checking_node};
 ghost use Rattle.p2p_log_rules.specs.Effect.{entry_of as entry_of_row};
 ghost use Rattle.p2p_log_rules.specs.Valid.{fits};
 ghost use Rattle.p2p_net_channels.specs.Channels.{no_channels};
@@ -133,6 +134,19 @@ fn nodes_linked(log: &[Entry], link: u64) -> Ends
     }
 }
 
+/// The node at which the event of this number checks, or the first.
+fn node_checking(log: &[Entry], check: u64) -> u64
+    ensures { result ≡ checking_node log.now check }
+{
+    match log.get(check as usize) {
+        Some(entry) => match &entry.event.act {
+            Act::Check { node, .. } => *node,
+            _ => 0,
+        },
+        None => 0,
+    }
+}
+
 /// The node that an act names first, after these entries.
 pub fn node_of(log: &[Entry], act: &Act) -> u64
     ensures { result ≡ node_of_act log.now act.now }
@@ -141,6 +155,8 @@ pub fn node_of(log: &[Entry], act: &Act) -> u64
         Act::Register { node, .. } => *node,
         Act::Start { node } => *node,
         Act::Send { node, .. } => *node,
+        Act::Check { node, .. } => *node,
+        Act::SendChecked { check, .. } => node_checking(log, *check),
         Act::Router { node } => *node,
         Act::SendStep { node, .. } => *node,
         Act::RecvStep { node, .. } => *node,
@@ -277,6 +293,12 @@ impl Node {
                 to,
                 ..
             } => Ok(self.send(turn, event.at, *channel, bytes, *priority, to)?),
+            Act::Check { channel, to, .. } => Ok(self.check(turn, event.at, *channel, to)?),
+            Act::SendChecked {
+                bytes,
+                check,
+                priority,
+            } => Ok(self.send_checked(turn, *check, bytes, *priority)?),
             Act::Router { .. } => Ok(self.route(turn)?),
             Act::SendStep { conn, .. } => Ok(self.send_step(turn, links, *conn, event.at)?),
             Act::RecvStep { conn, .. } => Ok(self.recv_step(turn, links, *conn, event.at)?),

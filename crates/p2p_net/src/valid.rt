@@ -1,6 +1,6 @@
 //! Whether an event may be asked for, after those before it.
 ghost use Rattle.std.specs.Prelude.{◌≡◌, ◌<◌, ◌^◌, ◌&&◌, Some, slice_get, length, nat_le};
-ghost use Rattle.p2p_net.specs.Ready.{capacity_by, names_spawner, names_dialer, names_listener, links_attempt, asks_set as asks_set_test, subscribes as subscribes_test, may_register as may_register_test, may_ask as may_ask_test, may_at as may_at_test, may_act as may_act_test};
+ghost use Rattle.p2p_net.specs.Ready.{capacity_by, names_spawner, names_dialer, names_listener, links_attempt, checks as checks_test, asks_set as asks_set_test, subscribes as subscribes_test, may_register as may_register_test, may_ask as may_ask_test, may_at as may_at_test, may_act as may_act_test};
 
 use crate::node::{Node, node_of, other_of};
 use p2p_log::{Act, Asked, Entry, Event, Rate};
@@ -27,6 +27,16 @@ fn is_spawned(log: &[Entry], conn: u64, number: u64) -> bool
             Act::Spawner { node } => *node == number,
             _ => false,
         },
+        None => false,
+    }
+}
+
+/// Whether the entry of this number is of a check.
+fn checks(log: &[Entry], check: u64) -> bool
+    ensures { result ≡ checks_test (slice_get log.now check) }
+{
+    match log.get(check as usize) {
+        Some(entry) => matches!(&entry.event.act, Act::Check { .. }),
         None => false,
     }
 }
@@ -97,6 +107,7 @@ fn may_ask(log: &[Entry], node: &Node, act: &Act) -> bool
     match act {
         Act::Register { channel, quota, .. } => may_register(node, *channel, *quota),
         Act::Start { .. } => !node.is_started(),
+        Act::SendChecked { check, .. } => checks(log, *check),
         Act::SendStep { conn, node } => is_spawned(log, *conn, *node),
         Act::RecvStep { conn, node } => is_spawned(log, *conn, *node),
         Act::Answer { question } => asks_set(log, *question),
