@@ -3,6 +3,8 @@ use Rattle.std.specs.Prelude.{ℕ, Bool, List, ◌++◌, codes, Option}
 use Rattle.p2p_base.specs.declared.key.Key.{Key}
 use Rattle.p2p_base.specs.declared.outcome.Feedback.{Feedback}
 use Rattle.p2p_base.specs.declared.outcome.Feedback.TheVariants as feedback
+use Rattle.p2p_base.specs.declared.outcome.Unreliable.{Unreliable}
+use Rattle.p2p_base.specs.declared.outcome.Unreliable.TheVariants.{Outcome, Rejected}
 use Rattle.p2p_flow.specs.declared.tracked.TrackedPeers.{TrackedPeers}
 use Rattle.p2p_flow.specs.declared.update.PeerSetUpdate.{PeerSetUpdate}
 use Rattle.p2p_gates_rules.specs.declared.reply.Reply.{Reply as GatesReply}
@@ -11,12 +13,27 @@ use Rattle.p2p_log.specs.declared.entry.Reply.{Reply}
 use Rattle.p2p_log.specs.declared.entry.Reply.TheVariants as reply
 use Rattle.p2p_sim_report.specs.Text.{number_onto, flag_onto, key_onto, hex_onto, list_onto}
 use Rattle.p2p_sim_report.specs.PeersText.{peer_set_onto, update_onto}
+use Rattle.p2p_sim_report.specs.TrackerItemText.{digits_onto}
 
 abbrev pub capacity_onto : List ℕ → ℕ → List ℕ
 capacity_onto out n = number_onto (out ++ codes "{\"capacity\":") n ++ codes "}"
 
 abbrev pub sent_onto : List ℕ → List Key → List ℕ
 sent_onto out keys = list_onto key_onto (out ++ codes "{\"sent\":") keys ++ codes "}"
+
+abbrev pub checked_onto : List ℕ → List Key → List ℕ
+checked_onto out keys = list_onto key_onto (out ++ codes "{\"checked\":") keys ++ codes "}"
+
+-- a moment may pass 64 bits, so its digits are a text
+abbrev pub retry_onto : List ℕ → ℕ → List ℕ
+retry_onto out moment = digits_onto (out ++ codes "{\"retry\":") moment ++ codes "}"
+
+-- whom the message is to is not written: it stands in the lines of its copies
+abbrev pub outcome_onto : List ℕ → Unreliable → List ℕ
+outcome_onto out (Outcome feedback.Ok) = out ++ codes "{\"outcome\":\"ok\"}"
+outcome_onto out (Outcome feedback.Backoff) = out ++ codes "{\"outcome\":\"backoff\"}"
+outcome_onto out (Outcome feedback.Closed) = out ++ codes "{\"outcome\":\"closed\"}"
+outcome_onto out Rejected = out ++ codes "{\"outcome\":\"rejected\"}"
 
 abbrev pub received_onto : List ℕ → List ℕ → Key → List ℕ
 received_onto out bytes from =
@@ -58,6 +75,9 @@ reply_onto out reply.Pending = out ++ codes "\"pending\""
 reply_onto out reply.Gone = out ++ codes "\"gone\""
 reply_onto out (reply.Capacity n) = capacity_onto out n
 reply_onto out (reply.Sent keys) = sent_onto out keys
+reply_onto out (reply.Checked keys) = checked_onto out keys
+reply_onto out (reply.Retry moment) = retry_onto out moment
+reply_onto out (reply.Outcome told node channel keys) = outcome_onto out told
 reply_onto out (reply.Message bytes from) = received_onto out bytes from
 reply_onto out (reply.MessageTooLarge size limit) = too_large_onto out (codes "{\"message_too_large\":[") size limit
 reply_onto out (reply.Feedback told) = feedback_onto out told

@@ -1,11 +1,12 @@
 //! The text of replies.
 ghost use Rattle.std.specs.Prelude.{◌≡◌, OnOk};
 ghost use Rattle.std.specs.String.{string_bytes};
-ghost use Rattle.p2p_sim_report.specs.ReplyText.{capacity_onto, sent_onto, received_onto, feedback_onto, too_large_onto, answered_onto, updated_onto, blocked_onto, limited_onto, gates_onto};
+ghost use Rattle.p2p_sim_report.specs.ReplyText.{capacity_onto, sent_onto, checked_onto, retry_onto, outcome_onto, received_onto, feedback_onto, too_large_onto, answered_onto, updated_onto, blocked_onto, limited_onto, gates_onto};
 
 use crate::peers::{put_peer_set, put_update};
 use crate::text::{ToText, put, put_flag, put_hex, put_list, put_number};
-use p2p_base::{Feedback, Key};
+use crate::tracker_item::put_digits;
+use p2p_base::{Feedback, Key, Unreliable};
 use p2p_flow::{PeerSetUpdate, TrackedPeers};
 use p2p_gates_rules::Reply as GatesReply;
 use p2p_log::Reply;
@@ -25,6 +26,33 @@ fn put_sent(out: &mut String, keys: &[Key]) -> Result<(), AllocError>
     put(out, "{\"sent\":")?;
     put_list(out, keys)?;
     put(out, "}")
+}
+
+fn put_checked(out: &mut String, keys: &[Key]) -> Result<(), AllocError>
+    ensures { OnOk result (string_bytes out.new ≡ checked_onto (string_bytes out.old) keys.now) }
+{
+    put(out, "{\"checked\":")?;
+    put_list(out, keys)?;
+    put(out, "}")
+}
+
+fn put_retry(out: &mut String, moment: u128) -> Result<(), AllocError>
+    ensures { OnOk result (string_bytes out.new ≡ retry_onto (string_bytes out.old) moment) }
+{
+    put(out, "{\"retry\":")?;
+    put_digits(out, moment)?;
+    put(out, "}")
+}
+
+fn put_outcome(out: &mut String, outcome: Unreliable) -> Result<(), AllocError>
+    ensures { OnOk result (string_bytes out.new ≡ outcome_onto (string_bytes out.old) outcome) }
+{
+    match outcome {
+        Unreliable::Outcome(Feedback::Ok) => put(out, "{\"outcome\":\"ok\"}"),
+        Unreliable::Outcome(Feedback::Backoff) => put(out, "{\"outcome\":\"backoff\"}"),
+        Unreliable::Outcome(Feedback::Closed) => put(out, "{\"outcome\":\"closed\"}"),
+        Unreliable::Rejected => put(out, "{\"outcome\":\"rejected\"}"),
+    }
 }
 
 fn put_received(out: &mut String, bytes: &[u8], from: Key) -> Result<(), AllocError>
@@ -117,6 +145,9 @@ impl ToText for Reply {
             Reply::Gone => put(out, "\"gone\""),
             Reply::Capacity(capacity) => put_capacity(out, *capacity as u64),
             Reply::Sent(keys) => put_sent(out, keys.as_slice()),
+            Reply::Checked(keys) => put_checked(out, keys.as_slice()),
+            Reply::Retry(moment) => put_retry(out, *moment),
+            Reply::Outcome { outcome, .. } => put_outcome(out, *outcome),
             Reply::Message { bytes, from } => put_received(out, bytes.as_slice(), *from),
             Reply::MessageTooLarge { size, limit } => {
                 put_too_large(out, "{\"message_too_large\":[", *size as u64, *limit as u64)

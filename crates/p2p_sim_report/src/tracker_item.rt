@@ -64,7 +64,7 @@ pub fn put_release(out: &mut String, key: Key) -> Result<(), AllocError>
     put(out, "}")
 }
 
-fn put_digits(out: &mut String, number: u128) -> Result<(), AllocError>
+pub fn put_digits(out: &mut String, number: u128) -> Result<(), AllocError>
     ensures { OnOk result (string_bytes out.new ≡ digits_onto (string_bytes out.old) number) }
 {
     put(out, "\"")?;

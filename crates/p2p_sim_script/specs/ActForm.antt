@@ -31,6 +31,22 @@ send_of d = do
   to ← field "to" recipients_of d
   Some (act.Send bytes channel node priority to)
 
+abbrev pub check_of : Data → Option Act
+check_of d = do
+  has ("channel" ∷ "node" ∷ "to" ∷ []) d
+  channel ← field "channel" whole d
+  node ← field "node" whole d
+  to ← field "to" recipients_of d
+  Some (act.Check channel node to)
+
+abbrev pub send_checked_of : Data → Option Act
+send_checked_of d = do
+  has ("bytes" ∷ "check" ∷ "priority" ∷ []) d
+  bytes ← field "bytes" bytes_of d
+  check ← field "check" whole d
+  priority ← field "priority" as_bool d
+  Some (act.SendChecked bytes check priority)
+
 abbrev pub router_of : Data → Option Act
 router_of d = do
   node ← node_of d
@@ -57,17 +73,24 @@ recv_of d = do
   node ← field "node" whole d
   Some (act.Recv channel node)
 
+-- the act of sending that this word asks for, or one of those of a tracker
+abbrev pub sending_act_named : List ℕ → Data → Option Act
+sending_act_named word d =
+    if bytes_eq word (codes "send") then send_of d
+    else if bytes_eq word (codes "check") then check_of d
+    else if bytes_eq word (codes "send_checked") then send_checked_of d
+    else tracker_act_named word d
+
 -- the act that this word asks for
 abbrev pub act_named : List ℕ → Data → Option Act
 act_named word d =
     if bytes_eq word (codes "register") then register_of d
     else if bytes_eq word (codes "start") then start_of d
-    else if bytes_eq word (codes "send") then send_of d
     else if bytes_eq word (codes "router") then router_of d
     else if bytes_eq word (codes "send_step") then send_step_of d
     else if bytes_eq word (codes "recv_step") then recv_step_of d
     else if bytes_eq word (codes "recv") then recv_of d
-    else tracker_act_named word d
+    else sending_act_named word d
 
 abbrev pub act_of : Data → Option Act
 act_of d = do

@@ -1,7 +1,8 @@
 -- The scripts of the first form. Where the sending half of a connection takes a step, each message is on a channel that each node
--- registers, and no longer than any node takes, unless it is too long for its own; no node is asked to change its peers once it
--- has met some; and no link loses an end. A script without such a step is of the form, whatever it asks.
-use Rattle.std.specs.Prelude.{ℕ, Bool, true, false, not, ◌==◌, ◌&&◌, ◌||◌, nat_lt, nat_le, List, length, Some, None, slice_get}
+-- registers, and no longer than any node takes, unless it is too long for its own, also one to those whom a check admitted; no node
+-- is asked to change its peers once it has met some; and no link loses an end. A script without such a step is of the form,
+-- whatever it asks.
+use Rattle.std.specs.Prelude.{ℕ, Bool, true, false, not, ◌==◌, ◌&&◌, ◌||◌, nat_lt, nat_le, List, length, Option, Some, None, slice_get}
 use Rattle.std.specs.List.{list_any, list_all, range_with_len}
 use Rattle.p2p_log.specs.declared.config.Config.{Config}
 use Rattle.p2p_log.specs.declared.event.Event.{Event}
@@ -48,18 +49,29 @@ abbrev pub message_fits : List Config → (ℕ → ℕ → Bool) → ℕ → ℕ
 message_fits configs registered channel node bytes =
     (is_too_long configs node bytes || is_short configs bytes) && is_on_each registered (length configs) channel
 
-abbrev pub act_fits : List Config → (ℕ → ℕ → Bool) → Act → Bool
-act_fits configs registered (act.Send bytes channel node priority to) = message_fits configs registered channel node bytes
-act_fits configs registered _ = true
+-- a message to those whom this act admits, where it is a check
+abbrev pub check_fits : List Config → (ℕ → ℕ → Bool) → List ℕ → Act → Bool
+check_fits configs registered bytes (act.Check channel node to) = message_fits configs registered channel node bytes
+check_fits configs registered bytes _ = true
+
+-- the same of an event, where there is one; a script in which a message names another event is not valid
+abbrev pub checked_fits : List Config → (ℕ → ℕ → Bool) → List ℕ → Option Event → Bool
+checked_fits configs registered bytes None = true
+checked_fits configs registered bytes (Some e) = check_fits configs registered bytes e.act
+
+abbrev pub act_fits : List Config → (ℕ → ℕ → Bool) → List Event → Act → Bool
+act_fits configs registered script (act.Send bytes channel node priority to) = message_fits configs registered channel node bytes
+act_fits configs registered script (act.SendChecked bytes check priority) = checked_fits configs registered bytes (slice_get script check)
+act_fits configs registered script _ = true
 
 -- ---- all of it
 
-abbrev pub event_fits : List Config → (ℕ → ℕ → Bool) → Event → Bool
-event_fits configs registered e = act_fits configs registered e.act
+abbrev pub event_fits : List Config → (ℕ → ℕ → Bool) → List Event → Event → Bool
+event_fits configs registered script e = act_fits configs registered script e.act
 
 -- whether each message of the script fits
 abbrev pub keeps_messages : List Config → List Event → Bool
-keeps_messages configs script = list_all (event_fits configs (is_registered script)) script
+keeps_messages configs script = list_all (event_fits configs (is_registered script) script) script
 
 -- what a script keeps to in which a connection may begin
 abbrev pub keeps_connections : List Config → List Event → Bool

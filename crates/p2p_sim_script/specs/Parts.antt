@@ -1,6 +1,6 @@
 -- The forms of what an event names: keys, bytes, recipients, rates.
 use Prim.Native.String.{String as Name}
-use Rattle.std.specs.Prelude.{ℕ, Bool, ◌-◌, ◌^◌, List, [], ◌∷◌, Option, Some, None}
+use Rattle.std.specs.Prelude.{ℕ, Bool, ◌-◌, ◌^◌, List, [], ◌∷◌, codes, bytes_eq, Option, Some, None, if◌then◌else◌}
 use Rattle.std.specs.Result.{result_ok}
 use Rattle.hex.specs.Hex.{decode_of}
 use Rattle.serde_json.specs.Data.{Data}
@@ -39,7 +39,15 @@ rate_of d = do
   period ← field "period" (within 1 (2 ^ 64 - 1)) d
   Some (record { burst = burst; period = period })
 
--- whom a message is for: one key, or some
+-- whom a message is for: all, one key, or some
+abbrev pub all_named : List ℕ → Option Recipients
+all_named word = if bytes_eq word (codes "all") then Some recipients.All else None
+
+abbrev pub all_of : Data → Option Recipients
+all_of d = do
+  word ← as_str d
+  all_named word
+
 abbrev pub one_of : Data → Option Recipients
 one_of d = do
   only ("one" ∷ []) d
@@ -52,5 +60,8 @@ some_of d = do
   keys ← field "some" (list_of key_of) d
   Some (recipients.Some keys)
 
+abbrev pub keys_of : Data → Option Recipients
+keys_of d = elim (one_of d) [ Some to ↦ Some to | None ↦ some_of d ]
+
 abbrev pub recipients_of : Data → Option Recipients
-recipients_of d = elim (one_of d) [ Some to ↦ Some to | None ↦ some_of d ]
+recipients_of d = elim (all_of d) [ Some to ↦ Some to | None ↦ keys_of d ]

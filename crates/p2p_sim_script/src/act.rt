@@ -2,7 +2,7 @@
 ghost use Rattle.std.specs.Prelude.{◌≡◌};
 ghost use Rattle.serde_json.specs.View.{view};
 ghost use Rattle.p2p_sim_script.specs.Gives.{Gives};
-ghost use Rattle.p2p_sim_script.specs.ActForm.{act_named, act_of, recv_of, recv_step_of, register_of, router_of, send_of, send_step_of, start_of};
+ghost use Rattle.p2p_sim_script.specs.ActForm.{act_named, act_of, check_of, recv_of, recv_step_of, register_of, router_of, send_checked_of, send_of, send_step_of, sending_act_named, start_of};
 
 use crate::error::ScriptError;
 use crate::parts::{read_node, read_rate};
@@ -95,18 +95,54 @@ fn read_send(alloc: Global, tree: &Value) -> Result<Act, ScriptError>
     })
 }
 
+fn read_check(alloc: Global, tree: &Value) -> Result<Act, ScriptError>
+    ensures { Gives result (check_of (view tree.now)) }
+{
+    if !only(tree, &["at", "seed", "do", "channel", "node", "to"]) {
+        return Err(ScriptError::NotScript);
+    }
+    Ok(Act::Check {
+        channel: field(alloc, tree, "channel")?,
+        node: field(alloc, tree, "node")?,
+        to: field(alloc, tree, "to")?,
+    })
+}
+
+fn read_send_checked(alloc: Global, tree: &Value) -> Result<Act, ScriptError>
+    ensures { Gives result (send_checked_of (view tree.now)) }
+{
+    if !only(tree, &["at", "seed", "do", "bytes", "check", "priority"]) {
+        return Err(ScriptError::NotScript);
+    }
+    Ok(Act::SendChecked {
+        bytes: field(alloc, tree, "bytes")?,
+        check: field(alloc, tree, "check")?,
+        priority: field(alloc, tree, "priority")?,
+    })
+}
+
+fn read_sending_named(alloc: Global, word: &str, tree: &Value) -> Result<Act, ScriptError>
+    ensures { Gives result (sending_act_named word.now (view tree.now)) }
+{
+    match word {
+        "send" => read_send(alloc, tree),
+        "check" => read_check(alloc, tree),
+        "send_checked" => read_send_checked(alloc, tree),
+        _ => read_tracker_named(alloc, word, tree),
+    }
+}
+
 fn read_named(alloc: Global, word: &str, tree: &Value) -> Result<Act, ScriptError>
     ensures { Gives result (act_named word.now (view tree.now)) }
 {
     let act = match word {
         "register" => read_register(tree),
         "start" => read_start(tree),
-        "send" => return read_send(alloc, tree),
         "router" => read_router(tree),
         "send_step" => read_send_step(tree),
         "recv_step" => read_recv_step(tree),
         "recv" => read_recv(tree),
-        _ => return read_tracker_named(alloc, word, tree),
+        _ => return read_sending_named(alloc, word, tree),
     };
     act.ok_or(ScriptError::NotScript)
 }

@@ -1,5 +1,5 @@
 //! The scripts of the first form.
-ghost use Rattle.std.specs.Prelude.{◌≡◌, ℕ, ◌||◌, length, IfOk, OnOk};
+ghost use Rattle.std.specs.Prelude.{◌≡◌, ℕ, ◌||◌, length, slice_get, IfOk, OnOk};
 ghost use Rattle.std.specs.List.{list_all};
 ghost use Rattle.p2p_sim_script.specs.FirstForm as form;
 ghost use Rattle.p2p_sim_script.specs.Pairs.{has};
@@ -13,10 +13,11 @@ use std::alloc::{AllocError, Global};
 use std::collections::BTreeSet;
 
 /// Whether the script is one of the first form. Where the sending half of a connection takes a step, each message is on a
-/// channel that each node registers, before or after, and no longer than any node takes, unless it is too long for its own; no
-/// node is asked to track, to overwrite or to block peers after the first step of its dialer or its listener, so that no
-/// connection is killed; and no link loses an end once keys were exchanged over it, since a node dials or listens, and the
-/// spawners' mailboxes hold all. A script without such a step is of the form, whatever it asks.
+/// channel that each node registers, before or after, and no longer than any node takes, unless it is too long for its own,
+/// where the message is to those whom a check admitted, too: its channel and its node are those of the check; no node is asked
+/// to track, to overwrite or to block peers after the first step of its dialer or its listener, so that no connection is
+/// killed; and no link loses an end once keys were exchanged over it, since a node dials or listens, and the spawners'
+/// mailboxes hold all. A script without such a step is of the form, whatever it asks.
 ///
 /// Takes time in proportion to the length of the script, to the count of nodes, and for each message to that count, but for the
 /// logarithm of the count of registered channels and of nodes. `AllocError` comes where there was no memory for those.
@@ -83,15 +84,20 @@ fn note_register(pairs: &mut BTreeSet<(u64, u64)>, act: &Act) -> Result<(), Allo
 }
 
 fn all_fit(configs: &[Config], registered: &BTreeSet<(u64, u64)>, script: &[Event]) -> bool
-    ensures { result ≡ list_all (form.event_fits configs.now (has registered.now)) script.now }
+    ensures { result ≡ list_all (form.event_fits configs.now (has registered.now) script.now) script.now }
 {
     script
         .iter()
-        .all(|event| act_fits(configs, registered, &event.act))
+        .all(|event| act_fits(configs, registered, script, &event.act))
 }
 
-fn act_fits(configs: &[Config], registered: &BTreeSet<(u64, u64)>, act: &Act) -> bool
-    ensures { result ≡ form.act_fits configs.now (has registered.now) act.now }
+fn act_fits(
+    configs: &[Config],
+    registered: &BTreeSet<(u64, u64)>,
+    script: &[Event],
+    act: &Act,
+) -> bool
+    ensures { result ≡ form.act_fits configs.now (has registered.now) script.now act.now }
 {
     match act {
         Act::Send {
@@ -100,6 +106,40 @@ fn act_fits(configs: &[Config], registered: &BTreeSet<(u64, u64)>, act: &Act) ->
             node,
             ..
         } => message_fits(configs, registered, *channel, *node, bytes),
+        Act::SendChecked { bytes, check, .. } => {
+            checked_fits(configs, registered, script, *check, bytes)
+        }
+        _ => true,
+    }
+}
+
+fn checked_fits(
+    configs: &[Config],
+    registered: &BTreeSet<(u64, u64)>,
+    script: &[Event],
+    check: u64,
+    bytes: &Bytes,
+) -> bool
+    ensures { result ≡ form.checked_fits configs.now (has registered.now) bytes.now (slice_get script.now check) }
+{
+    match script.get(check as usize) {
+        Some(event) => check_fits(configs, registered, bytes, &event.act),
+        None => true,
+    }
+}
+
+fn check_fits(
+    configs: &[Config],
+    registered: &BTreeSet<(u64, u64)>,
+    bytes: &Bytes,
+    act: &Act,
+) -> bool
+    ensures { result ≡ form.check_fits configs.now (has registered.now) bytes.now act.now }
+{
+    match act {
+        Act::Check { channel, node, .. } => {
+            message_fits(configs, registered, *channel, *node, bytes)
+        }
         _ => true,
     }
 }

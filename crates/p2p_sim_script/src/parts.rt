@@ -4,7 +4,7 @@ ghost use Rattle.serde_json.specs.Find.{get};
 ghost use Rattle.serde_json.specs.View.{view};
 ghost use Rattle.p2p_sim_script.specs.Gives.{Gives};
 ghost use Rattle.p2p_sim_script.specs.Tree.{field_at, form_or};
-ghost use Rattle.p2p_sim_script.specs.Parts.{bytes_of, key_of, node_of, one_of, rate_of, recipients_of, some_of};
+ghost use Rattle.p2p_sim_script.specs.Parts.{all_named, all_of, bytes_of, key_of, keys_of, node_of, one_of, rate_of, recipients_of, some_of};
 
 use crate::error::ScriptError;
 use crate::tree::{FromTree, field, only, whole, within};
@@ -81,6 +81,21 @@ pub(crate) fn rate_or(tree: &Value, name: &str, default: Rate) -> Option<Rate>
     }
 }
 
+fn all_by(word: &str) -> Option<Recipients>
+    ensures { result ≡ all_named word.now }
+{
+    match word {
+        "all" => Some(Recipients::All),
+        _ => None,
+    }
+}
+
+fn read_all(tree: &Value) -> Option<Recipients>
+    ensures { result ≡ all_of (view tree.now) }
+{
+    all_by(tree.as_str()?)
+}
+
 fn read_one(tree: &Value) -> Option<Recipients>
     ensures { result ≡ one_of (view tree.now) }
 {
@@ -99,13 +114,22 @@ fn read_some(alloc: Global, tree: &Value) -> Result<Recipients, ScriptError>
     Ok(Recipients::Some(field(alloc, tree, "some")?))
 }
 
+fn read_keys(alloc: Global, tree: &Value) -> Result<Recipients, ScriptError>
+    ensures { Gives result (keys_of (view tree.now)) }
+{
+    match read_one(tree) {
+        Some(to) => Ok(to),
+        None => read_some(alloc, tree),
+    }
+}
+
 impl FromTree for Recipients {
     ghost form = { recipients_of };
 
     fn from_tree(alloc: Global, tree: &Value) -> Result<Recipients, ScriptError> {
-        match read_one(tree) {
+        match read_all(tree) {
             Some(to) => Ok(to),
-            None => read_some(alloc, tree),
+            None => read_keys(alloc, tree),
         }
     }
 }
