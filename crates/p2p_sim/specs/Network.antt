@@ -11,11 +11,12 @@ use Rattle.p2p_log_laws.specs.Grants.{GrantsAlternate, HasOneHolder, EachIsRelea
 use Rattle.p2p_log_laws.specs.NodeGrants.{granting}
 use Rattle.p2p_log_laws.specs.OneAnswer.{HasOneAnswer}
 use Rattle.p2p_log_laws.specs.Kills.{EachKillShowsItsCause}
+use Rattle.p2p_log_laws.specs.Listed.{ListsAreCurrent}
 use Rattle.p2p_log_laws.specs.Leading.{ConnectionsAreOne, ConnectionsLead, EndsMeet}
 use Rattle.p2p_log_laws.specs.OneEnd.{EachHasOneEnd, NothingElseEnds}
 use Rattle.p2p_log_laws.specs.Delivered.{EachIsDelivery, EachDeliveredIsRead}
 use Rattle.p2p_log_laws.specs.Order.{AreDeliveredInOrder, AreDeliveredInOrderOverOne, AreDeliveredInOrderOfConnections, EachWentOver}
-use Rattle.p2p_log_laws.specs.Admitted.{EachIsAdmitted}
+use Rattle.p2p_log_laws.specs.Admitted.{EachIsAdmitted, ChecksAreAdmitted, EachIsChecked, ChecksAreSpentOnce}
 use Rattle.p2p_log_laws.specs.Beginning.{EachBeginsReserved}
 use Rattle.p2p_log_laws.specs.Causes.{EachDropShowsItsCause}
 use Rattle.p2p_log_laws.specs.Fates.{EachHasFate, WaitingIsTrue, DroppedIsTrue, DeliveredIsTrue}
@@ -56,14 +57,20 @@ pub record HasRunScript (configs : List Config) (script : List Event) (world : W
   pub only : (log : List Entry) → IsLawful configs script log → log ≡ world.log
   pub stands : WorldStands configs world.log world.nodes world.links
 
--- in the log, each send is for those of its keys that its channel's quota admits; each copy of each accepted send has exactly one
--- end: delivered once, or waiting in a queue, or dropped; what is delivered was sent, is read, and in order; each drop shows its
--- cause; the fate of each copy, which the report tells, is true; each key that is reserved at a node is held by one thing there, or
--- its one release waits; each handshake waits for one answer at a time, is told once how the exchange over its link ended, and asks
--- for its peer once after that; each connection that a spawner made leads to the peer that is reserved for it, is the only one of
--- its node that does, meets the one of its peer, and begins while its key is reserved; and each kill of one shows its cause
+-- in the log, each send is for those of the keys that it is offered to that its channel's quota admits, and each message for a
+-- check for those that this admitted, once; the newest list that a channel was told of, to which a message for all is offered,
+-- has the peers that are connected; each copy of each accepted send has exactly one end: delivered once, or waiting in a queue,
+-- or dropped; what is delivered was sent, is read, and in order; each drop shows its cause; the fate of each copy, which the
+-- report tells, is true; each key that is reserved at a node is held by one thing there, or its one release waits; each
+-- handshake waits for one answer at a time, is told once how the exchange over its link ended, and asks for its peer once after
+-- that; each connection that a spawner made leads to the peer that is reserved for it, is the only one of its node that does,
+-- meets the one of its peer, and begins while its key is reserved; and each kill of one shows its cause
 pub record IsAccounted (configs : List Config) (log : List Entry) : Type 0 where
   pub admitted : EachIsAdmitted configs log
+  pub checks : ChecksAreAdmitted log
+  pub checked : EachIsChecked configs log
+  pub spent : ChecksAreSpentOnce log
+  pub lists : ListsAreCurrent log
   pub one_end : EachHasOneEnd log
   pub nothing_else : NothingElseEnds log
   pub delivery : EachIsDelivery configs log

@@ -14,9 +14,10 @@ ghost use Rattle.p2p_sim_command.specs.declared.program.RunError.TheVariants as 
 use p2p_base::List;
 use p2p_log::{Config, Event};
 use p2p_log_laws::{
-    connections_begin_reserved, connections_lead_to_their_peers, delivered_in_order,
-    each_drop_shows_its_cause, each_kill_shows_its_cause, fates_are_true,
-    handshakes_have_one_answer, node_grants, one_end, only_sent_is_delivered, sends_are_admitted,
+    checks_are_spent, connections_begin_reserved, connections_lead_to_their_peers,
+    delivered_in_order, each_drop_shows_its_cause, each_kill_shows_its_cause, fates_are_true,
+    handshakes_have_one_answer, lists_are_current, node_grants, one_end, only_sent_is_delivered,
+    sends_are_admitted,
 };
 use p2p_net::{RunError as WorldError, World};
 use p2p_sim_command::{Program, Refusal, RunError};
@@ -48,12 +49,14 @@ impl Program for Network {
     }
 }
 
-// Each send is for those whom its quota admits, each copy has its end, each grant its holder or its release, each handshake one
+// Each message is for those whom its quota admits, each copy has its end, each grant its holder or its release, each handshake one
 // answer, and each connection its peer, in each lawful log.
 fn account()
     ensures { (configs : List OneConfig) (script : List OneEvent) (log : List Entry) → IsLawful configs script log → IsAccounted configs log }
 {
     sends_are_admitted();
+    checks_are_spent();
+    lists_are_current();
     one_end();
     only_sent_is_delivered();
     delivered_in_order();

@@ -4,6 +4,10 @@ pub returns : goal.returns
 returns c = λ configs script log lawful.
     record {
       admitted = c.sends_are_admitted.ensures configs script log lawful;
+      checks = c.checks_are_spent.ensures.admitted configs script log lawful;
+      checked = c.checks_are_spent.ensures.checked configs script log lawful;
+      spent = c.checks_are_spent.ensures.once configs script log lawful;
+      lists = c.lists_are_current.ensures configs script log lawful;
       one_end = c.one_end.ensures.copies configs script log lawful;
       nothing_else = c.one_end.ensures.nothing_else configs script log lawful;
       delivery = c.only_sent_is_delivered.ensures.sent configs script log lawful;
