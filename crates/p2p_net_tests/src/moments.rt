@@ -1,8 +1,8 @@
 //! Scripts of connections with moments: what is asked of which node and when, what each event shows, and what it ends.
 use crate::scripts::{Do, ask, ask_each, dialing_with_room};
-use crate::seen::{Ends, Put, Puts, Said, Seen, newest, newest_ends, newest_is_sent_to};
+use crate::seen::{Ends, Put, Puts, Said, Seen, newest, newest_ends, newest_is_for, newest_take};
 use p2p_base::Key;
-use p2p_net::{Cause, Config, End, Fate, Outcome, RunError, Side, World};
+use p2p_net::{Cause, Config, End, Entry, Fate, Outcome, RunError, Side, World};
 use std::alloc::{AllocError, Global};
 
 // What an event shows.
@@ -15,6 +15,11 @@ pub enum Shown {
     // A message for one peer waits for its router, or for so many.
     Asked,
     AskedFor(usize),
+    // It says this alone, or this with a message that waits for its router, or this and puts this with the item of this name that
+    // it took.
+    Says(Said),
+    Asks(Said),
+    Takes(Said, Puts, (u64, u64)),
     // No copy of a message was accepted, it is so long and may be so long, or there is no such channel.
     Refused,
     TooLong(usize, usize),
@@ -34,6 +39,8 @@ pub enum Shown {
     // A message waits at this node for this connection, without priority or with it.
     Routed(u64, u64),
     RoutedFirst(u64, u64),
+    // Two copies of one message wait there, each for one of these.
+    RoutedTwo(u64, u64, u64),
     // To this link, in this direction, was written a ping alone, a ping and then one message, one message or two.
     Pinged(u64, Side),
     PingedFirst(u64, Side),
@@ -48,6 +55,8 @@ pub enum Shown {
     Dropped(u64),
     // This byte is read, from this key, and the one copy of this send is delivered.
     Read(u64, u8, u64),
+    // The same of its second copy.
+    ReadSecond(u64, u8, u64),
 }
 
 // When, which node is asked for what, and what that shows.
@@ -63,6 +72,25 @@ fn one_put(put: Put) -> Seen {
     moved(1, Puts::One(put))
 }
 
+// So many items were taken, and these two put.
+fn two_put(taken: usize, first: Put, second: Put) -> Seen {
+    moved(taken, Puts::Two(first, second))
+}
+
+// A connection begins.
+fn begun(node: u64, conn: u64, key: u64) -> Seen {
+    two_put(
+        0,
+        Put::Connect(node, conn, key),
+        Put::Ready(node, conn, key),
+    )
+}
+
+// Two copies of one message wait at this node, for these connections.
+fn routed_two(node: u64, first: u64, second: u64) -> Seen {
+    two_put(1, Put::Waiting(node, first), Put::Waiting(node, second))
+}
+
 // The same as the reply, the count of the items that were taken, and what was put.
 fn seen_of(shown: Shown) -> Seen {
     match shown {
@@ -71,6 +99,9 @@ fn seen_of(shown: Shown) -> Seen {
         Shown::Taken => moved(1, Puts::Nothing),
         Shown::Asked => Seen(Said::Sent(1), 0, Puts::One(Put::Content)),
         Shown::AskedFor(keys) => Seen(Said::Sent(keys), 0, Puts::One(Put::Content)),
+        Shown::Says(said) => Seen(said, 0, Puts::Nothing),
+        Shown::Asks(said) => Seen(said, 0, Puts::One(Put::Content)),
+        Shown::Takes(said, puts, _) => Seen(said, 1, puts),
         Shown::Refused => Seen(Said::Sent(0), 0, Puts::Nothing),
         Shown::TooLong(size, limit) => Seen(Said::TooLong(size, limit), 0, Puts::Nothing),
         Shown::Gone => Seen(Said::Gone, 0, Puts::Nothing),
@@ -79,30 +110,25 @@ fn seen_of(shown: Shown) -> Seen {
         Shown::Room(messages) => Seen(Said::Capacity(messages), 0, Puts::Nothing),
         Shown::Subscribed => moved(0, Puts::One(Put::Subscribe)),
         Shown::Listed(node) => one_put(Put::Peers(node, 0)),
-        Shown::Begun(node, conn, key) => moved(
-            0,
-            Puts::Two(Put::Connect(node, conn, key), Put::Ready(node, conn, key)),
-        ),
-        Shown::Answered(node, conn, _) => {
-            moved(1, Puts::Two(Put::Answer(node, conn), Put::Peers(node, 1)))
-        }
+        Shown::Begun(node, conn, key) => begun(node, conn, key),
+        Shown::Answered(node, conn, _) => two_put(1, Put::Answer(node, conn), Put::Peers(node, 1)),
         Shown::Routed(node, conn) => one_put(Put::Waiting(node, conn)),
         Shown::RoutedFirst(node, conn) => one_put(Put::WaitingFirst(node, conn)),
+        Shown::RoutedTwo(node, first, second) => routed_two(node, first, second),
         Shown::Pinged(link, side) => moved(0, Puts::One(Put::Pinged(link, side))),
-        Shown::PingedFirst(link, side) => moved(
-            1,
-            Puts::Two(Put::Pinged(link, side), Put::Written(link, side)),
-        ),
+        Shown::PingedFirst(link, side) => {
+            two_put(1, Put::Pinged(link, side), Put::Written(link, side))
+        }
         Shown::Written(link, side) => one_put(Put::Written(link, side)),
-        Shown::WrittenTwo(link, side) => moved(
-            2,
-            Puts::Two(Put::Written(link, side), Put::Written(link, side)),
-        ),
+        Shown::WrittenTwo(link, side) => {
+            two_put(2, Put::Written(link, side), Put::Written(link, side))
+        }
         Shown::Held(node, conn, channel) => one_put(Put::Held(node, conn, channel)),
         Shown::HeldPing(node, conn) => one_put(Put::HeldPing(node, conn)),
         Shown::Arrived(node, key) => one_put(Put::Arrived(node, key)),
         Shown::Dropped(_) => moved(1, Puts::Nothing),
         Shown::Read(key, byte, _) => Seen(Said::Message(key, byte), 1, Puts::Nothing),
+        Shown::ReadSecond(key, byte, _) => Seen(Said::Message(key, byte), 1, Puts::Nothing),
     }
 }
 
@@ -119,8 +145,17 @@ fn ends_of(shown: Shown) -> Ends {
         Shown::Unbound(send) => Ends::One(End::Copy(send, 0, UNBOUND)),
         Shown::Lost(send) => Ends::One(End::Copy(send, 0, LOST)),
         Shown::Read(_, _, send) => Ends::One(End::Copy(send, 0, Outcome::Delivered)),
+        Shown::ReadSecond(_, _, send) => Ends::One(End::Copy(send, 1, Outcome::Delivered)),
         Shown::Answered(_, _, list) => Ends::One(End::Item(list, 0)),
         _ => Ends::Nothing,
+    }
+}
+
+// Whether the newest of these entries took what it is to take, where that is told by its name.
+fn takes(log: &[Entry], shown: Shown) -> bool {
+    match shown {
+        Shown::Takes(_, _, name) => newest_take(log) == Some(name),
+        _ => true,
     }
 }
 
@@ -144,10 +179,10 @@ fn pinging(key: u64, ping_frequency: u64, send_batch_size: usize) -> Config {
     }
 }
 
-// Whether the newest event of a world shows this and ends what it is to end.
+// Whether the newest event of a world shows this, takes what it is to take, and ends what it is to end.
 fn shows(world: &World, shown: Shown) -> bool {
     let log = world.report().log.as_slice();
-    newest(log) == seen_of(shown) && newest_ends(log) == ends_of(shown)
+    newest(log) == seen_of(shown) && takes(log, shown) && newest_ends(log) == ends_of(shown)
 }
 
 // The place of the first event of a script that shows another thing. `None` where each shows what is written.
@@ -207,8 +242,8 @@ pub fn first_other_fate(
     Ok(None)
 }
 
-// The place of the first event of a script that does not accept a message for these keys alone, in this order. `None` where
-// each does.
+// The place of the first event of a script that does not admit these keys alone, in this order, or accept a message for them.
+// `None` where each does.
 pub fn first_other_keys(
     alloc: Global,
     configs: &[Config],
@@ -218,7 +253,7 @@ pub fn first_other_keys(
     let mut world = world_after(alloc, configs, before)?;
     for (i, step) in script.iter().enumerate() {
         ask(alloc, &mut world, step.0, step.1, step.2)?;
-        if !newest_is_sent_to(world.report().log.as_slice(), step.3) {
+        if !newest_is_for(world.report().log.as_slice(), step.3) {
             return Ok(Some(i));
         }
     }

@@ -36,6 +36,14 @@ pub const CONFIG: Config = Config {
     dial_frequency: 500_000_000,
 };
 
+// Whom a message or a check is for: the peer of this key, those of these keys, or all.
+#[derive(Clone, Copy)]
+pub enum To {
+    One(u64),
+    Each(&'static [Key]),
+    All,
+}
+
 // What a script asks of the node.
 #[derive(Clone, Copy)]
 pub enum Do {
@@ -66,9 +74,11 @@ pub enum Do {
     SendFirst(u64, u8),
     // or on this one, without priority,
     SendOn(u64, u64, u8),
-    // the peers of these keys, on the channel 7, a message of this byte or one of two bytes,
-    SendTo(&'static [Key], u8),
-    SendLong(&'static [Key]),
+    // these, on the channel 7, a message of these bytes,
+    SendTo(To, &'static [u8]),
+    // asks the quota of the channel 7 for these, sends those whom the check of this event admitted a message of these bytes,
+    Check(To),
+    SendChecked(u64, &'static [u8]),
     // or takes a message from the channel 7 or from this one.
     Recv,
     RecvOn(u64),
@@ -173,14 +183,40 @@ fn send(
     })
 }
 
-// It sends the peers of these keys a message of these bytes on the channel 7.
-fn send_to(alloc: Global, node: u64, keys: &[Key], bytes: &[u8]) -> Result<Act, AllocError> {
+// It sends these a message of these bytes on the channel 7.
+fn send_to(alloc: Global, node: u64, to: To, bytes: &[u8]) -> Result<Act, AllocError> {
     Ok(Act::Send {
         bytes: Bytes::copy_from_slice(alloc, bytes)?,
         channel: 7,
         node,
         priority: false,
-        to: Recipients::Some(List::from_slice(alloc, keys)?),
+        to: recipients(alloc, to)?,
+    })
+}
+
+fn recipients(alloc: Global, to: To) -> Result<Recipients, AllocError> {
+    match to {
+        To::One(key) => Ok(Recipients::One(Key(key))),
+        To::Each(keys) => Ok(Recipients::Some(List::from_slice(alloc, keys)?)),
+        To::All => Ok(Recipients::All),
+    }
+}
+
+// It asks the quota of the channel 7 for these.
+fn check(alloc: Global, node: u64, to: To) -> Result<Act, AllocError> {
+    Ok(Act::Check {
+        channel: 7,
+        node,
+        to: recipients(alloc, to)?,
+    })
+}
+
+// Those whom the check of this event admitted are sent a message of these bytes.
+fn send_checked(alloc: Global, check: u64, bytes: &[u8]) -> Result<Act, AllocError> {
+    Ok(Act::SendChecked {
+        bytes: Bytes::copy_from_slice(alloc, bytes)?,
+        check,
+        priority: false,
     })
 }
 
@@ -201,8 +237,9 @@ fn act(alloc: Global, node: u64, what: Do) -> Result<Act, AllocError> {
         Do::Send(key, byte) => Ok(send(alloc, node, 7, key, byte, false)?),
         Do::SendFirst(key, byte) => Ok(send(alloc, node, 7, key, byte, true)?),
         Do::SendOn(channel, key, byte) => Ok(send(alloc, node, channel, key, byte, false)?),
-        Do::SendTo(keys, byte) => Ok(send_to(alloc, node, keys, &[byte])?),
-        Do::SendLong(keys) => Ok(send_to(alloc, node, keys, &[1, 2])?),
+        Do::SendTo(to, bytes) => Ok(send_to(alloc, node, to, bytes)?),
+        Do::Check(to) => Ok(check(alloc, node, to)?),
+        Do::SendChecked(event, bytes) => Ok(send_checked(alloc, event, bytes)?),
         Do::Recv => Ok(Act::Recv { channel: 7, node }),
         Do::RecvOn(channel) => Ok(Act::Recv { channel, node }),
         Do::Router => Ok(Act::Router { node }),

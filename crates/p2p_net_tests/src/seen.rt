@@ -1,5 +1,5 @@
 //! What the entries of a world show, in plain data.
-use p2p_base::{Feedback, Key};
+use p2p_base::{Feedback, Key, Unreliable};
 use p2p_gates_rules::Reply as GatesReply;
 use p2p_net::{End, Entry, Item, Queue, Reply, Side};
 use p2p_wire::PING_PREFIX;
@@ -17,6 +17,11 @@ pub enum Said {
     Gone,
     // For how many peers a message was accepted.
     Sent(usize),
+    // For how many peers a message may be sent, or, where it may for none, the moment from which it may for all.
+    Checked(usize),
+    Retry(u128),
+    // What became of a message to those whom a check admitted, at which node, on which channel, and how many these are.
+    Outcome(Unreliable, u64, u64, usize),
     // How long a message is, and how long it may be.
     TooLong(usize, usize),
     // How many messages a channel holds.
@@ -120,6 +125,14 @@ pub fn said_by(reply: &Reply) -> Said {
         Reply::Pending => Said::Pending,
         Reply::Gone => Said::Gone,
         Reply::Sent(keys) => Said::Sent(keys.len()),
+        Reply::Checked(keys) => Said::Checked(keys.len()),
+        Reply::Retry(from) => Said::Retry(*from),
+        Reply::Outcome {
+            outcome,
+            node,
+            channel,
+            keys,
+        } => Said::Outcome(*outcome, *node, *channel, keys.len()),
         Reply::MessageTooLarge { size, limit } => Said::TooLong(*size, *limit),
         Reply::Capacity(messages) => Said::Capacity(*messages),
         Reply::Message { bytes, from } => message_of(*from, bytes.as_slice()),
@@ -239,11 +252,15 @@ fn puts_for(puts: &[(Queue, Item)], keys: &[Key]) -> bool {
     }
 }
 
-// Whether the newest of these entries accepted a message for these keys, in this order, and put it for the same.
-pub fn newest_is_sent_to(log: &[Entry], keys: &[Key]) -> bool {
+// Whether the newest of these entries admitted these keys, in this order, or accepted a message for them and put it for the same.
+pub fn newest_is_for(log: &[Entry], keys: &[Key]) -> bool {
     match log.last() {
         Some(entry) => match &entry.reply {
             Reply::Sent(to) => to.as_slice() == keys && puts_for(entry.puts.as_slice(), keys),
+            Reply::Checked(to) => to.as_slice() == keys && entry.puts.is_empty(),
+            Reply::Outcome { keys: to, .. } => {
+                to.as_slice() == keys && puts_for(entry.puts.as_slice(), keys)
+            }
             _ => false,
         },
         None => false,

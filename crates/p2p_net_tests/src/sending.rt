@@ -1,11 +1,12 @@
 //! What the quotas of channels admit of what nodes send, key by key, in a world of three nodes.
 use crate::moments::{Shown, Step, first_other, first_other_fate, first_other_keys, three};
 use crate::paths::{one_running_with, one_running_with_two_channels, two_running_with};
-use crate::scripts::Do;
+use crate::scripts::{Do, To};
 use Shown::{
     Arrived, Asked, AskedFor, Gone, Held, Idle, Listed, Lost, Pending, Read, Refused, Room, Routed,
     Subscribed, Taken, TooLong, Unbound, Written, WrittenTwo,
 };
+use To::Each;
 use p2p_base::Key;
 use p2p_net::{Config, Fate, Queue, Side};
 use std::alloc::{AllocError, Global};
@@ -13,14 +14,14 @@ use std::alloc::{AllocError, Global};
 // Seldom enough for no ping to come in a script.
 const SELDOM: u64 = 5_000_000_000;
 
-fn nodes() -> [Config; 3] {
+pub fn nodes() -> [Config; 3] {
     three([SELDOM, SELDOM, SELDOM], 2)
 }
 
 // ---- one key
 
 // The first node admits two messages to each key, and one more each 1000 nanoseconds.
-const FIRST_ADMITS_TWO: &[(u64, Do)] = &[
+pub const FIRST_ADMITS_TWO: &[(u64, Do)] = &[
     (0, Do::RegisterOn(7, 2, 1000)),
     (1, Do::Register),
     (2, Do::Register),
@@ -54,7 +55,7 @@ fn a_key_beyond_the_burst_is_refused_until_a_period_is_over(rt: HostRuntime) {
 }
 
 // The first node admits one message to each key, and one more each 1000 nanoseconds.
-const FIRST_ADMITS_ONE: &[(u64, Do)] = &[
+pub const FIRST_ADMITS_ONE: &[(u64, Do)] = &[
     (0, Do::RegisterOn(7, 1, 1000)),
     (1, Do::Register),
     (2, Do::Register),
@@ -64,7 +65,7 @@ const FIRST_ADMITS_ONE: &[(u64, Do)] = &[
 const REFUSED_OFTEN: &[Step] = &[
     (100, 0, Do::Send(2, 1), Asked),
     (100, 0, Do::Send(2, 2), Refused),
-    (600, 0, Do::SendTo(&[Key(2), Key(2)], 3), Refused),
+    (600, 0, Do::SendTo(Each(&[Key(2), Key(2)]), &[3]), Refused),
     (1099, 0, Do::Send(2, 4), Refused),
     (1100, 0, Do::Send(2, 5), Asked),
     (2099, 0, Do::Send(2, 6), Refused),
@@ -121,7 +122,12 @@ const IN_THE_RELAY: Fate = Fate::Waiting(Queue::Low { node: 0, conn: 49 });
 // What became of the first copy of the second message after each of these.
 const FATES: &[(u64, u64, Do, Option<Fate>)] = &[
     (0, 0, Do::Send(2, 1), None),
-    (0, 0, Do::SendTo(&[Key(2), Key(3)], 2), Some(IN_THE_ROUTER)),
+    (
+        0,
+        0,
+        Do::SendTo(Each(&[Key(2), Key(3)]), &[2]),
+        Some(IN_THE_ROUTER),
+    ),
     (0, 0, Do::Router, Some(IN_THE_ROUTER)),
     (0, 0, Do::Router, Some(IN_THE_RELAY)),
 ];
@@ -143,25 +149,33 @@ const OF_LISTS: &[(u64, u64, Do, &[Key])] = &[
     (0, 0, Do::Send(2, 1), &[Key(2)]),
     (0, 0, Do::Send(2, 2), &[]),
     (0, 0, Do::Send(3, 3), &[Key(3)]),
-    (0, 0, Do::SendTo(&[Key(3), Key(2)], 4), &[]),
+    (0, 0, Do::SendTo(Each(&[Key(3), Key(2)]), &[4]), &[]),
     (
         500,
         0,
-        Do::SendTo(&[Key(5), Key(2), Key(4), Key(5), Key(3), Key(6)], 5),
+        Do::SendTo(
+            Each(&[Key(5), Key(2), Key(4), Key(5), Key(3), Key(6)]),
+            &[5],
+        ),
         &[Key(5), Key(4), Key(6)],
     ),
-    (999, 0, Do::SendTo(&[Key(2), Key(3), Key(4)], 6), &[]),
+    (
+        999,
+        0,
+        Do::SendTo(Each(&[Key(2), Key(3), Key(4)]), &[6]),
+        &[],
+    ),
     (
         1000,
         0,
-        Do::SendTo(&[Key(4), Key(3), Key(5), Key(2), Key(3)], 7),
+        Do::SendTo(Each(&[Key(4), Key(3), Key(5), Key(2), Key(3)]), &[7]),
         &[Key(3), Key(2)],
     ),
-    (1499, 0, Do::SendTo(&[Key(6), Key(5)], 8), &[]),
+    (1499, 0, Do::SendTo(Each(&[Key(6), Key(5)]), &[8]), &[]),
     (
         1500,
         0,
-        Do::SendTo(&[Key(2), Key(6), Key(5), Key(3)], 9),
+        Do::SendTo(Each(&[Key(2), Key(6), Key(5), Key(3)]), &[9]),
         &[Key(6), Key(5)],
     ),
     (1500, 0, Do::Send(4, 10), &[Key(4)]),
@@ -179,13 +193,13 @@ fn each_key_counts_apart_and_a_list_is_sent_to_those_that_are_admitted(rt: HostR
 
 // A list of no keys is no list of which none is admitted.
 const TO_NOBODY: &[Step] = &[
-    (0, 0, Do::SendTo(&[], 1), AskedFor(0)),
+    (0, 0, Do::SendTo(Each(&[]), &[1]), AskedFor(0)),
     (0, 0, Do::Router, Taken),
     (0, 0, Do::Router, Idle),
-    (0, 0, Do::SendTo(&[Key(3), Key(2)], 2), AskedFor(2)),
-    (0, 0, Do::SendTo(&[Key(3), Key(2)], 3), Refused),
-    (0, 0, Do::SendTo(&[], 4), AskedFor(0)),
-    (0, 0, Do::SendLong(&[]), TooLong(2, 1)),
+    (0, 0, Do::SendTo(Each(&[Key(3), Key(2)]), &[2]), AskedFor(2)),
+    (0, 0, Do::SendTo(Each(&[Key(3), Key(2)]), &[3]), Refused),
+    (0, 0, Do::SendTo(Each(&[]), &[4]), AskedFor(0)),
+    (0, 0, Do::SendTo(Each(&[]), &[1, 2]), TooLong(2, 1)),
 ];
 
 #[test]
@@ -236,7 +250,7 @@ fn two_channels_and_two_nodes_do_not_share_a_quota(rt: HostRuntime) {
 // ---- what comes after the quota
 
 // The first node lets a message be of one byte.
-fn short() -> [Config; 3] {
+pub fn short() -> [Config; 3] {
     let [first, second, third] = nodes();
     let first = Config {
         max_message_size: 1,
@@ -246,16 +260,26 @@ fn short() -> [Config; 3] {
 }
 
 const LONG: &[Step] = &[
-    (0, 0, Do::SendLong(&[Key(2)]), TooLong(2, 1)),
+    (0, 0, Do::SendTo(Each(&[Key(2)]), &[1, 2]), TooLong(2, 1)),
     (0, 0, Do::Send(2, 1), Refused),
-    (0, 0, Do::SendLong(&[Key(2)]), Refused),
+    (0, 0, Do::SendTo(Each(&[Key(2)]), &[1, 2]), Refused),
     (0, 0, Do::Send(3, 2), Asked),
-    (500, 0, Do::SendLong(&[Key(2), Key(3)]), Refused),
-    (500, 0, Do::SendLong(&[Key(2), Key(4)]), TooLong(2, 1)),
+    (
+        500,
+        0,
+        Do::SendTo(Each(&[Key(2), Key(3)]), &[1, 2]),
+        Refused,
+    ),
+    (
+        500,
+        0,
+        Do::SendTo(Each(&[Key(2), Key(4)]), &[1, 2]),
+        TooLong(2, 1),
+    ),
     (500, 0, Do::Send(4, 3), Refused),
-    (999, 0, Do::SendLong(&[Key(2)]), Refused),
+    (999, 0, Do::SendTo(Each(&[Key(2)]), &[1, 2]), Refused),
     (1000, 0, Do::Send(2, 4), Asked),
-    (1000, 0, Do::SendLong(&[Key(2)]), Refused),
+    (1000, 0, Do::SendTo(Each(&[Key(2)]), &[1, 2]), Refused),
     (1499, 0, Do::Send(4, 5), Refused),
     (1500, 0, Do::Send(4, 6), Asked),
 ];
@@ -268,7 +292,7 @@ fn a_message_that_is_too_long_counts_for_the_keys_that_are_admitted(rt: HostRunt
 }
 
 // A new world.
-fn nothing(alloc: Global) -> Result<Vec<(u64, Do)>, AllocError> {
+pub fn nothing(alloc: Global) -> Result<Vec<(u64, Do)>, AllocError> {
     Ok(Vec::new(alloc))
 }
 
@@ -277,12 +301,17 @@ const BEFORE_THE_START: &[Step] = &[
     (0, 0, Do::RegisterOn(7, 1, 1000), Room(16)),
     (0, 0, Do::Send(2, 2), Unbound(2)),
     (0, 0, Do::Send(2, 3), Refused),
-    (0, 0, Do::SendTo(&[Key(2), Key(3)], 4), Unbound(4)),
-    (0, 0, Do::SendLong(&[Key(4)]), TooLong(2, 1)),
+    (0, 0, Do::SendTo(Each(&[Key(2), Key(3)]), &[4]), Unbound(4)),
+    (0, 0, Do::SendTo(Each(&[Key(4)]), &[1, 2]), TooLong(2, 1)),
     (0, 0, Do::Send(4, 5), Refused),
     (0, 0, Do::Start, Subscribed),
     (0, 0, Do::Send(2, 6), Refused),
-    (999, 0, Do::SendTo(&[Key(2), Key(3), Key(4)], 7), Refused),
+    (
+        999,
+        0,
+        Do::SendTo(Each(&[Key(2), Key(3), Key(4)]), &[7]),
+        Refused,
+    ),
     (1000, 0, Do::Send(2, 8), Asked),
 ];
 
@@ -296,7 +325,7 @@ fn a_message_before_the_start_counts_and_one_without_a_channel_does_not(rt: Host
 }
 
 // The mailbox of the router of the first node holds four messages.
-fn few() -> [Config; 3] {
+pub fn few() -> [Config; 3] {
     let [first, second, third] = nodes();
     let first = Config {
         max_peers_per_set: 2,
@@ -335,8 +364,13 @@ fn a_message_that_a_full_mailbox_refuses_counts(rt: HostRuntime) {
 
 // The key 32 is of the same number as the connection over which messages come.
 const BOTH_WAYS: &[Step] = &[
-    (0, 0, Do::SendTo(&[Key(2), Key(32)], 1), AskedFor(2)),
-    (0, 0, Do::SendTo(&[Key(2), Key(32)], 2), Refused),
+    (
+        0,
+        0,
+        Do::SendTo(Each(&[Key(2), Key(32)]), &[1]),
+        AskedFor(2),
+    ),
+    (0, 0, Do::SendTo(Each(&[Key(2), Key(32)]), &[2]), Refused),
     (0, 1, Do::Send(1, 3), Asked),
     (0, 1, Do::Send(1, 4), Asked),
     (0, 1, Do::Router, Routed(1, 31)),
@@ -344,12 +378,22 @@ const BOTH_WAYS: &[Step] = &[
     (0, 1, Do::SendStep(31), WrittenTwo(21, Side::Out)),
     (500, 0, Do::RecvStep(32), Arrived(0, 2)),
     (500, 0, Do::RecvStep(32), Held(0, 32, 7)),
-    (999, 0, Do::SendTo(&[Key(2), Key(32)], 5), Refused),
-    (1000, 0, Do::SendTo(&[Key(2), Key(32)], 6), AskedFor(2)),
+    (999, 0, Do::SendTo(Each(&[Key(2), Key(32)]), &[5]), Refused),
+    (
+        1000,
+        0,
+        Do::SendTo(Each(&[Key(2), Key(32)]), &[6]),
+        AskedFor(2),
+    ),
     (1499, 0, Do::RecvStep(32), Idle),
     (1500, 0, Do::RecvStep(32), Arrived(0, 2)),
-    (1999, 0, Do::SendTo(&[Key(2), Key(32)], 7), Refused),
-    (2000, 0, Do::SendTo(&[Key(2), Key(32)], 8), AskedFor(2)),
+    (1999, 0, Do::SendTo(Each(&[Key(2), Key(32)]), &[7]), Refused),
+    (
+        2000,
+        0,
+        Do::SendTo(Each(&[Key(2), Key(32)]), &[8]),
+        AskedFor(2),
+    ),
     (2000, 0, Do::Recv, Read(2, 3, 43)),
     (2000, 0, Do::Recv, Read(2, 4, 44)),
 ];

@@ -65,33 +65,46 @@ fn of_two(alloc: Global) -> Result<Channels, AllocError> {
     Ok(channels)
 }
 
-// On which channel a message is sent, to which keys and when, and which of them are admitted.
-const SENDS: &[(u64, &[Key], u64, &[Key])] = &[
-    (6, &[Key(1), Key(2)], 0, &[]),
-    (5, &[], 0, &[]),
-    (5, &[Key(1), Key(2)], 0, &[Key(1), Key(2)]),
-    (5, &[Key(2), Key(1), Key(2), Key(1)], 0, &[Key(2), Key(1)]),
-    (5, &[Key(1), Key(2)], 0, &[]),
-    (5, &[Key(1), Key(3), Key(2)], 9, &[Key(3)]),
-    (5, &[Key(2)], 10, &[Key(2)]),
-    (5, &[Key(3), Key(2), Key(1), Key(3)], 10, &[Key(3), Key(1)]),
-    (5, &[Key(1), Key(2), Key(3)], 18, &[]),
-    (5, &[Key(1), Key(2), Key(3)], 19, &[Key(3)]),
-    (5, &[Key(2), Key(1)], 20, &[Key(2), Key(1)]),
-    (5, &[Key(2), Key(1), Key(2)], 20, &[]),
-    (5, &[Key(2), Key(2), Key(2)], 1000, &[Key(2), Key(2)]),
-    (5, &[Key(1), Key(2), Key(1)], 1009, &[Key(1), Key(1)]),
-    (5, &[Key(1), Key(2)], 1010, &[Key(2)]),
-    (6, &[Key(2)], 1010, &[]),
+// On which channel a message is sent, to which keys and when, which of them are admitted, and the latest of the moments from which
+// those are that are refused.
+const SENDS: &[(u64, &[Key], u64, &[Key], u128)] = &[
+    (6, &[Key(1), Key(2)], 0, &[], 0),
+    (5, &[], 0, &[], 0),
+    (5, &[Key(1), Key(2)], 0, &[Key(1), Key(2)], 0),
+    (
+        5,
+        &[Key(2), Key(1), Key(2), Key(1)],
+        0,
+        &[Key(2), Key(1)],
+        10,
+    ),
+    (5, &[Key(1), Key(2)], 0, &[], 10),
+    (5, &[Key(1), Key(3), Key(2)], 9, &[Key(3)], 10),
+    (5, &[Key(2)], 10, &[Key(2)], 0),
+    (
+        5,
+        &[Key(3), Key(2), Key(1), Key(3)],
+        10,
+        &[Key(3), Key(1)],
+        20,
+    ),
+    (5, &[Key(1), Key(2), Key(3)], 18, &[], 20),
+    (5, &[Key(1), Key(2), Key(3)], 19, &[Key(3)], 20),
+    (5, &[Key(2), Key(1)], 20, &[Key(2), Key(1)], 0),
+    (5, &[Key(2), Key(1), Key(2)], 20, &[], 30),
+    (5, &[Key(2), Key(2), Key(2)], 1000, &[Key(2), Key(2)], 1010),
+    (5, &[Key(1), Key(2), Key(1)], 1009, &[Key(1), Key(1)], 1010),
+    (5, &[Key(1), Key(2)], 1010, &[Key(2)], 1019),
+    (6, &[Key(2)], 1010, &[], 0),
 ];
 
-// The place of the first send of which other keys are admitted. `None` where each finds what is written.
+// The place of the first send that finds another answer. `None` where each finds what is written.
 fn first_other_send(alloc: Global) -> Result<Option<usize>, AllocError> {
     let mut channels = of_two(alloc)?;
     for (i, row) in SENDS.iter().enumerate() {
         let keys = List::from_slice(alloc, row.1)?;
-        let admitted = channels.admit_keys(alloc, row.0, keys, row.2)?;
-        if admitted.as_slice() != row.3 {
+        let offer = channels.offer(alloc, row.0, keys, row.2)?;
+        if offer.admitted.as_slice() != row.3 || offer.retry != row.4 {
             return Ok(Some(i));
         }
     }

@@ -1,13 +1,12 @@
 //! A frame's way over a link to its channel, by the parts that move it.
-use crate::seen::{Put, Puts, Said, Seen, puts_of, said_by};
 use bytes::Bytes;
 use p2p_base::{Key, List};
-use p2p_log::{Item, Reply, Side};
+use p2p_log::{Item, Queue, Reply, Side};
 use p2p_log_rules::Row;
 use p2p_net_channels::{Arrived, Arriving, Channels, open};
 use p2p_net_links::Links;
 use p2p_net_queues::{Turn, only};
-use p2p_wire::EncodedData;
+use p2p_wire::{EncodedData, PING_PREFIX};
 use std::alloc::{AllocError, Global};
 
 fn turn(alloc: Global, entry: u64, node: u64) -> Turn {
@@ -99,6 +98,72 @@ enum Flying {
     Other,
 }
 
+// What a batch put, the first item first.
+#[derive(Clone, Copy, PartialEq)]
+enum Puts {
+    Nothing,
+    One(Flying),
+    Two(Flying, Flying),
+    More(usize),
+}
+
+#[derive(Clone, Copy, PartialEq)]
+enum Said {
+    Ok,
+    Idle,
+    Other,
+}
+
+// What the row of a batch shows: its reply, how many frames it took, and what it put.
+#[derive(Clone, Copy, PartialEq)]
+struct Seen(Said, usize, Puts);
+
+// A frame of this copy, or of none.
+fn sort_of(copy: Option<(u64, u64)>, frame: &[u8]) -> Flying {
+    match (copy, frame) {
+        (Some(copy), _) => Flying::Message(copy),
+        (None, [kind]) => {
+            if *kind == PING_PREFIX {
+                Flying::Ping
+            } else {
+                Flying::Other
+            }
+        }
+        _ => Flying::Other,
+    }
+}
+
+// A frame that was put over the link 9 by the end that listened.
+fn put_of(put: &(Queue, Item)) -> Flying {
+    match put {
+        (Queue::Link { link, side }, Item::Frame { copy, frame }) => {
+            if *link == 9 && *side == Side::In {
+                sort_of(*copy, frame.as_slice())
+            } else {
+                Flying::Other
+            }
+        }
+        _ => Flying::Other,
+    }
+}
+
+fn puts_of(puts: &[(Queue, Item)]) -> Puts {
+    match puts {
+        [] => Puts::Nothing,
+        [only] => Puts::One(put_of(only)),
+        [first, last] => Puts::Two(put_of(first), put_of(last)),
+        more => Puts::More(more.len()),
+    }
+}
+
+fn said_by(reply: &Reply) -> Said {
+    match reply {
+        Reply::Ok => Said::Ok,
+        Reply::Idle => Said::Idle,
+        _ => Said::Other,
+    }
+}
+
 // What the row of a batch shows, and the three oldest frames in flight after it.
 type Written = (Seen, Flying, Flying, Flying);
 
@@ -144,9 +209,7 @@ fn batch(alloc: Global, ping: bool, one: bool) -> Result<Written, AllocError> {
     Ok((seen, first, second, third))
 }
 
-const PING: Put = Put::Pinged(9, Side::In);
-
-const MESSAGE: Put = Put::Written(9, Side::In);
+const MESSAGE: Flying = Flying::Message((1, 0));
 
 // With a ping, with a message, and what that shows.
 const BATCHES: &[(bool, bool, Seen, Flying, Flying, Flying)] = &[
@@ -161,7 +224,7 @@ const BATCHES: &[(bool, bool, Seen, Flying, Flying, Flying)] = &[
     (
         true,
         false,
-        Seen(Said::Ok, 0, Puts::One(PING)),
+        Seen(Said::Ok, 0, Puts::One(Flying::Ping)),
         Flying::Ping,
         Flying::Nothing,
         Flying::Nothing,
@@ -170,16 +233,16 @@ const BATCHES: &[(bool, bool, Seen, Flying, Flying, Flying)] = &[
         false,
         true,
         Seen(Said::Ok, 1, Puts::One(MESSAGE)),
-        Flying::Message((1, 0)),
+        MESSAGE,
         Flying::Nothing,
         Flying::Nothing,
     ),
     (
         true,
         true,
-        Seen(Said::Ok, 1, Puts::Two(PING, MESSAGE)),
+        Seen(Said::Ok, 1, Puts::Two(Flying::Ping, MESSAGE)),
         Flying::Ping,
-        Flying::Message((1, 0)),
+        MESSAGE,
         Flying::Nothing,
     ),
 ];

@@ -7,7 +7,7 @@ use p2p_base::{Key, List};
 use p2p_log::Item;
 use p2p_log_rules::Row;
 use p2p_net_queues::Turn;
-use p2p_net_router::Router;
+use p2p_net_router::{Router, Telling};
 use std::alloc::{AllocError, Global};
 
 // What a script does with a router.
@@ -63,7 +63,9 @@ fn step(alloc: Global, router: &mut Router, entry: u64) -> Result<Seen, AllocErr
 fn send(alloc: Global, router: &mut Router, entry: u64, to: &[Key]) -> Result<Seen, AllocError> {
     let to = List::from_slice(alloc, to)?;
     let bytes = Bytes::from_static(b"hi");
-    Ok(moved(&router.send(turn(alloc, entry), 7, true, &bytes, to)?))
+    let turn = turn(alloc, entry);
+    let row = router.send(turn, Telling::Sent, 7, true, &bytes, to)?;
+    Ok(moved(&row))
 }
 
 fn take(router: &mut Router, priority: bool) -> Seen {
