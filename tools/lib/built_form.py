@@ -5,10 +5,9 @@ MEETINGS = ('dialer', 'listener')
 CHANGES = ('track', 'overwrite', 'block')
 
 
-def is_too_long(event, configurations):
-    """Whether a message is longer than its own node lets it be, which tells so."""
-    node = event.said['node']
-    return node < len(configurations) and event.said['bytes'] > configurations[node].said['max_message_size']
+def is_too_long(size, node, configurations):
+    """Whether a message of so many bytes is longer than its own node lets it be, which tells so."""
+    return node < len(configurations) and size > configurations[node].said['max_message_size']
 
 
 def change_faults(events):
@@ -46,15 +45,23 @@ def link_faults(script):
                                    'that is not built yet in a script with a send_step' % (len(connects), room))
 
 
-def send_faults(event, configurations, registered):
-    limits = [one.said['max_message_size'] for one in configurations]
-    if any(event.said['bytes'] > limit for limit in limits) and not is_too_long(event, configurations):
+def send_faults(event, name, said, script, registered):
+    """What is wrong with a message whose node and channel are those of `said`, which the event says, or names at this name."""
+    size, limits = event.said['bytes'], [one.said['max_message_size'] for one in script.configurations]
+    if any(size > limit for limit in limits) and not is_too_long(size, said['node'], script.configurations):
         yield event.fault('bytes', 'a message of %d bytes is longer than the least `max_message_size`, %d; '
-                          'that is not built yet in a script with a send_step' % (event.said['bytes'], min(limits)))
-    for node in range(len(configurations)):
-        if (event.said['channel'], node) not in registered:
-            yield event.fault('channel', 'channel %d is not registered at node %d; '
-                              'in a script with a send_step each node has to register it' % (event.said['channel'], node))
+                          'that is not built yet in a script with a send_step' % (size, min(limits)))
+    for node in range(len(script.configurations)):
+        if (said['channel'], node) not in registered:
+            yield event.fault(name, 'channel %d is not registered at node %d; '
+                              'in a script with a send_step each node has to register it' % (said['channel'], node))
+
+
+def checked_faults(event, script, registered):
+    """The same of a message to those whom a check admitted; where it names no check, that is told as an event that is not valid."""
+    number = event.said['check']
+    if number < len(script.events) and script.events[number].act == 'check':
+        yield from send_faults(event, 'check', script.events[number].said, script, registered)
 
 
 def message_faults(script):
@@ -62,7 +69,9 @@ def message_faults(script):
     registered = {(event.said['channel'], event.said['node']) for event in script.events if event.act == 'register'}
     for event in script.events:
         if event.act == 'send':
-            yield from send_faults(event, script.configurations, registered)
+            yield from send_faults(event, 'channel', event.said, script, registered)
+        if event.act == 'send_checked':
+            yield from checked_faults(event, script, registered)
 
 
 def connection_faults(script):

@@ -37,6 +37,8 @@ def reply_text(reply):
             return 'update %s' % value.get('index')
         if name == 'peer_set':
             return 'peer set %s' % peers_text(value)
+        if name == 'outcome':
+            return str(value)
         if name == 'limited' and isinstance(value, list):
             return limited_text(value)
         return '%s %s' % (name, value)
@@ -47,7 +49,7 @@ def event_text(event):
     """The act of a script's event and what it names."""
     if not isinstance(event.get('do'), str):
         return ''
-    asked = [event[name] for name in ('question', 'link') if name in event]
+    asked = [event[name] for name in ('question', 'link', 'check') if name in event]
     if asked:
         return '%s of event %s: ' % (event['do'], asked[0])
     begun = [event[name] for name in ('attempt', 'handshake') if name in event]

@@ -46,10 +46,11 @@ class Journey:
             self.sender_key = item['from']
 
     def add_send(self, entry, event):
-        """What the send itself tells of a copy that entered no queue, and the script's event, where it is at hand."""
-        sent = entry.reply.get('sent') if isinstance(entry.reply, dict) else None
-        if self.recipient is None and isinstance(sent, list) and self.name[1] < len(sent):
-            self.recipient = sent[self.name[1]]
+        """What a send or its check tells of a copy that entered no queue, and the script's event, where it is at hand."""
+        told = entry.reply if isinstance(entry.reply, dict) else {}
+        keys = told.get('sent', told.get('checked'))
+        if self.recipient is None and isinstance(keys, list) and self.name[1] < len(keys):
+            self.recipient = keys[self.name[1]]
         if self.sender is None and isinstance(event.get('node'), int):
             self.sender = event['node']
         if self.channel is None:
@@ -67,6 +68,15 @@ class Journey:
         return 'dropped at %d: %s' % (self.fate[2], self.fate[1])
 
 
+def asked_by(report, events, send):
+    """The entry and the event that say whom a send is to: its own, or those of the check that it names."""
+    event = events[send] if send < len(events) else {}
+    check = event.get('check')
+    if isinstance(check, int) and 0 <= check < min(send, len(report.entries)):
+        return report.entries[check], events[check]
+    return report.entries[send], event
+
+
 def journeys(report, events):
     """The journeys of all copies, in order of send and place."""
     found = {name: Journey(name, fate) for name, fate in report.copies.items()}
@@ -76,5 +86,5 @@ def journeys(report, events):
                 if name in found:
                     found[name].add(entry.number, queue, item)
     for (send, _), journey in found.items():
-        journey.add_send(report.entries[send], events[send] if send < len(events) else {})
+        journey.add_send(*asked_by(report, events, send))
     return [found[name] for name in sorted(found)]

@@ -50,10 +50,11 @@ class NotBuilt(Fault):
 
 
 def recipients(field):
-    """Whom a message is for: a key for each copy. That it is for all is not built yet."""
-    if field.value.kind == 'text' and field.value.held == 'all':
-        raise NotBuilt(field.value.at, field.what, 'a message to all is not built yet; '
-                       'one to a key is, {"one":KEY}, and one to a list of keys, {"some":[KEY,KEY]}')
+    """Whom a message is for: a key for each copy, or 'all'."""
+    if field.value.kind == 'text':
+        if field.value.held != 'all':
+            raise field.fault('of texts only "all" is due here; else {"one":KEY}, or {"some":[KEY,KEY]}')
+        return 'all'
     an_object(field, ['one', 'some'])
     if field.has('one') and not field.has('some'):
         return [whole(field.at_name('one'))]
@@ -66,6 +67,8 @@ ACT_FORMS = {
     'register': {'channel': whole, 'node': whole, 'quota': a_rate},
     'start': {'node': whole},
     'send': {'bytes': some_bytes, 'channel': whole, 'node': whole, 'priority': a_flag, 'to': recipients},
+    'check': {'channel': whole, 'node': whole, 'to': recipients},
+    'send_checked': {'bytes': some_bytes, 'check': whole, 'priority': a_flag},
     'router': {'node': whole},
     'send_step': {'conn': whole, 'node': whole},
     'recv_step': {'conn': whole, 'node': whole},

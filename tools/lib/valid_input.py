@@ -99,6 +99,9 @@ class Past:
     def handshake_fault(self, event):
         return self.naming_fault(event, 'handshake', ['listener'])
 
+    def check_fault(self, event):
+        return self.naming_fault(event, 'check', ['check'])
+
     def link_fault(self, event):
         return self.naming_fault(event, 'link', ['connect'])
 
@@ -117,7 +120,8 @@ class Past:
         judge = {'register': self.register_fault, 'start': self.start_fault, 'send_step': self.connection_fault,
                  'recv_step': self.connection_fault, 'answer': self.question_fault, 'next': self.question_fault,
                  'attempt': self.attempt_fault, 'resolve': self.attempt_fault, 'connect': self.attempt_fault,
-                 'refuse': self.attempt_fault, 'handshake': self.handshake_fault, 'finish': self.link_fault}.get(event.act)
+                 'refuse': self.attempt_fault, 'handshake': self.handshake_fault, 'finish': self.link_fault,
+                 'send_checked': self.check_fault}.get(event.act)
         return judge(event) if judge else None
 
 

@@ -37,6 +37,14 @@ def send(to, priority=False, channel=7, bytes_sent='00'):
     return {'do': 'send', 'node': 0, 'channel': channel, 'bytes': bytes_sent, 'priority': priority, 'to': to}
 
 
+def check(to, channel=7):
+    return {'do': 'check', 'node': 0, 'channel': channel, 'to': to}
+
+
+def send_checked(number, bytes_sent='00'):
+    return {'do': 'send_checked', 'check': number, 'bytes': bytes_sent, 'priority': False}
+
+
 def with_a_step(events):
     """These events, and then a step of a connection."""
     return [{'do': 'spawner', 'node': 0}, *events, {'do': 'send_step', 'node': 0, 'conn': 0}]
@@ -81,6 +89,27 @@ class Check(unittest.TestCase):
             due = 0 if channel == 7 and (size > limits[0] or size <= min(limits)) else 6
             with self.subTest((channel, size, limits)):
                 self.assertEqual([status_now(judged(each, limits)) for each in (events, with_a_step(events))], [0, due])
+
+    def test_each_node_takes_a_message_of_a_check_where_a_connection_may_begin(self):
+        for channel, size, limits in product((7, 8), (0, 1, 2, 3), ((3, 3), (2, 1), (1, 2), (0, 0))):
+            begin = [register(0, 1), register(1, 1), check('all', channel)]
+            due = 0 if channel == 7 and (size > limits[0] or size <= min(limits)) else 6
+            alone, stepped = begin + [send_checked(2, '00' * size)], with_a_step(begin + [send_checked(3, '00' * size)])
+            with self.subTest((channel, size, limits)):
+                self.assertEqual([status_now(judged(each, limits)) for each in (alone, stepped)], [0, due])
+                self.assertEqual(status_now(judged(with_a_step(begin), limits)), 0)
+
+    def test_a_message_names_an_earlier_check(self):
+        for number, long in product(range(6), (False, True)):
+            events = [register(0, 1), send({'one': 2}), check({'one': 2}), send_checked(number), check('all')]
+            with self.subTest((number, long)):
+                self.assertEqual(status_now(judged(events, (0, 0) if long else ())), 0 if number == 2 else 8)
+
+    def test_a_message_is_to_all_to_one_or_to_some(self):
+        for to, due in (('all', 0), ({'one': 2}, 0), ({'some': []}, 0), ('All', 6), ('', 6), (['all'], 6), ({'all': True}, 6),
+                        (True, 6), (None, 6)):
+            with self.subTest(to):
+                self.assertEqual([status_now(judged([asked(to)])) for asked in (send, check)], [due, due])
 
     def test_a_channel_may_be_registered_after_a_message(self):
         for count in range(3):

@@ -1,4 +1,5 @@
 """tools/show: the table of each example is the one beside its report, its picture is XML, and a bad report is told."""
+import json
 import os
 import tempfile
 import unittest
@@ -12,6 +13,7 @@ from report_form import BadReport, read_report
 
 HELLO = os.path.join(TOP, 'examples', 'hello.report')
 PINGS = os.path.join(TOP, 'examples', 'pings.report')
+CHECKED = os.path.join(TOP, 'examples', 'checked.report')
 TRACKER = r'''{"end":[],"n":0,"put":[["tracker:0",{"call":0}]],"reply":{"feedback":"ok"},"take":[]}
 {"end":[],"n":1,"put":[["control:0:4","kill"],["update:0",[[10,0,0,2]]],["updates:0",{"all":{"primary":[2],"secondary":[]},"index":6,"latest":{"primary":[2],"secondary":[]}}]],"reply":"ok","take":[[0,0]]}
 {"end":[],"n":2,"put":[],"reply":{"update":{"all":{"primary":[2],"secondary":[]},"index":6,"latest":{"primary":[2],"secondary":[]}}},"take":[[1,2]]}
@@ -214,6 +216,18 @@ class Show(unittest.TestCase):
         self.assertEqual([(one.steps[-1], one.end_text()) for one in found], [((5, 'held:1:10'), 'waits in held:1:10')])
         self.assertIn('link:8:out (2)  held:1:10 (5)   waits in held:1:10', copy_table(found, keys_of_nodes(report, found))[1])
         self.assert_drawn(HELD, HELD_SCRIPT, ('>held:1:10<', '[0,0] waits in held:1:10', '5  node 1 recv_step: ok'))
+
+    def test_a_message_of_a_check_is_to_those_whom_the_check_admitted(self):
+        report = read_report(read_text(CHECKED))
+        events = json.loads(read_text(beside(CHECKED, '.json')))['script']
+        for given, due in ((events, (0, 7, 4)), ([], (None, None, None))):
+            unbound = journeys(report, given)[0]
+            self.assertEqual((unbound.sender, unbound.channel, unbound.recipient), due)
+
+    def test_a_check_is_drawn_with_what_it_answers_and_its_message_with_what_comes_of_it(self):
+        self.assert_drawn(read_text(CHECKED), read_text(beside(CHECKED, '.json')), (
+            '1  node 0 check: checked [4]', '2  send_checked of event 1: ok', '[2,0] dropped',
+            '7  node 0 check: retry 1000000000', '10  send_checked of event 9: rejected'))
 
     def test_a_ping_is_drawn_where_it_is_written_and_where_it_is_held(self):
         self.assertEqual(self.drawn(HELD, HELD_SCRIPT).count('ping: '), 1)

@@ -1,7 +1,7 @@
 //! Logs that no run makes, in plain data, and the texts of their reports.
 use crate::items::{Thing, blocked, item_of, tracked, update};
 use bytes::Bytes;
-use p2p_base::{Feedback, Key, List};
+use p2p_base::{Feedback, Key, List, Unreliable};
 use p2p_gates_rules::Reply as GatesReply;
 use p2p_log::{Act, End, Entry, Event, Item, Queue, Rate, Recipients, Reply, Report};
 use p2p_sim_report::write_report;
@@ -22,6 +22,8 @@ pub enum Do {
     Register,
     Start,
     Send,
+    Check,
+    SendChecked,
     Router,
     SendStep,
     RecvStep,
@@ -38,6 +40,10 @@ pub enum Said {
     Gone,
     Capacity,
     Sent(&'static [Key]),
+    Checked(&'static [Key]),
+    Retry(u128),
+    // Of a message to one key.
+    Outcome(Unreliable),
     Message,
     MessageTooLarge,
     Told(Feedback),
@@ -71,11 +77,29 @@ fn send() -> Act {
     }
 }
 
+fn check() -> Act {
+    Act::Check {
+        channel: 7,
+        node: 0,
+        to: Recipients::All,
+    }
+}
+
+fn send_checked() -> Act {
+    Act::SendChecked {
+        bytes: Bytes::from_static(b"jM"),
+        check: 14,
+        priority: true,
+    }
+}
+
 fn act_of(asked: Do) -> Act {
     match asked {
         Do::Register => register(),
         Do::Start => Act::Start { node: 0 },
         Do::Send => send(),
+        Do::Check => check(),
+        Do::SendChecked => send_checked(),
         Do::Router => Act::Router { node: 0 },
         Do::SendStep => Act::SendStep { conn: 4, node: 0 },
         Do::RecvStep => Act::RecvStep { conn: 4, node: 1 },
@@ -87,6 +111,15 @@ fn act_of(asked: Do) -> Act {
     }
 }
 
+fn outcome_of(alloc: Global, outcome: Unreliable) -> Result<Reply, AllocError> {
+    Ok(Reply::Outcome {
+        outcome,
+        node: 0,
+        channel: 7,
+        keys: List::from_slice(alloc, &[Key(2)])?,
+    })
+}
+
 fn reply_of(alloc: Global, said: Said) -> Result<Reply, AllocError> {
     match said {
         Said::Ok => Ok(Reply::Ok),
@@ -95,6 +128,9 @@ fn reply_of(alloc: Global, said: Said) -> Result<Reply, AllocError> {
         Said::Gone => Ok(Reply::Gone),
         Said::Capacity => Ok(Reply::Capacity(8)),
         Said::Sent(keys) => Ok(Reply::Sent(List::from_slice(alloc, keys)?)),
+        Said::Checked(keys) => Ok(Reply::Checked(List::from_slice(alloc, keys)?)),
+        Said::Retry(moment) => Ok(Reply::Retry(moment)),
+        Said::Outcome(outcome) => outcome_of(alloc, outcome),
         Said::Message => Ok(Reply::Message {
             bytes: Bytes::from_static(b"jM"),
             from: Key(1),

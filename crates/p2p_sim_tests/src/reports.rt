@@ -1,7 +1,7 @@
 //! The text of a report with each kind of queue, item, reply, end and fate.
 use crate::entries::{Do, Row, Said, is_written};
 use crate::items::Thing;
-use p2p_base::Key;
+use p2p_base::{Feedback, Key, Unreliable};
 use p2p_log::{Cause, End, Outcome, Queue, Side};
 
 const PEERS: Queue = Queue::Peers {
@@ -150,6 +150,56 @@ const ROWS: &[Row] = &[
         puts: &[(OUTWARD, Thing::Frame(Some((11, 0))))],
         ends: &[],
     },
+    // Of what a check admitted, a message has copies where it was accepted.
+    Row {
+        asked: Do::Check,
+        said: Said::Checked(&[Key(2), Key(3)]),
+        takes: &[],
+        puts: &[],
+        ends: &[],
+    },
+    Row {
+        asked: Do::SendChecked,
+        said: Said::Outcome(Unreliable::Outcome(Feedback::Ok)),
+        takes: &[],
+        puts: &[(Queue::Router(0), Thing::Content(15, &[Key(2)]))],
+        ends: &[],
+    },
+    Row {
+        asked: Do::SendChecked,
+        said: Said::Outcome(Unreliable::Rejected),
+        takes: &[],
+        puts: &[],
+        ends: &[],
+    },
+    Row {
+        asked: Do::SendChecked,
+        said: Said::Outcome(Unreliable::Outcome(Feedback::Backoff)),
+        takes: &[],
+        puts: &[],
+        ends: &[],
+    },
+    Row {
+        asked: Do::SendChecked,
+        said: Said::Outcome(Unreliable::Outcome(Feedback::Closed)),
+        takes: &[],
+        puts: &[],
+        ends: &[],
+    },
+    Row {
+        asked: Do::Check,
+        said: Said::Checked(&[]),
+        takes: &[],
+        puts: &[],
+        ends: &[],
+    },
+    Row {
+        asked: Do::Check,
+        said: Said::Retry(18_446_744_073_709_551_616),
+        takes: &[],
+        puts: &[],
+        ends: &[],
+    },
 ];
 
 const LINES: &[&str] = &[
@@ -167,6 +217,13 @@ const LINES: &[&str] = &[
     r#"{"end":[],"n":11,"put":[],"reply":{"sent":[3,4]},"take":[]}"#,
     r#"{"end":[],"n":12,"put":[["held:1:4",{"bytes":"6a4d","channel":7,"copy":[11,0]}],["held:1:4","ping"],["held:1:4",{"bytes":"6a4d","channel":7,"copy":[11,1]}]],"reply":"ok","take":[]}"#,
     r#"{"end":[],"n":13,"put":[["link:4:out",{"copy":[11,0],"frame":"ab"}]],"reply":"ok","take":[[12,0],[12,1]]}"#,
+    r#"{"end":[],"n":14,"put":[],"reply":{"checked":[2,3]},"take":[]}"#,
+    r#"{"end":[],"n":15,"put":[["router:0",{"content":{"channel":7,"frame":"0007026a4d","priority":true,"send":15,"to":[2]}}]],"reply":{"outcome":"ok"},"take":[]}"#,
+    r#"{"end":[],"n":16,"put":[],"reply":{"outcome":"rejected"},"take":[]}"#,
+    r#"{"end":[],"n":17,"put":[],"reply":{"outcome":"backoff"},"take":[]}"#,
+    r#"{"end":[],"n":18,"put":[],"reply":{"outcome":"closed"},"take":[]}"#,
+    r#"{"end":[],"n":19,"put":[],"reply":{"checked":[]},"take":[]}"#,
+    r#"{"end":[],"n":20,"put":[],"reply":{"retry":"18446744073709551616"},"take":[]}"#,
     r#"{"copy":[2,0],"fate":["delivered","channel:1:7",6]}"#,
     r#"{"copy":[2,1],"fate":["dropped","no_connection",3]}"#,
     r#"{"copy":[2,2],"fate":["dropped","relay_full",3]}"#,
@@ -176,7 +233,8 @@ const LINES: &[&str] = &[
     r#"{"copy":[8,1],"fate":null}"#,
     r#"{"copy":[11,0],"fate":["waiting","link:4:out"]}"#,
     r#"{"copy":[11,1],"fate":["waiting","held:1:4"]}"#,
-    r#"{"copies":9,"entries":14}"#,
+    r#"{"copy":[15,0],"fate":["waiting","router:0"]}"#,
+    r#"{"copies":10,"entries":21}"#,
 ];
 
 #[test]

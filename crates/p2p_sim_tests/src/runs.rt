@@ -79,6 +79,14 @@ const LINK_OF_A_DIALER: &str = r#"{"configs":[
     {"node":0,"at":0,"do":"dialer"},
     {"link":1,"ok":true,"at":0,"do":"finish"}]}"#;
 
+// The event that is to have asked the quota is a message.
+const CHECK_OF_A_SEND: &str = r#"{"configs":[
+    {"key":1,"preset":"local","max_peers_per_set":2,"max_message_size":1024,"mailbox_size":4}],
+    "script":[
+    {"node":0,"at":0,"do":"register","channel":7,"quota":{"burst":2,"period":1}},
+    {"node":0,"at":0,"do":"send","channel":7,"bytes":"00","priority":false,"to":"all"},
+    {"check":1,"at":0,"do":"send_checked","bytes":"00","priority":false}]}"#;
+
 // The connection that takes a step is one that a start is to have made, and one of the other node.
 const STEP_OF_A_START: &str = r#"{"configs":[
     {"key":1,"preset":"local","max_peers_per_set":2,"max_message_size":1024,"mailbox_size":4}],
@@ -120,6 +128,7 @@ const REFUSED: &[Outcome] = &[
         &[&[r#"{"error":"event","event":1}"#]],
     ),
     (&[LINK_OF_A_DIALER], Status::Event, NO_THIRD_EVENT),
+    (&[CHECK_OF_A_SEND], Status::Event, NO_THIRD_EVENT),
     (&[STEP_OF_A_START], Status::Event, NO_THIRD_EVENT),
     (
         &[STEP_OF_THE_OTHER_NODE],

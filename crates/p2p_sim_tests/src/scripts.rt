@@ -73,7 +73,13 @@ const CHANGES_OF_KIND: &[(&str, &str, bool)] = &[
     (r#""do":"router""#, r#""do":"route""#, false),
     (r#""do":"router""#, r#""do":"router","conn":3"#, false),
     (r#""do":"start""#, r#""do":"start","bind":true"#, false),
-    (r#"{"one":2}"#, r#""all""#, false),
+    (r#"{"one":2}"#, r#""all""#, true),
+    (r#"{"one":2}"#, r#""ALL""#, false),
+    (r#"{"one":2}"#, r#"["all"]"#, false),
+    (ROUTER, CHECK, true),
+    (ROUTER, CHECK_OF_BYTES, false),
+    (ROUTER, SEND_CHECKED, true),
+    (ROUTER, SEND_CHECKED_AT_A_NODE, false),
     (r#"{"one":2}"#, r#"{"one":2,"some":[]}"#, false),
     (r#"{"one":2}"#, r#"{"some":[2,null]}"#, false),
     (r#""bytes":"68656c6C6f""#, r#""bytes":"68656c6C6""#, false),
@@ -99,6 +105,28 @@ const ROUTER: &str = r#"{"at":0,"do":"router","node":0}"#;
 
 const SEND: &str =
     r#"{"at":1,"bytes":"00","channel":7,"do":"send","node":1,"priority":false,"to":{"one":1}}"#;
+
+const CHECK: &str = r#"{"at":0,"channel":7,"do":"check","node":0,"to":"all"}"#;
+
+const CHECK_OF_BYTES: &str =
+    r#"{"at":0,"bytes":"00","channel":7,"do":"check","node":0,"to":"all"}"#;
+
+const SEND_CHECKED: &str = r#"{"at":0,"bytes":"00","check":5,"do":"send_checked","priority":true}"#;
+
+const SEND_CHECKED_AT_A_NODE: &str =
+    r#"{"at":0,"bytes":"00","check":5,"do":"send_checked","node":0,"priority":true}"#;
+
+// A check, which is the event 5, and a message of six bytes to those whom it admitted.
+const LONG_CHECKED: &str =
+    r#"{"at":0,"channel":7,"do":"check","node":0,"to":{"one":2}},{"at":0,"bytes":"000102030405","check":5,"do":"send_checked","priority":true}"#;
+
+const CHECK_HERE: &str = r#""do":"check","node":0"#;
+
+const CHECK_THERE: &str = r#""do":"check","node":1"#;
+
+// The channel of this one is registered nowhere.
+const CHECK_OF_8: &str =
+    r#"{"at":0,"channel":8,"do":"check","node":0,"to":{"one":2}},{"at":0,"bytes":"00","check":5,"do":"send_checked","priority":true}"#;
 
 const ONE: &str = r#"{"one":2}"#;
 
@@ -243,6 +271,20 @@ const CHANGES_OF_FORM: &[(&str, &str, &str, &str, Form)] = &[
         "",
         Form::Another,
     ),
+    // So is one to those whom a check admitted, at the node of the check.
+    (ROUTER, LONG_CHECKED, "", "", Form::Another),
+    (ROUTER, LONG_CHECKED, SEND_STEP, "", Form::First),
+    (ROUTER, LONG_CHECKED, "0102030405", "", Form::First),
+    (ROUTER, LONG_CHECKED, CHECK_HERE, CHECK_THERE, Form::First),
+    (
+        ROUTER,
+        LONG_CHECKED,
+        r#""check":5"#,
+        r#""check":4"#,
+        Form::First,
+    ),
+    (ROUTER, SEND_CHECKED, "", "", Form::First),
+    (ROUTER, CHECK_OF_8, "", "", Form::Another),
     // No connection begins without a step of its sending half.
     (SPAWNER, "", "", "", Form::First),
     (SEND_STEP, "", "", "", Form::First),
