@@ -28,7 +28,7 @@ impl Offer {
 
     /// Notes what the quota answered for one more key: that it is admitted, or the moment from which it is.
     ///
-    /// `Err` only where there is no memory. The key is not noted then.
+    /// `Err` only where there is no memory. Nothing is said of the offer then.
     pub fn note(&mut self, key: Key, answer: Result<(), u128>) -> Result<(), AllocError>
         ensures admits { OnOk result (self.new.admitted ≡ self.old.admitted ++ cond (is_ok answer) (key ∷ []) []) }
         ensures retry { OnOk result (self.new.retry ≡ max self.old.retry (moment_told answer)) }

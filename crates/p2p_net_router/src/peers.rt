@@ -35,7 +35,7 @@ impl Router {
         Some((name.entry, name.place))
     }
 
-    /// The keys of the router's connections, in key order, where it has taken the channel's subscription. None otherwise.
+    /// The keys of the router's connections, in key order, where it has taken the channel's subscription; otherwise no keys.
     ///
     /// `Err` only where there is no memory.
     pub fn peers(&self, alloc: Global, channel: u64) -> Result<List<Key>, AllocError>
