@@ -11,6 +11,8 @@ pub enum Cause {
     RelayFull,
     /// The queue of its channel was full.
     MailboxFull,
+    /// The reader of its channel closes, or had closed.
+    ReceiverClosed,
 }
 
 /// What became of a copy.

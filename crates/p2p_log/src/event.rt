@@ -77,6 +77,11 @@ pub enum Act {
         channel: u64,
         node: u64,
     },
+    /// Drops the reader of a channel.
+    Close {
+        channel: u64,
+        node: u64,
+    },
     /// Asks a node's tracker.
     Ask {
         asked: Asked,
@@ -229,6 +234,10 @@ impl Act {
                 node: *node,
             }),
             Act::Recv { channel, node } => Ok(Act::Recv {
+                channel: *channel,
+                node: *node,
+            }),
+            Act::Close { channel, node } => Ok(Act::Close {
                 channel: *channel,
                 node: *node,
             }),

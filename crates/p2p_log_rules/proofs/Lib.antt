@@ -1,6 +1,7 @@
 pub mod Attempts
 pub mod Calls
 pub mod Checking
+pub mod Closing
 pub mod Connections
 pub mod Facts
 pub mod Handshakes

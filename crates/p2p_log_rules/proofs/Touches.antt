@@ -132,6 +132,7 @@ writes configs log (act.SendChecked bytes check priority) q = same_queue (queue.
 writes configs log (act.Router n) q = in_router n q
 writes configs log (act.SendStep conn n) q = in_mailboxes n q || in_half (half_at log n conn) n conn q
 writes configs log (act.RecvStep conn n) q = in_held n conn q || in_channels n q
+writes configs log (act.Close c n) q = same_queue (queue.Channel n c) q
 writes configs log (act.Ask what n) q = same_queue (queue.Tracker n) q
 writes configs log (act.Tracker n) q = in_tracker n q
 writes configs log (act.Dialer n) q = same_queue (queue.Tracker n) q

@@ -15,6 +15,7 @@ use Rattle.p2p_log.specs.declared.end.End.{End}
 use Rattle.p2p_log.specs.declared.end.End.TheVariants as end
 use Rattle.p2p_log.specs.declared.end.Outcome.{Outcome as How}
 use Rattle.p2p_log.specs.declared.end.Outcome.TheVariants as outcome
+use Rattle.p2p_log.specs.declared.end.Cause.{Cause}
 use Rattle.p2p_log.specs.declared.end.Cause.TheVariants as cause
 use Rattle.p2p_log.specs.declared.entry.Entry.{Entry}
 use Rattle.p2p_log.specs.declared.entry.Reply.{Reply}
@@ -39,6 +40,7 @@ use Rattle.p2p_log_rules.specs.Pings.{ping_frame, ping_is_due}
 pub use Rattle.p2p_log_rules.specs.Rows.{only, takes_oldest, mailbox_size_at, overwritten, ring_ends}
 use Rattle.p2p_log_rules.specs.Admitting.{offered, keys_admitted, retry_moment}
 use Rattle.p2p_log_rules.specs.Checking.{checking_node, checked_at}
+use Rattle.p2p_log_rules.specs.Closing.{is_closed, has_reader, close_row, refused_by}
 use Rattle.p2p_log_rules.specs.Attempting.{attempt_row, resolve_row, refuse_row, connect_row}
 use Rattle.p2p_log_rules.specs.Dialing.{dialer_row}
 use Rattle.p2p_log_rules.specs.Handshaking.{handshake_row}
@@ -139,7 +141,7 @@ abbrev pub send_checked_row : List Config → List Entry → List ℕ → ℕ �
 send_checked_row configs log bytes check priority =
     let n = checking_node log check in spent_row configs log bytes n priority (checked_at log n check)
 
--- recv: the oldest message of the channel
+-- recv: the oldest message of the channel, while that has a reader
 abbrev pub read_row : ℕ × ℕ → Item → Row
 read_row name (item.Message bytes copy from) =
     record { reply = reply.Message bytes from; takes = name ∷ []; puts = []; ends = end.Copy copy.0 copy.1 outcome.Delivered ∷ [] }
@@ -150,8 +152,7 @@ oldest_read [] = only reply.Pending
 oldest_read (x ∷ _) = read_row (name_of x) x.item
 
 abbrev pub recv_row : List Config → List Entry → ℕ → ℕ → Row
-recv_row configs log c n =
-    elim (capacity_in (channels configs log n) c) [ None ↦ only reply.Gone | Some _ ↦ oldest_read (line log (queue.Channel n c)) ]
+recv_row configs log c n = cond (has_reader configs log n c) (oldest_read (line log (queue.Channel n c))) (only reply.Gone)
 
 -- ---- the router's step
 
@@ -285,22 +286,16 @@ abbrev pub other_side : Side → Side
 other_side side.Out = side.In
 other_side side.In = side.Out
 
--- to deliver a message: into its channel's queue, or dropped where that is full
+-- to deliver a message: into its channel's queue, or dropped where it does not enter that
+abbrev pub delivered_row : Option Cause → ℕ → ℕ × ℕ → Key → ℕ × ℕ → ℕ × List ℕ → Row
+delivered_row (Some why) n name from copy message =
+    record { reply = reply.Ok; takes = name ∷ []; puts = []; ends = end.Copy copy.0 copy.1 (outcome.Dropped why) ∷ [] }
+delivered_row None n name from copy message =
+    record { reply = reply.Ok; takes = name ∷ []; puts = (queue.Channel n message.0, item.Message message.1 copy from) ∷ []; ends = [] }
+
 abbrev pub deliver_row : List Entry → ℕ → ℕ × ℕ → Key → ℕ × ℕ → ℕ × List ℕ → ℕ → Row
 deliver_row log n name from copy message capacity =
-    cond (nat_le capacity (length (line log (queue.Channel n message.0))))
-    (record {
-      reply = reply.Ok;
-      takes = name ∷ [];
-      puts = [];
-      ends = end.Copy copy.0 copy.1 (outcome.Dropped cause.MailboxFull) ∷ [];
-    })
-    (record {
-      reply = reply.Ok;
-      takes = name ∷ [];
-      puts = (queue.Channel n message.0, item.Message message.1 copy from) ∷ [];
-      ends = [];
-    })
+    delivered_row (refused_by (is_closed log n message.0) (nat_le capacity (length (line log (queue.Channel n message.0))))) n name from copy message
 
 -- what came waits until its quota admits it
 abbrev pub hold_row : ℕ → ℕ → ℕ × ℕ → Item → Row
@@ -376,6 +371,7 @@ row configs log at seed (act.Router n) = router_row configs log n
 row configs log at seed (act.SendStep conn n) = send_step_row configs log conn n at
 row configs log at seed (act.RecvStep conn n) = recv_step_row configs log conn n at
 row configs log at seed (act.Recv c n) = recv_row configs log c n
+row configs log at seed (act.Close c n) = close_row configs log c n
 row configs log at seed (act.Ask what n) = ask_row configs log n what
 row configs log at seed (act.Answer question) = answer_row log question
 row configs log at seed (act.Next question) = next_row log question

@@ -1,6 +1,7 @@
 pub mod Admitting
 pub mod Attempting
 pub mod Checking
+pub mod Closing
 pub mod Connections
 pub mod Dialing
 pub mod Effect

@@ -148,6 +148,7 @@ may_act configs events (act.Router n) = nat_lt n (length configs)
 may_act configs events (act.SendStep conn n) = nat_lt n (length configs) && names_spawner events n conn
 may_act configs events (act.RecvStep conn n) = nat_lt n (length configs) && names_spawner events n conn
 may_act configs events (act.Recv c n) = nat_lt n (length configs)
+may_act configs events (act.Close c n) = nat_lt n (length configs)
 may_act configs events (act.Ask what n) = nat_lt n (length configs)
 may_act configs events (act.Answer e) = is_node configs (set_asked_of (slice_get events e))
 may_act configs events (act.Next e) = is_node configs (subscribed_at (slice_get events e))
