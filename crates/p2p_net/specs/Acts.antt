@@ -16,7 +16,7 @@ use Rattle.p2p_net_queues.specs.Board.{held}
 use Rattle.p2p_net_queues.specs.Rows.{taken_row}
 use Rattle.p2p_net_queues.specs.Tables as table
 use Rattle.p2p_net_queues.specs.Tables.{waiting}
-use Rattle.p2p_net_channels.specs.Channels.{capacity_at, registered_with, read_from}
+use Rattle.p2p_net_channels.specs.Channels.{registered_with, has_reader, read_from, closed_row, closed_with}
 use Rattle.p2p_net_connections.specs.Connections.{answered, spawned_with}
 use Rattle.p2p_net_links.specs.declared.links.Links.{Links}
 use Rattle.p2p_net_dialer.specs.Attempts.{Tries, Resolves, AnswersDial}
@@ -59,12 +59,20 @@ abbrev pub Starts : ℕ → ℕ → Node → Node → Row → Type 0
 Starts k at old new r =
     (new ≡ record old { router = new.router; dialing = started old.config at old.dialing }) × routing.Starts k (old.config.mailbox_size + old.channels.total) old.router new.router r
 
-abbrev pub ReadsOn : Option ℕ → ℕ → Node → Node → Row → Type 0
-ReadsOn None c old new r = Stays old new r (only reply.Gone)
-ReadsOn (Some capacity) c old new r = (r ≡ oldest_read (waiting old.channels.waiting c)) × (new ≡ record old { channels = read_from c old.channels })
+-- by whether the channel has a reader
+abbrev pub ReadsOn : Bool → ℕ → Node → Node → Row → Type 0
+ReadsOn false c old new r = Stays old new r (only reply.Gone)
+ReadsOn true c old new r = (r ≡ oldest_read (waiting old.channels.waiting c)) × (new ≡ record old { channels = read_from c old.channels })
 
 abbrev pub Reads : ℕ → Node → Node → Row → Type 0
-Reads c old new r = ReadsOn (capacity_at old.channels c) c old new r
+Reads c old new r = ReadsOn (has_reader old.channels c) c old new r
+
+abbrev pub ClosesOn : Bool → ℕ → Node → Node → Row → Type 0
+ClosesOn false c old new r = Stays old new r (only reply.Gone)
+ClosesOn true c old new r = (r ≡ closed_row (waiting old.channels.waiting c)) × (new ≡ record old { channels = closed_with c old.channels })
+
+abbrev pub Closes : ℕ → Node → Node → Row → Type 0
+Closes c old new r = ClosesOn (has_reader old.channels c) c old new r
 
 -- ---- the router's step
 
@@ -214,6 +222,7 @@ NodeDoes k n at seed (act.Router m) old new l links r = Routes k n old new r × 
 NodeDoes k n at seed (act.SendStep conn m) old new l links r = SendSteps k n conn at old new l links r
 NodeDoes k n at seed (act.RecvStep conn m) old new l links r = RecvSteps k n conn at old new l links r
 NodeDoes k n at seed (act.Recv c m) old new l links r = Reads c old new r × (links ≡ l)
+NodeDoes k n at seed (act.Close c m) old new l links r = Closes c old new r × (links ≡ l)
 NodeDoes k n at seed (act.Connect e from m to) old new l links r = Stays old new r (only reply.Idle) × (links ≡ l)
 NodeDoes k n at seed (act.Finish link ok) old new l links r = Stays old new r (only reply.Idle) × (links ≡ l)
 NodeDoes k n at seed (act.Ask what m) old new l links r = ((r ≡ ask_answer old.tracker n k what) × Tracks (after_asking old.tracker k what) old new) × (links ≡ l)

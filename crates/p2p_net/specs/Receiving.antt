@@ -17,7 +17,7 @@ use Rattle.p2p_net_channels.specs.declared.arrival.Arriving.{Arriving}
 use Rattle.p2p_net_channels.specs.declared.arrival.Arriving.TheVariants as arriving
 use Rattle.p2p_net_channels.specs.declared.channels.Channels.{Channels}
 use Rattle.p2p_net_channels.specs.Arrivals.{arrival_in, held_arrival, held_item, delivered}
-use Rattle.p2p_net_channels.specs.Channels.{capacity_at, is_full, delivered_to, may_admit, metered}
+use Rattle.p2p_net_channels.specs.Channels.{capacity_at, refusal, delivered_to, may_admit, metered}
 use Rattle.p2p_net_connections.specs.declared.connections.Connections.{Connections}
 use Rattle.p2p_net_connections.specs.declared.connections.Stage.{Stage}
 use Rattle.p2p_net_connections.specs.declared.connections.Stage.TheVariants as stage
@@ -75,7 +75,7 @@ asked_of conn at (arriving.Message m) x = metered_on (capacity_at x.channels m.c
 
 abbrev pub message_row : Option ℕ → ℕ → Key → ℕ × ℕ → Arrived → Channels → Row
 message_row None n from name m ch = taken_row name
-message_row (Some capacity) n from name m ch = delivered (is_full ch capacity m.channel) n from m (taken_row name)
+message_row (Some capacity) n from name m ch = delivered (refusal ch capacity m.channel) n from m (taken_row name)
 
 -- the row of what was admitted
 abbrev pub passed_row : ℕ → Key → ℕ × ℕ → Arriving → Channels → Row
@@ -84,7 +84,7 @@ passed_row n from name (arriving.Message m) ch = message_row (capacity_at ch m.c
 
 abbrev pub message_into : Option ℕ → ℕ → ℕ → Key → Arrived → Node → Node
 message_into None k n from m x = x
-message_into (Some capacity) k n from m x = record x { channels = delivered_to (is_full x.channels capacity m.channel) k 0 n from m x.channels }
+message_into (Some capacity) k n from m x = record x { channels = delivered_to (refusal x.channels capacity m.channel) k 0 n from m x.channels }
 
 -- the node once it was admitted
 abbrev pub passed_into : ℕ → ℕ → Key → Arriving → Node → Node

@@ -1,10 +1,10 @@
-//! The calls of a node: registering a channel, starting and reading.
+//! The calls of a node: registering a channel, starting, reading, and dropping a reader.
 ghost use Rattle.std.specs.Prelude.{◌≡◌, ◌+◌, ◌<◌, ◌≤◌, ◌^◌, true, IfOk, OnOk, IsTrue};
 ghost use Rattle.p2p_log_rules.specs.Effect.{oldest_read};
 ghost use Rattle.p2p_log_rules.specs.Valid.{is_quota};
 ghost use Rattle.p2p_router.specs.Messenger.{is_unbound};
 ghost use Rattle.p2p_net.specs.Ready.{capacity_by};
-ghost use Rattle.p2p_net.specs.Acts.{Registers, Starts, Reads};
+ghost use Rattle.p2p_net.specs.Acts.{Registers, Starts, Reads, Closes};
 
 use crate::node::Node;
 use p2p_log::{Rate, Reply};
@@ -55,12 +55,22 @@ impl Node {
         ensures does { IfOk result (λ r. Reads channel self.old self.new r) }
         ensures failed { OnOk result (self.new.failed ≡ self.old.failed) }
     {
-        match self.channels.capacity(channel) {
-            None => Ok(only(turn.alloc, Reply::Gone)),
-            Some(_capacity) => {
-                let row = self.channels.read(turn.alloc, channel)?;
-                Ok(row)
-            }
+        if !self.channels.has_reader(channel) {
+            return Ok(only(turn.alloc, Reply::Gone));
         }
+        let row = self.channels.read(turn.alloc, channel)?;
+        Ok(row)
+    }
+
+    /// Drops the reader of a channel: what waits there ends untaken.
+    pub(crate) fn close(&mut self, turn: Turn, channel: u64) -> Result<Row, AllocError>
+        ensures does { IfOk result (λ r. Closes channel self.old self.new r) }
+        ensures failed { OnOk result (self.new.failed ≡ self.old.failed) }
+    {
+        if !self.channels.has_reader(channel) {
+            return Ok(only(turn.alloc, Reply::Gone));
+        }
+        let row = self.channels.close(turn.alloc, channel)?;
+        Ok(row)
     }
 }

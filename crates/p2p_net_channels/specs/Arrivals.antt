@@ -1,12 +1,12 @@
 -- The message that arrived in a frame, and what becomes of it.
-use Rattle.std.specs.Prelude.{ℕ, Bool, true, false, cond, List, [], ◌∷◌, ◌++◌, Option, Some, None}
+use Rattle.std.specs.Prelude.{ℕ, cond, List, [], ◌∷◌, ◌++◌, Option, Some, None}
 use Rattle.p2p_base.specs.declared.key.Key.{Key}
 use Rattle.p2p_log.specs.declared.queue.Queue.TheVariants as queue
 use Rattle.p2p_log.specs.declared.item.Item.{Item}
 use Rattle.p2p_log.specs.declared.item.Item.TheVariants as item
 use Rattle.p2p_log.specs.declared.end.End.TheVariants as end
 use Rattle.p2p_log.specs.declared.end.Outcome.TheVariants as outcome
-use Rattle.p2p_log.specs.declared.end.Cause.TheVariants as cause
+use Rattle.p2p_log.specs.declared.end.Cause.{Cause}
 use Rattle.p2p_log_rules.specs.declared.row.Row.{Row}
 use Rattle.std.specs.Option.{option_map}
 use Rattle.p2p_log_rules.specs.Frames.{message_in, is_ping_in}
@@ -40,7 +40,7 @@ abbrev pub held_item : Arriving → Item
 held_item (arriving.Message m) = item.Held m.channel m.bytes m.copy
 held_item arriving.Ping = item.Ping
 
--- the row once a message came to its channel, by whether that is full
-abbrev pub delivered : Bool → ℕ → Key → Arrived → Row → Row
-delivered true n from m r = record r { ends = r.ends ++ end.Copy m.copy.0 m.copy.1 (outcome.Dropped cause.MailboxFull) ∷ [] }
-delivered false n from m r = record r { puts = r.puts ++ (queue.Channel n m.channel, item.Message m.bytes m.copy from) ∷ [] }
+-- the row once a message came to its channel, by what keeps it out of that
+abbrev pub delivered : Option Cause → ℕ → Key → Arrived → Row → Row
+delivered (Some why) n from m r = record r { ends = r.ends ++ end.Copy m.copy.0 m.copy.1 (outcome.Dropped why) ∷ [] }
+delivered None n from m r = record r { puts = r.puts ++ (queue.Channel n m.channel, item.Message m.bytes m.copy from) ∷ [] }

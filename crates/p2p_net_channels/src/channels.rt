@@ -6,7 +6,7 @@ ghost use Rattle.p2p_log_rules.specs.Effect.{oldest_read, read_row as read_row_o
 ghost use Rattle.p2p_log.specs.Lines.{name_of};
 ghost use Rattle.p2p_net_queues.specs.Tables.{at, AreBut, waiting};
 ghost use Rattle.p2p_net_channels.specs.Arrivals.{delivered};
-ghost use Rattle.p2p_net_channels.specs.Channels.{no_channels, capacity_at, registered_with, may_admit, metered, is_full as full_test, delivered_to, is_message as message_test, has_message_first, message_first, read_from};
+ghost use Rattle.p2p_net_channels.specs.Channels.{no_channels, capacity_at, registered_with, may_admit, metered, is_full as full_test, has_reader, refusal, delivered_to, is_message as message_test, has_message_first, message_first, read_from, closed_row, closed_with};
 ghost use Rattle.p2p_net_channels.specs.Senders.{may_send, key_retry, key_metered, keys_passed, retry_told, keys_metered};
 
 use crate::arrival::Arrived;
@@ -14,12 +14,12 @@ use crate::offer::Offer;
 use p2p_base::{Key, List};
 use p2p_log::{Cause, End, Envelope, Item, Outcome, Queue, Reply};
 use p2p_log_rules::{Checked, Row};
-use p2p_net_queues::{Deque, Table, Turn, only, taking};
+use p2p_net_queues::{Deque, Table, Turn, drop_items, only, taking};
 use p2p_runtime::{KeyedRateLimiter, Quota};
 use std::alloc::{AllocError, Global};
 
 /// The registered channels of a node, what each admits of each connection and to each key, the messages that wait in each for its
-/// reader, and what the node's checks admitted.
+/// reader, which readers were dropped, and what the node's checks admitted.
 #[derive(Drop)]
 pub struct Channels {
     /// How many messages each channel holds at most.
@@ -34,6 +34,8 @@ pub struct Channels {
     pub senders: Table<KeyedRateLimiter<Key>>,
     /// What each check admitted that waits for its message, under the number of the check's event.
     pub checks: Table<Checked>,
+    /// The channels whose reader was dropped.
+    pub closed: Table<()>,
 }
 
 /// Whether an item is a message for a reader.
@@ -62,11 +64,11 @@ fn read_row(alloc: Global, name: (u64, u64), item: Item) -> Result<Row, AllocErr
     }
 }
 
-/// The copy of a message ends, since its channel is full.
-fn drop_message(row: &mut Row, arrived: &Arrived) -> Result<(), AllocError>
-    ensures { OnOk result (row.new ≡ record row.old { ends = row.old.ends ++ End.Copy arrived.now.copy.0 arrived.now.copy.1 (Outcome.Dropped Cause.MailboxFull) ∷ [] }) }
+/// The copy of a message ends, since this keeps it out of its channel.
+fn drop_message(row: &mut Row, arrived: &Arrived, why: Cause) -> Result<(), AllocError>
+    ensures { OnOk result (row.new ≡ record row.old { ends = row.old.ends ++ End.Copy arrived.now.copy.0 arrived.now.copy.1 (Outcome.Dropped why) ∷ [] }) }
 {
-    let dropped = Outcome::Dropped(Cause::MailboxFull);
+    let dropped = Outcome::Dropped(why);
     row.ends
         .push(End::Copy(arrived.copy.0, arrived.copy.1, dropped))?;
     Ok(())
@@ -84,6 +86,7 @@ impl Channels {
             quotas: Table::new(alloc),
             senders: Table::new(alloc),
             checks: Table::new(alloc),
+            closed: Table::new(alloc),
         }
     }
 
@@ -92,6 +95,13 @@ impl Channels {
         ensures { result ≡ capacity_at self.now channel }
     {
         self.capacities.get(channel)
+    }
+
+    /// Whether a channel has a reader: it is registered, and its reader was not dropped.
+    pub fn has_reader(&self, channel: u64) -> bool
+        ensures { result ≡ has_reader self.now channel }
+    {
+        self.capacities.has(channel) && !self.closed.has(channel)
     }
 
     /// Registers a channel of this capacity, which admits so much of each connection and to each key.
@@ -194,6 +204,19 @@ impl Channels {
         self.waiting.len_at(channel) >= capacity
     }
 
+    /// Why a message does not enter a channel that holds at most `capacity`, where it does not.
+    fn refusal(&self, capacity: usize, channel: u64) -> Option<Cause>
+        ensures { result ≡ refusal self.now capacity channel }
+    {
+        if self.closed.has(channel) {
+            return Some(Cause::ReceiverClosed);
+        }
+        if self.is_full(capacity, channel) {
+            return Some(Cause::MailboxFull);
+        }
+        None
+    }
+
     /// Puts a message last in its channel.
     fn keep(
         &mut self,
@@ -202,8 +225,8 @@ impl Channels {
         from: Key,
         arrived: Arrived,
     ) -> Result<(), AllocError>
-        ensures row { OnOk result (row.new ≡ delivered false turn.node from arrived row.old) }
-        ensures after { OnOk result (self.new ≡ delivered_to false turn.entry (length row.old.puts) turn.node from arrived self.old) }
+        ensures row { OnOk result (row.new ≡ delivered None turn.node from arrived row.old) }
+        ensures after { OnOk result (self.new ≡ delivered_to None turn.entry (length row.old.puts) turn.node from arrived self.old) }
     {
         let Arrived {
             copy,
@@ -219,8 +242,8 @@ impl Channels {
         Ok(())
     }
 
-    /// Puts a message that arrived last in its channel, which holds at most `capacity`, or ends its copy where it holds so
-    /// many.
+    /// Puts a message that arrived last in its channel, which holds at most `capacity`, or ends its copy where the reader was
+    /// dropped, or else where the channel holds so many.
     ///
     /// `Err` only where there is no memory. The message may then stand in its channel and not in the row, and its node goes no
     /// further.
@@ -232,15 +255,13 @@ impl Channels {
         from: Key,
         arrived: Arrived,
     ) -> Result<(), AllocError>
-        ensures row { OnOk result (row.new ≡ delivered (full_test self.old capacity arrived.channel) turn.node from arrived row.old) }
-        ensures after { OnOk result (self.new ≡ delivered_to (full_test self.old capacity arrived.channel) turn.entry (length row.old.puts) turn.node from arrived self.old) }
+        ensures row { OnOk result (row.new ≡ delivered (refusal self.old capacity arrived.channel) turn.node from arrived row.old) }
+        ensures after { OnOk result (self.new ≡ delivered_to (refusal self.old capacity arrived.channel) turn.entry (length row.old.puts) turn.node from arrived self.old) }
     {
-        if self.is_full(capacity, arrived.channel) {
-            drop_message(row, &arrived)?;
-            return Ok(());
+        match self.refusal(capacity, arrived.channel) {
+            Some(why) => drop_message(row, &arrived, why),
+            None => self.keep(turn, row, from, arrived),
         }
-        self.keep(turn, row, from, arrived)?;
-        Ok(())
     }
 
     /// Whether the oldest item of a channel is a message.
@@ -275,5 +296,19 @@ impl Channels {
             None => Ok(only(alloc, Reply::Pending)),
             Some(taken) => Ok(read_row(alloc, (taken.entry, taken.place), taken.item)?),
         }
+    }
+
+    /// Drops the reader of a channel: the messages that wait there end untaken, the oldest first, each with its copy.
+    ///
+    /// `Err` only where there is no memory. The messages may then be gone and told of to nobody, and its node goes no further.
+    pub fn close(&mut self, alloc: Global, channel: u64) -> Result<Row, AllocError>
+        ensures row { IfOk result (λ r. r ≡ closed_row (waiting self.old.waiting channel)) }
+        ensures after { OnOk result (self.new ≡ closed_with channel self.old) }
+    {
+        self.closed.insert(channel, ())?;
+        let left = self.waiting.take_all_at(alloc, channel);
+        let mut row = only(alloc, Reply::Ok);
+        drop_items(&mut row, left, Cause::ReceiverClosed)?;
+        Ok(row)
     }
 }

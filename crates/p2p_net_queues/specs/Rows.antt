@@ -1,9 +1,13 @@
 -- Parts of rows.
 use Rattle.std.specs.Prelude.{ℕ, List, [], ◌∷◌, ◌++◌, flat_map, map}
+use Rattle.p2p_base.specs.declared.key.Key.{Key}
 use Rattle.p2p_log_rules.specs.declared.row.Row.{Row}
 use Rattle.p2p_log.specs.declared.end.End.{End}
 use Rattle.p2p_log.specs.declared.end.End.TheVariants as end
+use Rattle.p2p_log.specs.declared.end.Cause.{Cause}
+use Rattle.p2p_log.specs.declared.end.Outcome.TheVariants as outcome
 use Rattle.p2p_log.specs.declared.entry.Reply.TheVariants as reply
+use Rattle.p2p_log.specs.Copies.{copies_from}
 use Rattle.p2p_log.specs.Lines.{ended_item}
 
 -- the row that takes the item of this name, and does no more
@@ -17,3 +21,11 @@ row_goes r = r.takes ++ flat_map ended_item r.ends
 -- the ends of the items of these names
 abbrev pub item_ends : List (ℕ × ℕ) → List End
 item_ends names = map (λ name. end.Item name.0 name.1) names
+
+-- a copy that is dropped
+abbrev pub dropped : Cause → ℕ × ℕ → End
+dropped c copy = end.Copy copy.0 copy.1 (outcome.Dropped c)
+
+-- the copies of a send to these keys, from this place on, that are dropped
+abbrev pub sent_dropped : Cause → ℕ → ℕ → List Key → List End
+sent_dropped c send p ks = map (dropped c) (copies_from send p ks)

@@ -3,6 +3,7 @@
 #![tactic(auto)]
 
 pub mod board;
+pub mod dropping;
 pub mod ending;
 pub mod lines;
 pub mod rows;
@@ -10,6 +11,7 @@ pub mod table;
 pub mod turn;
 
 pub use board::Board;
+pub use dropping::drop_items;
 pub use ending::{end_copies, end_items};
 pub use p2p_base::Deque;
 pub use rows::{only, taking};

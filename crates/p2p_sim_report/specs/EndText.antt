@@ -17,6 +17,7 @@ cause_onto out cause.Unbound = out ++ codes "\"unbound\""
 cause_onto out cause.NoConnection = out ++ codes "\"no_connection\""
 cause_onto out cause.RelayFull = out ++ codes "\"relay_full\""
 cause_onto out cause.MailboxFull = out ++ codes "\"mailbox_full\""
+cause_onto out cause.ReceiverClosed = out ++ codes "\"receiver_closed\""
 
 abbrev pub outcome_onto : List ℕ → Outcome → List ℕ
 outcome_onto out outcome.Delivered = out ++ codes "\"delivered\""

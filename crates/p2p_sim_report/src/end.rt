@@ -15,6 +15,7 @@ fn put_cause(out: &mut String, cause: Cause) -> Result<(), AllocError>
         Cause::NoConnection => put(out, "\"no_connection\""),
         Cause::RelayFull => put(out, "\"relay_full\""),
         Cause::MailboxFull => put(out, "\"mailbox_full\""),
+        Cause::ReceiverClosed => put(out, "\"receiver_closed\""),
     }
 }
 

@@ -73,6 +73,13 @@ recv_of d = do
   node ← field "node" whole d
   Some (act.Recv channel node)
 
+abbrev pub close_of : Data → Option Act
+close_of d = do
+  has ("channel" ∷ "node" ∷ []) d
+  channel ← field "channel" whole d
+  node ← field "node" whole d
+  Some (act.Close channel node)
+
 -- the act of sending that this word asks for, or one of those of a tracker
 abbrev pub sending_act_named : List ℕ → Data → Option Act
 sending_act_named word d =
@@ -90,6 +97,7 @@ act_named word d =
     else if bytes_eq word (codes "send_step") then send_step_of d
     else if bytes_eq word (codes "recv_step") then recv_step_of d
     else if bytes_eq word (codes "recv") then recv_of d
+    else if bytes_eq word (codes "close") then close_of d
     else sending_act_named word d
 
 abbrev pub act_of : Data → Option Act

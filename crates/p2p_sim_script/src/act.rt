@@ -2,7 +2,7 @@
 ghost use Rattle.std.specs.Prelude.{◌≡◌};
 ghost use Rattle.serde_json.specs.View.{view};
 ghost use Rattle.p2p_sim_script.specs.Gives.{Gives};
-ghost use Rattle.p2p_sim_script.specs.ActForm.{act_named, act_of, check_of, recv_of, recv_step_of, register_of, router_of, send_checked_of, send_of, send_step_of, sending_act_named, start_of};
+ghost use Rattle.p2p_sim_script.specs.ActForm.{act_named, act_of, check_of, close_of, recv_of, recv_step_of, register_of, router_of, send_checked_of, send_of, send_step_of, sending_act_named, start_of};
 
 use crate::error::ScriptError;
 use crate::parts::{read_node, read_rate};
@@ -75,6 +75,17 @@ fn read_recv(tree: &Value) -> Option<Act>
     Some(Act::Recv { channel, node })
 }
 
+fn read_close(tree: &Value) -> Option<Act>
+    ensures { result ≡ close_of (view tree.now) }
+{
+    if !only(tree, &["at", "seed", "do", "channel", "node"]) {
+        return None;
+    }
+    let channel = whole(tree, "channel")?;
+    let node = whole(tree, "node")?;
+    Some(Act::Close { channel, node })
+}
+
 fn read_send(alloc: Global, tree: &Value) -> Result<Act, ScriptError>
     ensures { Gives result (send_of (view tree.now)) }
 {
@@ -142,6 +153,7 @@ fn read_named(alloc: Global, word: &str, tree: &Value) -> Result<Act, ScriptErro
         "send_step" => read_send_step(tree),
         "recv_step" => read_recv_step(tree),
         "recv" => read_recv(tree),
+        "close" => read_close(tree),
         _ => return read_sending_named(alloc, word, tree),
     };
     act.ok_or(ScriptError::NotScript)
