@@ -115,7 +115,7 @@ module _ (configs : List Config) (log : List Entry) (a : Act) (r : Row) (m : Mov
   pub ended_laws : Each Fits r.puts → Moved configs log a r.reply m.taken r.puts
       → ((copy : ℕ × ℕ) → accepts log a r.reply copy + count_by (carries copy) m.taken ≡ borne_by copy r.puts front)
       → (Standing configs log → (ev : Event) → ev.act ≡ a → Each (EndShows configs log (entry_of ev r)) front)
-      → ((ev : Event) → ev.act ≡ a → (x : Envelope) (copy : ℕ × ℕ) → Has m.ended x → carries copy x ≡ true → Shows configs log (entry_of ev r) copy c)
+      → (Standing configs log → (ev : Event) → ev.act ≡ a → (x : Envelope) (copy : ℕ × ℕ) → Has m.ended x → carries copy x ≡ true → Shows configs log (entry_of ev r) copy c)
       → (is_read r.reply ≡ true → Delivery configs log a r.reply m.taken r.ends)
       → Laws configs log a r m
   ended_laws fitting moved balanced front_causes causes delivers = record {
@@ -131,7 +131,7 @@ module _ (configs : List Config) (log : List Entry) (a : Act) (r : Row) (m : Mov
     causes = λ stand ev acts.
         subst (Each (EndShows configs log (entry_of ev r))) (sym parts)
         (Each-append (EndShows configs log (entry_of ev r)) front (all_end c m.ended) (front_causes stand ev acts)
-        (all_end-each (EndShows configs log (entry_of ev r)) c m.ended (λ n p. tt) (λ x copy has bears. causes ev acts x copy has bears)));
+        (all_end-each (EndShows configs log (entry_of ev r)) c m.ended (λ n p. tt) (λ x copy has bears. causes stand ev acts x copy has bears)));
     delivers = delivers;
   }
 
@@ -157,7 +157,7 @@ module _ (configs : List Config) (log : List Entry) (a : Act) (said : Reply) (no
   }
 
   pub emptied_shape : (Standing configs log → (ev : Event) → ev.act ≡ a → Each (EndShows configs log (entry_of ev emptied)) first)
-      → ((ev : Event) → ev.act ≡ a → (q : Queue) → Has qs q → (x : Envelope) (place : ℕ) → slice_get (line log q) place ≡ Some x
+      → (Standing configs log → (ev : Event) → ev.act ≡ a → (q : Queue) → Has qs q → (x : Envelope) (place : ℕ) → slice_get (line log q) place ≡ Some x
       → (copy : ℕ × ℕ) → carries copy x ≡ true → Shows configs log (entry_of ev emptied) copy c)
       → Shape configs log a emptied
   unfolding line
@@ -180,9 +180,9 @@ module _ (configs : List Config) (log : List Entry) (a : Act) (said : Reply) (no
         in
         omega (arith, no_more, same, light))
         first_causes
-        (λ ev acts x copy has bears.
+        (λ stand ev acts x copy has bears.
         let here : Has (live log) x = Has-taken (live log) (taken ++ rest) x stood (Has-after taken rest x has) in
         let place = place_of (filter (stands_in x.queue) (live log)) x (Has-kept (stands_in x.queue) (live log) x (same_queue-refl x.queue) here) in
-        causes ev acts x.queue (Each-has (λ y. Has qs y.queue) rest x within has) x place.0 place.1 copy bears)
+        causes stand ev acts x.queue (Each-has (λ y. Has qs y.queue) rest x within has) x place.0 place.1 copy bears)
         (no_delivery configs log a said taken (first ++ all_end c rest) silent);
   }

@@ -5,7 +5,7 @@ use Rattle.p2p_log_rules.specs.Reading.{reading_of, told, is_read}
 use Rattle.p2p_log.specs.Sending.Sender.{Node}
 use Rattle.p2p_log.specs.declared.entry.Reply.{Reply}
 use Rattle.p2p_log.specs.Sending.{Sending, sending_of, keys_sent}
-use Rattle.std.proofs.Common.{◌≡◌, ℕ, suc, ◌+◌, ◌<◌, Bool, true, false, List, [], ◌∷◌, map, length, Some, None, inl, inr, refl, ap, sym, ◌∙◌, arith, subst}
+use Rattle.std.proofs.Common.{◌≡◌, ℕ, suc, ◌+◌, ◌<◌, Bool, true, false, cond, List, [], ◌∷◌, map, length, Some, None, inl, inr, refl, ap, sym, ◌∙◌, arith, subst}
 use Rattle.std.specs.Prelude.{◌==◌, ◌&&◌, nat_le, nat_lt, count_by, flat_map, slice_get, filter}
 use Rattle.std.specs.List.{AllByRecursion as Each}
 use Rattle.p2p_base.specs.declared.key.Key.{Key}
@@ -27,7 +27,8 @@ use Rattle.p2p_log.specs.declared.event.Recipients.{Recipients}
 use Rattle.p2p_log_rules.specs.declared.row.Row.{Row}
 use Rattle.p2p_log.specs.Lines.{name_of, same_name, ended_item, line}
 use Rattle.p2p_log_rules.specs.Admitting.{keys_admitted}
-use Rattle.p2p_log_rules.specs.Facts.{is_up, channels, capacity_in, capacity_for}
+use Rattle.p2p_log_rules.specs.Closing.{has_reader}
+use Rattle.p2p_log_rules.specs.Facts.{is_up, channels, capacity_for}
 use Rattle.p2p_log_rules.specs.Frames.{frame_of}
 use Rattle.p2p_log.specs.Copies.{keys_of_recipients, carries_copy, ends_copy, copies_from, copies_of}
 use Rattle.p2p_log_rules.specs.Effect
@@ -106,7 +107,7 @@ module _ (configs : List Config) (log : List Entry) (a : Act) (q : Queue) (reads
 
 pub recv_shape : (configs : List Config) (log : List Entry) (c n : ℕ) → Shape configs log (act.Recv c n) (Effect.recv_row configs log c n)
 recv_shape configs log c n =
-    elim (capacity_in (channels configs log n) c) as (λ o. Shape configs log (act.Recv c n) (elim o [ None ↦ Effect.only reply.Gone | Some _ ↦ Effect.oldest_read (line log (queue.Channel n c)) ])) [
-      | None ↦ still configs log (act.Recv c n) reply.Gone refl refl
-      | Some _ ↦ read_shape configs log (act.Recv c n) (queue.Channel n c) refl (same_queue-refl (queue.Channel n c)) (λ r. refl)
+    elim (has_reader configs log n c) as (λ b. Shape configs log (act.Recv c n) (cond b (Effect.oldest_read (line log (queue.Channel n c))) (Effect.only reply.Gone))) [
+      | false ↦ still configs log (act.Recv c n) reply.Gone refl refl
+      | true ↦ read_shape configs log (act.Recv c n) (queue.Channel n c) refl (same_queue-refl (queue.Channel n c)) (λ r. refl)
     ]

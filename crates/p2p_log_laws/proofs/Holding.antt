@@ -9,9 +9,7 @@ use Rattle.p2p_log.specs.declared.queue.Queue.TheVariants as queue
 use Rattle.p2p_log.specs.declared.item.Item.{Item}
 use Rattle.p2p_log.specs.declared.item.Item.TheVariants as item
 use Rattle.p2p_log.specs.declared.item.Envelope.{Envelope}
-use Rattle.p2p_log.specs.declared.end.End.TheVariants as end
-use Rattle.p2p_log.specs.declared.end.Outcome.TheVariants as outcome
-use Rattle.p2p_log.specs.declared.end.Cause.TheVariants as cause
+use Rattle.p2p_log.specs.declared.end.Cause.{Cause}
 use Rattle.p2p_log.specs.declared.entry.Entry.{Entry}
 use Rattle.p2p_log.specs.declared.entry.Reply.TheVariants as reply
 use Rattle.p2p_log.specs.declared.event.Act.{Act}
@@ -23,6 +21,7 @@ use Rattle.p2p_log.proofs.QueueNames.{queue_from_same}
 use Rattle.p2p_log_rules.specs.declared.row.Half.{Half}
 use Rattle.p2p_log_rules.specs.declared.row.Opening.{Opening}
 use Rattle.p2p_log_rules.specs.declared.row.Row.{Row}
+use Rattle.p2p_log_rules.specs.Closing.{is_closed, refused_by}
 use Rattle.p2p_log_rules.specs.Connections.{half_at, is_running}
 use Rattle.p2p_log_rules.specs.Effect
 use Rattle.p2p_log_rules.specs.Effect.{row, goes_to}
@@ -52,15 +51,13 @@ module _ (configs : List Config) (log : List Entry) (n conn : ℕ) where
   -- ---- a step of a receiving half puts one item at most
 
   module _ (m e at : ℕ) where
-    delivered_alone : (from : Key) (copy : ℕ × ℕ) (message : ℕ × List ℕ) (name : ℕ × ℕ) (full : Bool)
-        → Alone (cond full
-        (record { reply = reply.Ok; takes = name ∷ []; puts = []; ends = end.Copy copy.0 copy.1 (outcome.Dropped cause.MailboxFull) ∷ [] })
-        (record { reply = reply.Ok; takes = name ∷ []; puts = (queue.Channel m message.0, item.Message message.1 copy from) ∷ []; ends = [] }))
-    delivered_alone from copy message name true = inl tt
-    delivered_alone from copy message name false = one_alone (queue.Channel m message.0) (item.Message message.1 copy from)
+    delivered_alone : (name : ℕ × ℕ) (from : Key) (copy : ℕ × ℕ) (message : ℕ × List ℕ) (o : Option Cause) → Alone (Effect.delivered_row o m name from copy message)
+    delivered_alone name from copy message (Some why) = inl tt
+    delivered_alone name from copy message None = one_alone (queue.Channel m message.0) (item.Message message.1 copy from)
 
     deliver_alone : (name : ℕ × ℕ) (from : Key) (copy : ℕ × ℕ) (message : ℕ × List ℕ) (capacity : ℕ) → Alone (Effect.deliver_row log m name from copy message capacity)
-    deliver_alone name from copy message capacity = delivered_alone from copy message name (nat_le capacity (length (line log (queue.Channel m message.0))))
+    deliver_alone name from copy message capacity =
+        delivered_alone name from copy message (refused_by (is_closed log m message.0) (nat_le capacity (length (line log (queue.Channel m message.0)))))
 
     known_alone : (name : ℕ × ℕ) (from : Key) (copy : ℕ × ℕ) (message : ℕ × List ℕ) (o : Option ℕ) (passes : Bool)
         → Alone (elim o [

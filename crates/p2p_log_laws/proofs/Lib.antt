@@ -14,6 +14,7 @@ pub mod CallShapes
 pub mod CallTells
 pub mod Carried
 pub mod Checks
+pub mod CloseShape
 pub mod Comes
 pub mod Coming
 pub mod ConnShapes

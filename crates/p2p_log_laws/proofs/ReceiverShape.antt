@@ -11,23 +11,27 @@ use Rattle.p2p_log.specs.declared.item.Item.TheVariants as item
 use Rattle.p2p_log.specs.declared.item.Envelope.{Envelope}
 use Rattle.p2p_log.specs.declared.end.End.TheVariants as end
 use Rattle.p2p_log.specs.declared.end.Outcome.TheVariants as outcome
+use Rattle.p2p_log.specs.declared.end.Cause.{Cause}
 use Rattle.p2p_log.specs.declared.end.Cause.TheVariants as cause
 use Rattle.p2p_log.specs.declared.entry.Entry.{Entry}
 use Rattle.p2p_log.specs.declared.entry.Reply.TheVariants as reply
+use Rattle.p2p_log.specs.declared.event.Event.{Event}
 use Rattle.p2p_log.specs.declared.event.Act.{Act}
 use Rattle.p2p_log.specs.declared.event.Act.TheVariants as act
 use Rattle.p2p_log.specs.Copies.{carries_copy, copies_of}
 use Rattle.p2p_log.specs.Lines.{name_of, same_name, line}
 use Rattle.p2p_log_rules.specs.declared.row.Half.{Half}
 use Rattle.p2p_log_rules.specs.declared.row.Row.{Row}
+use Rattle.p2p_log_rules.specs.Closing.{is_closed, refused_by}
 use Rattle.p2p_log_rules.specs.Connections.{half_at, is_running}
 use Rattle.p2p_log_rules.specs.Effect
+use Rattle.p2p_log_rules.specs.Effect.{entry_of}
 use Rattle.p2p_log_rules.specs.Facts.{channels, capacity_in}
 use Rattle.p2p_log_rules.specs.Frames.{message_in, is_ping_in}
 use Rattle.p2p_log_rules.specs.Metering.{pings, messages, may_pass}
 use Rattle.p2p_log_rules.proofs.Moves.{one_taken}
 use Rattle.p2p_log_rules.proofs.Touches.{reads, writes}
-use Rattle.p2p_log_laws.specs.Causes.{BringsCopy}
+use Rattle.p2p_log_laws.specs.Causes.{BringsCopy, IsComing, Shows}
 use Rattle.p2p_log_laws.proofs.ConnShapes.{both, or_left, link_in_half}
 use Rattle.p2p_log_laws.proofs.Fitting.{is_bare}
 use Rattle.p2p_log_laws.proofs.FrameLaw.{frames_give}
@@ -89,18 +93,13 @@ module _ (configs : List Config) (log : List Entry) (conn n moment : ℕ) where
 
       module _ (from : OfItem configs log x (queue.Channel n message.0) (item.Message message.1 copy half.peer))
           (arrived : Standing configs log → Arrives configs log n half copy message) where
-        fitting_shape : (capacity : ℕ) (full : Bool) → capacity_in (channels configs log n) message.0 ≡ Some capacity → nat_le capacity (length (line log (queue.Channel n message.0))) ≡ full
-            → Shape configs log step (cond full
-            (record { reply = reply.Ok; takes = name_of x ∷ []; puts = []; ends = end.Copy copy.0 copy.1 (outcome.Dropped cause.MailboxFull) ∷ [] })
-            (record { reply = reply.Ok; takes = name_of x ∷ []; puts = (queue.Channel n message.0, item.Message message.1 copy half.peer) ∷ []; ends = [] }))
-        fitting_shape capacity true known size =
-            spent_shape configs log step reply.Ok refl q x rest first read copy (outcome.Dropped cause.MailboxFull)
-            (brings_carried n conn half copy message.0 message.1 q x.item brings).1
-            (λ stand ev steps.
+        -- what an entry that takes it shows
+        coming : (capacity : ℕ) (why : Cause) (ev : Event) → ev.act ≡ step → capacity_in (channels configs log n) message.0 ≡ Some capacity → Standing configs log
+            → IsComing configs log (entry_of ev (Effect.delivered_row (Some why) n (name_of x) half.peer copy message)) copy n message.0 capacity
+        coming capacity why ev steps known stand =
             let a : Arrives configs log n half copy message = arrived stand in
             record {
               conn = conn;
-              node = n;
               steps = steps;
               half = half;
               at = at;
@@ -110,22 +109,39 @@ module _ (configs : List Config) (log : List Entry) (conn n moment : ℕ) where
               stood = first;
               takes = refl;
               sender = a.sender;
-              channel = message.0;
               bytes = message.1;
               brings = brings;
               sent = a.sent;
-              capacity = capacity;
               registered = known;
-              full = leb-true capacity _ size;
-            })
-            (no_delivery configs log step reply.Ok (x ∷ []) (end.Copy copy.0 copy.1 (outcome.Dropped cause.MailboxFull) ∷ []) refl)
-        fitting_shape capacity false known size =
+            }
+
+        -- its copy ends, for a cause that it shows
+        refused_shape : (why : Cause)
+            → (Standing configs log → (ev : Event) → ev.act ≡ step → Shows configs log (entry_of ev (Effect.delivered_row (Some why) n (name_of x) half.peer copy message)) copy why)
+            → Shape configs log step (Effect.delivered_row (Some why) n (name_of x) half.peer copy message)
+        refused_shape why shows =
+            spent_shape configs log step reply.Ok refl q x rest first read copy (outcome.Dropped why)
+            (brings_carried n conn half copy message.0 message.1 q x.item brings).1
+            shows
+            (no_delivery configs log step reply.Ok (x ∷ []) (end.Copy copy.0 copy.1 (outcome.Dropped why) ∷ []) refl)
+
+        -- by whether the reader was dropped and whether the channel is full
+        fitting_shape : (capacity : ℕ) (closed full : Bool) → capacity_in (channels configs log n) message.0 ≡ Some capacity → is_closed log n message.0 ≡ closed
+            → nat_le capacity (length (line log (queue.Channel n message.0))) ≡ full
+            → Shape configs log step (Effect.delivered_row (refused_by closed full) n (name_of x) half.peer copy message)
+        fitting_shape capacity true full known shut size =
+            refused_shape cause.ReceiverClosed
+            (λ stand ev steps. inr (record { node = n; channel = message.0; capacity = capacity; coming = coming capacity cause.ReceiverClosed ev steps known stand; closed = shut }))
+        fitting_shape capacity false true known shut size =
+            refused_shape cause.MailboxFull
+            (λ stand ev steps. record { node = n; channel = message.0; capacity = capacity; coming = coming capacity cause.MailboxFull ev steps known stand; full = leb-true capacity _ size })
+        fitting_shape capacity false false known shut size =
             let carried = brings_carried n conn half copy message.0 message.1 q x.item brings in
             handed_shape configs log step reply.Ok refl q x rest first read (queue.Channel n message.0) (item.Message message.1 copy half.peer) refl
             (eq-eqb n n refl) refl (sym carried.0) carried.1 from
 
         deliver_shape : (capacity : ℕ) → capacity_in (channels configs log n) message.0 ≡ Some capacity → Shape configs log step (Effect.deliver_row log n (name_of x) half.peer copy message capacity)
-        deliver_shape capacity known = fitting_shape capacity _ known refl
+        deliver_shape capacity known = fitting_shape capacity _ _ known refl refl
 
   -- ---- what is held
 

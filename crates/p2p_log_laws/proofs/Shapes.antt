@@ -6,6 +6,7 @@ use Rattle.p2p_log.specs.declared.event.Act.{Act}
 use Rattle.p2p_log.specs.declared.event.Act.TheVariants as act
 use Rattle.p2p_log_rules.specs.Effect.{row}
 use Rattle.p2p_log_laws.proofs.CallShapes.{register_shape, start_shape, recv_shape}
+use Rattle.p2p_log_laws.proofs.CloseShape.{close_shape}
 use Rattle.p2p_log_laws.proofs.ConnShapes.{send_step_shape}
 use Rattle.p2p_log_laws.proofs.ReceiverShape.{recv_step_shape}
 use Rattle.p2p_log_laws.proofs.RouterShape.{router_shape}
@@ -31,6 +32,7 @@ row_shape configs log at seed (act.Router n) = router_shape configs log n
 row_shape configs log at seed (act.SendStep conn n) = send_step_shape configs log conn n at
 row_shape configs log at seed (act.RecvStep conn n) = recv_step_shape configs log conn n at
 row_shape configs log at seed (act.Recv c n) = recv_shape configs log c n
+row_shape configs log at seed (act.Close c n) = close_shape configs log c n
 row_shape configs log at seed (act.Ask what n) = ask_shape configs log n what
 row_shape configs log at seed (act.Answer question) = answer_shape configs log question
 row_shape configs log at seed (act.Next question) = next_shape configs log question

@@ -2,7 +2,7 @@
 use Rattle.p2p_log.specs.Sending.{Sender, Sending, sending_of}
 use Rattle.p2p_log.specs.Copies.{accepted}
 use Rattle.p2p_log.specs.Sending.Sender.{Node}
-use Rattle.std.specs.Prelude.{◌≡◌, ◌⊎◌, ℕ, ◌+◌, ◌<◌, ◌≤◌, Bool, false, ◌==◌, ◌&&◌, nat_lt, List, [], ◌∷◌, length, take, count_by, Some, None, slice_get}
+use Rattle.std.specs.Prelude.{◌≡◌, ◌⊎◌, ℕ, ◌+◌, ◌<◌, ◌≤◌, Bool, true, false, ◌==◌, ◌&&◌, nat_lt, List, [], ◌∷◌, length, take, count_by, Some, None, slice_get}
 use Rattle.p2p_base.specs.declared.key.Key.{Key}
 use Rattle.p2p_log.specs.declared.config.Config.{Config}
 use Rattle.p2p_log.specs.declared.queue.Queue.{Queue}
@@ -15,9 +15,11 @@ use Rattle.p2p_log.specs.declared.end.Outcome.TheVariants as outcome
 use Rattle.p2p_log.specs.declared.end.Cause.{Cause}
 use Rattle.p2p_log.specs.declared.end.Cause.TheVariants as cause
 use Rattle.p2p_log.specs.declared.entry.Entry.{Entry}
+use Rattle.p2p_log.specs.declared.entry.Reply.TheVariants as reply
 use Rattle.p2p_log.specs.declared.event.Act.TheVariants as act
 use Rattle.p2p_log_rules.specs.declared.row.Half.{Half}
 use Rattle.p2p_log.specs.Lines.{name_of, line}
+use Rattle.p2p_log_rules.specs.Closing.{is_closed}
 use Rattle.p2p_log_rules.specs.Connections.{half_at}
 use Rattle.p2p_log_rules.specs.Facts.{is_up, channels, capacity_in, key_at, routes, route_to}
 use Rattle.p2p_log_rules.specs.Effect.{goes_to, relay_queue, mailbox_size_at, other_side}
@@ -93,11 +95,10 @@ BringsCopy node conn half copy channel bytes q i =
     ((q ≡ queue.Link half.link (other_side half.writes)) × ((frame : List ℕ) × (i ≡ item.Frame (Some copy) frame)))
     ⊎ ((q ≡ queue.Held node conn) × (i ≡ item.Held channel bytes copy))
 
--- the entry is a step of a receiving half, which takes what brings it the copy, the oldest where it stands; the copy is for
--- this node, and the queue of the channel on which it was sent holds its capacity
-pub record MailboxIsFull (configs : List Config) (before : List Entry) (e : Entry) (copy : ℕ × ℕ) : Type 0 where
+-- the entry is a step of a receiving half of this node, which takes what brings it the copy, the oldest where it stands; the copy
+-- is for this node, and was sent on this channel, which is registered there with this capacity
+pub record IsComing (configs : List Config) (before : List Entry) (e : Entry) (copy : ℕ × ℕ) (node channel capacity : ℕ) : Type 0 where
   pub conn : ℕ
-  pub node : ℕ
   pub steps : e.event.act ≡ act.RecvStep conn node
   pub half : Half
   pub at : half_at before node conn ≡ Some half
@@ -107,13 +108,48 @@ pub record MailboxIsFull (configs : List Config) (before : List Entry) (e : Entr
   pub stood : line before from ≡ oldest ∷ later
   pub takes : e.takes ≡ name_of oldest ∷ []
   pub sender : Sender
-  pub channel : ℕ
   pub bytes : List ℕ
   pub brings : BringsCopy node conn half copy channel bytes from oldest.item
   pub sent : IsCopyOf before copy sender channel bytes (key_at configs node)
-  pub capacity : ℕ
   pub registered : capacity_in (channels configs before node) channel ≡ Some capacity
+
+-- the queue of the channel on which it was sent holds its capacity
+pub record MailboxIsFull (configs : List Config) (before : List Entry) (e : Entry) (copy : ℕ × ℕ) : Type 0 where
+  pub node : ℕ
+  pub channel : ℕ
+  pub capacity : ℕ
+  pub coming : IsComing configs before e copy node channel capacity
   pub full : capacity ≤ length (line before (queue.Channel node channel))
+
+-- ---- receiver closed
+
+-- the entry drops the reader of a channel, in which the copy's message waits; the copy is for the channel's node, and was sent on
+-- this channel
+pub record IsLeft (configs : List Config) (before : List Entry) (e : Entry) (copy : ℕ × ℕ) : Type 0 where
+  pub node : ℕ
+  pub channel : ℕ
+  pub closes : e.event.act ≡ act.Close channel node
+  pub done : e.reply ≡ reply.Ok
+  pub place : ℕ
+  pub left : Envelope
+  pub stood : slice_get (line before (queue.Channel node channel)) place ≡ Some left
+  pub bytes : List ℕ
+  pub from : Key
+  pub is : left.item ≡ item.Message bytes copy from
+  pub sender : Sender
+  pub sent : IsCopyOf before copy sender channel bytes (key_at configs node)
+
+-- the reader of the channel on which it was sent had been dropped
+pub record IsLate (configs : List Config) (before : List Entry) (e : Entry) (copy : ℕ × ℕ) : Type 0 where
+  pub node : ℕ
+  pub channel : ℕ
+  pub capacity : ℕ
+  pub coming : IsComing configs before e copy node channel capacity
+  pub closed : is_closed before node channel ≡ true
+
+-- the reader of its channel closes here, or had closed
+abbrev pub ReceiverIsClosed : List Config → List Entry → Entry → ℕ × ℕ → Type 0
+ReceiverIsClosed configs before e copy = IsLeft configs before e copy ⊎ IsLate configs before e copy
 
 -- ---- all causes
 
@@ -123,6 +159,7 @@ Shows configs before e copy cause.Unbound = IsUnbound configs before e copy
 Shows configs before e copy cause.NoConnection = HasNoConnection configs before e copy
 Shows configs before e copy cause.RelayFull = RelayIsFull configs before e copy
 Shows configs before e copy cause.MailboxFull = MailboxIsFull configs before e copy
+Shows configs before e copy cause.ReceiverClosed = ReceiverIsClosed configs before e copy
 
 -- each entry that drops a copy shows the cause
 abbrev pub EachDropShowsItsCause : List Config → List Entry → Type 0

@@ -2,6 +2,7 @@ pub mod Admitted
 pub mod Beginning
 pub mod BulkEnds
 pub mod Causes
+pub mod ClosedPath
 pub mod Delivered
 pub mod Fates
 pub mod Flow

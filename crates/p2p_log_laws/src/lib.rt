@@ -30,4 +30,4 @@ pub use lists::lists_are_current;
 pub use moving::{bulk_ends_are_whole, flow_keeps_order};
 pub use order::delivered_in_order;
 pub use sends::{checks_are_spent, sends_are_admitted};
-pub use worked::worked_rows;
+pub use worked::{closed_rows, worked_rows};
