@@ -13,10 +13,11 @@ use Rattle.p2p_log_rules.proofs.Facts.{events_of-append, registered-append}
 use Rattle.p2p_net_queues.specs.Lines.{HoldsLines}
 use Rattle.p2p_net_queues.proofs.Holding.{holds_frame}
 use Rattle.p2p_net_queues.specs.Tables.{at}
-use Rattle.p2p_net_channels.specs.Stands.{AdmitsNone, SendsNone, ChannelsStand, LeavesChannels}
+use Rattle.p2p_net_channels.specs.Stands.{AdmitsNone, SendsNone, ClosesNone, ChannelsStand, LeavesChannels}
 use Rattle.p2p_net_channels.specs.declared.channels.Channels.{Channels}
 use Rattle.p2p_net_channels.proofs.Checks.{checks_stay}
 use Rattle.p2p_net_channels.proofs.Quotas.{same_rates, quota_stays}
+use Rattle.p2p_net_channels.proofs.Readers.{closed_stay}
 use Rattle.p2p_net_channels.proofs.Sending.{senders_stay}
 
 pub channels-append : (configs : List Config) (log : List Entry) (e : Entry) (n : ℕ) → channels configs (log ++ e ∷ []) n ≡ channels configs log n ++ registers_at configs n e.event.act
@@ -28,8 +29,8 @@ channels-kept configs log e n none = channels-append configs log e n ∙ (ap (λ
 -- no channel more, and these messages wait
 pub channels_moved :
     (configs : List Config) (log : List Entry) (e : Entry) (n : ℕ) (ch : Channels) (w : List (ℕ × List Envelope)) → ChannelsStand configs log n ch → registers_at configs n e.event.act ≡ []
-    → AdmitsNone configs log e n → SendsNone log e n → HoldsLines (queue.Channel n) (log ++ e ∷ []) w → ChannelsStand configs (log ++ e ∷ []) n (record ch { waiting = w })
-channels_moved configs log e n ch w s none admits sends waits = record {
+    → AdmitsNone configs log e n → SendsNone log e n → ClosesNone e n → HoldsLines (queue.Channel n) (log ++ e ∷ []) w → ChannelsStand configs (log ++ e ∷ []) n (record ch { waiting = w })
+channels_moved configs log e n ch w s none admits sends closes waits = record {
   capacities = λ c. s.capacities c ∙ ap (λ l. capacity_in l c) (sym (channels-kept configs log e n none));
   total = s.total ∙ ap sum_capacities (sym (channels-kept configs log e n none));
   room = s.room;
@@ -37,12 +38,13 @@ channels_moved configs log e n ch w s none admits sends waits = record {
   quotas = λ c. same_rates configs log e n c (at ch.quotas c) none (quota_stays configs log e n c (rate_in (rates (events_of log) n) c) (at ch.quotas c) (s.quotas c) (λ conn. admits conn c));
   senders = senders_stay configs log e n ch.senders s.senders none sends;
   checks = checks_stay log e n ch.checks s.checks sends;
+  closed = closed_stay log e n ch s.closed closes;
 }
 
 -- an entry that leaves them alone
 pub channels_frame : (configs : List Config) (log : List Entry) (e : Entry) (n : ℕ) (ch : Channels) → ChannelsStand configs log n ch → LeavesChannels configs log e n → ChannelsStand configs (log ++ e ∷ []) n ch
 channels_frame configs log e n ch s q =
-    channels_moved configs log e n ch ch.waiting s q.registers q.admits q.sends (holds_frame (queue.Channel n) log e ch.waiting s.waits q.lines)
+    channels_moved configs log e n ch ch.waiting s q.registers q.admits q.sends q.closes (holds_frame (queue.Channel n) log e ch.waiting s.waits q.lines)
 
 -- different channels have different queues
 pub same_channel : (n c d : ℕ) → is_at (nat_cmp c) d ≡ same_queue (queue.Channel n c) (queue.Channel n d)

@@ -1,8 +1,10 @@
 mod Admitted
 pub mod Changes
 pub mod Checks
+pub mod Closing
 pub mod Metering
 pub mod Quotas
+pub mod Readers
 pub mod Registering
 pub mod Senders
 pub mod Sending

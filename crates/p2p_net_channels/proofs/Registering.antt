@@ -13,6 +13,7 @@ use Rattle.p2p_log.specs.declared.entry.Entry.{Entry}
 use Rattle.p2p_log.specs.Lines.{line}
 use Rattle.p2p_log_rules.specs.Facts.{events_of, registers_at, capacity_for, channels, capacity_in, rates_by, rates, rate_in, sum_capacities}
 use Rattle.p2p_log_rules.specs.Admitting.{rate_at, sent_moments}
+use Rattle.p2p_log_rules.specs.Closing.{closed_by}
 use Rattle.p2p_log_rules.specs.Listening.{quota_of}
 use Rattle.p2p_log_rules.specs.Tracking.{key_cmp}
 use Rattle.p2p_log_rules.specs.Metering.{messages, admitted}
@@ -28,6 +29,7 @@ use Rattle.p2p_net_channels.specs.declared.channels.Channels.{Channels}
 use Rattle.p2p_net_channels.proofs.Checks.{checks_stay}
 use Rattle.p2p_net_channels.proofs.Changes.{channels-append}
 use Rattle.p2p_net_channels.proofs.Quotas.{rates-append, same_known, admitted_none, quota_stays}
+use Rattle.p2p_net_channels.proofs.Readers.{closed_stay}
 use Rattle.p2p_net_channels.proofs.Sending.{sent_moments-kept, sent_none, sender_stays}
 
 lookup-last :
@@ -129,6 +131,7 @@ channels_registered configs log e n c k rate ch s is amount absent room lines is
           (subst (λ o. SenderStands (log ++ e ∷ []) n d (elim (rate_at log n d) [ None ↦ cond (d == c) (Some rate) None | Some v ↦ Some v ]) o) (sym (at-inserted c d (fresh (quota_of rate)) ch.senders))
           (new_sender configs log e n c rate ch s.senders (no_rate_yet (s.capacities c)) is_quota sends d (d == c) refl (rate_at log n d) refl));
       checks = checks_stay log e n ch.checks s.checks sends;
+      closed = closed_stay log e n ch s.closed (λ d. ap (λ a. closed_by n d a e.reply) is);
     }
   where
     known : (d : ℕ) → rate_at (log ++ e ∷ []) n d ≡ elim (rate_at log n d) [ None ↦ cond (d == c) (Some rate) None | Some v ↦ Some v ]

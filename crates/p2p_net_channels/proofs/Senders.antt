@@ -28,10 +28,11 @@ use Rattle.p2p_net_queues.proofs.Meters.{meters_later, passes_until, told_until,
 use Rattle.p2p_net_queues.proofs.Tables.{lookup-set, same_name}
 use Rattle.p2p_net_channels.specs.Channels.{capacity_at}
 use Rattle.p2p_net_channels.specs.Senders.{moment_told, keys_passing, keys_retry, kept_after, passed_on, keys_passed, retry_on, retry_told, senders_on, keys_metered}
-use Rattle.p2p_net_channels.specs.Stands.{SenderStands, AdmitsNone, ChannelsStand}
+use Rattle.p2p_net_channels.specs.Stands.{SenderStands, AdmitsNone, ClosesNone, ChannelsStand}
 use Rattle.p2p_net_channels.specs.declared.channels.Channels.{Channels}
 use Rattle.p2p_net_channels.proofs.Changes.{channels-kept}
 use Rattle.p2p_net_channels.proofs.Quotas.{quota_stays, same_rates}
+use Rattle.p2p_net_channels.proofs.Readers.{closed_stay}
 use Rattle.p2p_net_channels.proofs.Sending.{sent_moments-append, sender_stays, same_sender_rates}
 
 -- keys are in order
@@ -200,7 +201,7 @@ module _
     (configs : List Config) (log : List Entry) (e : Entry) (n : ℕ) (ch : Channels) (m : List (ℕ × Checked)) (s : ChannelsStand configs log n ch)
     (none : registers_at configs n e.event.act ≡ []) (admits_none : AdmitsNone configs log e n)
     (lines : (d : ℕ) → line (log ++ e ∷ []) (queue.Channel n d) ≡ line log (queue.Channel n d))
-    (checks : (name : ℕ) → at m name ≡ checked_at (log ++ e ∷ []) n name)
+    (checks : (name : ℕ) → at m name ≡ checked_at (log ++ e ∷ []) n name) (closes_none : ClosesNone e n)
   where
     -- with these quotas of what the node sends
     with_senders : (senders : List (ℕ × KeptByKey Key)) → ((d : ℕ) → SenderStands (log ++ e ∷ []) n d (rate_at log n d) (at senders d)) → ChannelsStand configs (log ++ e ∷ []) n (record ch { senders = senders; checks = m })
@@ -212,6 +213,7 @@ module _
       quotas = λ d. same_rates configs log e n d (at ch.quotas d) none (quota_stays configs log e n d (rate_at log n d) (at ch.quotas d) (s.quotas d) (λ conn. admits_none conn d));
       senders = λ d. same_sender_rates configs log e n d (at senders d) none (stands d);
       checks = checks;
+      closed = closed_stay log e n ch s.closed closes_none;
     }
 
     -- the quota of a channel was asked for each key of those that a message is offered to

@@ -1,5 +1,5 @@
 -- When the channels of a node stand for a log.
-use Rattle.std.specs.Prelude.{◌≡◌, ℕ, ◌+◌, ◌^◌, ◌<◌, List, [], ◌∷◌, ◌++◌, Option, Some, None}
+use Rattle.std.specs.Prelude.{◌≡◌, ℕ, ◌+◌, ◌^◌, ◌<◌, false, List, [], ◌∷◌, ◌++◌, Option, Some, None}
 use Rattle.std.specs.Ordering.{nat_cmp}
 use Rattle.p2p_base.specs.declared.key.Key.{Key}
 use Rattle.p2p_log.specs.declared.config.Config.{Config}
@@ -9,6 +9,8 @@ use Rattle.p2p_log.specs.Lines.{line}
 use Rattle.p2p_log.specs.declared.event.Rate.{Rate}
 use Rattle.p2p_log_rules.specs.Admitting.{rate_at, sent_by, sent_moments}
 use Rattle.p2p_log_rules.specs.Checking.{checks_by, checked_at}
+use Rattle.p2p_log_rules.specs.Closing as closing
+use Rattle.p2p_log_rules.specs.Closing.{closes}
 use Rattle.p2p_log_rules.specs.Tracking.{key_cmp}
 use Rattle.p2p_log_rules.specs.Facts.{events_of, channels, registers_at, capacity_in, rates, rate_in, sum_capacities}
 use Rattle.p2p_log_rules.specs.Listening.{quota_of}
@@ -18,7 +20,7 @@ use Rattle.p2p_runtime.specs.QuotaKeys.{KeptByKey}
 use Rattle.p2p_net_queues.specs.Lines.{HoldsLines}
 use Rattle.p2p_net_queues.specs.Meters.{Meters}
 use Rattle.p2p_net_queues.specs.Tables.{at}
-use Rattle.p2p_net_channels.specs.Channels.{capacity_at}
+use Rattle.p2p_net_channels.specs.Channels.{capacity_at, is_closed}
 use Rattle.p2p_net_channels.specs.declared.channels.Channels.{Channels}
 
 -- what is kept for a channel of this rate, on each connection: nothing where it is not registered, and nothing was admitted there
@@ -45,6 +47,8 @@ pub record ChannelsStand (configs : List Config) (log : List Entry) (n : ℕ) (c
   pub senders : (c : ℕ) → SenderStands log n c (rate_at log n c) (at ch.senders c)
   -- what the node's checks admitted that waits for a message
   pub checks : (name : ℕ) → at ch.checks name ≡ checked_at log n name
+  -- whose readers were dropped
+  pub closed : (c : ℕ) → is_closed ch c ≡ closing.is_closed log n c
 
 -- an entry in which no connection admits a message
 abbrev pub AdmitsNone : List Config → List Entry → Entry → ℕ → Type 0
@@ -55,9 +59,14 @@ pub record SendsNone (log : List Entry) (e : Entry) (n : ℕ) : Type 0 where
   pub moments : (c : ℕ) (k : Key) → sent_by n c log e (sent_moments log n c) k ≡ sent_moments log n c k
   pub checks : (name : ℕ) → checks_by n log e (checked_at log n) name ≡ checked_at log n name
 
+-- an entry that drops no reader of the node
+abbrev pub ClosesNone : Entry → ℕ → Type 0
+ClosesNone e n = (c : ℕ) → closes n c e ≡ false
+
 -- an entry that leaves them alone
 pub record LeavesChannels (configs : List Config) (log : List Entry) (e : Entry) (n : ℕ) : Type 0 where
   pub registers : registers_at configs n e.event.act ≡ []
   pub lines : (c : ℕ) → line (log ++ e ∷ []) (queue.Channel n c) ≡ line log (queue.Channel n c)
   pub admits : AdmitsNone configs log e n
   pub sends : SendsNone log e n
+  pub closes : ClosesNone e n
