@@ -73,6 +73,7 @@ ACT_FORMS = {
     'send_step': {'conn': whole, 'node': whole},
     'recv_step': {'conn': whole, 'node': whole},
     'recv': {'channel': whole, 'node': whole},
+    'close': {'channel': whole, 'node': whole},
     'track': {'index': whole, 'node': whole, 'primary': some_peers},
     'overwrite': {'node': whole, 'peers': some_peers},
     'block': {'key': whole, 'node': whole},
