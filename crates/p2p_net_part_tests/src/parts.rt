@@ -1,11 +1,12 @@
 //! A frame's way over a link to its channel, by the parts that move it.
 use bytes::Bytes;
 use p2p_base::{Key, List};
-use p2p_log::{Item, Queue, Reply, Side};
+use p2p_log::{Cause, End, Item, Outcome, Queue, Reply, Side};
 use p2p_log_rules::Row;
 use p2p_net_channels::{Arrived, Arriving, Channels, open};
 use p2p_net_links::Links;
 use p2p_net_queues::{Turn, only};
+use p2p_runtime::Quota;
 use p2p_wire::{EncodedData, PING_PREFIX};
 use std::alloc::{AllocError, Global};
 
@@ -83,6 +84,47 @@ fn delivered(alloc: Global) -> Result<(usize, usize), AllocError> {
 #[test]
 fn a_full_channel_drops_what_comes(rt: HostRuntime) {
     assert_eq!(rt; delivered(rt.alloc()), Ok((1, 1)));
+}
+
+// What the row of a reader that is dropped shows where one message waits: its reply, and what it ends.
+fn closed(row: &Row) -> bool {
+    let due = [
+        End::Item(4, 0),
+        End::Copy(1, 0, Outcome::Dropped(Cause::ReceiverClosed)),
+    ];
+    matches!(&row.reply, Reply::Ok) && row.takes.is_empty() && row.ends.as_slice() == due.as_slice()
+}
+
+// Whether the reader of this channel takes a message.
+fn reads(alloc: Global, channels: &mut Channels, channel: u64) -> Result<bool, AllocError> {
+    let row = channels.read(alloc, channel)?;
+    Ok(matches!(&row.reply, Reply::Message { .. }))
+}
+
+// Whether a message that comes once the reader is dropped ends for that alone, and not for a full channel.
+fn comes_late(alloc: Global, channels: &mut Channels) -> Result<bool, AllocError> {
+    let mut row = only(alloc, Reply::Ok);
+    deliver(alloc, channels, &mut row)?;
+    let due = [End::Copy(1, 0, Outcome::Dropped(Cause::ReceiverClosed))];
+    Ok(row.puts.is_empty() && row.ends.as_slice() == due.as_slice())
+}
+
+// Whether a channel in which one message waits, as many as it holds, ends that once when its reader is dropped, and takes none then.
+fn closes(alloc: Global) -> Result<[bool; 5], AllocError> {
+    let mut channels = Channels::new(alloc);
+    channels.register(alloc, 5, 1, Quota::new(1, 1).unwrap())?;
+    let mut row = only(alloc, Reply::Ok);
+    deliver(alloc, &mut channels, &mut row)?;
+    let open = channels.has_reader(5);
+    let row = channels.close(alloc, 5)?;
+    let late = comes_late(alloc, &mut channels)?;
+    let read = reads(alloc, &mut channels, 5)?;
+    Ok([open, closed(&row), late, read, channels.has_reader(5)])
+}
+
+#[test]
+fn a_reader_that_is_dropped_leaves_nothing_and_takes_nothing_more(rt: HostRuntime) {
+    assert_eq!(rt; closes(rt.alloc()), Ok([true, true, true, false, false]));
 }
 
 // ---- what is written to a link

@@ -1,14 +1,16 @@
 //! The tests of the world, through its public names alone.
 //!
 //! Of `p2p_net` are `world` and, with the parts of these names, `tracker`, `dialer`, `attempts`, `listener`, `handshakes`,
-//! `finishing`, `spawning`, `connecting`, `pinging`, `holding`, `sending` and `checking`: they are scripts, which `scripts` and, of
-//! the last four, `moments` run, `paths` has the events by which two nodes get a connection, and `seen` has what an event shows.
+//! `finishing`, `spawning`, `connecting`, `pinging`, `holding`, `closing`, `sending` and `checking`: they are scripts, which `scripts`
+//! and, of the last five, `moments` run, `paths` has the events by which two nodes get a connection, and `seen` has what an event shows.
 #![tactic(auto)]
 
 #[cfg(test)]
 mod attempts;
 #[cfg(test)]
 mod checking;
+#[cfg(test)]
+mod closing;
 #[cfg(test)]
 mod connecting;
 #[cfg(test)]

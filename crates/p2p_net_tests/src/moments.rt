@@ -51,8 +51,12 @@ pub enum Shown {
     HeldPing(u64, u64),
     // A message went into a channel of this node, under this key of its sender.
     Arrived(u64, u64),
-    // The one copy of this send is dropped, since its channel is full.
+    // The one copy of this send is dropped, since its channel is full, or since the reader of that was dropped.
     Dropped(u64),
+    Late(u64),
+    // The reader of a channel is dropped, in which nothing waits, or so much that there are so many ends.
+    Closed,
+    ClosedWith(usize),
     // This byte is read, from this key, and the one copy of this send is delivered.
     Read(u64, u8, u64),
     // The same of its second copy.
@@ -127,12 +131,17 @@ fn seen_of(shown: Shown) -> Seen {
         Shown::HeldPing(node, conn) => one_put(Put::HeldPing(node, conn)),
         Shown::Arrived(node, key) => one_put(Put::Arrived(node, key)),
         Shown::Dropped(_) => moved(1, Puts::Nothing),
+        Shown::Late(_) => moved(1, Puts::Nothing),
+        Shown::Closed => moved(0, Puts::Nothing),
+        Shown::ClosedWith(_) => moved(0, Puts::Nothing),
         Shown::Read(key, byte, _) => Seen(Said::Message(key, byte), 1, Puts::Nothing),
         Shown::ReadSecond(key, byte, _) => Seen(Said::Message(key, byte), 1, Puts::Nothing),
     }
 }
 
 const DROPPED: Outcome = Outcome::Dropped(Cause::MailboxFull);
+
+const LATE: Outcome = Outcome::Dropped(Cause::ReceiverClosed);
 
 const UNBOUND: Outcome = Outcome::Dropped(Cause::Unbound);
 
@@ -142,6 +151,8 @@ const LOST: Outcome = Outcome::Dropped(Cause::NoConnection);
 fn ends_of(shown: Shown) -> Ends {
     match shown {
         Shown::Dropped(send) => Ends::One(End::Copy(send, 0, DROPPED)),
+        Shown::Late(send) => Ends::One(End::Copy(send, 0, LATE)),
+        Shown::ClosedWith(ends) => Ends::More(ends),
         Shown::Unbound(send) => Ends::One(End::Copy(send, 0, UNBOUND)),
         Shown::Lost(send) => Ends::One(End::Copy(send, 0, LOST)),
         Shown::Read(_, _, send) => Ends::One(End::Copy(send, 0, Outcome::Delivered)),

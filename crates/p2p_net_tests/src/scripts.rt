@@ -82,6 +82,9 @@ pub enum Do {
     // or takes a message from the channel 7 or from this one.
     Recv,
     RecvOn(u64),
+    // The reader of the channel 7 or of this one is dropped.
+    Close,
+    CloseOn(u64),
     // A step of its router, or of the sending or the receiving half of the connection that this event made.
     Router,
     SendStep(u64),
@@ -242,6 +245,8 @@ fn act(alloc: Global, node: u64, what: Do) -> Result<Act, AllocError> {
         Do::SendChecked(event, bytes) => Ok(send_checked(alloc, event, bytes)?),
         Do::Recv => Ok(Act::Recv { channel: 7, node }),
         Do::RecvOn(channel) => Ok(Act::Recv { channel, node }),
+        Do::Close => Ok(Act::Close { channel: 7, node }),
+        Do::CloseOn(channel) => Ok(Act::Close { channel, node }),
         Do::Router => Ok(Act::Router { node }),
         Do::SendStep(conn) => Ok(Act::SendStep { conn, node }),
         Do::RecvStep(conn) => Ok(Act::RecvStep { conn, node }),

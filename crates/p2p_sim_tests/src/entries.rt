@@ -28,6 +28,7 @@ pub enum Do {
     SendStep,
     RecvStep,
     Recv,
+    Close,
     Tracker,
 }
 
@@ -104,6 +105,10 @@ fn act_of(asked: Do) -> Act {
         Do::SendStep => Act::SendStep { conn: 4, node: 0 },
         Do::RecvStep => Act::RecvStep { conn: 4, node: 1 },
         Do::Recv => Act::Recv {
+            channel: 7,
+            node: 1,
+        },
+        Do::Close => Act::Close {
             channel: 7,
             node: 1,
         },

@@ -105,7 +105,7 @@ const ROWS: &[Row] = &[
     },
     Row {
         asked: Do::Send,
-        said: Said::Sent(&[Key(1), Key(9)]),
+        said: Said::Sent(&[Key(1), Key(9), Key(4)]),
         takes: &[],
         puts: &[],
         ends: &[End::Copy(8, 0, Outcome::Dropped(Cause::Unbound))],
@@ -200,6 +200,17 @@ const ROWS: &[Row] = &[
         puts: &[],
         ends: &[],
     },
+    // The reader of a channel is dropped, in which one message waits.
+    Row {
+        asked: Do::Close,
+        said: Said::Ok,
+        takes: &[],
+        puts: &[],
+        ends: &[
+            End::Item(5, 0),
+            End::Copy(8, 2, Outcome::Dropped(Cause::ReceiverClosed)),
+        ],
+    },
 ];
 
 const LINES: &[&str] = &[
@@ -211,7 +222,7 @@ const LINES: &[&str] = &[
     r#"{"end":[["copy",2,3,"mailbox_full"]],"n":5,"put":[["channel:1:7",{"bytes":"6a4d","copy":[2,0],"from":1}]],"reply":"pending","take":[[4,0]]}"#,
     r#"{"end":[["copy",2,0,"delivered"]],"n":6,"put":[],"reply":{"message":{"bytes":"6a4d","from":1}},"take":[[5,0]]}"#,
     r#"{"end":[],"n":7,"put":[["router:0",{"content":{"channel":7,"frame":"0007026a4d","priority":true,"send":7,"to":[1]}}]],"reply":{"sent":[1]},"take":[]}"#,
-    r#"{"end":[["copy",8,0,"unbound"]],"n":8,"put":[],"reply":{"sent":[1,9]},"take":[]}"#,
+    r#"{"end":[["copy",8,0,"unbound"]],"n":8,"put":[],"reply":{"sent":[1,9,4]},"take":[]}"#,
     r#"{"end":[],"n":9,"put":[],"reply":"gone","take":[]}"#,
     r#"{"end":[],"n":10,"put":[],"reply":{"message_too_large":[6,5]},"take":[]}"#,
     r#"{"end":[],"n":11,"put":[],"reply":{"sent":[3,4]},"take":[]}"#,
@@ -224,6 +235,7 @@ const LINES: &[&str] = &[
     r#"{"end":[],"n":18,"put":[],"reply":{"outcome":"closed"},"take":[]}"#,
     r#"{"end":[],"n":19,"put":[],"reply":{"checked":[]},"take":[]}"#,
     r#"{"end":[],"n":20,"put":[],"reply":{"retry":"18446744073709551616"},"take":[]}"#,
+    r#"{"end":[["item",5,0],["copy",8,2,"receiver_closed"]],"n":21,"put":[],"reply":"ok","take":[]}"#,
     r#"{"copy":[2,0],"fate":["delivered","channel:1:7",6]}"#,
     r#"{"copy":[2,1],"fate":["dropped","no_connection",3]}"#,
     r#"{"copy":[2,2],"fate":["dropped","relay_full",3]}"#,
@@ -231,10 +243,11 @@ const LINES: &[&str] = &[
     r#"{"copy":[7,0],"fate":["waiting","router:0"]}"#,
     r#"{"copy":[8,0],"fate":["dropped","unbound",8]}"#,
     r#"{"copy":[8,1],"fate":null}"#,
+    r#"{"copy":[8,2],"fate":["dropped","receiver_closed",21]}"#,
     r#"{"copy":[11,0],"fate":["waiting","link:4:out"]}"#,
     r#"{"copy":[11,1],"fate":["waiting","held:1:4"]}"#,
     r#"{"copy":[15,0],"fate":["waiting","router:0"]}"#,
-    r#"{"copies":10,"entries":21}"#,
+    r#"{"copies":11,"entries":22}"#,
 ];
 
 #[test]

@@ -29,6 +29,8 @@ const CHANGES_OF_KIND: &[(&str, &str, bool)] = &[
         r#"{"at":0,"do":"route","node":0}"#,
         false,
     ),
+    (r#""do":"recv""#, r#""do":"close""#, true),
+    (r#""channel":7,"do":"recv""#, r#""do":"close""#, false),
     (r#"{"one":2}"#, r#"{"some":[2]}"#, true),
     (
         r#""max_message_size":1024"#,
