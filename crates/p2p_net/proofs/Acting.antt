@@ -37,6 +37,7 @@ use Rattle.p2p_net.proofs.Arrivals.{link_simulates}
 use Rattle.p2p_net.proofs.Exchanged.{finish_simulates}
 use Rattle.p2p_net.proofs.Resolving.{resolve_performs}
 use Rattle.p2p_net.proofs.Calling.{register_performs, start_performs, read_performs}
+use Rattle.p2p_net.proofs.Closing.{close_performs}
 use Rattle.p2p_net.proofs.Checking.{check_performs, send_checked_performs}
 use Rattle.p2p_net.proofs.Offering.{send_performs}
 use Rattle.p2p_net.proofs.Dialing.{dialer_performs}
@@ -70,6 +71,7 @@ node_performs configs log moment seed (act.Router n) x y l links r s t lawful va
 node_performs configs log moment seed (act.SendStep conn n) x y l links r s t lawful valid late one d = send_step_performs configs log moment seed conn n x y l links r s t (connections_are_one configs (events_of log) log lawful) d
 node_performs configs log moment seed (act.RecvStep conn n) x y l links r s t lawful valid late one d = recv_step_performs configs log moment seed conn n x y l links r s t late d
 node_performs configs log moment seed (act.Recv c n) x y l links r s t lawful valid late one d = read_performs configs log moment seed n c x y l links r s t d.0 d.1
+node_performs configs log moment seed (act.Close c n) x y l links r s t lawful valid late one d = close_performs configs log moment seed n c x y l links r s t d.0 d.1
 node_performs configs log moment seed (act.Ask what n) x y l links r s t lawful valid late one d = ask_performs configs log moment seed n what x y l links r s t d.0.0 d.0.1 d.1
 node_performs configs log moment seed (act.Answer e) x y l links r s t lawful valid late one d = answer_performs configs log moment seed e x y l links r s t valid d.0.0 d.0.1 d.1
 node_performs configs log moment seed (act.Next e) x y l links r s t lawful valid late one d = next_performs configs log moment seed e x y l links r s t valid d.0.0 d.0.1 d.1

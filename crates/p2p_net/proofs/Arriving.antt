@@ -9,6 +9,7 @@ use Rattle.p2p_log.specs.declared.queue.Queue.TheVariants as queue
 use Rattle.p2p_log.specs.declared.item.Item.{Item}
 use Rattle.p2p_log.specs.declared.item.Item.TheVariants as item
 use Rattle.p2p_log.specs.declared.item.Envelope.{Envelope}
+use Rattle.p2p_log.specs.declared.end.Cause.{Cause}
 use Rattle.p2p_log.specs.declared.entry.Entry.{Entry}
 use Rattle.p2p_log.specs.declared.entry.Reply.TheVariants as reply
 use Rattle.p2p_log.specs.declared.event.Act.TheVariants as act
@@ -20,15 +21,17 @@ use Rattle.p2p_wire.specs.Frame.{decode_frame}
 use Rattle.p2p_log_rules.specs.declared.row.Row.{Row}
 use Rattle.p2p_log_rules.specs.Frames.{data_in, is_ping, message_in, is_ping_in}
 use Rattle.p2p_log_rules.specs.Facts.{events_of, latest_moment, taken, channels, capacity_in}
+use Rattle.p2p_log_rules.specs.Closing as closing
+use Rattle.p2p_log_rules.specs.Closing.{refused_by}
 use Rattle.p2p_log_rules.specs.Effect
-use Rattle.p2p_log_rules.specs.Effect.{only, deliver_row, hold_row, pass_row, frame_row, receive_row, retry_row}
+use Rattle.p2p_log_rules.specs.Effect.{only, delivered_row, deliver_row, hold_row, pass_row, frame_row, receive_row, retry_row}
 use Rattle.p2p_log_rules.specs.Metering.{Metered, pings, messages, is_of, metered_by, metered_in, holds, limit_at, admits_one, admitted_by, steps_receiver, may_pass}
 use Rattle.p2p_net_queues.specs.Rows.{taken_row}
 use Rattle.p2p_net_channels.specs.declared.arrival.Arrived.{Arrived}
 use Rattle.p2p_net_channels.specs.declared.arrival.Arriving.{Arriving}
 use Rattle.p2p_net_channels.specs.declared.arrival.Arriving.TheVariants as arriving
 use Rattle.p2p_net_channels.specs.Arrivals.{arrival_of, arrival_in, held_arrival, held_item, delivered}
-use Rattle.p2p_net_channels.specs.Channels.{capacity_at, may_admit}
+use Rattle.p2p_net_channels.specs.Channels.{capacity_at, is_closed, may_admit}
 use Rattle.p2p_net_channels.specs.Stands.{ChannelsStand}
 use Rattle.p2p_net_channels.proofs.Quotas.{may_admit_is}
 use Rattle.p2p_net_connections.specs.Stands.{ConnectionsStand}
@@ -107,16 +110,18 @@ module _ (configs : List Config) (log : List Entry) (n conn at : ℕ) (x : Node)
   came_row was_held None = only reply.Idle
   came_row was_held (Some a) = settled_row was_held (verdict conn at a x) a
 
-  -- to deliver, by whether the channel is full
-  deliver_by : (b : Bool) (m : Arrived) (full kept : Row) → full ≡ delivered true n from m (taken_row name) → kept ≡ delivered false n from m (taken_row name) → cond b full kept ≡ delivered b n from m (taken_row name)
-  deliver_by true m full kept f k = f
-  deliver_by false m full kept f k = k
+  -- to deliver, by what keeps the message out of its channel
+  deliver_by : (o : Option Cause) (m : Arrived) → delivered_row o n name from m.copy (m.channel, m.bytes) ≡ delivered o n from m (taken_row name)
+  deliver_by (Some why) m = refl
+  deliver_by None m = refl
 
   delivers : (m : Arrived) (capacity : ℕ) → capacity_at x.channels m.channel ≡ Some capacity → deliver_row log n name from m.copy (m.channel, m.bytes) capacity ≡ passed_row n from name (arriving.Message m) x.channels
   delivers m capacity has =
-      deliver_by (nat_le capacity (length (line log (queue.Channel n m.channel)))) m (delivered true n from m (taken_row name)) (delivered false n from m (taken_row name)) refl refl
-      ∙ (ap (λ (w : List Envelope). delivered (nat_le capacity (length w)) n from m (taken_row name)) (sym (chan.waits m.channel))
-      ∙ ap (λ (o : Option ℕ). message_row o n from name m x.channels) (sym has))
+      let full = nat_le capacity (length (line log (queue.Channel n m.channel))) in
+      deliver_by (refused_by (closing.is_closed log n m.channel) full) m
+      ∙ (ap (λ b. delivered (refused_by b full) n from m (taken_row name)) (sym (chan.closed m.channel))
+      ∙ (ap (λ (w : List Envelope). delivered (refused_by (is_closed x.channels m.channel) (nat_le capacity (length w))) n from m (taken_row name)) (sym (chan.waits m.channel))
+      ∙ ap (λ (o : Option ℕ). message_row o n from name m x.channels) (sym has)))
 
   settle : (was_held b : Bool) (a : Arriving) (passes : Row) → passes ≡ passed_row n from name a x.channels → cond b passes (kept_row was_held a) ≡ settled_row was_held (Some b) a
   settle was_held true a passes h = h

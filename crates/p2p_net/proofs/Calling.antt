@@ -1,5 +1,5 @@
 -- The calls of a node: registering, starting, sending and reading.
-use Rattle.std.proofs.Common.{◌≡◌, ℕ, ◌+◌, ◌*◌, ◌^◌, ◌<◌, true, false, cond, List, [], ◌∷◌, ◌++◌, length, refl, ap, sym, subst, ◌∙◌, arith, Option, Some, None}
+use Rattle.std.proofs.Common.{◌≡◌, ℕ, Bool, ◌+◌, ◌*◌, ◌^◌, ◌<◌, true, false, cond, List, [], ◌∷◌, ◌++◌, length, refl, ap, sym, subst, ◌∙◌, arith, Option, Some, None}
 use Rattle.std.specs.Prelude.{filter, flat_map, slice_get, is_some, nat_lt, not, ◌&&◌}
 use Rattle.std.proofs.lemmas.Bool.{and_parts, not-true}
 use Rattle.std.proofs.lemmas.Bool.Decides.{nat_tests}
@@ -25,10 +25,11 @@ use Rattle.p2p_net_queues.specs.Tables.{waiting, popped_at}
 use Rattle.p2p_net_router.specs.Stands.{StandsFor}
 use Rattle.p2p_net_router.specs.declared.router.Router.{Router}
 use Rattle.p2p_net_channels.specs.declared.channels.Channels.{Channels}
-use Rattle.p2p_net_channels.specs.Channels.{capacity_at, registered_with, is_message, message_first, taken_on, read_from}
+use Rattle.p2p_net_channels.specs.Channels.{capacity_at, registered_with, has_reader, is_message, message_first, taken_on, read_from}
 use Rattle.p2p_net_channels.specs.Stands.{ChannelsStand}
 use Rattle.p2p_net_queues.proofs.Holding.{holds_taken}
 use Rattle.p2p_net_channels.proofs.Changes.{channels_moved, same_channel}
+use Rattle.p2p_net_channels.proofs.Readers.{reader_is}
 use Rattle.p2p_net_channels.proofs.Registering.{channels_registered}
 use Rattle.p2p_net_links.specs.Stands.{LinksStand}
 use Rattle.p2p_net_links.specs.declared.links.Links.{Links}
@@ -42,7 +43,7 @@ use Rattle.p2p_net.specs.Stands.{RouterStands, NodeStands}
 use Rattle.p2p_net.specs.declared.node.Node.{Node}
 use Rattle.p2p_net.proofs.EachPart.{with_parts, each_part, not_among}
 use Rattle.p2p_net.proofs.Frames.{links_kept}
-use Rattle.p2p_net.proofs.Receivers.{admits_apart, sends_apart}
+use Rattle.p2p_net.proofs.Receivers.{admits_apart, sends_apart, closes_apart}
 use Rattle.p2p_net.proofs.Routers.{RouterStands-moved, is_unbound-before}
 use Rattle.p2p_net.proofs.Performing.{asked, Performs, stays_performs, line-still}
 
@@ -151,46 +152,46 @@ start_performs configs log at seed n x y l links r s t d kept =
 -- ---- recv
 
 -- the row of a reader is that of its channel
-recv_is : (configs : List Config) (log : List Entry) (n c k : ℕ) (ch : Channels) → ChannelsStand configs log n ch → capacity_at ch c ≡ Some k → oldest_read (waiting ch.waiting c) ≡ recv_row configs log c n
-recv_is configs log n c k ch s has =
-    ap oldest_read (s.waits c) ∙ sym (ap (λ (o : Option ℕ). elim o [ None ↦ only reply.Gone | Some _ ↦ oldest_read (line log (queue.Channel n c)) ]) (sym (s.capacities c) ∙ has))
+recv_is : (configs : List Config) (log : List Entry) (n c : ℕ) (ch : Channels) → ChannelsStand configs log n ch → has_reader ch c ≡ true → oldest_read (waiting ch.waiting c) ≡ recv_row configs log c n
+recv_is configs log n c ch s has =
+    ap oldest_read (s.waits c) ∙ sym (ap (λ b. cond b (oldest_read (line log (queue.Channel n c))) (only reply.Gone)) (sym (reader_is configs log n c ch s) ∙ has))
 
 -- the channels, once the first item of one was read
 read_stands : (configs : List Config) (log : List Entry) (e : Entry) (n c : ℕ) (ch : Channels) (xs : List Envelope) → ChannelsStand configs log n ch → waiting ch.waiting c ≡ xs → e.event.act ≡ act.Recv c n
     → e.takes ≡ (oldest_read xs).takes → e.puts ≡ (oldest_read xs).puts → e.ends ≡ (oldest_read xs).ends → ChannelsStand configs (log ++ e ∷ []) n (taken_on (message_first (slice_get xs 0)) c ch)
 read_stands configs log e n c ch [] s is acts takes puts ends =
-    channels_moved configs log e n ch ch.waiting s (ap (registers_at configs n) acts) (admits_apart configs log e n (act.Recv c n) acts (λ d. refl)) (sends_apart log e n (act.Recv c n) acts refl)
+    channels_moved configs log e n ch ch.waiting s (ap (registers_at configs n) acts) (admits_apart configs log e n (act.Recv c n) acts (λ d. refl)) (sends_apart log e n (act.Recv c n) acts refl) (closes_apart e n (act.Recv c n) acts (λ d s. refl))
     (λ f. s.waits f ∙ sym (line-still log e e.reply (queue.Channel n f) (record { reply = refl; takes = takes; puts = puts; ends = ends })))
 read_stands configs log e n c ch (y ∷ ys) s is acts takes puts ends = read_first configs log e n c ch y ys s is acts y.item refl takes puts ends
   where
     still : (configs : List Config) (log : List Entry) (e : Entry) (n c : ℕ) (ch : Channels) → ChannelsStand configs log n ch → e.event.act ≡ act.Recv c n → e.takes ≡ [] → e.puts ≡ [] → e.ends ≡ [] → ChannelsStand configs (log ++ e ∷ []) n ch
     still configs log e n c ch s acts takes puts ends =
-        channels_moved configs log e n ch ch.waiting s (ap (registers_at configs n) acts) (admits_apart configs log e n (act.Recv c n) acts (λ d. refl)) (sends_apart log e n (act.Recv c n) acts refl)
+        channels_moved configs log e n ch ch.waiting s (ap (registers_at configs n) acts) (admits_apart configs log e n (act.Recv c n) acts (λ d. refl)) (sends_apart log e n (act.Recv c n) acts refl) (closes_apart e n (act.Recv c n) acts (λ d s. refl))
         (λ f. s.waits f ∙ sym (line-still log e e.reply (queue.Channel n f) (record { reply = refl; takes = takes; puts = puts; ends = ends })))
 
     read_first : (configs : List Config) (log : List Entry) (e : Entry) (n c : ℕ) (ch : Channels) (y : Envelope) (ys : List Envelope) → ChannelsStand configs log n ch → waiting ch.waiting c ≡ y ∷ ys → e.event.act ≡ act.Recv c n
         → (i : Item) → y.item ≡ i → e.takes ≡ (read_row (name_of y) i).takes → e.puts ≡ (read_row (name_of y) i).puts → e.ends ≡ (read_row (name_of y) i).ends
         → ChannelsStand configs (log ++ e ∷ []) n (taken_on (cond (is_message i) (Some y) None) c ch)
     read_first configs log e n c ch y ys s is acts (item.Message bytes copy from) it takes puts ends =
-        channels_moved configs log e n ch (popped_at ch.waiting c) s (ap (registers_at configs n) acts) (admits_apart configs log e n (act.Recv c n) acts (λ d. refl)) (sends_apart log e n (act.Recv c n) acts refl)
+        channels_moved configs log e n ch (popped_at ch.waiting c) s (ap (registers_at configs n) acts) (admits_apart configs log e n (act.Recv c n) acts (λ d. refl)) (sends_apart log e n (act.Recv c n) acts refl) (closes_apart e n (act.Recv c n) acts (λ d s. refl))
         (holds_taken (queue.Channel n) (same_channel n) log e c y ys ch.waiting s.waits
         (record { first = sym (s.waits c) ∙ is; gone = ap (λ t. t ++ flat_map ended_item e.ends) takes ∙ ap (λ d. name_of y ∷ flat_map ended_item d) ends })
         (λ f. ap (λ p. filter (stands_in (queue.Channel n f)) (placed (length log) 0 p)) puts))
     read_first configs log e n c ch y ys s is acts _ it takes puts ends = still configs log e n c ch s acts takes puts ends
 
-read_on_performs : (configs : List Config) (log : List Entry) (at seed n c : ℕ) (o : Option ℕ) (x y : Node) (l links : Links) (r : Row) → NodeStands configs log n x → LinksStand log l
-    → capacity_at x.channels c ≡ o → ReadsOn o c x y r → links ≡ l → Performs configs log (asked at seed (act.Recv c n)) n y links r
+read_on_performs : (configs : List Config) (log : List Entry) (at seed n c : ℕ) (b : Bool) (x y : Node) (l links : Links) (r : Row) → NodeStands configs log n x → LinksStand log l
+    → has_reader x.channels c ≡ b → ReadsOn b c x y r → links ≡ l → Performs configs log (asked at seed (act.Recv c n)) n y links r
 unfolding effect row
-read_on_performs configs log at seed n c None x y l links r s t has d kept =
+read_on_performs configs log at seed n c false x y l links r s t has d kept =
     let chan : ChannelsStand configs log n x.channels = s.each place.channels in
     stays_performs configs log (asked at seed (act.Recv c n)) n x y l links r reply.Gone s t
-    (ap (λ (o : Option ℕ). elim o [ None ↦ only reply.Gone | Some _ ↦ oldest_read (line log (queue.Channel n c)) ]) (sym (chan.capacities c) ∙ has)) refl d.0 d.1 kept
-read_on_performs configs log at seed n c (Some k) x y l links r s t has d kept =
+    (ap (λ b. cond b (oldest_read (line log (queue.Channel n c))) (only reply.Gone)) (sym (reader_is configs log n c x.channels chan) ∙ has)) refl d.0 d.1 kept
+read_on_performs configs log at seed n c true x y l links r s t has d kept =
     let ev = asked at seed (act.Recv c n) in
     let e = effect configs log ev in
     let chan : ChannelsStand configs log n x.channels = s.each place.channels in
     let parts : y ≡ record x { channels = read_from c x.channels } = d.1 in
-    let is = recv_is configs log n c k x.channels chan has in
+    let is = recv_is configs log n c x.channels chan has in
     record {
       row_is = d.0 ∙ is;
       node =
@@ -205,4 +206,4 @@ read_on_performs configs log at seed n c (Some k) x y l links r s t has d kept =
 
 pub read_performs : (configs : List Config) (log : List Entry) (at seed n c : ℕ) (x y : Node) (l links : Links) (r : Row) → NodeStands configs log n x → LinksStand log l
     → Reads c x y r → links ≡ l → Performs configs log (asked at seed (act.Recv c n)) n y links r
-read_performs configs log at seed n c x y l links r s t d kept = read_on_performs configs log at seed n c (capacity_at x.channels c) x y l links r s t refl d kept
+read_performs configs log at seed n c x y l links r s t d kept = read_on_performs configs log at seed n c (has_reader x.channels c) x y l links r s t refl d kept

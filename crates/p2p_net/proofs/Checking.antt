@@ -108,7 +108,7 @@ module _ (configs : List Config) (log : List Entry) (at seed n c : ℕ) (to : Re
       let still = effect-still configs log ev reply.Gone is in
       done x.channels x.router (told ∙ sym is) same
       (channels_unasked configs log e n c to x.channels chan refl (λ d. asks_here n c d to) (admits_apart configs log e n a refl (λ d. refl)) (λ d. line-untouched configs log ev (queue.Channel n d) refl refl)
-      (checks_by_reply reply.Gone (ap (λ (z : Row). z.reply) is)) has)
+      (checks_by_reply reply.Gone (ap (λ (z : Row). z.reply) is)) (λ d. refl) has)
       (RouterStands-idle configs log e n x.router (record { no_step = refl; no_channel = refl; no_start = refl }) still.takes still.puts still.ends routes)
 
   -- the channels, whose quota was asked, with these checks
@@ -116,7 +116,7 @@ module _ (configs : List Config) (log : List Entry) (at seed n c : ℕ) (to : Re
   unfolding effect
   channels_now m checks =
       channels_asked configs log e n x.channels m chan refl (admits_apart configs log e n a refl (λ d. refl)) (λ d. line-untouched configs log ev (queue.Channel n d) refl refl)
-      checks c at to (λ d. asks_here n c d to) refl late
+      checks (λ d. refl) c at to (λ d. asks_here n c d to) refl late
 
   -- the router, of which at most a list was taken
   router_now : (rep : Reply) (new : Router) → row configs log at seed a ≡ taking names (only rep) → StandsOver configs log new (filter (stays names) (live log))
@@ -219,7 +219,7 @@ module _ (configs : List Config) (log : List Entry) (at seed check : ℕ) (bytes
     unfolding effect
     channels_then =
         channels_spent configs log entry n x.channels left chan_then refl (admits_apart configs log entry n spends refl (λ d. refl)) (λ d. line-untouched configs log spent (queue.Channel n d) refl refl)
-        checks_then (λ d. refl)
+        checks_then (λ d. refl) (λ d. refl)
 
     -- nothing is handed to the router
     unsent : (rep : Reply) → row configs log at seed spends ≡ only rep → r ≡ only rep → y ≡ mid → Performs configs log spent n y links r

@@ -45,7 +45,7 @@ use Rattle.p2p_net.specs.Places.{Part, router, channels, connections, tracker, d
 use Rattle.p2p_net.specs.Stands.{RouterStands, PartStands}
 use Rattle.p2p_net.specs.declared.node.Node.{Node}
 use Rattle.p2p_net.proofs.ActKinds.{registers_unless, starts_unless, routes_unless, sends_unless}
-use Rattle.p2p_net.proofs.Receivers.{receives_unnamed, admits_unnamed, sends_unnamed}
+use Rattle.p2p_net.proofs.Receivers.{receives_unnamed, admits_unnamed, sends_unnamed, closes_unnamed}
 use Rattle.p2p_net.proofs.Routers.{RouterStands-moved}
 use Rattle.p2p_net.proofs.Touching.{line-unnamed}
 
@@ -239,6 +239,7 @@ part_frame channels configs log ev n x s h =
       lines = λ c. line-unnamed configs log ev (queue.Channel n c) h;
       admits = admits_unnamed configs log (effect configs log ev) n ev.act (effect-act configs log ev) h;
       sends = sends_unnamed log (effect configs log ev) n ev.act (effect-act configs log ev) h;
+      closes = closes_unnamed log (effect configs log ev) n ev.act (effect-act configs log ev) h;
     })
 part_frame connections configs log ev n x s h =
     let e = effect configs log ev in

@@ -7,6 +7,7 @@ pub mod Beginning
 pub mod Between
 pub mod Calling
 pub mod Checking
+pub mod Closing
 pub mod DialAnswers
 pub mod Dialing
 pub mod EachPart

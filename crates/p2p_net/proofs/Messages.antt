@@ -29,7 +29,7 @@ use Rattle.p2p_net_links.specs.Stands.{LinksStand}
 use Rattle.p2p_net_links.specs.declared.links.Links.{Links}
 use Rattle.p2p_net_channels.specs.Channels.{capacity_at}
 use Rattle.p2p_net_channels.specs.Senders.{keys_passed, retry_told, keys_metered}
-use Rattle.p2p_net_channels.specs.Stands.{AdmitsNone, ChannelsStand}
+use Rattle.p2p_net_channels.specs.Stands.{AdmitsNone, ClosesNone, ChannelsStand}
 use Rattle.p2p_net_channels.specs.declared.channels.Channels.{Channels}
 use Rattle.p2p_net_channels.proofs.Changes.{channels_frame}
 use Rattle.p2p_net_channels.proofs.Quotas.{same_known}
@@ -111,9 +111,9 @@ asks_here n c d to = ap (λ b. cond b (Some to) None) (same n c d)
 pub channels_unasked : (configs : List Config) (log : List Entry) (e : Entry) (n c : ℕ) (to : Recipients) (ch : Channels) → ChannelsStand configs log n ch → registers_at configs n e.event.act ≡ []
     → ((d : ℕ) → asked_for n d e.event.act ≡ cond (d == c) (Some to) None) → AdmitsNone configs log e n
     → ((d : ℕ) → line (log ++ e ∷ []) (queue.Channel n d) ≡ line log (queue.Channel n d)) → ((name : ℕ) → checks_by n log e (checked_at log n) name ≡ checked_at log n name)
-    → capacity_at ch c ≡ None → ChannelsStand configs (log ++ e ∷ []) n ch
-channels_unasked configs log e n c to ch s none asks admits lines checks has =
-    channels_frame configs log e n ch s (record { registers = none; lines = lines; admits = admits; sends = record { moments = moments; checks = checks } })
+    → ClosesNone e n → capacity_at ch c ≡ None → ChannelsStand configs (log ++ e ∷ []) n ch
+channels_unasked configs log e n c to ch s none asks admits lines checks closes has =
+    channels_frame configs log e n ch s (record { registers = none; lines = lines; admits = admits; sends = record { moments = moments; checks = checks }; closes = closes })
   where
     none_of : (o : Option Rate) → is_some o ≡ false → o ≡ None
     none_of None h = refl

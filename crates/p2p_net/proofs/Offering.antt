@@ -85,7 +85,7 @@ module _ (configs : List Config) (log : List Entry) (at seed n c : ℕ) (bytes :
   unfolding effect
   channels_now =
       channels_asked configs log e n x.channels x.channels.checks chan refl (admits_apart configs log e n a refl (λ d. refl)) (λ d. line-untouched configs log ev (queue.Channel n d) refl refl)
-      (checks_kept log e n x.channels.checks chan.checks (λ name. refl)) c at to (λ d. asks_here n c d to) refl late
+      (checks_kept log e n x.channels.checks chan.checks (λ name. refl)) (λ d. refl) c at to (λ d. asks_here n c d to) refl late
 
   -- the router, once it was handed what the row puts
   router_now : (inner : Row) (new : Router) → row configs log at seed a ≡ taking names inner → inner.takes ≡ [] → StandsOver configs log new (after (length log) inner (filter (stays names) (live log)))
@@ -162,7 +162,7 @@ module _ (configs : List Config) (log : List Entry) (at seed n c : ℕ) (bytes :
   -- on a channel that is not registered no quota is asked
   unregistered : capacity_at x.channels c ≡ None → ChannelsStand configs (log ++ e ∷ []) n x.channels
   unfolding effect
-  unregistered has = channels_unasked configs log e n c to x.channels chan refl (λ d. asks_here n c d to) (admits_apart configs log e n a refl (λ d. refl)) (λ d. line-untouched configs log ev (queue.Channel n d) refl refl) (λ name. refl) has
+  unregistered has = channels_unasked configs log e n c to x.channels chan refl (λ d. asks_here n c d to) (admits_apart configs log e n a refl (λ d. refl)) (λ d. line-untouched configs log ev (queue.Channel n d) refl refl) (λ name. refl) (λ d. refl) has
 
   gone : capacity_at x.channels c ≡ None → row configs log at seed a ≡ only reply.Gone → r ≡ only reply.Gone → y ≡ x → Done
   unfolding effect

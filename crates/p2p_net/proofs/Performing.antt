@@ -17,6 +17,7 @@ use Rattle.p2p_log_rules.specs.Attempting.{Attempt, DialRules, dial_rules_at, ac
 use Rattle.p2p_log_rules.specs.Dialing.{Pace, pace_at, Dials, acted_dials, dials_of}
 use Rattle.p2p_net_dialer.proofs.Changes.{dialer_frame}
 use Rattle.p2p_net_listener.proofs.Changes.{listener_frame}
+use Rattle.p2p_log_rules.specs.Closing.{closed_by}
 use Rattle.p2p_log_rules.specs.Connections.{steps_sender, is_done, is_answer}
 use Rattle.p2p_log_rules.specs.Facts.{starts, registers_at, taken, item_named, steps_router}
 use Rattle.p2p_log_rules.proofs.Spawning.{connections_of-untaken}
@@ -60,7 +61,7 @@ pub record Simulates (configs : List Config) (log : List Entry) (ev : Event) (no
 
 -- ---- acts that move nothing
 
--- whether an act with this reply registers, starts, begins and sends nothing, and leaves the trackers alone
+-- whether an act with this reply registers, starts, begins, sends and closes nothing, and leaves the trackers alone
 abbrev pub is_quiet : Act → Reply → Bool
 is_quiet (act.Register c n rate) r = false
 is_quiet (act.Start n) r = false
@@ -85,6 +86,8 @@ is_quiet (act.Attempt e n) r = false
 is_quiet (act.Resolve addresses e n) r = false
 is_quiet (act.Connect e from n to) r = false
 is_quiet (act.Refuse e n) r = false
+is_quiet (act.Close c n) reply.Ok = false
+is_quiet (act.Close c n) r = true
 is_quiet (act.Finish link ok) reply.Ok = false
 is_quiet (act.Finish link ok) r = true
 is_quiet a r = true
@@ -111,6 +114,16 @@ quiet_sends log n (act.Send bytes c m priority to) r h = cc
 quiet_sends log n (act.Check c m to) r h = cc
 quiet_sends log n (act.SendChecked bytes check priority) r h = cc
 quiet_sends log n _ r h = refl
+
+-- no reader is dropped
+quiet_closes : (n c : ℕ) (a : Act) (r : Reply) → is_quiet a r ≡ true → closed_by n c a r ≡ false
+quiet_closes n c (act.Close d m) reply.Ok h = cc
+quiet_closes n c (act.Close d m) _ h = and_false ((m == n) && (d == c))
+  where
+    and_false : (b : Bool) → (b && false) ≡ false
+    and_false true = refl
+    and_false false = refl
+quiet_closes n c _ r h = refl
 
 quiet_tracks : (n : ℕ) (a : Act) (r : Reply) → is_quiet a r ≡ true → steps_tracker n a ≡ false
 quiet_tracks n (act.Tracker m) r h = cc
@@ -209,6 +222,7 @@ part_still channels configs log e n x a rep s is q h =
       lines = λ c. line-still log e rep (queue.Channel n c) h;
       admits = admits_nothing configs log e n (taken-none log e h.takes);
       sends = sends_apart log e n a is (quiet_sends log n a rep q);
+      closes = λ c. ap (λ b. closed_by n c b e.reply) is ∙ (ap (closed_by n c a) h.reply ∙ quiet_closes n c a rep q);
     })
 part_still connections configs log e n x a rep s is q h =
     connections_frame configs log e n x.connections s

@@ -1,4 +1,4 @@
--- Entries in which no connection of a node admits anything, and in which the node sends nothing.
+-- Entries in which no connection of a node admits anything, and in which the node sends nothing and drops no reader.
 use Rattle.std.proofs.Common.{◌≡◌, ℕ, Bool, true, false, cond, List, [], ◌∷◌, ◌++◌, length, Option, Some, None, refl, ap, ◌∙◌, arith}
 use Rattle.std.specs.Prelude.{◌==◌, ◌&&◌}
 use Rattle.std.proofs.lemmas.Bool.Decides.{nat_tests}
@@ -12,9 +12,11 @@ use Rattle.p2p_log.specs.Lines.{line}
 use Rattle.p2p_log_rules.specs.declared.row.Checked.{Checked}
 use Rattle.p2p_log_rules.specs.Admitting.{asked_for, asked_moments, rate_at, sent_moments}
 use Rattle.p2p_log_rules.specs.Checking.{checking_node, keys_checked, acted_checks, checked_at}
+use Rattle.p2p_log_rules.specs.Closing.{closed_by}
+use Rattle.p2p_log_rules.specs.Connections.{is_done}
 use Rattle.p2p_log_rules.specs.Facts.{taken, peers_told, with_begun, with_named}
 use Rattle.p2p_log_rules.specs.Metering.{Metered, pings, messages, limit_at, admits_one, admitted_by, steps_receiver}
-use Rattle.p2p_net_channels.specs.Stands.{AdmitsNone, SendsNone}
+use Rattle.p2p_net_channels.specs.Stands.{AdmitsNone, SendsNone, ClosesNone}
 use Rattle.p2p_net_connections.specs.Stands.{ReceivesNone}
 use Rattle.p2p_net.specs.Places.{channels, connections, at, names}
 
@@ -102,3 +104,15 @@ sends_elsewhere log n _ h = refl
 
 pub sends_unnamed : (log : List Entry) (e : Entry) (n : ℕ) (a : Act) → e.event.act ≡ a → names log a (at channels n) ≡ false → SendsNone log e n
 sends_unnamed log e n a is h = sends_apart log e n a is (sends_elsewhere log n a h)
+
+-- ---- readers
+
+pub closes_apart : (e : Entry) (n : ℕ) (a : Act) → e.event.act ≡ a → ((c : ℕ) (r : Reply) → closed_by n c a r ≡ false) → ClosesNone e n
+closes_apart e n a is none c = ap (λ b. closed_by n c b e.reply) is ∙ none c e.reply
+
+closes_elsewhere : (log : List Entry) (n c : ℕ) (a : Act) (r : Reply) → names log a (at channels n) ≡ false → closed_by n c a r ≡ false
+closes_elsewhere log n c (act.Close d m) r h = let other : (m == n) ≡ false = grind (arith, nat_tests) in ap (λ b. (b && (d == c)) && is_done r) other
+closes_elsewhere log n c _ r h = refl
+
+pub closes_unnamed : (log : List Entry) (e : Entry) (n : ℕ) (a : Act) → e.event.act ≡ a → names log a (at channels n) ≡ false → ClosesNone e n
+closes_unnamed log e n a is h = closes_apart e n a is (λ c r. closes_elsewhere log n c a r h)

@@ -10,6 +10,7 @@ use Rattle.p2p_log.specs.declared.queue.Side.{Side}
 use Rattle.p2p_log.specs.declared.queue.Side.TheVariants as side
 use Rattle.p2p_log.specs.declared.item.Item.{Item}
 use Rattle.p2p_log.specs.declared.item.Envelope.{Envelope}
+use Rattle.p2p_log.specs.declared.end.Cause.{Cause}
 use Rattle.p2p_log.specs.declared.entry.Entry.{Entry}
 use Rattle.p2p_log.specs.declared.entry.Reply.TheVariants as reply
 use Rattle.p2p_log.specs.declared.event.Event.{Event}
@@ -33,7 +34,7 @@ use Rattle.p2p_net_channels.specs.declared.arrival.Arriving.{Arriving}
 use Rattle.p2p_net_channels.specs.declared.arrival.Arriving.TheVariants as arriving
 use Rattle.p2p_net_channels.specs.declared.channels.Channels.{Channels}
 use Rattle.p2p_net_channels.specs.Arrivals.{arrival_in, held_arrival, held_item, delivered}
-use Rattle.p2p_net_channels.specs.Channels.{capacity_at, is_full, message_put, delivered_to, may_admit, metered}
+use Rattle.p2p_net_channels.specs.Channels.{capacity_at, refusal, message_put, delivered_to, may_admit, metered}
 use Rattle.p2p_net_channels.specs.Stands.{ChannelsStand, SendsNone}
 use Rattle.p2p_net_connections.specs.Connections.{runs_on, may_ping, ping_metered}
 use Rattle.p2p_net_connections.specs.Stands.{ConnectionsStand, BeginsNone, SpawnsNone}
@@ -146,28 +147,28 @@ module _ (configs : List Config) (log : List Entry) (at seed conn n : ℕ) (half
   -- ---- the parts after a message, or a ping
 
   -- the channels once a message was delivered
-  passed_channels : (p : Queue) (f : Envelope) (fs : List Envelope) (full : Bool) (from : Key) (m : Arrived) → Takes log (made (delivered full n from m (taken_row (name_of f)))) (limit_at configs n) p f fs (messages m.channel)
+  passed_channels : (p : Queue) (f : Envelope) (fs : List Envelope) (why : Option Cause) (from : Key) (m : Arrived) → Takes log (made (delivered why n from m (taken_row (name_of f)))) (limit_at configs n) p f fs (messages m.channel)
       → ((q : ℕ) → same_queue p (queue.Channel n q) ≡ false) → may_admit x.channels m.channel conn at ≡ true
-      → ChannelsStand configs (log ++ made (delivered full n from m (taken_row (name_of f))) ∷ []) n (delivered_to full (length log) 0 n from m (metered m.channel conn at x.channels))
-  passed_channels p f fs true from m h apart says =
-      let due = delivered true n from m (taken_row (name_of f)) in
-      message_channels configs log n conn at (made due) late x.channels chan refl (sends_none due) m.channel x.channels.waiting (messages_admitted due p f fs m true h refl says) refl
-      (delivered_waits configs log n conn at (made due) late x.channels chan refl (sends_none due) p f fs true from m (takes_first log (made due) (limit_at configs n) p f fs (messages m.channel) h) apart refl)
-  passed_channels p f fs false from m h apart says =
-      let due = delivered false n from m (taken_row (name_of f)) in
-      message_channels configs log n conn at (made due) late x.channels chan refl (sends_none due) m.channel (pushed_at x.channels.waiting m.channel (message_put (length log) 0 n from m)) (messages_admitted due p f fs m true h refl says) refl
-      (delivered_waits configs log n conn at (made due) late x.channels chan refl (sends_none due) p f fs false from m (takes_first log (made due) (limit_at configs n) p f fs (messages m.channel) h) apart refl)
+      → ChannelsStand configs (log ++ made (delivered why n from m (taken_row (name_of f))) ∷ []) n (delivered_to why (length log) 0 n from m (metered m.channel conn at x.channels))
+  passed_channels p f fs (Some why) from m h apart says =
+      let due = delivered (Some why) n from m (taken_row (name_of f)) in
+      message_channels configs log n conn at (made due) late x.channels chan refl (sends_none due) (λ q. refl) m.channel x.channels.waiting (messages_admitted due p f fs m true h refl says) refl
+      (delivered_waits configs log n conn at (made due) late x.channels chan refl (sends_none due) (λ q. refl) p f fs (Some why) from m (takes_first log (made due) (limit_at configs n) p f fs (messages m.channel) h) apart refl)
+  passed_channels p f fs None from m h apart says =
+      let due = delivered None n from m (taken_row (name_of f)) in
+      message_channels configs log n conn at (made due) late x.channels chan refl (sends_none due) (λ q. refl) m.channel (pushed_at x.channels.waiting m.channel (message_put (length log) 0 n from m)) (messages_admitted due p f fs m true h refl says) refl
+      (delivered_waits configs log n conn at (made due) late x.channels chan refl (sends_none due) (λ q. refl) p f fs None from m (takes_first log (made due) (limit_at configs n) p f fs (messages m.channel) h) apart refl)
 
   -- the channels once a message was asked of, and no channel changed
   asked_channels : (due : Row) (c : ℕ) → ((d q : ℕ) → admitted_by (limit_at configs n) n d (messages q) log (made due) ≡ cond ((d == conn) && ((q == c) && may_admit x.channels c conn at)) (at ∷ []) [])
       → ((q : ℕ) → line (log ++ made due ∷ []) (queue.Channel n q) ≡ line log (queue.Channel n q)) → ChannelsStand configs (log ++ made due ∷ []) n (metered c conn at x.channels)
   asked_channels due c admits lines =
-      message_channels configs log n conn at (made due) late x.channels chan refl (sends_none due) c x.channels.waiting admits refl (holds_frame (queue.Channel n) log (made due) x.channels.waiting chan.waits lines)
+      message_channels configs log n conn at (made due) late x.channels chan refl (sends_none due) (λ q. refl) c x.channels.waiting admits refl (holds_frame (queue.Channel n) log (made due) x.channels.waiting chan.waits lines)
 
   -- the channels beside a ping
   beside_ping : (due : Row) → ((d q : ℕ) → admitted_by (limit_at configs n) n d (messages q) log (made due) ≡ []) → ((q : ℕ) → line (log ++ made due ∷ []) (queue.Channel n q) ≡ line log (queue.Channel n q))
       → ChannelsStand configs (log ++ made due ∷ []) n x.channels
-  beside_ping due none lines = other_channels configs log n conn at (made due) late x.channels chan refl (sends_none due) none lines
+  beside_ping due none lines = other_channels configs log n conn at (made due) late x.channels chan refl (sends_none due) (λ q. refl) none lines
 
   -- the connections beside a message, by what is held then
   beside_message : (due : Row) (w : List (ℕ × List Envelope)) → ((d : ℕ) → admitted_by (limit_at configs n) n d pings log (made due) ≡ []) → ((c : ℕ) → line (log ++ made due ∷ []) (queue.Ready n c) ≡ line log (queue.Ready n c))
@@ -225,18 +226,18 @@ module _ (configs : List Config) (log : List Entry) (at seed conn n : ℕ) (half
     Off = links ≡ without_first l half.link (other_side half.writes)
 
     -- a message that its quota admits
-    message_off : (full : Bool) (m : Arrived) → IsRead (limit_at configs n) f.item (arriving.Message m) → may_admit x.channels m.channel conn at ≡ true
-        → row configs log at seed (act.RecvStep conn n) ≡ delivered full n half.peer m (taken_row (name_of f)) → r ≡ delivered full n half.peer m (taken_row (name_of f))
-        → y ≡ record x { channels = delivered_to full (length log) 0 n half.peer m (metered m.channel conn at x.channels) } → Off → Done
-    message_off full m read says is told parts kept =
-        let due = delivered full n half.peer m (taken_row (name_of f)) in
-        let takes : due.takes ≡ name_of f ∷ [] = passed_takes full n half.peer m (name_of f) in
-        let ends : flat_map ended_item due.ends ≡ [] = passed_ends full n half.peer m (name_of f) in
+    message_off : (why : Option Cause) (m : Arrived) → IsRead (limit_at configs n) f.item (arriving.Message m) → may_admit x.channels m.channel conn at ≡ true
+        → row configs log at seed (act.RecvStep conn n) ≡ delivered why n half.peer m (taken_row (name_of f)) → r ≡ delivered why n half.peer m (taken_row (name_of f))
+        → y ≡ record x { channels = delivered_to why (length log) 0 n half.peer m (metered m.channel conn at x.channels) } → Off → Done
+    message_off why m read says is told parts kept =
+        let due = delivered why n half.peer m (taken_row (name_of f)) in
+        let takes : due.takes ≡ name_of f ∷ [] = passed_takes why n half.peer m (name_of f) in
+        let ends : flat_map ended_item due.ends ≡ [] = passed_ends why n half.peer m (name_of f) in
         let h : Takes log (made due) (limit_at configs n) p f fs (messages m.channel) = record { first = first; takes = takes; ends = ends; counts = read } in
-        let aside : (q : Queue) → same_queue q (queue.Channel n m.channel) ≡ false → filter (stands_in q) (placed (length log) 0 due.puts) ≡ [] = λ q apart. passed_aside full q (length log) n half.peer m (name_of f) apart in
-        built due (delivered_to full (length log) 0 n half.peer m (metered m.channel conn at x.channels)) x.connections is told parts
-        (passed_channels p f fs full half.peer m h (λ q. link_channel half.link n q (other_side half.writes)) says)
-        (beside_message due x.connections.held (no_pings due p f fs m.channel false h (passed_holds full n half.peer m (name_of f))) (ready_now due takes ends (λ c. aside (queue.Ready n c) refl)) (held_now due takes ends (λ c. aside (queue.Held n c) refl)))
+        let aside : (q : Queue) → same_queue q (queue.Channel n m.channel) ≡ false → filter (stands_in q) (placed (length log) 0 due.puts) ≡ [] = λ q apart. passed_aside why q (length log) n half.peer m (name_of f) apart in
+        built due (delivered_to why (length log) 0 n half.peer m (metered m.channel conn at x.channels)) x.connections is told parts
+        (passed_channels p f fs why half.peer m h (λ q. link_channel half.link n q (other_side half.writes)) says)
+        (beside_message due x.connections.held (no_pings due p f fs m.channel false h (passed_holds why n half.peer m (name_of f))) (ready_now due takes ends (λ c. aside (queue.Ready n c) refl)) (held_now due takes ends (λ c. aside (queue.Held n c) refl)))
         (links_now due takes ends (λ u j. aside (queue.Link j u) (channel_link n m.channel j u)) kept)
 
     -- a ping that its quota admits
@@ -298,13 +299,13 @@ module _ (configs : List Config) (log : List Entry) (at seed conn n : ℕ) (half
         → ReceivesAs (verdict_by o b) (length log) n conn at half (named_as f (arriving.Message m)) x y l links r → Done
     message_as m None b read has says is d = idle is d.0.0 (d.0.1 ∙ ap (λ o. metered_on o m.channel conn at x) has) d.1
     message_as m (Some capacity) true read has says is d =
-        let full = is_full x.channels capacity m.channel in
+        let why = refusal x.channels capacity m.channel in
         let asks : asked_of conn at (arriving.Message m) x ≡ record x { channels = metered m.channel conn at x.channels } = ap (λ o. metered_on o m.channel conn at x) has in
-        let passes : passed_row n half.peer (name_of f) (arriving.Message m) x.channels ≡ delivered full n half.peer m (taken_row (name_of f)) = ap (λ o. message_row o n half.peer (name_of f) m x.channels) has in
-        let passes_metered : passed_row n half.peer (name_of f) (arriving.Message m) (metered m.channel conn at x.channels) ≡ delivered full n half.peer m (taken_row (name_of f)) =
+        let passes : passed_row n half.peer (name_of f) (arriving.Message m) x.channels ≡ delivered why n half.peer m (taken_row (name_of f)) = ap (λ o. message_row o n half.peer (name_of f) m x.channels) has in
+        let passes_metered : passed_row n half.peer (name_of f) (arriving.Message m) (metered m.channel conn at x.channels) ≡ delivered why n half.peer m (taken_row (name_of f)) =
         ap (λ o. message_row o n half.peer (name_of f) m (metered m.channel conn at x.channels)) has
         in
-        message_off full m read says (is ∙ passes)
+        message_off why m read says (is ∙ passes)
         (d.0 ∙ (ap (λ (z : Node). passed_row n half.peer (name_of f) (arriving.Message m) z.channels) asks ∙ passes_metered))
         (d.1.0 ∙ (ap (passed_into (length log) n half.peer (arriving.Message m)) asks ∙ ap (λ o. message_into o (length log) n half.peer m (record x { channels = metered m.channel conn at x.channels })) has)) d.1.1
     message_as m (Some capacity) false read has says is d =
@@ -348,18 +349,18 @@ module _ (configs : List Config) (log : List Entry) (at seed conn n : ℕ) (half
     held_less = popped_at x.connections.held conn
 
     -- a message that its quota admits now
-    message_freed : (full : Bool) (m : Arrived) → IsRead (limit_at configs n) f.item (arriving.Message m) → may_admit x.channels m.channel conn at ≡ true
-        → row configs log at seed (act.RecvStep conn n) ≡ delivered full n half.peer m (taken_row (name_of f)) → r ≡ delivered full n half.peer m (taken_row (name_of f))
-        → y ≡ record x { channels = delivered_to full (length log) 0 n half.peer m (metered m.channel conn at x.channels); connections = record x.connections { held = held_less } } → Done
-    message_freed full m read says is told parts =
-        let due = delivered full n half.peer m (taken_row (name_of f)) in
-        let takes : due.takes ≡ name_of f ∷ [] = passed_takes full n half.peer m (name_of f) in
-        let ends : flat_map ended_item due.ends ≡ [] = passed_ends full n half.peer m (name_of f) in
+    message_freed : (why : Option Cause) (m : Arrived) → IsRead (limit_at configs n) f.item (arriving.Message m) → may_admit x.channels m.channel conn at ≡ true
+        → row configs log at seed (act.RecvStep conn n) ≡ delivered why n half.peer m (taken_row (name_of f)) → r ≡ delivered why n half.peer m (taken_row (name_of f))
+        → y ≡ record x { channels = delivered_to why (length log) 0 n half.peer m (metered m.channel conn at x.channels); connections = record x.connections { held = held_less } } → Done
+    message_freed why m read says is told parts =
+        let due = delivered why n half.peer m (taken_row (name_of f)) in
+        let takes : due.takes ≡ name_of f ∷ [] = passed_takes why n half.peer m (name_of f) in
+        let ends : flat_map ended_item due.ends ≡ [] = passed_ends why n half.peer m (name_of f) in
         let took : Takes log (made due) (limit_at configs n) h f fs (messages m.channel) = record { first = first; takes = takes; ends = ends; counts = read } in
-        let aside : (q : Queue) → same_queue q (queue.Channel n m.channel) ≡ false → filter (stands_in q) (placed (length log) 0 due.puts) ≡ [] = λ q apart. passed_aside full q (length log) n half.peer m (name_of f) apart in
-        built due (delivered_to full (length log) 0 n half.peer m (metered m.channel conn at x.channels)) (record x.connections { held = held_less }) is told parts
-        (passed_channels h f fs full half.peer m took (λ q. refl) says)
-        (beside_message due held_less (no_pings due h f fs m.channel false took (passed_holds full n half.peer m (name_of f))) (λ c. line_still due (queue.Ready n c) takes ends refl (aside (queue.Ready n c) refl))
+        let aside : (q : Queue) → same_queue q (queue.Channel n m.channel) ≡ false → filter (stands_in q) (placed (length log) 0 due.puts) ≡ [] = λ q apart. passed_aside why q (length log) n half.peer m (name_of f) apart in
+        built due (delivered_to why (length log) 0 n half.peer m (metered m.channel conn at x.channels)) (record x.connections { held = held_less }) is told parts
+        (passed_channels h f fs why half.peer m took (λ q. refl) says)
+        (beside_message due held_less (no_pings due h f fs m.channel false took (passed_holds why n half.peer m (name_of f))) (λ c. line_still due (queue.Ready n c) takes ends refl (aside (queue.Ready n c) refl))
         (unheld_holds configs log n conn at (made due) late x.connections connects f fs due.puts (taken_off due takes ends) refl (λ c. aside (queue.Held n c) refl)))
         (links_stay due takes ends (λ u j. aside (queue.Link j u) (channel_link n m.channel j u)))
 
@@ -417,13 +418,13 @@ module _ (configs : List Config) (log : List Entry) (at seed conn n : ℕ) (half
         → RetriesAs (verdict_by o b) (length log) n conn at half.peer (named_as f (arriving.Message m)) x y r → Done
     message_tried m None b read has says is d = idle is d.0 (d.1 ∙ ap (λ o. metered_on o m.channel conn at x) has) kept
     message_tried m (Some capacity) true read has says is d =
-        let full = is_full x.channels capacity m.channel in
+        let why = refusal x.channels capacity m.channel in
         let asks : asked_of conn at (arriving.Message m) x ≡ record x { channels = metered m.channel conn at x.channels } = ap (λ o. metered_on o m.channel conn at x) has in
-        let passes : passed_row n half.peer (name_of f) (arriving.Message m) x.channels ≡ delivered full n half.peer m (taken_row (name_of f)) = ap (λ o. message_row o n half.peer (name_of f) m x.channels) has in
-        let passes_metered : passed_row n half.peer (name_of f) (arriving.Message m) (metered m.channel conn at x.channels) ≡ delivered full n half.peer m (taken_row (name_of f)) =
+        let passes : passed_row n half.peer (name_of f) (arriving.Message m) x.channels ≡ delivered why n half.peer m (taken_row (name_of f)) = ap (λ o. message_row o n half.peer (name_of f) m x.channels) has in
+        let passes_metered : passed_row n half.peer (name_of f) (arriving.Message m) (metered m.channel conn at x.channels) ≡ delivered why n half.peer m (taken_row (name_of f)) =
         ap (λ o. message_row o n half.peer (name_of f) m (metered m.channel conn at x.channels)) has
         in
-        message_freed full m read says (is ∙ passes)
+        message_freed why m read says (is ∙ passes)
         (d.0 ∙ (ap (λ (z : Node). passed_row n half.peer (name_of f) (arriving.Message m) z.channels) asks ∙ passes_metered))
         (d.1
         ∙ (ap (λ z. passed_into (length log) n half.peer (arriving.Message m) (unheld conn z)) asks

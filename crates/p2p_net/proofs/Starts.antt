@@ -13,6 +13,7 @@ use Rattle.p2p_log_rules.specs.Attempting.{dial_rules_in}
 use Rattle.p2p_log_rules.specs.Facts.{registered}
 use Rattle.p2p_net_connections.proofs.Changes.{connections_new}
 use Rattle.p2p_net_channels.proofs.Checks.{checks_new}
+use Rattle.p2p_net_channels.proofs.Readers.{closed_new}
 use Rattle.p2p_net_channels.proofs.Sending.{senders_new}
 use Rattle.p2p_net_channels.proofs.Quotas.{quotas_new}
 use Rattle.p2p_log_rules.specs.Effect.{mailbox_size_at}
@@ -82,7 +83,7 @@ each-append P xs x each last n y s =
 -- no channels and no links stand for no log
 channels_new : (configs : List Config) (n : ℕ) → mailbox_size_at configs n < 2 ^ 64 → ChannelsStand configs [] n no_channels
 unfolding registered
-channels_new configs n h = record { capacities = λ c. refl; total = refl; room = omega (arith, h); waits = holds_none (queue.Channel n); quotas = quotas_new configs n; senders = senders_new n; checks = checks_new n }
+channels_new configs n h = record { capacities = λ c. refl; total = refl; room = omega (arith, h); waits = holds_none (queue.Channel n); quotas = quotas_new configs n; senders = senders_new n; checks = checks_new n; closed = closed_new n }
 
 pub links_new : LinksStand [] no_links
 links_new = record {

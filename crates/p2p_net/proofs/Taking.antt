@@ -9,6 +9,7 @@ use Rattle.p2p_log.specs.declared.queue.Side.{Side}
 use Rattle.p2p_log.specs.declared.queue.Side.TheVariants as side
 use Rattle.p2p_log.specs.declared.item.Item.{Item}
 use Rattle.p2p_log.specs.declared.item.Envelope.{Envelope}
+use Rattle.p2p_log.specs.declared.end.Cause.{Cause}
 use Rattle.p2p_log.specs.declared.entry.Entry.{Entry}
 use Rattle.p2p_log.specs.declared.entry.Reply.TheVariants as reply
 use Rattle.p2p_log.specs.declared.event.Act.TheVariants as act
@@ -29,7 +30,7 @@ use Rattle.p2p_net_channels.specs.declared.arrival.Arrived.{Arrived}
 use Rattle.p2p_net_channels.specs.declared.channels.Channels.{Channels}
 use Rattle.p2p_net_channels.specs.Arrivals.{delivered}
 use Rattle.p2p_net_channels.specs.Channels.{message_put, delivered_to, may_admit, metered}
-use Rattle.p2p_net_channels.specs.Stands.{ChannelsStand, SendsNone}
+use Rattle.p2p_net_channels.specs.Stands.{ChannelsStand, SendsNone, ClosesNone}
 use Rattle.p2p_net_channels.proofs.Changes.{channels_frame, same_channel}
 use Rattle.p2p_net_channels.proofs.Metering.{channels_metered}
 use Rattle.p2p_net_connections.specs.Stands.{ConnectionsStand}
@@ -112,22 +113,22 @@ other-none false b at = refl
 -- ---- what was passed, or is held
 
 -- whether a put of a message or none is held
-pub passed_holds : (full : Bool) (n : ℕ) (from : Key) (m : Arrived) (name : ℕ × ℕ) → holds (delivered full n from m (taken_row name)).puts ≡ false
-passed_holds true n from m name = refl
-passed_holds false n from m name = refl
+pub passed_holds : (why : Option Cause) (n : ℕ) (from : Key) (m : Arrived) (name : ℕ × ℕ) → holds (delivered why n from m (taken_row name)).puts ≡ false
+passed_holds (Some why) n from m name = refl
+passed_holds None n from m name = refl
 
-pub passed_takes : (full : Bool) (n : ℕ) (from : Key) (m : Arrived) (name : ℕ × ℕ) → (delivered full n from m (taken_row name)).takes ≡ name ∷ []
-passed_takes true n from m name = refl
-passed_takes false n from m name = refl
+pub passed_takes : (why : Option Cause) (n : ℕ) (from : Key) (m : Arrived) (name : ℕ × ℕ) → (delivered why n from m (taken_row name)).takes ≡ name ∷ []
+passed_takes (Some why) n from m name = refl
+passed_takes None n from m name = refl
 
-pub passed_ends : (full : Bool) (n : ℕ) (from : Key) (m : Arrived) (name : ℕ × ℕ) → flat_map ended_item (delivered full n from m (taken_row name)).ends ≡ []
-passed_ends true n from m name = refl
-passed_ends false n from m name = refl
+pub passed_ends : (why : Option Cause) (n : ℕ) (from : Key) (m : Arrived) (name : ℕ × ℕ) → flat_map ended_item (delivered why n from m (taken_row name)).ends ≡ []
+passed_ends (Some why) n from m name = refl
+passed_ends None n from m name = refl
 
 -- a queue of another kind is aside of it
-pub passed_aside : (full : Bool) (q : Queue) (k n : ℕ) (from : Key) (m : Arrived) (name : ℕ × ℕ) → same_queue q (queue.Channel n m.channel) ≡ false → filter (stands_in q) (placed k 0 (delivered full n from m (taken_row name)).puts) ≡ []
-passed_aside true q k n from m name apart = refl
-passed_aside false q k n from m name apart = ap (λ b. cond b (message_put k 0 n from m ∷ []) []) apart
+pub passed_aside : (why : Option Cause) (q : Queue) (k n : ℕ) (from : Key) (m : Arrived) (name : ℕ × ℕ) → same_queue q (queue.Channel n m.channel) ≡ false → filter (stands_in q) (placed k 0 (delivered why n from m (taken_row name)).puts) ≡ []
+passed_aside (Some why) q k n from m name apart = refl
+passed_aside None q k n from m name apart = ap (λ b. cond b (message_put k 0 n from m ∷ []) []) apart
 
 -- and of what is held
 pub held_aside : (q : Queue) (k n conn : ℕ) (i : Item) → same_queue q (queue.Held n conn) ≡ false → filter (stands_in q) (placed k 0 ((queue.Held n conn, i) ∷ [])) ≡ []
@@ -151,13 +152,13 @@ module _ (configs : List Config) (log : List Entry) (n conn at : ℕ) (e : Entry
 
   -- ---- the channels
 
-  module _ (ch : Channels) (s : ChannelsStand configs log n ch) (registers : registers_at configs n e.event.act ≡ []) (sends : SendsNone log e n) where
+  module _ (ch : Channels) (s : ChannelsStand configs log n ch) (registers : registers_at configs n e.event.act ≡ []) (sends : SendsNone log e n) (closes : ClosesNone e n) where
     -- a message came whose quota says this, by what the entry admits and which messages wait then
     pub message_channels : (c : ℕ) (w : List (ℕ × List Envelope)) → ((d q : ℕ) → admitted_by limit n d (messages q) log e ≡ cond ((d == conn) && ((q == c) && may_admit ch c conn at)) (at ∷ []) [])
         → e.event.at ≡ at → HoldsLines (queue.Channel n) (log ++ e ∷ []) w → ChannelsStand configs (log ++ e ∷ []) n (record (metered c conn at ch) { waiting = w })
     message_channels c w admits moment waits =
         channels_metered configs log e n c conn at ch w s registers late moment
-        (λ d q. admits d q ∙ ap (λ b. cond b (at ∷ []) []) (over (d == conn) (q == c) (may_admit ch c conn at))) sends waits
+        (λ d q. admits d q ∙ ap (λ b. cond b (at ∷ []) []) (over (d == conn) (q == c) (may_admit ch c conn at))) sends closes waits
       where
         over : (a b z : Bool) → (a && (b && z)) ≡ (b && (a && z))
         over true true z = refl
@@ -167,13 +168,13 @@ module _ (configs : List Config) (log : List Entry) (n conn at : ℕ) (e : Entry
 
     -- no message came
     pub other_channels : ((d q : ℕ) → admitted_by limit n d (messages q) log e ≡ []) → ((q : ℕ) → line (log ++ e ∷ []) (queue.Channel n q) ≡ line log (queue.Channel n q)) → ChannelsStand configs (log ++ e ∷ []) n ch
-    other_channels none lines = channels_frame configs log e n ch s (record { registers = registers; lines = lines; admits = none; sends = sends })
+    other_channels none lines = channels_frame configs log e n ch s (record { registers = registers; lines = lines; admits = none; sends = sends; closes = closes })
 
-    -- the messages that wait once one was delivered, by whether its channel is full
-    pub delivered_waits : (p : Queue) (f : Envelope) (fs : List Envelope) (full : Bool) (from : Key) (m : Arrived) → TakesFirst log e p f fs → ((q : ℕ) → same_queue p (queue.Channel n q) ≡ false)
-        → e.puts ≡ (delivered full n from m (taken_row (name_of f))).puts → HoldsLines (queue.Channel n) (log ++ e ∷ []) (delivered_to full (length log) 0 n from m ch).waiting
-    delivered_waits p f fs true from m took apart puts = holds_frame (queue.Channel n) log e ch.waiting s.waits (λ q. line_aside log e p (queue.Channel n q) f fs [] took puts (apart q) refl)
-    delivered_waits p f fs false from m took apart puts =
+    -- the messages that wait once one was delivered, by what keeps it out of its channel
+    pub delivered_waits : (p : Queue) (f : Envelope) (fs : List Envelope) (why : Option Cause) (from : Key) (m : Arrived) → TakesFirst log e p f fs → ((q : ℕ) → same_queue p (queue.Channel n q) ≡ false)
+        → e.puts ≡ (delivered why n from m (taken_row (name_of f))).puts → HoldsLines (queue.Channel n) (log ++ e ∷ []) (delivered_to why (length log) 0 n from m ch).waiting
+    delivered_waits p f fs (Some why) from m took apart puts = holds_frame (queue.Channel n) log e ch.waiting s.waits (λ q. line_aside log e p (queue.Channel n q) f fs [] took puts (apart q) refl)
+    delivered_waits p f fs None from m took apart puts =
         holds_put (queue.Channel n) (same_channel n) log e p f fs m.channel (message_put (length log) 0 n from m) ch.waiting s.waits took apart
         (λ q. ap (λ t. filter (stands_in (queue.Channel n q)) (placed (length log) 0 t)) puts)
 

@@ -197,6 +197,7 @@ reads-named configs log _ q h = refl
 writes-named : (configs : List Config) (log : List Entry) (a : Act) (q : Queue) → names log a (home q) ≡ false → writes configs log a q ≡ false
 writes-named configs log (act.Start n) q h = router_queue n q (first_false (same_place (at router n) (home q)) (same_place (at dialer n) (home q) || false) h)
 writes-named configs log (act.Send bytes c n priority to) q h = router_queue n q (second_of_two (same_place (at channels n) (home q)) (same_place (at router n) (home q)) h)
+writes-named configs log (act.Close c n) q h = channel_queue n c q (first_false (same_place (at channels n) (home q)) false h)
 writes-named configs log (act.SendChecked bytes check priority) q h =
     let n = checking_node log check in router_queue n q (second_of_two (same_place (at channels n) (home q)) (same_place (at router n) (home q)) h)
 writes-named configs log (act.Router n) q h =

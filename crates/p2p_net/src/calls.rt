@@ -67,10 +67,10 @@ impl Node {
         ensures does { IfOk result (λ r. Closes channel self.old self.new r) }
         ensures failed { OnOk result (self.new.failed ≡ self.old.failed) }
     {
-        if !self.channels.has_reader(channel) {
-            return Ok(only(turn.alloc, Reply::Gone));
+        if self.channels.has_reader(channel) {
+            Ok(self.channels.close(turn.alloc, channel)?)
+        } else {
+            Ok(only(turn.alloc, Reply::Gone))
         }
-        let row = self.channels.close(turn.alloc, channel)?;
-        Ok(row)
     }
 }
