@@ -25,7 +25,7 @@ use Rattle.p2p_net_queues.specs.Tables.{waiting, popped_at}
 use Rattle.p2p_net_router.specs.Stands.{StandsFor}
 use Rattle.p2p_net_router.specs.declared.router.Router.{Router}
 use Rattle.p2p_net_channels.specs.declared.channels.Channels.{Channels}
-use Rattle.p2p_net_channels.specs.Channels.{capacity_at, registered_with, has_reader, is_message, message_first, taken_on, read_from}
+use Rattle.p2p_net_channels.specs.Channels.{registered_with, has_reader, is_message, message_first, taken_on, read_from}
 use Rattle.p2p_net_channels.specs.Stands.{ChannelsStand}
 use Rattle.p2p_net_queues.proofs.Holding.{holds_taken}
 use Rattle.p2p_net_channels.proofs.Changes.{channels_moved, same_channel}
