@@ -9,6 +9,12 @@ pub enum Cause {
     NoConnection,
     /// The queue of its recipient's connection was full.
     RelayFull,
+    /// The connection that it stood with ended, or a queue of a connection that had ended was the one it was to enter.
+    ConnectionEnded,
+    /// The frame that held it was no frame within its receiver's limit.
+    FrameRefused,
+    /// Its channel was not registered where it came.
+    ChannelUnregistered,
     /// The queue of its channel was full.
     MailboxFull,
     /// The reader of its channel closes, or had closed.

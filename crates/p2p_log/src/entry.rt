@@ -8,6 +8,21 @@ use p2p_base::{Feedback, Key, List, Set, Unreliable};
 use p2p_flow::{PeerSetUpdate, TrackedPeers};
 use p2p_gates_rules::Reply as GatesReply;
 
+/// Why a connection ended.
+#[derive(Clone, Copy, Debug, PartialEq, Eq)]
+pub enum Ended {
+    /// It was told to end.
+    Killed,
+    /// It had something to write, and nothing has the other end of its link.
+    SendFailed,
+    /// No frame was in flight towards it, and nothing has the other end of its link.
+    ReceiveFailed,
+    /// What came was neither a message nor a ping within the limit.
+    DecodeFailed,
+    /// A message came on a channel that is not registered.
+    InvalidChannel,
+}
+
 /// The answer to an event.
 #[derive(Drop)]
 pub enum Reply {
@@ -60,6 +75,8 @@ pub enum Reply {
     Blocked(Set<Key>),
     /// What the gates of a listener told the peer that arrived.
     Gates(GatesReply),
+    /// A connection ended in this step, for this reason.
+    Ended(Ended),
 }
 
 /// An event, its reply, the names of the items that it took, what it put in which queue, and what it ended.

@@ -15,7 +15,7 @@ pub mod report;
 pub use asked::Asked;
 pub use config::Config;
 pub use end::{Cause, End, Outcome};
-pub use entry::{Entry, Reply};
+pub use entry::{Ended, Entry, Reply};
 pub use event::{Act, Event, Rate, Recipients};
 pub use item::{Envelope, Item};
 pub use queue::{Queue, Side};

@@ -8,7 +8,7 @@ use Rattle.p2p_log.specs.declared.item.Item.{Item}
 use Rattle.p2p_log.specs.declared.entry.Entry.{Entry}
 use Rattle.p2p_log_rules.specs.declared.row.Checked.{Checked}
 use Rattle.p2p_log_rules.specs.Checking.{checks_by, checked_at}
-use Rattle.p2p_log_rules.specs.Facts.{state_from, list_put, lists_put, newest, peers_told}
+use Rattle.p2p_log_rules.specs.Facts.{list_put, lists_put, newest, peers_told}
 use Rattle.p2p_log_rules.proofs.Facts.{state_from-append}
 
 pub checked_at-append : (log : List Entry) (e : Entry) (n check : ℕ) → checked_at (log ++ e ∷ []) n check ≡ checks_by n log e (checked_at log n) check

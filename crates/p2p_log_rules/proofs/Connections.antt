@@ -1,16 +1,17 @@
 -- The connections of a node after one more entry, and in a longer log.
 use Rattle.std.proofs.Common.{◌≡◌, ℕ, ◌<◌, ◌≤◌, Bool, true, false, cond, List, [], ◌∷◌, ◌++◌, length, arith, Option, Some, None, refl, ap, sym, ◌∙◌}
-use Rattle.std.specs.Prelude.{◌||◌, ◌==◌, nat_lt, slice_get}
+use Rattle.std.specs.Prelude.{◌||◌, ◌&&◌, ◌==◌, nat_lt, slice_get}
 use Rattle.std.specs.List.{list_any}
 use Rattle.std.specs.Option.{option_map}
 use Rattle.std.proofs.lemmas.List.Folds.{list_any-append}
 use Rattle.std.proofs.lemmas.Bool.Decides.{nat_tests}
 use Rattle.std.proofs.lemmas.Option.{same_Some, slice_get_past}
 use Rattle.p2p_log.specs.declared.entry.Entry.{Entry}
+use Rattle.p2p_log.specs.declared.event.Act.{Act}
 use Rattle.p2p_log.proofs.Places.{slice_get-append}
 use Rattle.p2p_log.proofs.Sending.{get_longer}
 use Rattle.p2p_log_rules.specs.declared.row.Half.{Half}
-use Rattle.p2p_log_rules.specs.Connections.{half_over, half_of, half_at, begins, is_begun, answers_by, is_running}
+use Rattle.p2p_log_rules.specs.Connections.{half_over, half_of, half_at, begins, is_begun, answers_by, is_running, steps_sender, steps_receiver, is_end, ends_connection, is_ended, live_connection, live_half}
 use Rattle.p2p_log_rules.specs.Facts.{history, with_named}
 use Rattle.p2p_log_rules.specs.Links.{dialed_by, dialer_in, dialer_of}
 use Rattle.p2p_log_rules.specs.Spawning.{Spawned, connections_of}
@@ -28,6 +29,34 @@ unfolding is_running
 is_running-append log e n conn =
     ap (list_any (λ (b : Bool). b)) (history_from-append (answers_by n conn) [] log e)
     ∙ list_any-append (λ (b : Bool). b) (history (answers_by n conn) log) (answers_by n conn log e)
+
+pub is_ended-append : (log : List Entry) (e : Entry) (n conn : ℕ) → is_ended (log ++ e ∷ []) n conn ≡ (is_ended log n conn || ends_connection n conn e)
+unfolding is_ended
+is_ended-append log e n conn = list_any-last (ends_connection n conn) log e
+
+pub is_ended-none : (n conn : ℕ) → is_ended [] n conn ≡ false
+unfolding is_ended
+is_ended-none n conn = refl
+
+-- an entry ends none by its act, where that is no step of one of its halves
+pub ends_none-act : (e : Entry) (n conn : ℕ) (a : Act) → e.event.act ≡ a → (steps_sender n conn a || steps_receiver n conn a) ≡ false → ends_connection n conn e ≡ false
+ends_none-act e n conn a is h = ap (λ b. (steps_sender n conn b || steps_receiver n conn b) && is_end e.reply) is ∙ ap (λ b. b && is_end e.reply) h
+
+-- or by its reply
+pub ends_none-reply : (e : Entry) (n conn : ℕ) → is_end e.reply ≡ false → ends_connection n conn e ≡ false
+ends_none-reply e n conn h = ap (λ b. (steps_sender n conn e.event.act || steps_receiver n conn e.event.act) && b) h ∙ never (steps_sender n conn e.event.act || steps_receiver n conn e.event.act)
+  where
+    never : (b : Bool) → (b && false) ≡ false
+    never true = refl
+    never false = refl
+
+-- an entry that does not end it leaves it as it was
+pub is_ended-kept : (log : List Entry) (e : Entry) (n conn : ℕ) → ends_connection n conn e ≡ false → is_ended (log ++ e ∷ []) n conn ≡ is_ended log n conn
+is_ended-kept log e n conn h = is_ended-append log e n conn ∙ (ap (λ b. is_ended log n conn || b) h ∙ neither (is_ended log n conn))
+  where
+    neither : (b : Bool) → (b || false) ≡ b
+    neither true = refl
+    neither false = refl
 
 -- who dialed a link that was made, dialed it
 pub dialer_of-longer : (log more : List Entry) (link d : ℕ) → dialer_of log link ≡ Some d → dialer_of (log ++ more) link ≡ Some d
@@ -103,3 +132,31 @@ half_at-longer log more n conn half h =
     let p = half_parts log n conn half h in
     ap (half_of (log ++ more) n) (connections_of-longer log more n conn p.connection p.made)
     ∙ (ap (option_map (half_over n p.connection)) (dialer_of-longer log more p.connection.link p.dialer p.dialed) ∙ ap (λ k. Some k) (sym p.is))
+
+-- ---- those that have not ended
+
+-- the half of one that has not ended
+pub half_of-live : (log : List Entry) (n conn : ℕ) → half_of log n (live_connection log n conn) ≡ live_half log n conn
+unfolding half_at
+half_of-live log n conn = by (is_ended log n conn)
+  where
+    by : (b : Bool) → half_of log n (cond b None (connections_of log n conn)) ≡ cond b None (half_of log n (connections_of log n conn))
+    by true = refl
+    by false = refl
+
+-- a half of one that has not ended is its half
+pub record IsLive (log : List Entry) (n conn : ℕ) (half : Half) : Type 0 where
+  pub lives : is_ended log n conn ≡ false
+  pub at : half_at log n conn ≡ Some half
+
+pub is_live : (log : List Entry) (n conn : ℕ) (half : Half) → live_half log n conn ≡ Some half → IsLive log n conn half
+is_live log n conn half h = by (is_ended log n conn) refl h
+  where
+    by : (b : Bool) → is_ended log n conn ≡ b → cond b None (half_at log n conn) ≡ Some half → IsLive log n conn half
+    by true is h = absurd (cc)
+    by false is h = record { lives = is; at = h }
+
+-- an entry that neither makes it nor ends it leaves it as it was
+pub live_connection-kept : (log : List Entry) (e : Entry) (n conn : ℕ) → ends_connection n conn e ≡ false → connections_of (log ++ e ∷ []) n conn ≡ connections_of log n conn
+    → live_connection (log ++ e ∷ []) n conn ≡ live_connection log n conn
+live_connection-kept log e n conn lives same = ap (λ b. cond b None (connections_of (log ++ e ∷ []) n conn)) (is_ended-kept log e n conn lives) ∙ ap (λ o. cond (is_ended log n conn) None o) same

@@ -6,8 +6,6 @@ use Rattle.p2p_base.specs.declared.outcome.Unreliable.TheVariants.{Outcome, Reje
 use Rattle.p2p_log.specs.declared.config.Config.{Config}
 use Rattle.p2p_log.specs.declared.queue.Queue.{Queue}
 use Rattle.p2p_log.specs.declared.queue.Queue.TheVariants as queue
-use Rattle.p2p_log.specs.declared.queue.Side.{Side}
-use Rattle.p2p_log.specs.declared.queue.Side.TheVariants as side
 use Rattle.p2p_log.specs.declared.item.Item.{Item}
 use Rattle.p2p_log.specs.declared.item.Item.TheVariants as item
 use Rattle.p2p_log.specs.declared.item.Envelope.{Envelope}
@@ -32,10 +30,11 @@ use Rattle.p2p_log.specs.declared.event.Event.{Event}
 use Rattle.p2p_log.specs.QueueCode.{same_queue}
 use Rattle.p2p_log.specs.Lines.{line, live, name_of, stands_in, stays}
 use Rattle.p2p_log_rules.specs.Facts.{is_up, channels, capacity_in, capacity_for, sum_capacities, subscribers, routes, with_route, keys_in, route_to}
-use Rattle.p2p_log_rules.specs.Connections.{half_at, is_begun, is_running}
+use Rattle.p2p_log_rules.specs.Connections.{live_half, is_begun, is_running, is_ended}
+pub use Rattle.p2p_log_rules.specs.Dropping.{other_side}
 use Rattle.p2p_log_rules.specs.Frames.{frame_of, message_in, is_ping_in}
 pub use Rattle.p2p_log_rules.specs.Metering.{limit_at}
-use Rattle.p2p_log_rules.specs.Metering.{Metered, pings, messages, may_pass}
+use Rattle.p2p_log_rules.specs.Metering.{pings, messages, may_pass}
 use Rattle.p2p_log_rules.specs.Pings.{ping_frame, ping_is_due}
 pub use Rattle.p2p_log_rules.specs.Rows.{only, takes_oldest, mailbox_size_at, overwritten, ring_ends}
 use Rattle.p2p_log_rules.specs.Admitting.{offered, keys_admitted, retry_moment}
@@ -177,24 +176,27 @@ pub record Spread : Type 0 where
   pub puts : List (Queue × Item)
   pub ends : List End
 
+-- a copy ends for this cause
+abbrev pub dropped_copy : Cause → ℕ → ℕ → Spread → Spread
+dropped_copy c send p so_far = record so_far { ends = so_far.ends ++ end.Copy send p (outcome.Dropped c) ∷ [] }
+
 -- a copy enters its relay's queue, or is dropped where that holds its size already
 abbrev pub spread_one : ℕ → List Envelope → Queue → ℕ → ℕ → List ℕ → Spread → Spread
 spread_one size items q send p frame so_far =
     cond (nat_le size (length (filter (stands_in q) items) + count_by (goes_to q) so_far.puts))
-    (record so_far { ends = so_far.ends ++ end.Copy send p (outcome.Dropped cause.RelayFull) ∷ [] })
+    (dropped_copy cause.RelayFull send p so_far)
     (record so_far { puts = so_far.puts ++ (q, item.Frame (Some (send, p)) frame) ∷ [] })
 
--- a copy whose recipient has no connection is dropped
-abbrev pub spread_to : ℕ → List Envelope → ℕ → Bool → Option ℕ → ℕ → ℕ → List ℕ → Spread → Spread
-spread_to size items n priority None send p frame so_far =
-    record so_far { ends = so_far.ends ++ end.Copy send p (outcome.Dropped cause.NoConnection) ∷ [] }
-spread_to size items n priority (Some conn) send p frame so_far =
-    spread_one size items (relay_queue priority n conn) send p frame so_far
+-- a copy whose recipient has no connection is dropped, and so is one whose connection has ended
+abbrev pub spread_to : ℕ → List Envelope → ℕ → Bool → (ℕ → Bool) → Option ℕ → ℕ → ℕ → List ℕ → Spread → Spread
+spread_to size items n priority ended None send p frame so_far = dropped_copy cause.NoConnection send p so_far
+spread_to size items n priority ended (Some conn) send p frame so_far =
+    cond (ended conn) (dropped_copy cause.ConnectionEnded send p so_far) (spread_one size items (relay_queue priority n conn) send p frame so_far)
 
-abbrev pub spread : ℕ → List Envelope → ℕ → Bool → List (ℕ × ℕ) → ℕ → ℕ → List ℕ → List Key → Spread → Spread
-spread size items n priority routes send p frame [] so_far = so_far
-spread size items n priority routes send p frame (k ∷ ks) so_far =
-    spread size items n priority routes send (p + 1) frame ks (spread_to size items n priority (route_to routes k) send p frame so_far)
+abbrev pub spread : ℕ → List Envelope → ℕ → Bool → (ℕ → Bool) → List (ℕ × ℕ) → ℕ → ℕ → List ℕ → List Key → Spread → Spread
+spread size items n priority ended routes send p frame [] so_far = so_far
+spread size items n priority ended routes send p frame (k ∷ ks) so_far =
+    spread size items n priority ended routes send (p + 1) frame ks (spread_to size items n priority ended (route_to routes k) send p frame so_far)
 
 abbrev pub row_of_spread : ℕ × ℕ → Spread → Row
 row_of_spread name s = record { reply = reply.Ok; takes = name ∷ []; puts = s.puts; ends = s.ends }
@@ -218,9 +220,17 @@ route_row configs log n name (item.Ready conn key) items =
           ∷ map (peers_put n (keys_in (with_route (routes log n) (item.Ready conn key)))) (subscribers log n);
       ends = peers_ends items n (subscribers log n);
     }
+-- the end of a connection: each subscriber hears that its peer is gone
+route_row configs log n name (item.Release key) items =
+    record {
+      reply = reply.Ok;
+      takes = name ∷ [];
+      puts = map (peers_put n (keys_in (with_route (routes log n) (item.Release key)))) (subscribers log n);
+      ends = peers_ends items n (subscribers log n);
+    }
 -- content: a copy to each recipient, in order
 route_row configs log n name (item.Content c frame priority send to) items =
-    row_of_spread name (spread (mailbox_size_at configs n) items n priority (routes log n) send 0 frame to (record { puts = []; ends = [] }))
+    row_of_spread name (spread (mailbox_size_at configs n) items n priority (is_ended log n) (routes log n) send 0 frame to (record { puts = []; ends = [] }))
 route_row configs log n name _ items = record { reply = reply.Ok; takes = name ∷ []; puts = []; ends = [] }
 
 abbrev pub route_oldest : List Config → List Entry → ℕ → List Envelope → Row
@@ -280,11 +290,7 @@ sender_row configs log n conn at None = only reply.Gone
 sender_row configs log n conn at (Some half) = half_row configs log n conn at half (is_begun log n conn) (is_running log n conn)
 
 abbrev pub send_step_row : List Config → List Entry → ℕ → ℕ → ℕ → Row
-send_step_row configs log conn n at = cond (is_up log n) (sender_row configs log n conn at (half_at log n conn)) (only reply.Gone)
-
-abbrev pub other_side : Side → Side
-other_side side.Out = side.In
-other_side side.In = side.Out
+send_step_row configs log conn n at = cond (is_up log n) (sender_row configs log n conn at (live_half log n conn)) (only reply.Gone)
 
 -- to deliver a message: into its channel's queue, or dropped where it does not enter that
 abbrev pub delivered_row : Option Cause → ℕ → ℕ × ℕ → Key → ℕ × ℕ → ℕ × List ℕ → Row
@@ -353,7 +359,7 @@ module _ (configs : List Config) (log : List Entry) (n conn at : ℕ) where
 
 abbrev pub recv_step_row : List Config → List Entry → ℕ → ℕ → ℕ → Row
 recv_step_row configs log conn n at =
-    elim (half_at log n conn) [
+    elim (live_half log n conn) [
       | None ↦ only reply.Gone
       | Some half ↦ cond (is_running log n conn) (receiver_row configs log n conn at half) (only reply.Idle)
     ]

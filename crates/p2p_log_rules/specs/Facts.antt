@@ -1,8 +1,8 @@
 -- What stands of nodes, channels and routers, by the log.
-use Rattle.std.specs.Prelude.{ℕ, ◌+◌, ◌*◌, max, Bool, true, false, ◌==◌, ◌&&◌, ◌||◌, cond, List, [], ◌∷◌, ◌++◌, map, flat_map, take, Option, Some, None, slice_get}
+use Rattle.std.specs.Prelude.{ℕ, ◌+◌, ◌*◌, max, Bool, false, ◌==◌, cond, List, [], ◌∷◌, ◌++◌, map, flat_map, take, Option, Some, None, slice_get}
 use Rattle.std.specs.List.{list_any}
-use Rattle.std.specs.BTreeMap.{insert_entry}
-use Rattle.std.specs.Map.{lookup}
+use Rattle.std.specs.BTreeMap.{insert_entry, is_at}
+use Rattle.std.specs.Map.{lookup, remove_entry}
 use Rattle.std.specs.Ordering.{nat_cmp}
 use Rattle.p2p_base.specs.declared.key.Key.{Key}
 use Rattle.p2p_log.specs.declared.config.Config.{Config}
@@ -155,16 +155,17 @@ subscriber_of _ = []
 unfoldable pub subscribers : List Entry → ℕ → List ℕ
 subscribers log n = flat_map subscriber_of (routed log n)
 
--- the connection of each key, with one more routed item
+-- the connection of each key that has one, with one more routed item
 abbrev pub with_route : List (ℕ × ℕ) → Item → List (ℕ × ℕ)
 with_route routes (item.Ready conn key) = insert_entry nat_cmp routes key.0 conn
+with_route routes (item.Release key) = remove_entry (is_at (nat_cmp key.0)) routes
 with_route routes _ = routes
 
 abbrev pub routes_after : List (ℕ × ℕ) → List Item → List (ℕ × ℕ)
 routes_after routes [] = routes
 routes_after routes (x ∷ xs) = routes_after (with_route routes x) xs
 
--- the connection of each key's last routed `ready`, in key order
+-- the connection of each key's last routed `ready`, while it was not released, in key order
 unfoldable pub routes : List Entry → ℕ → List (ℕ × ℕ)
 routes log n = routes_after [] (routed log n)
 

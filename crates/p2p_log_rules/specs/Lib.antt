@@ -4,7 +4,9 @@ pub mod Checking
 pub mod Closing
 pub mod Connections
 pub mod Dialing
+pub mod Dropping
 pub mod Effect
+pub mod Ending
 pub mod Facts
 pub mod Frames
 pub mod Handshakes

@@ -12,8 +12,7 @@ use Rattle.p2p_log.specs.declared.item.Item.{Item}
 use Rattle.p2p_log.specs.declared.item.Item.TheVariants as item
 use Rattle.p2p_log.specs.declared.entry.Entry.{Entry}
 use Rattle.p2p_log.specs.declared.event.Rate.{Rate}
-use Rattle.p2p_log.specs.declared.event.Act.{Act}
-use Rattle.p2p_log.specs.declared.event.Act.TheVariants as act
+use Rattle.p2p_log_rules.specs.Connections.{steps_receiver}
 use Rattle.p2p_log_rules.specs.Facts.{events_of, rates, rate_in, taken, history}
 use Rattle.p2p_log_rules.specs.Listening.{quota_of}
 use Rattle.p2p_log_rules.specs.Pings.{ping_frequency_at}
@@ -51,10 +50,6 @@ holds _ = false
 abbrev pub admits_one : ℕ → Metered → List Item → List (Queue × Item) → Bool
 admits_one limit what [] puts = false
 admits_one limit what (i ∷ items) puts = is_of what (metered_in limit i) && not (holds puts)
-
-abbrev pub steps_receiver : ℕ → ℕ → Act → Bool
-steps_receiver n conn (act.RecvStep e m) = (m == n) && (e == conn)
-steps_receiver n conn _ = false
 
 abbrev pub limit_at : List Config → ℕ → ℕ
 limit_at configs n = elim (slice_get configs n) [ None ↦ 0 | Some c ↦ c.max_message_size ]

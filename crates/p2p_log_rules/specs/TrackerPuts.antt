@@ -1,5 +1,5 @@
 -- What a node's tracker puts for what it takes, by the calls of its directory so far.
-use Rattle.std.specs.Prelude.{ℕ, Bool, true, false, cond, List, [], ◌∷◌, ◌++◌, map, flat_map, Option, Some, None}
+use Rattle.std.specs.Prelude.{ℕ, Bool, true, false, not, cond, List, [], ◌∷◌, ◌++◌, map, filter, flat_map, Option, Some, None}
 use Rattle.std.specs.Option.{option_map}
 use Rattle.p2p_base.specs.declared.key.Key.{Key}
 use Rattle.p2p_address.specs.Addresses.{ingress_of}
@@ -124,3 +124,14 @@ module _ (rules : Rules Key) (n at : ℕ) (updates sets : List ℕ) (calls : Lis
   item_puts log (item.AskAcceptable name key) = handshake_puts name (acceptance key) (is_handshaking log n name) (source_at log name)
   item_puts log (item.AskListen name key) = handshake_puts name (listen_grant key) (is_handshaking log n name) (source_at log name)
   item_puts log _ = []
+
+-- ---- kills that come too late
+
+-- whether it kills a connection that has ended
+abbrev pub kills_ended : (ℕ → Bool) → Put → Bool
+kills_ended ended (queue.Control n conn, item.Kill) = ended conn
+kills_ended ended _ = false
+
+-- all of these but the kills of connections that have ended
+abbrev pub heeded : (ℕ → Bool) → List Put → List Put
+heeded ended puts = filter (λ x. not (kills_ended ended x)) puts

@@ -24,10 +24,11 @@ use Rattle.p2p_log.specs.declared.event.Act.{Act}
 use Rattle.p2p_log.specs.declared.event.Act.TheVariants as act
 use Rattle.p2p_log_rules.specs.declared.row.Row.{Row}
 use Rattle.p2p_log.specs.Lines.{name_of, stays, live, line}
+use Rattle.p2p_log_rules.specs.Connections.{is_ended}
 use Rattle.p2p_log_rules.specs.Facts.{is_up, key_at}
 use Rattle.p2p_log_rules.specs.Rows.{only, mailbox_size_at, ring_ends}
 use Rattle.p2p_log_rules.specs.Tracking.{key_cmp, rules_at, asked_by, calls_of, update_subscriptions, blocked_subscriptions}
-use Rattle.p2p_log_rules.specs.TrackerPuts.{Put, is_some_of, unblocked_puts, item_puts}
+use Rattle.p2p_log_rules.specs.TrackerPuts.{Put, is_some_of, unblocked_puts, item_puts, heeded}
 
 -- ---- what it is asked
 
@@ -84,7 +85,8 @@ abbrev pub served_row : List Config → List Entry → ℕ → ℕ → List Enve
 served_row configs log n at [] = only reply.Idle
 served_row configs log n at (x ∷ _) =
     told_row log (name_of x ∷ [])
-    (item_puts (rules_at configs n) n at (update_subscriptions log n) (blocked_subscriptions log n) (calls_of configs log n) log x.item)
+    (heeded (is_ended log n)
+    (item_puts (rules_at configs n) n at (update_subscriptions log n) (blocked_subscriptions log n) (calls_of configs log n) log x.item))
 
 -- blocks that have ended come before the mailbox
 abbrev pub tracker_step : List Config → List Entry → ℕ → ℕ → Row

@@ -16,6 +16,9 @@ abbrev pub cause_onto : List ℕ → Cause → List ℕ
 cause_onto out cause.Unbound = out ++ codes "\"unbound\""
 cause_onto out cause.NoConnection = out ++ codes "\"no_connection\""
 cause_onto out cause.RelayFull = out ++ codes "\"relay_full\""
+cause_onto out cause.ConnectionEnded = out ++ codes "\"connection_ended\""
+cause_onto out cause.FrameRefused = out ++ codes "\"frame_refused\""
+cause_onto out cause.ChannelUnregistered = out ++ codes "\"channel_unregistered\""
 cause_onto out cause.MailboxFull = out ++ codes "\"mailbox_full\""
 cause_onto out cause.ReceiverClosed = out ++ codes "\"receiver_closed\""
 

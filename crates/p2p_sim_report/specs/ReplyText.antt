@@ -9,6 +9,8 @@ use Rattle.p2p_flow.specs.declared.tracked.TrackedPeers.{TrackedPeers}
 use Rattle.p2p_flow.specs.declared.update.PeerSetUpdate.{PeerSetUpdate}
 use Rattle.p2p_gates_rules.specs.declared.reply.Reply.{Reply as GatesReply}
 use Rattle.p2p_gates_rules.specs.declared.reply.Reply.TheVariants as gates
+use Rattle.p2p_log.specs.declared.entry.Ended.{Ended}
+use Rattle.p2p_log.specs.declared.entry.Ended.TheVariants as ended
 use Rattle.p2p_log.specs.declared.entry.Reply.{Reply}
 use Rattle.p2p_log.specs.declared.entry.Reply.TheVariants as reply
 use Rattle.p2p_sim_report.specs.Text.{number_onto, flag_onto, key_onto, hex_onto, list_onto}
@@ -68,6 +70,14 @@ gates_onto out (gates.Limited ip subnet) = limited_onto out ip subnet
 gates_onto out gates.TooMany = out ++ codes "\"too_many\""
 gates_onto out gates.Admitted = out ++ codes "\"admitted\""
 
+-- why a connection ended
+abbrev pub ended_onto : List ℕ → Ended → List ℕ
+ended_onto out ended.Killed = out ++ codes "{\"ended\":\"killed\"}"
+ended_onto out ended.SendFailed = out ++ codes "{\"ended\":\"send_failed\"}"
+ended_onto out ended.ReceiveFailed = out ++ codes "{\"ended\":\"receive_failed\"}"
+ended_onto out ended.DecodeFailed = out ++ codes "{\"ended\":\"decode_failed\"}"
+ended_onto out ended.InvalidChannel = out ++ codes "{\"ended\":\"invalid_channel\"}"
+
 abbrev pub reply_onto : List ℕ → Reply → List ℕ
 reply_onto out reply.Ok = out ++ codes "\"ok\""
 reply_onto out reply.Idle = out ++ codes "\"idle\""
@@ -86,3 +96,4 @@ reply_onto out (reply.PeerSet peers) = answered_onto out peers
 reply_onto out (reply.Update update) = updated_onto out update
 reply_onto out (reply.Blocked keys) = blocked_onto out keys
 reply_onto out (reply.Gates told) = gates_onto out told
+reply_onto out (reply.Ended why) = ended_onto out why

@@ -14,6 +14,9 @@ fn put_cause(out: &mut String, cause: Cause) -> Result<(), AllocError>
         Cause::Unbound => put(out, "\"unbound\""),
         Cause::NoConnection => put(out, "\"no_connection\""),
         Cause::RelayFull => put(out, "\"relay_full\""),
+        Cause::ConnectionEnded => put(out, "\"connection_ended\""),
+        Cause::FrameRefused => put(out, "\"frame_refused\""),
+        Cause::ChannelUnregistered => put(out, "\"channel_unregistered\""),
         Cause::MailboxFull => put(out, "\"mailbox_full\""),
         Cause::ReceiverClosed => put(out, "\"receiver_closed\""),
     }

@@ -1,7 +1,7 @@
 //! The text of replies.
 ghost use Rattle.std.specs.Prelude.{◌≡◌, OnOk};
 ghost use Rattle.std.specs.String.{string_bytes};
-ghost use Rattle.p2p_sim_report.specs.ReplyText.{capacity_onto, sent_onto, checked_onto, retry_onto, outcome_onto, received_onto, feedback_onto, too_large_onto, answered_onto, updated_onto, blocked_onto, limited_onto, gates_onto};
+ghost use Rattle.p2p_sim_report.specs.ReplyText.{capacity_onto, sent_onto, checked_onto, retry_onto, outcome_onto, received_onto, feedback_onto, too_large_onto, answered_onto, updated_onto, blocked_onto, limited_onto, gates_onto, ended_onto};
 
 use crate::peers::{put_peer_set, put_update};
 use crate::text::{ToText, put, put_flag, put_hex, put_list, put_number};
@@ -9,7 +9,7 @@ use crate::tracker_item::put_digits;
 use p2p_base::{Feedback, Key, Unreliable};
 use p2p_flow::{PeerSetUpdate, TrackedPeers};
 use p2p_gates_rules::Reply as GatesReply;
-use p2p_log::Reply;
+use p2p_log::{Ended, Reply};
 use std::alloc::AllocError;
 
 fn put_capacity(out: &mut String, capacity: u64) -> Result<(), AllocError>
@@ -132,6 +132,18 @@ fn put_gates(out: &mut String, told: GatesReply) -> Result<(), AllocError>
     }
 }
 
+fn put_ended(out: &mut String, why: Ended) -> Result<(), AllocError>
+    ensures { OnOk result (string_bytes out.new ≡ ended_onto (string_bytes out.old) why) }
+{
+    match why {
+        Ended::Killed => put(out, "{\"ended\":\"killed\"}"),
+        Ended::SendFailed => put(out, "{\"ended\":\"send_failed\"}"),
+        Ended::ReceiveFailed => put(out, "{\"ended\":\"receive_failed\"}"),
+        Ended::DecodeFailed => put(out, "{\"ended\":\"decode_failed\"}"),
+        Ended::InvalidChannel => put(out, "{\"ended\":\"invalid_channel\"}"),
+    }
+}
+
 impl ToText for Reply {
     ghost use Rattle.p2p_sim_report.specs.ReplyText.{reply_onto};
 
@@ -165,6 +177,7 @@ impl ToText for Reply {
             Reply::Update(update) => put_updated(out, update),
             Reply::Blocked(keys) => put_blocked(out, keys.as_slice()),
             Reply::Gates(told) => put_gates(out, *told),
+            Reply::Ended(why) => put_ended(out, *why),
         }
     }
 }
