@@ -1,6 +1,6 @@
 -- Each message is accepted for those whom its channel's quota admits.
-use Rattle.std.proofs.Common.{◌≡◌, ℕ, Bool, true, false, List, [], ◌∷◌, length, ◌⊎◌, inl, inr, refl, ap, sym, subst, Option, Some, None}
-use Rattle.std.specs.Prelude.{nat_lt, nat_le, take, slice_get}
+use Rattle.std.proofs.Common.{◌≡◌, ℕ, Bool, true, false, List, [], ◌∷◌, length, ◌⊎◌, inl, inr, refl, sym, subst, Option, Some, None}
+use Rattle.std.specs.Prelude.{nat_lt, nat_le, take}
 use Rattle.p2p_base.specs.declared.key.Key.{Key}
 use Rattle.p2p_base.specs.declared.outcome.Feedback.TheVariants as feedback
 use Rattle.p2p_base.specs.declared.outcome.Unreliable.TheVariants.{Outcome, Rejected}
@@ -13,14 +13,14 @@ use Rattle.p2p_log.specs.declared.event.Event.{Event}
 use Rattle.p2p_log.specs.declared.event.Act.{Act}
 use Rattle.p2p_log.specs.declared.event.Act.TheVariants as act
 use Rattle.p2p_log.specs.declared.event.Recipients.{Recipients}
-use Rattle.p2p_log.specs.Copies.{accepted, accepted_by}
+use Rattle.p2p_log.specs.Copies.{accepted_by}
 use Rattle.p2p_log.specs.Lines.{line}
 use Rattle.p2p_log.specs.Sending.{sending_at, sending_in, keys_sent}
 use Rattle.p2p_log_rules.specs.declared.row.Checked.{Checked}
 use Rattle.p2p_log_rules.specs.declared.row.Row.{Row}
 use Rattle.p2p_log_rules.specs.Admitting.{offered, keys_admitted}
 use Rattle.p2p_log_rules.specs.Checking.{checking_node, checked_at}
-use Rattle.p2p_log_rules.specs.Effect.{only, row, effect, limit_at, router_capacity, sent_row, fitting_row, admitted_row, taking, takes_list, send_to_row, send_keys_row, send_row, spent_row, send_checked_row}
+use Rattle.p2p_log_rules.specs.Effect.{only, row, effect, limit_at, router_capacity, sent_row, fitting_row, admitted_row, taking, takes_list, send_to_row, send_keys_row, send_row, spent_row}
 use Rattle.p2p_log_rules.specs.Facts.{channels, capacity_in, is_up}
 use Rattle.p2p_log_rules.specs.Frames.{frame_of}
 use Rattle.p2p_log_rules.specs.Lawful.{IsLawful}

@@ -32,6 +32,7 @@ use Rattle.p2p_log.specs.QueueCode.{same_queue}
 use Rattle.p2p_log.specs.Lines.{name_of, line}
 use Rattle.p2p_log.proofs.Each.{Each-weaker, count_by-none}
 use Rattle.p2p_log.proofs.Queues.{same_queue-refl}
+use Rattle.p2p_log_rules.specs.Connections.{is_ended}
 use Rattle.p2p_log_rules.specs.declared.row.Row.{Row}
 use Rattle.p2p_log_rules.specs.Attempting.{Attempt, dial_rules_at, attempts_of, resolved, given_up_row, resolved_row, ready_row, link_of, took_row as attempt_took_row, attempt_turn, attempt_by, attempt_row}
 use Rattle.p2p_log_rules.specs.Dialing.{Dials, dials_of, in_drawn_order, last_key, dial_puts, answered_row, due_row, dialer_turn, dialer_row}
@@ -43,7 +44,7 @@ use Rattle.p2p_log_rules.specs.Moves.{Moves}
 use Rattle.p2p_log_rules.specs.Rows.{only, is_spawner_full}
 use Rattle.p2p_log_rules.specs.Tracking.{key_cmp, rules_at, asked_by, calls_of, update_subscriptions, blocked_subscriptions}
 use Rattle.p2p_log_rules.specs.TrackerPuts as puts
-use Rattle.p2p_log_rules.specs.TrackerPuts.{acceptance, listen_grant, handshake_puts, item_puts}
+use Rattle.p2p_log_rules.specs.TrackerPuts.{acceptance, listen_grant, handshake_puts, item_puts, heeded}
 use Rattle.p2p_log_rules.specs.TrackerRows as rows
 use Rattle.p2p_log_rules.proofs.Moves.{one_taken}
 use Rattle.p2p_log_rules.proofs.Touches.{Reach, writes, away}
@@ -58,6 +59,7 @@ use Rattle.p2p_log_laws.proofs.Starting.{each_sent}
 use Rattle.p2p_log_laws.proofs.TrackerMoves.{served_moves, unblocked_moves}
 use Rattle.p2p_log_laws.proofs.TrackerPuts.{EachKind, each_unblocked, each_asked, each_connected}
 use Rattle.p2p_log_laws.proofs.Weighing.{weight, count_by-one}
+use Rattle.p2p_log_laws.proofs.Heeded.{count_by-heeded}
 
 or_false : (b : Bool) → (b || false) ≡ b
 or_false true = refl
@@ -278,9 +280,11 @@ module _ (w : Words) (n name : ℕ) where
 
       -- the oldest message is taken
       served : (x : Envelope) (rest : List Envelope) → line log (queue.Tracker n) ≡ x ∷ rest
-          → Answers log (event (act.Tracker n)) (rows.told_row log (name_of x ∷ []) (item_puts rules n at us bs calls log x.item))
+          → Answers log (event (act.Tracker n)) (rows.told_row log (name_of x ∷ []) (heeded (is_ended log n) (item_puts rules n at us bs calls log x.item)))
       served x rest first =
-          let xs : List (Queue × Item) = item_puts rules n at us bs calls log x.item in
+          let all : List (Queue × Item) = item_puts rules n at us bs calls log x.item in
+          let xs : List (Queue × Item) = heeded (is_ended log n) all in
+          let counted : count_by (is_for w n name) xs ≡ count_by (is_for w n name) all = count_by-heeded (is_ended log n) (is_for w n name) (λ m conn. refl) all in
           let stood : x.queue ≡ queue.Tracker n = one_taken log (queue.Tracker n) x rest first in
           let asked : is_for w n name (put_of x) ≡ asks_about w n name x.item =
           ap (λ q. (same_queue (queue.Tracker n) q && asks_about w n name x.item) || (same_queue (queue.Handshake n name) q && tells w x.item)) stood
@@ -289,7 +293,7 @@ module _ (w : Words) (n name : ℕ) where
           record {
             moves = served_moves log xs (queue.Tracker n) x rest first;
             few = inl (few_put (count_by (is_for w n name) xs) (one (w.acceptance && false)) (one (asks_about w n name x.item)) (weight (is_for w n name) (x ∷ []))
-                (item_few x.item) (ap one (and_false w.acceptance)) (count_by-one (λ y. is_for w n name (put_of y)) x ∙ ap one asked));
+                (subst (λ c. c + 0 ≤ one (asks_about w n name x.item)) (sym counted) (item_few x.item)) (ap one (and_false w.acceptance)) (count_by-one (λ y. is_for w n name (put_of y)) x ∙ ap one asked));
           }
 
       unblocked : Answers log (event (act.Tracker n)) (rows.told_row log [] (puts.unblocked_puts rules n at us bs calls (call.UnblockExpired at)))

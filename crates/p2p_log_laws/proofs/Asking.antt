@@ -24,6 +24,7 @@ use Rattle.p2p_log.specs.declared.event.Act.TheVariants as act
 use Rattle.p2p_log.specs.QueueCode.{same_queue}
 use Rattle.p2p_log.specs.Lines.{line}
 use Rattle.p2p_log.proofs.Each.{Each-weaker}
+use Rattle.p2p_log_rules.specs.Connections.{is_ended}
 use Rattle.p2p_log_rules.specs.declared.row.Row.{Row}
 use Rattle.p2p_log_rules.specs.Attempting.{attempt_row}
 use Rattle.p2p_log_rules.specs.Dialing.{dialer_row}
@@ -48,6 +49,7 @@ use Rattle.p2p_log_laws.proofs.Shape.{Shape}
 use Rattle.p2p_log_laws.proofs.Shapes.{row_shape}
 use Rattle.p2p_log_laws.proofs.Starting.{each_sent}
 use Rattle.p2p_log_laws.proofs.TrackerPuts.{EachKind, each_unblocked, each_asked, each_connected}
+use Rattle.p2p_log_laws.proofs.Heeded.{Each-heeded}
 
 module _ (n name : ℕ) where
   abbrev pub Unasked : Queue × Item → Type 0
@@ -108,7 +110,7 @@ module _ (n name : ℕ) where
 
     served_unasked : (xs : List Envelope) → Each Unasked (rows.served_row configs log n at xs).puts
     served_unasked [] = tt
-    served_unasked (x ∷ xs) = item_unasked rules us bs calls x.item
+    served_unasked (x ∷ xs) = Each-heeded (is_ended log n) Unasked (puts.item_puts rules n at us bs calls log x.item) (item_unasked rules us bs calls x.item)
 
     tracker_unasked : Each Unasked (rows.tracker_row configs log n at).puts
     tracker_unasked = by_up (is_up log n)

@@ -20,7 +20,7 @@ use Rattle.p2p_log.specs.Lines.{live, line}
 use Rattle.p2p_log.proofs.Each.{Each-weaker, count_by-none}
 use Rattle.p2p_log_rules.specs.declared.row.Half.{Half}
 use Rattle.p2p_log_rules.specs.declared.row.Row.{Row}
-use Rattle.p2p_log_rules.specs.Connections.{half_at, steps_sender, is_done, is_begun, is_running}
+use Rattle.p2p_log_rules.specs.Connections.{live_half, steps_sender, is_done, is_begun, is_running}
 use Rattle.p2p_log_rules.specs.Effect.{row, only, takes_oldest, write_row, batch_size_at, beside_ping, batch, running_row, begin_row, half_row, sender_row, send_step_row}
 use Rattle.p2p_log_rules.specs.Pings.{ping_frame, ping_is_due}
 use Rattle.p2p_log_rules.specs.Facts.{is_up}
@@ -141,8 +141,8 @@ module _ (n conn : ℕ) (log : List Entry) where
   send_begins : (configs : List Config) (at : ℕ) → (n == n) ≡ true → (conn == conn) ≡ true → BeginsOnce (act.SendStep conn n) (send_step_row configs log conn n at)
   send_begins configs at self same = by_up (is_up log n)
     where
-      by_up : (b : Bool) → BeginsOnce (act.SendStep conn n) (cond b (sender_row configs log n conn at (half_at log n conn)) (only reply.Gone))
-      by_up true = sender_begins configs at (half_at log n conn) self same
+      by_up : (b : Bool) → BeginsOnce (act.SendStep conn n) (cond b (sender_row configs log n conn at (live_half log n conn)) (only reply.Gone))
+      by_up true = sender_begins configs at (live_half log n conn) self same
       by_up false = silent_begins (act.SendStep conn n) (only reply.Gone) refl
 
   -- ---- each act

@@ -2,13 +2,10 @@
 use Rattle.p2p_log_laws.proofs.OneShape.{spent_shape}
 use Rattle.p2p_log.specs.declared.event.Act.{Act}
 use Rattle.p2p_log_rules.specs.Reading.{reading_of, told, is_read}
-use Rattle.p2p_log.specs.Sending.Sender.{Node}
 use Rattle.p2p_log.specs.declared.entry.Reply.{Reply}
-use Rattle.p2p_log.specs.Sending.{Sending, sending_of, keys_sent}
-use Rattle.std.proofs.Common.{◌≡◌, ℕ, suc, ◌+◌, ◌<◌, Bool, true, false, cond, List, [], ◌∷◌, map, length, Some, None, inl, inr, refl, ap, sym, ◌∙◌, arith, subst}
-use Rattle.std.specs.Prelude.{◌==◌, ◌&&◌, nat_le, nat_lt, count_by, flat_map, slice_get, filter}
-use Rattle.std.specs.List.{AllByRecursion as Each}
-use Rattle.p2p_base.specs.declared.key.Key.{Key}
+use Rattle.p2p_log.specs.Sending.{sending_of, keys_sent}
+use Rattle.std.proofs.Common.{◌≡◌, ℕ, true, false, cond, List, [], ◌∷◌, map, Some, inl, refl, ap, sym, ◌∙◌}
+use Rattle.std.specs.Prelude.{slice_get}
 use Rattle.p2p_log.specs.declared.config.Config.{Config}
 use Rattle.p2p_log.specs.declared.queue.Queue.{Queue}
 use Rattle.p2p_log.specs.declared.queue.Queue.TheVariants as queue
@@ -16,21 +13,15 @@ use Rattle.p2p_log.specs.declared.item.Item.{Item}
 use Rattle.p2p_log.specs.declared.item.Item.TheVariants as item
 use Rattle.p2p_log.specs.declared.item.Envelope.{Envelope}
 use Rattle.p2p_log.specs.declared.end.End.TheVariants as end
-use Rattle.p2p_log.specs.declared.end.Outcome.{Outcome}
 use Rattle.p2p_log.specs.declared.end.Outcome.TheVariants as outcome
-use Rattle.p2p_log.specs.declared.end.Cause.TheVariants as cause
 use Rattle.p2p_log.specs.declared.entry.Entry.{Entry}
 use Rattle.p2p_log.specs.declared.entry.Reply.TheVariants as reply
 use Rattle.p2p_log.specs.declared.event.Act.TheVariants as act
 use Rattle.p2p_log.specs.declared.event.Rate.{Rate}
-use Rattle.p2p_log.specs.declared.event.Recipients.{Recipients}
-use Rattle.p2p_log_rules.specs.declared.row.Row.{Row}
-use Rattle.p2p_log.specs.Lines.{name_of, same_name, ended_item, line}
-use Rattle.p2p_log_rules.specs.Admitting.{keys_admitted}
+use Rattle.p2p_log.specs.Lines.{name_of, same_name, line}
 use Rattle.p2p_log_rules.specs.Closing.{has_reader}
-use Rattle.p2p_log_rules.specs.Facts.{is_up, channels, capacity_for}
-use Rattle.p2p_log_rules.specs.Frames.{frame_of}
-use Rattle.p2p_log.specs.Copies.{keys_of_recipients, carries_copy, ends_copy, copies_from, copies_of}
+use Rattle.p2p_log_rules.specs.Facts.{channels, capacity_for}
+use Rattle.p2p_log.specs.Copies.{carries_copy, copies_of}
 use Rattle.p2p_log_rules.specs.Effect
 use Rattle.p2p_log_rules.specs.Effect.{entry_of}
 use Rattle.p2p_log.proofs.Each.{Each-always, Each-map}
@@ -38,11 +29,7 @@ use Rattle.p2p_log_rules.specs.Moves.{Moves}
 use Rattle.p2p_log_rules.proofs.Moves.{one_taken}
 use Rattle.p2p_log.proofs.Queues.{same_queue-refl}
 use Rattle.p2p_log_rules.proofs.Touches.{reads, writes}
-use Rattle.p2p_log_laws.proofs.Carried.{IsSublist-put}
-use Rattle.p2p_log_laws.proofs.Shape.{Shape, IsQuiet, Moved-nothing, accepts, still, no_moves, quiet_laws, no_delivery, accepts-sent}
-use Rattle.p2p_log_laws.proofs.Showing.{EndShows}
-use Rattle.p2p_log_laws.proofs.Spreading.{from_place, from_first, one, count_by-copies_end}
-use Rattle.p2p_log_laws.specs.Flow.{IsSublist, put_copies}
+use Rattle.p2p_log_laws.proofs.Shape.{Shape, IsQuiet, still, no_moves, quiet_laws}
 
 pub register_shape : (configs : List Config) (log : List Entry) (c n : ℕ) (rate : Rate)
     → Shape configs log (act.Register c n rate) (Effect.register_row configs n rate)

@@ -19,7 +19,7 @@ use Rattle.p2p_log.specs.declared.event.Act.TheVariants as act
 use Rattle.p2p_log_rules.specs.declared.row.Half.{Half}
 use Rattle.p2p_log_rules.specs.declared.row.Row.{Row}
 use Rattle.p2p_log.specs.Lines.{name_of, live, line}
-use Rattle.p2p_log_rules.specs.Connections.{half_at, is_begun, is_running}
+use Rattle.p2p_log_rules.specs.Connections.{half_at, is_begun, is_running, live_half}
 use Rattle.p2p_log_rules.specs.Facts.{is_up}
 use Rattle.p2p_log.specs.Copies.{carries, carries_copy}
 use Rattle.p2p_log_rules.specs.Effect
@@ -35,6 +35,7 @@ use Rattle.p2p_log_laws.proofs.Fitting.{StandsFit, Fits, fits, is_bare}
 use Rattle.p2p_log_laws.proofs.Shape.{Shape, Moved, Moved-nothing, Moved-put, Moved-idle, accepts, still, no_moves, one_move, first_in, bare_laws, quiet_laws, no_delivery, accepts-none}
 use Rattle.p2p_log_laws.proofs.Spreading.{one}
 use Rattle.p2p_log_laws.proofs.Telling.{IsConnection}
+use Rattle.p2p_log_rules.proofs.Connections.{is_live}
 
 batch_moved : (log : List Entry) (n conn most : ℕ) → AreTaken (live log) (Effect.batch log n conn most)
 unfolding line
@@ -207,15 +208,15 @@ half_shape configs log conn n moment half false running at = start_shape configs
 half_shape configs log conn n moment half true false at = begin_shape configs log conn n (line log (queue.Ready n conn)) refl
 half_shape configs log conn n moment half true true at = running_shape configs log conn n half (ping_is_due configs log n conn moment) at
 
-sender_shape : (configs : List Config) (log : List Entry) (conn n moment : ℕ) (o : Option Half) → half_at log n conn ≡ o
+sender_shape : (configs : List Config) (log : List Entry) (conn n moment : ℕ) (o : Option Half) → live_half log n conn ≡ o
     → Shape configs log (act.SendStep conn n) (Effect.sender_row configs log n conn moment o)
 sender_shape configs log conn n moment None at = still configs log (act.SendStep conn n) reply.Gone refl refl
-sender_shape configs log conn n moment (Some half) at = half_shape configs log conn n moment half (is_begun log n conn) (is_running log n conn) at
+sender_shape configs log conn n moment (Some half) at = half_shape configs log conn n moment half (is_begun log n conn) (is_running log n conn) (is_live log n conn half at).at
 
 pub send_step_shape : (configs : List Config) (log : List Entry) (conn n moment : ℕ)
     → Shape configs log (act.SendStep conn n) (Effect.send_step_row configs log conn n moment)
 send_step_shape configs log conn n moment = by_up (is_up log n)
   where
-    by_up : (b : Bool) → Shape configs log (act.SendStep conn n) (cond b (Effect.sender_row configs log n conn moment (half_at log n conn)) (Effect.only reply.Gone))
-    by_up true = sender_shape configs log conn n moment (half_at log n conn) refl
+    by_up : (b : Bool) → Shape configs log (act.SendStep conn n) (cond b (Effect.sender_row configs log n conn moment (live_half log n conn)) (Effect.only reply.Gone))
+    by_up true = sender_shape configs log conn n moment (live_half log n conn) refl
     by_up false = still configs log (act.SendStep conn n) reply.Gone refl refl

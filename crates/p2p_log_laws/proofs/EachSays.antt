@@ -30,6 +30,7 @@ use Rattle.p2p_log.specs.QueueCode.{same_queue}
 use Rattle.p2p_log.specs.Lines.{name_of, live, line}
 use Rattle.p2p_log.proofs.Each.{Each-weaker}
 use Rattle.p2p_log.proofs.Queues.{same_queue-refl}
+use Rattle.p2p_log_rules.specs.Connections.{is_ended}
 use Rattle.p2p_log_rules.specs.declared.row.Opening.{Opening}
 use Rattle.p2p_log_rules.specs.declared.row.ListeningEnd.{ListeningEnd}
 use Rattle.p2p_log_rules.specs.declared.row.ListeningEnd.TheVariants as listening
@@ -55,6 +56,7 @@ use Rattle.p2p_log_laws.proofs.Saying.{IsPeer, IsLinkedTo, IsDialed, Says, PutSa
 use Rattle.p2p_log_laws.proofs.Shape.{Shape}
 use Rattle.p2p_log_laws.proofs.Shapes.{row_shape}
 use Rattle.p2p_log_laws.proofs.TrackerPuts.{EachKind, each_unblocked, each_asked, each_connected}
+use Rattle.p2p_log_laws.proofs.Heeded.{Each-heeded}
 
 module _ (configs : List Config) (log : List Entry) where
   abbrev P : Queue × Item → Type 0
@@ -149,7 +151,9 @@ module _ (configs : List Config) (log : List Entry) where
       oldest_says : (xs : List Envelope) → line log (queue.Tracker n) ≡ xs → Each P (rows.served_row configs log n at xs).puts
       oldest_says [] first = tt
       oldest_says (x ∷ rest) first =
-          item_says (rules_at configs n) (update_subscriptions log n) (blocked_subscriptions log n) (calls_of configs log n) x.item (first_says configs log (queue.Tracker n) x rest say first)
+          Each-heeded (is_ended log n) P
+          (puts.item_puts (rules_at configs n) n at (update_subscriptions log n) (blocked_subscriptions log n) (calls_of configs log n) log x.item)
+          (item_says (rules_at configs n) (update_subscriptions log n) (blocked_subscriptions log n) (calls_of configs log n) x.item (first_says configs log (queue.Tracker n) x rest say first))
 
       step_says : (b : Bool) → Each P
           (cond b

@@ -22,7 +22,7 @@ use Rattle.p2p_log_rules.specs.declared.row.Half.{Half}
 use Rattle.p2p_log_rules.specs.declared.row.Opening.{Opening}
 use Rattle.p2p_log_rules.specs.declared.row.Row.{Row}
 use Rattle.p2p_log_rules.specs.Closing.{is_closed, refused_by}
-use Rattle.p2p_log_rules.specs.Connections.{half_at, is_running}
+use Rattle.p2p_log_rules.specs.Connections.{live_half, is_running}
 use Rattle.p2p_log_rules.specs.Effect
 use Rattle.p2p_log_rules.specs.Effect.{row, goes_to}
 use Rattle.p2p_log_rules.specs.Facts.{channels, capacity_in}
@@ -136,6 +136,6 @@ module _ (configs : List Config) (log : List Entry) (n conn : ℕ) where
 
   pub put_alone : (at seed : ℕ) (a : Act) → IsPutAlone (queue.Held n conn) (row configs log at seed a).puts
   unfolding row
-  put_alone at seed (act.RecvStep e m) = receiver_alone m e at (half_at log m e)
+  put_alone at seed (act.RecvStep e m) = receiver_alone m e at (live_half log m e)
   put_alone at seed (act.Finish link ok) = out_of_reach at seed (act.Finish link ok) (ends_aside (openings_of log link))
   put_alone at seed a = out_of_reach at seed a refl

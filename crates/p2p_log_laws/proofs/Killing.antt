@@ -21,6 +21,7 @@ use Rattle.p2p_log.specs.declared.event.Event.{Event}
 use Rattle.p2p_log.specs.declared.event.Act.{Act}
 use Rattle.p2p_log.specs.declared.event.Act.TheVariants as act
 use Rattle.p2p_log.specs.Lines.{name_of, line}
+use Rattle.p2p_log_rules.specs.Connections.{is_ended}
 use Rattle.p2p_log_rules.specs.declared.row.Row.{Row}
 use Rattle.p2p_log_rules.specs.Effect.{row, effect}
 use Rattle.p2p_log_rules.specs.Facts.{is_up}
@@ -40,6 +41,7 @@ use Rattle.p2p_log_laws.proofs.Drops.{Each-get}
 use Rattle.p2p_log_laws.proofs.Prefixes.{entry_due}
 use Rattle.p2p_log_laws.proofs.Shapes.{row_shape}
 use Rattle.p2p_log_laws.proofs.TrackerPuts.{EachKindBy, each_unblocked_by, each_asked_by, each_connected_by}
+use Rattle.p2p_log_laws.proofs.Heeded.{Each-heeded}
 
 -- ---- who kills
 
@@ -139,7 +141,7 @@ module _ (configs : List Config) (log : List Entry) (n at : ℕ) where
       let r : Row = rows.served_row configs log n at (x ∷ rest) in
       Each-weaker (Kills n (Killed x.item)) (Kills n (RowKills r))
       (λ p kills m conn is. let k = kills m conn is in (k.0, record { oldest = x; later = rest; stood = first; takes = refl; why = k.1 }))
-      r.puts (item_kills x.item)
+      r.puts (Each-heeded (is_ended log n) (Kills n (Killed x.item)) (puts.item_puts rules n at us bs calls log x.item) (item_kills x.item))
 
   step_shown : Shown (rows.tracker_step configs log n at)
   step_shown = by_due (puts.is_some_of (due_keys key_cmp rules calls at))

@@ -46,6 +46,7 @@ pub mod HandshakeAnswers
 pub mod HandshakeGrants
 pub mod HandshakeLaws
 pub mod HandshakeShape
+pub mod Heeded
 pub mod HeldCalls
 pub mod HeldPeers
 pub mod Holding
@@ -57,6 +58,7 @@ pub mod LineShape
 pub mod Linking
 pub mod Listed
 pub mod ListenerShape
+pub mod Living
 pub mod Marks
 pub mod Meeting
 pub mod Newest

@@ -1,6 +1,6 @@
 -- The newest list of peers that a channel was told of is current.
 use Rattle.std.proofs.Common.{◌≡◌, ℕ, Bool, true, false, cond, List, [], ◌∷◌, ◌++◌, map, refl, ap, sym, subst, ◌∙◌, arith, append_assoc, append-nil, eqb-true, Option, Some, None}
-use Rattle.std.specs.Prelude.{◌==◌, ◌&&◌, ◌||◌, flat_map, filter, length}
+use Rattle.std.specs.Prelude.{◌==◌, ◌||◌, flat_map, filter}
 use Rattle.std.specs.List.{AllByRecursion as Each, list_any}
 use Rattle.std.proofs.lemmas.Bool.Decides.{nat_tests}
 use Rattle.p2p_base.specs.declared.key.Key.{Key}
@@ -19,7 +19,8 @@ use Rattle.p2p_log.specs.Lines.{name_of, stays, live, line}
 use Rattle.p2p_log.specs.QueueCode.{same_queue}
 use Rattle.p2p_log_rules.specs.declared.row.Opening.{Opening}
 use Rattle.p2p_log_rules.specs.declared.row.Row.{Row}
-use Rattle.p2p_log_rules.specs.Effect.{effect, entry_of, row, router_row, route_oldest, route_row, only, peers_put, spread, mailbox_size_at, relay_queue}
+use Rattle.p2p_log_rules.specs.Connections.{is_ended}
+use Rattle.p2p_log_rules.specs.Effect.{effect, entry_of, row, router_row, route_oldest, route_row, only, peers_put, spread, mailbox_size_at}
 use Rattle.p2p_log_rules.specs.Facts.{is_up, item_named, taken, steps_router, routed_by, subscriber_of, routed, history_from, subscribers, with_route, routes_after, routes, keys_in, list_put, lists_put, newest, peers_told}
 use Rattle.p2p_log_rules.specs.Lawful.{IsLawful}
 use Rattle.p2p_log_rules.specs.Links.{openings_of}
@@ -149,23 +150,27 @@ module _ (n c : ℕ) where
         by false true keys = refl
         by false false keys = refl
 
-    readied : (conn : ℕ) (key : Key) → x.item ≡ item.Ready conn key → IsCurrent (log ++ after (item.Ready conn key) ∷ [])
-    readied conn key item_is =
-        let keys = keys_in (with_route (routes log n) (item.Ready conn key)) in
+    -- the routes change, and each subscriber is told of them
+    rerouted : (i : Item) → x.item ≡ i → (after i).takes ≡ name_of x ∷ [] → subscriber_of i ≡ []
+        → flat_map (list_put n c) (after i).puts ≡ flat_map (list_put n c) (map (peers_put n (keys_in (with_route (routes log n) i))) (subscribers log n))
+        → IsCurrent (log ++ after i ∷ [])
+    rerouted i item_is takes no_channel told =
+        let keys = keys_in (with_route (routes log n) i) in
         let cs = subscribers log n in
-        peers_told-after log (after (item.Ready conn key)) n c ((queue.Ready n conn, item.Answer) ∷ map (peers_put n keys) cs) (λ l. cond (hears cs) keys l) refl (λ lists. newest-puts keys cs lists)
+        let r = route_row configs log n (name_of x) i left in
+        peers_told-after log (after i) n c r.puts (λ l. cond (hears cs) keys l) refl (λ lists. ap (λ ls. newest (lists ++ ls)) told ∙ newest-puts keys cs lists)
         ∙ (by (hears cs) keys (keys_in (routes log n)) (peers_told log n c) current
-        ∙ (ap (λ l. cond (hears l) keys []) (sym (subscribers_then (item.Ready conn key) item_is (route_row configs log n (name_of x) (item.Ready conn key) left) refl ∙ append-nil cs))
-        ∙ ap (λ rs. cond (hears (subscribers (log ++ after (item.Ready conn key) ∷ []) n)) (keys_in rs) []) (sym (routes_then (item.Ready conn key) item_is (route_row configs log n (name_of x) (item.Ready conn key) left) refl))))
+        ∙ (ap (λ l. cond (hears l) keys []) (sym (subscribers_then i item_is r takes ∙ (ap (λ l. cs ++ l) no_channel ∙ append-nil cs)))
+        ∙ ap (λ rs. cond (hears (subscribers (log ++ after i ∷ []) n)) (keys_in rs) []) (sym (routes_then i item_is r takes))))
       where
         by : (heard : Bool) (keys old told : List Key) → told ≡ cond heard old [] → cond heard keys told ≡ cond heard keys []
         by true keys old told h = refl
         by false keys old told h = h
 
-    contents : (d : ℕ) (frame : List ℕ) (priority : Bool) (send : ℕ) (to : List Key) → flat_map (list_put n c) (spread (mailbox_size_at configs n) left n priority (routes log n) send 0 frame to (record { puts = []; ends = [] })).puts ≡ []
+    contents : (d : ℕ) (frame : List ℕ) (priority : Bool) (send : ℕ) (to : List Key) → flat_map (list_put n c) (spread (mailbox_size_at configs n) left n priority (is_ended log n) (routes log n) send 0 frame to (record { puts = []; ends = [] })).puts ≡ []
     contents d frame priority send to =
-        none (spread (mailbox_size_at configs n) left n priority (routes log n) send 0 frame to (record { puts = []; ends = [] })).puts
-        (spread_each (λ d. Unit {0}) (λ y. list_put n c y ≡ []) (mailbox_size_at configs n) left n priority (routes log n) send frame to (λ p o. tt) (λ p k conn here route. refl)).1
+        none (spread (mailbox_size_at configs n) left n priority (is_ended log n) (routes log n) send 0 frame to (record { puts = []; ends = [] })).puts
+        (spread_each (λ d. Unit {0}) (λ y. list_put n c y ≡ []) (mailbox_size_at configs n) left n priority (is_ended log n) (routes log n) send frame to (λ p o. tt) (λ p k conn here route. refl)).1
       where
         none : (puts : List (Queue × Item)) → Each (λ y. list_put n c y ≡ []) puts → flat_map (list_put n c) puts ≡ []
         none [] h = refl
@@ -173,7 +178,8 @@ module _ (n c : ℕ) where
 
     stepped : (i : Item) → x.item ≡ i → IsCurrent (log ++ after i ∷ [])
     stepped (item.Subscribe d) item_is = subscribed d item_is
-    stepped (item.Ready conn key) item_is = readied conn key item_is
+    stepped (item.Ready conn key) item_is = rerouted (item.Ready conn key) item_is refl refl refl
+    stepped (item.Release key) item_is = rerouted (item.Release key) item_is refl refl refl
     stepped (item.Content d frame priority send to) item_is =
         unchanged (item.Content d frame priority send to) item_is (route_row configs log n (name_of x) (item.Content d frame priority send to) left) refl (contents d frame priority send to) refl refl
     stepped i item_is = unchanged i item_is (route_row configs log n (name_of x) i left) refl refl refl refl

@@ -23,7 +23,7 @@ use Rattle.p2p_log.specs.Lines.{name_of, same_name, line}
 use Rattle.p2p_log_rules.specs.declared.row.Half.{Half}
 use Rattle.p2p_log_rules.specs.declared.row.Row.{Row}
 use Rattle.p2p_log_rules.specs.Closing.{is_closed, refused_by}
-use Rattle.p2p_log_rules.specs.Connections.{half_at, is_running}
+use Rattle.p2p_log_rules.specs.Connections.{half_at, is_running, live_half}
 use Rattle.p2p_log_rules.specs.Effect
 use Rattle.p2p_log_rules.specs.Effect.{entry_of}
 use Rattle.p2p_log_rules.specs.Facts.{channels, capacity_in}
@@ -40,6 +40,7 @@ use Rattle.p2p_log_laws.proofs.Shape.{Shape, CameInFrame, IsQuiet, OfItem, still
 use Rattle.p2p_log_laws.proofs.Showing.{Standing, first_tells}
 use Rattle.p2p_log_laws.proofs.Telling.{Arrives, IsHeld}
 use Rattle.p2p_log_laws.proofs.Truth.{arrives}
+use Rattle.p2p_log_rules.proofs.Connections.{is_live}
 
 -- what brings a copy carries it alone
 brings_carried : (node conn : ℕ) (half : Half) (copy : ℕ × ℕ) (channel : ℕ) (bytes : List ℕ) (q : Queue) (i : Item) → BringsCopy node conn half copy channel bytes q i
@@ -247,13 +248,13 @@ module _ (configs : List Config) (log : List Entry) (conn n moment : ℕ) where
   receiver_shape half true at = by_held_shape half (line log (queue.Held n conn)) (line log (queue.Link half.link (Effect.other_side half.writes))) at refl refl
   receiver_shape half false at = idle_shape
 
-  step_shape : (o : Option Half) → half_at log n conn ≡ o
+  step_shape : (o : Option Half) → live_half log n conn ≡ o
       → Shape configs log step (elim o [
         | None ↦ Effect.only reply.Gone
         | Some half ↦ cond (is_running log n conn) (Effect.receiver_row configs log n conn moment half) (Effect.only reply.Idle)
       ])
   step_shape None at = still configs log step reply.Gone refl refl
-  step_shape (Some half) at = receiver_shape half (is_running log n conn) at
+  step_shape (Some half) at = receiver_shape half (is_running log n conn) (is_live log n conn half at).at
 
   pub recv_step_shape : Shape configs log step (Effect.recv_step_row configs log conn n moment)
-  recv_step_shape = step_shape (half_at log n conn) refl
+  recv_step_shape = step_shape (live_half log n conn) refl

@@ -18,6 +18,7 @@ use Rattle.p2p_log.specs.declared.event.Act.TheVariants as act
 use Rattle.p2p_log_rules.specs.declared.row.Row.{Row}
 use Rattle.p2p_log.specs.Apart.{AreApart}
 use Rattle.p2p_log.specs.Lines.{name_of, stays, stands_in, live, line}
+use Rattle.p2p_log_rules.specs.Connections.{is_ended}
 use Rattle.p2p_log_rules.specs.Facts.{is_up, subscribers, routes, with_route, keys_in}
 use Rattle.p2p_log.specs.Copies.{carries, carries_copy, copies_of}
 use Rattle.p2p_log_rules.specs.Effect
@@ -112,6 +113,12 @@ module _ (configs : List Config) (log : List Entry) (n : ℕ) (x : Envelope) (re
       quiet_step ((queue.Ready n conn, item.Answer) ∷ map (Effect.peers_put n keys) subs) subs (ap is_bare is)
       ((refl, refl), lists_quiet keys subs) (eq-eqb n n refl, lists_near keys subs)
 
+  release_shape : (key : Key) → x.item ≡ item.Release key → Shape configs log (act.Router n) (Effect.route_row configs log n (name_of x) (item.Release key) left)
+  release_shape key is =
+      let keys = keys_in (with_route (routes log n) (item.Release key)) in
+      let subs = subscribers log n in
+      quiet_step (map (Effect.peers_put n keys) subs) subs (ap is_bare is) (lists_quiet keys subs) (lists_near keys subs)
+
   -- what the router took stood in no relay
   relays_same : (priority : Bool) (conn : ℕ) → filter (stands_in (Effect.relay_queue priority n conn)) left ≡ line log (Effect.relay_queue priority n conn)
   unfolding line
@@ -123,7 +130,7 @@ module _ (configs : List Config) (log : List Entry) (n : ℕ) (x : Envelope) (re
     size = Effect.mailbox_size_at configs n
 
     abbrev s : Effect.Spread
-    s = Effect.spread size left n priority (routes log n) send 0 frame to (record { puts = []; ends = [] })
+    s = Effect.spread size left n priority (is_ended log n) (routes log n) send 0 frame to (record { puts = []; ends = [] })
 
     content_shows : (ev : Event) → Standing configs log → ev.act ≡ act.Router n
         → Each (EndShows configs log (entry_of ev (Effect.row_of_spread (name_of x) s))) s.ends
@@ -144,8 +151,9 @@ module _ (configs : List Config) (log : List Entry) (n : ℕ) (x : Envelope) (re
           recipients = recipients;
           for_key = here;
         } in
-        spread_drops (EndShows configs log e) size left n priority (routes log n) send frame to s.puts
+        spread_drops (EndShows configs log e) size left n priority (is_ended log n) (routes log n) send frame to s.puts
         (λ p k here route. record { node = n; priority = priority; key = k; routed = routed p k here; not_connected = route })
+        (λ p k conn here route is_late. record { node = n; priority = priority; key = k; routed = routed p k here; conn = conn; connected = route; ended = is_late })
         (λ p k conn here route full. record {
           node = n;
           priority = priority;
@@ -164,7 +172,7 @@ module _ (configs : List Config) (log : List Entry) (n : ℕ) (x : Envelope) (re
 
     relays : Each (λ d. is_item_end d ≡ false) s.ends × Each IsRelay s.puts
     relays =
-        spread_each (λ d. is_item_end d ≡ false) IsRelay size left n priority (routes log n) send frame to (λ p o. refl)
+        spread_each (λ d. is_item_end d ≡ false) IsRelay size left n priority (is_ended log n) (routes log n) send frame to (λ p o. refl)
         (λ p k conn here route. (
           relay_fits priority n conn (Some (send, p)) frame,
           inr (relay_spread configs log x priority n conn (item.Frame (Some (send, p)) frame) (record {
@@ -194,7 +202,7 @@ module _ (configs : List Config) (log : List Entry) (n : ℕ) (x : Envelope) (re
             moved = Moved-all configs log (act.Router n) reply.Ok x s.puts
                 (Each-weaker IsRelay (ComesOf configs log x) (λ y h. h.1) s.puts relays.1)
                 (λ q.
-                let adds : Adds send 0 frame to [] s.puts = puts-spread size left n priority (routes log n) send frame to 0 (record { puts = []; ends = [] }) in
+                let adds : Adds send 0 frame to [] s.puts = puts-spread size left n priority (is_ended log n) (routes log n) send frame to 0 (record { puts = []; ends = [] }) in
                 subst (λ (l : List (Queue × Item)). IsSublist (put_copies (filter q l)) (copies_of x.item)) (sym adds.1)
                 (subst (IsSublist (put_copies (filter q adds.0))) (sym (ap copies_of is)) (IsSublist-frames q send 0 frame to adds.0 adds.2)));
             balanced = λ copy.
@@ -203,7 +211,7 @@ module _ (configs : List Config) (log : List Entry) (n : ℕ) (x : Envelope) (re
                 count_by-single copy x ((send == copy.0) && nat_lt copy.1 (length to)) (ap (carries_copy copy) is)
                 in
                 let all : borne_by copy s.puts s.ends ≡ 0 + from_place copy send 0 (length to) =
-                borne-spread copy size left n priority (routes log n) send 0 frame to (record { puts = []; ends = [] })
+                borne-spread copy size left n priority (is_ended log n) (routes log n) send 0 frame to (record { puts = []; ends = [] })
                 in
                 let place = from_first copy.0 copy.1 send (length to) in
                 omega (arith, none, taken, all, place);
@@ -223,6 +231,7 @@ module _ (configs : List Config) (log : List Entry) (n : ℕ) (x : Envelope) (re
   route_shape : (i : Item) → x.item ≡ i → Shape configs log (act.Router n) (Effect.route_row configs log n (name_of x) i left)
   route_shape (item.Subscribe c) is = subscribe_shape c is
   route_shape (item.Ready conn key) is = ready_shape conn key is
+  route_shape (item.Release key) is = release_shape key is
   route_shape (item.Content c frame priority send to) is = content_shape c frame priority send to is
   route_shape i is = misfit i is refl
 

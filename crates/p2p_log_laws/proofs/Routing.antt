@@ -2,8 +2,8 @@
 use Rattle.std.proofs.Common.{◌≡◌, ℕ, Bool, true, false, cond, List, [], ◌∷◌, ◌++◌, map, Some, Ordering, Less, Equal, Greater, refl, ap, sym, subst, ◌∙◌, arith, eqb-true}
 use Rattle.std.specs.Prelude.{◌==◌, flat_map, filter}
 use Rattle.std.specs.List.{AllByRecursion as Each}
-use Rattle.std.specs.BTreeMap.{insert_entry}
-use Rattle.std.specs.Map.{lookup}
+use Rattle.std.specs.BTreeMap.{insert_entry, is_at}
+use Rattle.std.specs.Map.{lookup, remove_entry}
 use Rattle.std.specs.Ordering.{nat_cmp, match_ordering}
 use Rattle.std.proofs.lemmas.Bool.Decides.{nat_tests}
 use Rattle.p2p_base.specs.declared.key.Key.{Key}
@@ -58,6 +58,15 @@ module _ (P : ℕ × ℕ → Type 0) where
   Each-insert_entry k v [] p h = (p, tt)
   Each-insert_entry k v (e ∷ es) p h = insert_by k v e es (nat_cmp k e.0) refl p h.0 h.1 (Each-insert_entry k v es p h.1)
 
+  removed_by : (test : ℕ → Bool) (e : ℕ × ℕ) (es : List (ℕ × ℕ)) (b : Bool) → P e → Each P es → Each P (remove_entry test es)
+      → Each P (cond b es (e ∷ remove_entry test es))
+  removed_by test e es true p h r = h
+  removed_by test e es false p h r = (p, r)
+
+  Each-remove_entry : (test : ℕ → Bool) (es : List (ℕ × ℕ)) → Each P es → Each P (remove_entry test es)
+  Each-remove_entry test [] h = tt
+  Each-remove_entry test (e ∷ es) h = removed_by test e es (test e.0) h.0 h.1 (Each-remove_entry test es h.1)
+
   found_by : (test : ℕ → Bool) (e : ℕ × ℕ) (es : List (ℕ × ℕ)) (v : ℕ) (b : Bool) → test e.0 ≡ b → P e
       → (lookup test es ≡ Some v → (k : ℕ) × (test k ≡ true) × P (k, v)) → cond b (Some e.1) (lookup test es) ≡ Some v → (k : ℕ) × (test k ≡ true) × P (k, v)
   found_by test e es v true t p more h = let same : e.1 ≡ v = cc in (e.0, t, subst (λ w. P (e.0, w)) same p)
@@ -83,6 +92,7 @@ route_peer configs log n key conn holds h =
 module _ (configs : List Config) (log : List Entry) (n : ℕ) where
   with_one : (rs : List (ℕ × ℕ)) (i : Item) → Each (RouteHolds configs log n) rs → Tells configs log i (queue.Router n) → Each (RouteHolds configs log n) (with_route rs i)
   with_one rs (item.Ready conn key) h t = Each-insert_entry (RouteHolds configs log n) key.0 conn rs (t.0, t.1, ap (λ k. k.0) t.2) h
+  with_one rs (item.Release key) h t = Each-remove_entry (RouteHolds configs log n) (is_at (nat_cmp key.0)) rs h
   with_one rs _ h t = h
 
   with_all : (rs : List (ℕ × ℕ)) (xs : List Item) → Each (RouteHolds configs log n) rs → Each (λ i. Tells configs log i (queue.Router n)) xs

@@ -1,5 +1,5 @@
 -- The shapes of messages that a node offers: send, check, and what is sent to those whom a check admitted.
-use Rattle.std.proofs.Common.{◌≡◌, ℕ, suc, ◌+◌, ◌<◌, Bool, true, false, cond, List, [], ◌∷◌, ◌++◌, map, take, length, Option, Some, None, inl, inr, refl, ap, sym, ◌∙◌, arith, subst}
+use Rattle.std.proofs.Common.{◌≡◌, ℕ, suc, ◌+◌, ◌<◌, Bool, true, false, List, [], ◌∷◌, ◌++◌, map, take, length, Option, Some, None, inr, refl, ap, sym, ◌∙◌, arith, subst}
 use Rattle.std.specs.Prelude.{◌==◌, ◌&&◌, nat_le, nat_lt, count_by, flat_map, filter}
 use Rattle.std.specs.List.{AllByRecursion as Each}
 use Rattle.p2p_base.specs.declared.key.Key.{Key}
@@ -22,7 +22,7 @@ use Rattle.p2p_log.specs.declared.event.Act.{Act}
 use Rattle.p2p_log.specs.declared.event.Act.TheVariants as act
 use Rattle.p2p_log.specs.declared.event.Recipients.{Recipients}
 use Rattle.p2p_log.specs.declared.event.Recipients.TheVariants as recipients
-use Rattle.p2p_log.specs.Copies.{carries, carries_copy, ends_copy, copies_from}
+use Rattle.p2p_log.specs.Copies.{carries, ends_copy, copies_from}
 use Rattle.p2p_log.specs.Lines.{name_of, ended_item, live, line}
 use Rattle.p2p_log.specs.Sending.{Sending, sending_of, keys_sent}
 use Rattle.p2p_log.specs.Taken.{AreTaken}

@@ -1,4 +1,4 @@
--- What each drop of a spread comes from: no connection, or a queue that is full when the copy's turn comes.
+-- What each drop of a spread comes from: no connection, one that has ended, or a queue that is full when the copy's turn comes.
 use Rattle.std.proofs.Common.{◌≡◌, ℕ, ◌+◌, ◌≤◌, Bool, true, false, cond, List, [], ◌∷◌, ◌++◌, length, Option, Some, None, inl, inr, refl, ap, sym, subst, ◌∙◌, arith, append_assoc}
 use Rattle.std.specs.Prelude.{◌==◌, ◌&&◌, nat_le, nat_lt, count_by, filter, slice_get}
 use Rattle.std.specs.List.{AllByRecursion as Each}
@@ -16,7 +16,7 @@ use Rattle.p2p_log.specs.declared.end.Outcome.TheVariants as outcome
 use Rattle.p2p_log.specs.declared.end.Cause.TheVariants as cause
 use Rattle.p2p_log.specs.Lines.{stands_in}
 use Rattle.p2p_log_rules.specs.Facts.{route_to}
-use Rattle.p2p_log_rules.specs.Effect.{Spread, spread, spread_to, goes_to, relay_queue}
+use Rattle.p2p_log_rules.specs.Effect.{Spread, spread, spread_one, spread_to, dropped_copy, goes_to, relay_queue}
 use Rattle.p2p_log.proofs.Places.{slice_get-seam}
 use Rattle.p2p_log_laws.specs.Causes.{is_lower, enters_before}
 use Rattle.p2p_log.proofs.Each.{Each-append, Each-weaker, count_by-none}
@@ -86,8 +86,9 @@ entered q send p frame ks before after lower h =
 abbrev pub is_full : ℕ → List Envelope → Queue → ℕ × ℕ → List (Queue × Item) → Bool
 is_full size items q copy puts = nat_le size (length (filter (stands_in q) items) + count_by (enters_before q copy) puts)
 
-module _ (P : End → Type 0) (size : ℕ) (items : List Envelope) (n : ℕ) (priority : Bool) (routes : List (ℕ × ℕ)) (send : ℕ) (frame : List ℕ) (to : List Key) (all : List (Queue × Item))
+module _ (P : End → Type 0) (size : ℕ) (items : List Envelope) (n : ℕ) (priority : Bool) (ended : ℕ → Bool) (routes : List (ℕ × ℕ)) (send : ℕ) (frame : List ℕ) (to : List Key) (all : List (Queue × Item))
     (unconnected : (p : ℕ) (k : Key) → slice_get to p ≡ Some k → route_to routes k ≡ None → P (end.Copy send p (outcome.Dropped cause.NoConnection)))
+    (late : (p : ℕ) (k : Key) (conn : ℕ) → slice_get to p ≡ Some k → route_to routes k ≡ Some conn → ended conn ≡ true → P (end.Copy send p (outcome.Dropped cause.ConnectionEnded)))
     (full : (p : ℕ) (k : Key) (conn : ℕ) → slice_get to p ≡ Some k → route_to routes k ≡ Some conn → is_full size items (relay_queue priority n conn) (send, p) all ≡ true
     → P (end.Copy send p (outcome.Dropped cause.RelayFull))) where
   -- what is so far: each end shown, and each put of a lower place
@@ -115,26 +116,33 @@ module _ (P : End → Type 0) (size : ℕ) (items : List Envelope) (n : ℕ) (pr
       next_dropped p s (end.Copy send p (outcome.Dropped cause.RelayFull)) (full p k conn here route is) h
   next_sized p k conn s false here route size_is count h = next_put p s (relay_queue priority n conn) h
 
+  next_ended : (p : ℕ) (k : Key) (conn : ℕ) (s : Spread) (b : Bool) → slice_get to p ≡ Some k → route_to routes k ≡ Some conn → ended conn ≡ b
+      → ((q : Queue) → count_by (enters_before q (send, p)) all ≡ count_by (goes_to q) s.puts)
+      → SoFar p s
+      → SoFar (p + 1) (cond b (dropped_copy cause.ConnectionEnded send p s) (spread_one size items (relay_queue priority n conn) send p frame s))
+  next_ended p k conn s true here route is counts h = next_dropped p s (end.Copy send p (outcome.Dropped cause.ConnectionEnded)) (late p k conn here route is) h
+  next_ended p k conn s false here route is counts h = next_sized p k conn s _ here route refl (counts (relay_queue priority n conn)) h
+
   next_all : (p : ℕ) (k : Key) (s : Spread) (o : Option ℕ) → slice_get to p ≡ Some k → route_to routes k ≡ o
       → ((q : Queue) → count_by (enters_before q (send, p)) all ≡ count_by (goes_to q) s.puts)
-      → SoFar p s → SoFar (p + 1) (spread_to size items n priority o send p frame s)
+      → SoFar p s → SoFar (p + 1) (spread_to size items n priority ended o send p frame s)
   next_all p k s None here route counts h = next_dropped p s (end.Copy send p (outcome.Dropped cause.NoConnection)) (unconnected p k here route) h
-  next_all p k s (Some conn) here route counts h = next_sized p k conn s _ here route refl (counts (relay_queue priority n conn)) h
+  next_all p k s (Some conn) here route counts h = next_ended p k conn s (ended conn) here route refl counts h
 
-  from_shown : (ks front : List Key) (p : ℕ) (s : Spread) → to ≡ front ++ ks → p ≡ length front → (spread size items n priority routes send p frame ks s).puts ≡ all
-      → SoFar p s → Each P (spread size items n priority routes send p frame ks s).ends
+  from_shown : (ks front : List Key) (p : ℕ) (s : Spread) → to ≡ front ++ ks → p ≡ length front → (spread size items n priority ended routes send p frame ks s).puts ≡ all
+      → SoFar p s → Each P (spread size items n priority ended routes send p frame ks s).ends
   from_shown [] front p s parts long whole h = h.0
   from_shown (k ∷ ks) front p s parts long whole h =
-      let t : Spread = spread_to size items n priority (route_to routes k) send p frame s in
+      let t : Spread = spread_to size items n priority ended (route_to routes k) send p frame s in
       let here : slice_get to p ≡ Some k =
       ap (λ (l : List Key). slice_get l p) parts ∙ (ap (λ (i : ℕ). slice_get (front ++ k ∷ ks) i) long ∙ slice_get-seam front k ks)
       in
       let adds : Adds send p frame (k ∷ ks) s.puts all =
-      subst (Adds send p frame (k ∷ ks) s.puts) whole (puts-spread size items n priority routes send frame (k ∷ ks) p s)
+      subst (Adds send p frame (k ∷ ks) s.puts) whole (puts-spread size items n priority ended routes send frame (k ∷ ks) p s)
       in
       from_shown ks (front ++ k ∷ []) (p + 1) t (parts ∙ sym (append_assoc front (k ∷ []) ks)) (ap (λ i. i + 1) long ∙ sym (length_push front k)) whole
       (next_all p k s (route_to routes k) here refl (λ q. entered q send p frame (k ∷ ks) s.puts all h.1 adds) h)
 
-  pub spread_drops : (spread size items n priority routes send 0 frame to (record { puts = []; ends = [] })).puts ≡ all
-      → Each P (spread size items n priority routes send 0 frame to (record { puts = []; ends = [] })).ends
+  pub spread_drops : (spread size items n priority ended routes send 0 frame to (record { puts = []; ends = [] })).puts ≡ all
+      → Each P (spread size items n priority ended routes send 0 frame to (record { puts = []; ends = [] })).ends
   spread_drops whole = from_shown to [] 0 (record { puts = []; ends = [] }) refl refl whole (tt, tt)

@@ -20,7 +20,7 @@ use Rattle.p2p_log_rules.specs.Facts.{route_to}
 use Rattle.p2p_log.specs.Copies.{carries_copy, ends_copy}
 use Rattle.p2p_log.proofs.Places.{slice_get-seam}
 use Rattle.p2p_log.proofs.Each.{Each-append}
-use Rattle.p2p_log_rules.specs.Effect.{Spread, spread, spread_one, spread_to, copies_end, goes_to, relay_queue}
+use Rattle.p2p_log_rules.specs.Effect.{Spread, spread, dropped_copy, spread_one, spread_to, copies_end, goes_to, relay_queue}
 
 -- how many of these puts and ends are the copy's
 abbrev pub borne_by : ℕ × ℕ → List (Queue × Item) → List End → ℕ
@@ -82,35 +82,42 @@ module _ (copy : ℕ × ℕ) (send p : ℕ) (s : Spread) where
         | false ↦ one_frame q frame
       ]
 
-  pub borne-spread_next : (size : ℕ) (items : List Envelope) (n : ℕ) (priority : Bool) (frame : List ℕ) (o : Option ℕ)
-      → borne_by copy (spread_to size items n priority o send p frame s).puts (spread_to size items n priority o send p frame s).ends
+  borne-spread_ended : (size : ℕ) (items : List Envelope) (q : Queue) (frame : List ℕ) (b : Bool)
+      → borne_by copy (cond b (dropped_copy cause.ConnectionEnded send p s) (spread_one size items q send p frame s)).puts
+      (cond b (dropped_copy cause.ConnectionEnded send p s) (spread_one size items q send p frame s)).ends
       ≡ borne_by copy s.puts s.ends + cond (same_name copy (send, p)) 1 0
-  borne-spread_next size items n priority frame None = one_drop (outcome.Dropped cause.NoConnection)
-  borne-spread_next size items n priority frame (Some conn) = borne-spread_one size items (relay_queue priority n conn) frame
+  borne-spread_ended size items q frame true = one_drop (outcome.Dropped cause.ConnectionEnded)
+  borne-spread_ended size items q frame false = borne-spread_one size items q frame
+
+  pub borne-spread_next : (size : ℕ) (items : List Envelope) (n : ℕ) (priority : Bool) (ended : ℕ → Bool) (frame : List ℕ) (o : Option ℕ)
+      → borne_by copy (spread_to size items n priority ended o send p frame s).puts (spread_to size items n priority ended o send p frame s).ends
+      ≡ borne_by copy s.puts s.ends + cond (same_name copy (send, p)) 1 0
+  borne-spread_next size items n priority ended frame None = one_drop (outcome.Dropped cause.NoConnection)
+  borne-spread_next size items n priority ended frame (Some conn) = borne-spread_ended size items (relay_queue priority n conn) frame (ended conn)
 
 -- each place from p on gets one frame or one end, and no other copy gets any
-pub borne-spread : (copy : ℕ × ℕ) (size : ℕ) (items : List Envelope) (n : ℕ) (priority : Bool) (routes : List (ℕ × ℕ)) (send p : ℕ) (frame : List ℕ) (ks : List Key) (s : Spread)
-    → borne_by copy (spread size items n priority routes send p frame ks s).puts (spread size items n priority routes send p frame ks s).ends
+pub borne-spread : (copy : ℕ × ℕ) (size : ℕ) (items : List Envelope) (n : ℕ) (priority : Bool) (ended : ℕ → Bool) (routes : List (ℕ × ℕ)) (send p : ℕ) (frame : List ℕ) (ks : List Key) (s : Spread)
+    → borne_by copy (spread size items n priority ended routes send p frame ks s).puts (spread size items n priority ended routes send p frame ks s).ends
     ≡ borne_by copy s.puts s.ends + from_place copy send p (length ks)
-borne-spread copy size items n priority routes send p frame [] s =
+borne-spread copy size items n priority ended routes send p frame [] s =
     let none : from_place copy send p 0 ≡ 0 = from_none copy.0 copy.1 send p in
     omega (arith, none)
-borne-spread copy size items n priority routes send p frame (k ∷ ks) s =
-    let t : Spread = spread_to size items n priority (route_to routes k) send p frame s in
+borne-spread copy size items n priority ended routes send p frame (k ∷ ks) s =
+    let t : Spread = spread_to size items n priority ended (route_to routes k) send p frame s in
     let next : borne_by copy t.puts t.ends ≡ borne_by copy s.puts s.ends + cond (same_name copy (send, p)) 1 0 =
-    borne-spread_next copy send p s size items n priority frame (route_to routes k)
+    borne-spread_next copy send p s size items n priority ended frame (route_to routes k)
     in
     let rest : cond (same_name copy (send, p)) 1 0 + from_place copy send (p + 1) (length ks) ≡ from_place copy send p (length (k ∷ ks)) =
     from_more copy.0 copy.1 send p (length ks) (length (k ∷ ks)) refl
     in
-    let more : borne_by copy (spread size items n priority routes send (p + 1) frame ks t).puts (spread size items n priority routes send (p + 1) frame ks t).ends
+    let more : borne_by copy (spread size items n priority ended routes send (p + 1) frame ks t).puts (spread size items n priority ended routes send (p + 1) frame ks t).ends
     ≡ borne_by copy t.puts t.ends + from_place copy send (p + 1) (length ks) =
-    borne-spread copy size items n priority routes send (p + 1) frame ks t
+    borne-spread copy size items n priority ended routes send (p + 1) frame ks t
     in
     more ∙ omega (arith, next, rest)
 
 -- what each end and each put of a spread has, where the recipients have these connections
-module _ (PE : End → Type 0) (PP : Queue × Item → Type 0) (size : ℕ) (items : List Envelope) (n : ℕ) (priority : Bool) (routes : List (ℕ × ℕ)) (send : ℕ) (frame : List ℕ) (to : List Key)
+module _ (PE : End → Type 0) (PP : Queue × Item → Type 0) (size : ℕ) (items : List Envelope) (n : ℕ) (priority : Bool) (ended : ℕ → Bool) (routes : List (ℕ × ℕ)) (send : ℕ) (frame : List ℕ) (to : List Key)
     (drops : (p : ℕ) (o : Outcome) → PE (end.Copy send p o))
     (puts : (p : ℕ) (k : Key) (conn : ℕ) → slice_get to p ≡ Some k → route_to routes k ≡ Some conn → PP (relay_queue priority n conn, item.Frame (Some (send, p)) frame)) where
   abbrev Has_each : Spread → Type 0
@@ -132,16 +139,21 @@ module _ (PE : End → Type 0) (PP : Queue × Item → Type 0) (size : ℕ) (ite
         | false ↦ next_put p k conn s here route h
       ]
 
+  next_ended : (p : ℕ) (k : Key) (conn : ℕ) (s : Spread) (b : Bool) → slice_get to p ≡ Some k → route_to routes k ≡ Some conn → Has_each s
+      → Has_each (cond b (dropped_copy cause.ConnectionEnded send p s) (spread_one size items (relay_queue priority n conn) send p frame s))
+  next_ended p k conn s true here route h = next_dropped p (outcome.Dropped cause.ConnectionEnded) s h
+  next_ended p k conn s false here route h = next_one p k conn s here route h
+
   next_each : (p : ℕ) (k : Key) (s : Spread) (o : Option ℕ) → slice_get to p ≡ Some k → route_to routes k ≡ o → Has_each s
-      → Has_each (spread_to size items n priority o send p frame s)
+      → Has_each (spread_to size items n priority ended o send p frame s)
   next_each p k s None here route h = next_dropped p (outcome.Dropped cause.NoConnection) s h
-  next_each p k s (Some conn) here route h = next_one p k conn s here route h
+  next_each p k s (Some conn) here route h = next_ended p k conn s (ended conn) here route h
 
   from_each : (ks front : List Key) (p : ℕ) (s : Spread) → to ≡ front ++ ks → p ≡ length front → Has_each s
-      → Has_each (spread size items n priority routes send p frame ks s)
+      → Has_each (spread size items n priority ended routes send p frame ks s)
   from_each [] front p s parts long h = h
   from_each (k ∷ ks) front p s parts long h =
-      let t : Spread = spread_to size items n priority (route_to routes k) send p frame s in
+      let t : Spread = spread_to size items n priority ended (route_to routes k) send p frame s in
       let here : slice_get to p ≡ Some k =
       ap (λ (l : List Key). slice_get l p) parts ∙ (ap (λ (i : ℕ). slice_get (front ++ k ∷ ks) i) long ∙ slice_get-seam front k ks)
       in
@@ -149,6 +161,6 @@ module _ (PE : End → Type 0) (PP : Queue × Item → Type 0) (size : ℕ) (ite
       (ap (λ i. i + 1) long ∙ sym (length_push front k))
       (next_each p k s (route_to routes k) here refl h)
 
-  pub spread_each : Each PE (spread size items n priority routes send 0 frame to (record { puts = []; ends = [] })).ends
-      × Each PP (spread size items n priority routes send 0 frame to (record { puts = []; ends = [] })).puts
+  pub spread_each : Each PE (spread size items n priority ended routes send 0 frame to (record { puts = []; ends = [] })).ends
+      × Each PP (spread size items n priority ended routes send 0 frame to (record { puts = []; ends = [] })).puts
   spread_each = from_each to [] 0 (record { puts = []; ends = [] }) refl refl (tt, tt)

@@ -16,7 +16,7 @@ use Rattle.p2p_log.specs.Lines.{name_of, ended_item, line}
 use Rattle.p2p_log.proofs.Each.{Each-always, Each-map}
 use Rattle.p2p_log_rules.specs.declared.row.Half.{Half}
 use Rattle.p2p_log_rules.specs.declared.row.Row.{Row}
-use Rattle.p2p_log_rules.specs.Connections.{half_at, is_begun, is_running}
+use Rattle.p2p_log_rules.specs.Connections.{live_half, is_begun, is_running}
 use Rattle.p2p_log_rules.specs.Effect.{batch_size_at, beside_ping, batch, write_row, running_row, half_row, sender_row, send_step_row}
 use Rattle.p2p_log_rules.specs.Pings.{ping_frame, ping_is_due}
 use Rattle.p2p_log_rules.specs.Facts.{is_up}
@@ -67,8 +67,8 @@ module _ (configs : List Config) (log : List Entry) (conn n at : ℕ) where
     pub each_sent : Each P (send_step_row configs log conn n at).puts
     each_sent = by_up (is_up log n)
       where
-        by_up : (b : Bool) → Each P (cond b (sender_row configs log n conn at (half_at log n conn)) (only reply.Gone)).puts
-        by_up true = by_sender (half_at log n conn)
+        by_up : (b : Bool) → Each P (cond b (sender_row configs log n conn at (live_half log n conn)) (only reply.Gone)).puts
+        by_up true = by_sender (live_half log n conn)
         by_up false = tt
 
   written_ends : (q : Queue) (due : Bool) (xs : List Envelope) → (write_row q due xs).ends ≡ []
@@ -95,6 +95,6 @@ module _ (configs : List Config) (log : List Entry) (conn n at : ℕ) where
   pub sent_ends : (send_step_row configs log conn n at).ends ≡ []
   sent_ends = by_up (is_up log n)
     where
-      by_up : (b : Bool) → (cond b (sender_row configs log n conn at (half_at log n conn)) (only reply.Gone)).ends ≡ []
-      by_up true = sender_ends (half_at log n conn)
+      by_up : (b : Bool) → (cond b (sender_row configs log n conn at (live_half log n conn)) (only reply.Gone)).ends ≡ []
+      by_up true = sender_ends (live_half log n conn)
       by_up false = refl

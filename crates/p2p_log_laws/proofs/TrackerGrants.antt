@@ -26,6 +26,7 @@ use Rattle.p2p_log.specs.QueueCode.{same_queue}
 use Rattle.p2p_log.specs.Lines.{name_of, line}
 use Rattle.p2p_log.proofs.Each.{Each-append}
 use Rattle.p2p_log.proofs.Queues.{same_queue-refl}
+use Rattle.p2p_log_rules.specs.Connections.{is_ended}
 use Rattle.p2p_log_rules.specs.declared.row.Row.{Row}
 use Rattle.p2p_log_rules.specs.Facts.{is_up}
 use Rattle.p2p_log_rules.specs.Moves.{Moves}
@@ -34,7 +35,7 @@ use Rattle.p2p_log_rules.specs.Tracking.{key_cmp, rules_at, asked_by, item_calls
 use Rattle.p2p_log_rules.specs.TrackerPuts as puts
 use Rattle.p2p_tracker_calls.specs.Allows.{is_acceptable, allows_listen}
 use Rattle.p2p_log_rules.specs.Handshakes.{is_handshaking, source_at}
-use Rattle.p2p_log_rules.specs.TrackerPuts.{Put, dial_grant, acceptance, listen_grant, handshake_puts, item_puts}
+use Rattle.p2p_log_rules.specs.TrackerPuts.{Put, dial_grant, acceptance, listen_grant, handshake_puts, item_puts, heeded}
 use Rattle.p2p_log_rules.specs.TrackerRows as rows
 use Rattle.p2p_log_rules.proofs.Moves.{one_taken, rings, rings_in}
 use Rattle.p2p_log_laws.specs.Grants.{one, held_after}
@@ -45,6 +46,7 @@ use Rattle.p2p_log_laws.proofs.Shape.{no_moves}
 use Rattle.p2p_log_laws.proofs.TrackerMoves.{left, qs, served_moves, unblocked_moves}
 use Rattle.p2p_log_laws.proofs.TrackerPuts.{EachKind, each_unblocked, each_asked, each_connected}
 use Rattle.p2p_log_laws.proofs.Weighing.{weight, count_by-one}
+use Rattle.p2p_log_laws.proofs.Heeded.{count_by-heeded, list_any-heeded}
 
 -- the turn of a grant or of a release
 abbrev pub turn_of : Bool → Bool → List Bool
@@ -77,6 +79,24 @@ module _ (n : ℕ) (key : Key) (rules : Rules Key) where
     others = λ e. absurd (false≢true e);
     apart = λ e. absurd (false≢true e);
   }
+
+  -- kills grant nothing, and free nothing
+  heeded_turn : (ended : ℕ → Bool) (log : List Entry) (jitter at : ℕ) (i : Item) (calls : List (Call Key)) (xs : List Put)
+      → Turn xs (releases_key key i) (is_held key_cmp calls key) (is_held key_cmp (step_calls log reply.Ok (i ∷ []) at jitter (list_any grants_peer xs) calls) key)
+      → Turn (heeded ended xs) (releases_key key i) (is_held key_cmp calls key)
+      (is_held key_cmp (step_calls log reply.Ok (i ∷ []) at jitter (list_any grants_peer (heeded ended xs)) calls) key)
+  heeded_turn ended log jitter at i calls xs t =
+      let same : list_any grants_peer xs ≡ list_any grants_peer (heeded ended xs) = sym (list_any-heeded ended grants_peer (λ m conn. refl) xs) in
+      record {
+        grants = t.grants;
+        granted = list_any-heeded ended (puts_grant n key) (λ m conn. refl) xs ∙ t.granted;
+        grants_put = count_by-heeded ended (puts_grant n key) (λ m conn. refl) xs ∙ t.grants_put;
+        releases_put = count_by-heeded ended (puts_release n key) (λ m conn. refl) xs ∙ t.releases_put;
+        turn = ap (λ b. is_held key_cmp (step_calls log reply.Ok (i ∷ []) at jitter b calls) key) (sym same) ∙ t.turn;
+        free = t.free;
+        others = t.others;
+        apart = t.apart;
+      }
 
   -- ---- a dial, and a listen
 
@@ -228,9 +248,10 @@ module _ (n : ℕ) (key : Key) (rules : Rules Key) where
 
       -- the oldest message is taken
       served_step : (x : Envelope) (rest : List Envelope) → line log (queue.Tracker n) ≡ x ∷ rest
-          → Step log at jitter calls (rows.told_row log (name_of x ∷ []) (item_puts rules n at us bs calls log x.item))
+          → Step log at jitter calls (rows.told_row log (name_of x ∷ []) (heeded (is_ended log n) (item_puts rules n at us bs calls log x.item)))
       served_step x rest first =
-          let xs : List Put = item_puts rules n at us bs calls log x.item in
+          let all : List Put = item_puts rules n at us bs calls log x.item in
+          let xs : List Put = heeded (is_ended log n) all in
           let stood : x.queue ≡ queue.Tracker n = one_taken log (queue.Tracker n) x rest first in
           let released : puts_release n key (put_of x) ≡ releases_key key x.item =
           ap (λ q. same_queue (queue.Tracker n) q && releases_key key x.item) stood ∙ ap (λ b. b && releases_key key x.item) (same_queue-refl (queue.Tracker n))
@@ -243,7 +264,7 @@ module _ (n : ℕ) (key : Key) (rules : Rules Key) where
             releases_taken = count_by-one (λ y. puts_release n key (put_of y)) x ∙ ap one released;
             grants_taken = count_by-one (λ y. puts_grant n key (put_of y)) x ∙ ap one granted;
             ended = overwritten_plain log xs (name_of x ∷ []);
-            turned = item_turn at us bs calls log jitter x.item;
+            turned = heeded_turn (is_ended log n) log jitter at x.item calls all (item_turn at us bs calls log jitter x.item);
           }
 
 module _ (n : ℕ) (key : Key) (configs : List Config) (log : List Entry) (at jitter : ℕ) where

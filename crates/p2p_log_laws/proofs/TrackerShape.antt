@@ -21,6 +21,7 @@ use Rattle.p2p_log.specs.declared.asked.Asked.{Asked}
 use Rattle.p2p_log.specs.declared.asked.Asked.TheVariants as ask
 use Rattle.p2p_log.specs.declared.event.Act.{Act}
 use Rattle.p2p_log.specs.declared.event.Act.TheVariants as act
+use Rattle.p2p_log_rules.specs.Connections.{is_ended}
 use Rattle.p2p_log_rules.specs.declared.row.Row.{Row}
 use Rattle.p2p_log.specs.Lines.{name_of, stays, live, line}
 use Rattle.p2p_log.specs.Sending.{keys_sent, sending_of}
@@ -42,6 +43,7 @@ use Rattle.p2p_log_laws.proofs.Overwriting.{rings_bare, ring_ends_items}
 use Rattle.p2p_log_laws.proofs.Shape.{Shape, IsQuiet, still, no_moves, one_move, first_in, quiet_laws}
 use Rattle.p2p_log_laws.proofs.TrackerMoves.{left, left_apart, qs, served_moves, unblocked_moves}
 use Rattle.p2p_log_laws.proofs.TrackerPuts.{EachKind, each_unblocked, each_asked, each_connected}
+use Rattle.p2p_log_laws.proofs.Heeded.{Each-heeded}
 
 -- ---- what it is asked
 
@@ -225,8 +227,9 @@ module _ (configs : List Config) (log : List Entry) (n at : ℕ) where
   oldest_served : (xs : List Envelope) → line log (queue.Tracker n) ≡ xs → Shape configs log (act.Tracker n) (rows.served_row configs log n at xs)
   oldest_served [] first = still configs log (act.Tracker n) reply.Idle refl refl
   oldest_served (x ∷ rest) first =
-      served_shape configs log n (puts.item_puts (rules_at configs n) n at us bs (calls_of configs log n) log x.item)
-      (item_told n (rules_at configs n) at us bs (calls_of configs log n) log x.item) x rest first
+      let xs : List Put = puts.item_puts (rules_at configs n) n at us bs (calls_of configs log n) log x.item in
+      served_shape configs log n (puts.heeded (is_ended log n) xs)
+      (Each-heeded (is_ended log n) (IsTold n) xs (item_told n (rules_at configs n) at us bs (calls_of configs log n) log x.item)) x rest first
 
   step_shape : Shape configs log (act.Tracker n) (rows.tracker_step configs log n at)
   step_shape = by_due (puts.is_some_of (due_keys key_cmp (rules_at configs n) (calls_of configs log n) at))

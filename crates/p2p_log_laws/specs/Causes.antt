@@ -20,7 +20,7 @@ use Rattle.p2p_log.specs.declared.event.Act.TheVariants as act
 use Rattle.p2p_log_rules.specs.declared.row.Half.{Half}
 use Rattle.p2p_log.specs.Lines.{name_of, line}
 use Rattle.p2p_log_rules.specs.Closing.{is_closed}
-use Rattle.p2p_log_rules.specs.Connections.{half_at}
+use Rattle.p2p_log_rules.specs.Connections.{half_at, is_ended}
 use Rattle.p2p_log_rules.specs.Facts.{is_up, channels, capacity_in, key_at, routes, route_to}
 use Rattle.p2p_log_rules.specs.Effect.{goes_to, relay_queue, mailbox_size_at, other_side}
 use Rattle.p2p_log_laws.specs.Delivered.{IsCopyOf}
@@ -61,6 +61,18 @@ pub record HasNoConnection (configs : List Config) (before : List Entry) (e : En
   pub key : Key
   pub routed : IsRouted configs before e copy node priority key
   pub not_connected : route_to (routes before node) key ≡ None
+
+-- ---- connection ended
+
+-- the router's connection to the copy's key has ended
+pub record HasEndedConnection (configs : List Config) (before : List Entry) (e : Entry) (copy : ℕ × ℕ) : Type 0 where
+  pub node : ℕ
+  pub priority : Bool
+  pub key : Key
+  pub routed : IsRouted configs before e copy node priority key
+  pub conn : ℕ
+  pub connected : route_to (routes before node) key ≡ Some conn
+  pub ended : is_ended before node conn ≡ true
 
 -- ---- relay full
 
@@ -158,6 +170,9 @@ abbrev pub Shows : List Config → List Entry → Entry → ℕ × ℕ → Cause
 Shows configs before e copy cause.Unbound = IsUnbound configs before e copy
 Shows configs before e copy cause.NoConnection = HasNoConnection configs before e copy
 Shows configs before e copy cause.RelayFull = RelayIsFull configs before e copy
+Shows configs before e copy cause.ConnectionEnded = HasEndedConnection configs before e copy
+Shows configs before e copy cause.FrameRefused = ⊥
+Shows configs before e copy cause.ChannelUnregistered = ⊥
 Shows configs before e copy cause.MailboxFull = MailboxIsFull configs before e copy
 Shows configs before e copy cause.ReceiverClosed = ReceiverIsClosed configs before e copy
 

@@ -1,5 +1,5 @@
 -- What becomes of the message of a delivery where its reader is dropped, before it comes and once it waits.
-use Rattle.std.specs.Prelude.{List, [], ◌∷◌, ◌++◌, take}
+use Rattle.std.specs.Prelude.{List, [], ◌∷◌, take}
 use Rattle.p2p_log.specs.declared.end.Cause.TheVariants as cause
 use Rattle.p2p_log.specs.declared.end.End.TheVariants as end
 use Rattle.p2p_log.specs.declared.end.Outcome.TheVariants as outcome
