@@ -1,3 +1,4 @@
+pub mod Dropped
 pub mod Going
 pub mod Holding
 pub mod Kept

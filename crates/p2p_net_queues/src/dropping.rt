@@ -1,8 +1,8 @@
 //! The ends of items that leave their queue untaken, each with its copies.
 ghost use Rattle.std.specs.Prelude.{◌≡◌, ◌++◌, ◌∷◌, [], map, OnOk};
 ghost use Rattle.p2p_log.specs.Copies.{copies_of};
-ghost use Rattle.p2p_log.specs.Drained.{ends_with, all_end};
-ghost use Rattle.p2p_net_queues.specs.Rows.{dropped, sent_dropped};
+ghost use Rattle.p2p_log.specs.Drained.{all_end};
+ghost use Rattle.p2p_net_queues.specs.Rows.{dropped, sent_dropped, named_ends, named_end, taken_dropped, all_dropped};
 
 use crate::Deque;
 use p2p_base::Key;
@@ -45,12 +45,12 @@ fn drop_carried(row: &mut Row, item: &Item, cause: Cause) -> Result<(), AllocErr
     }
 }
 
-/// An item ends untaken, and right after it its copies, which are dropped.
-fn drop_item(row: &mut Row, item: &Envelope, cause: Cause) -> Result<(), AllocError>
-    ensures { OnOk result (row.new ≡ record row.old { ends = row.old.ends ++ ends_with cause item.now }) }
+/// An item of this name ends untaken, and right after it its copies, which are dropped.
+fn drop_item(row: &mut Row, name: (u64, u64), item: &Item, cause: Cause) -> Result<(), AllocError>
+    ensures { OnOk result (row.new ≡ record row.old { ends = row.old.ends ++ named_ends cause (name, item.now) }) }
 {
-    row.ends.push(End::Item(item.entry, item.place))?;
-    drop_carried(row, &item.item, cause)
+    row.ends.push(End::Item(name.0, name.1))?;
+    drop_carried(row, item, cause)
 }
 
 /// These items end untaken, one after another, and right after each of them its copies, which are dropped for this cause.
@@ -61,7 +61,57 @@ pub fn drop_items(row: &mut Row, items: Deque<Envelope>, cause: Cause) -> Result
     ensures { OnOk result (row.new ≡ record row.old { ends = row.old.ends ++ all_end cause items }) }
 {
     for item in items.into_inner() {
-        drop_item(row, &item, cause)?;
+        drop_item(row, (item.entry, item.place), &item.item, cause)?;
+    }
+    Ok(())
+}
+
+/// These items, of these names, end untaken, one after another, and right after each of them its copies, which are dropped for
+/// this cause.
+///
+/// `Err` only where there is no memory. Some of them may then be missing in the row, and the node that took them goes no
+/// further.
+pub fn drop_named(
+    row: &mut Row,
+    items: &[((u64, u64), Item)],
+    cause: Cause,
+) -> Result<(), AllocError>
+    ensures { OnOk result (row.new ≡ record row.old { ends = row.old.ends ++ named_end cause items.now }) }
+{
+    for item in items {
+        drop_item(row, item.0, &item.1, cause)?;
+    }
+    Ok(())
+}
+
+/// An item of this name is taken, and its copies are dropped for this cause.
+///
+/// `Err` only where there is no memory. Some of it may then be missing in the row, and the node that took it goes no further.
+pub fn take_dropped(
+    row: &mut Row,
+    name: (u64, u64),
+    item: &Item,
+    cause: Cause,
+) -> Result<(), AllocError>
+    ensures { OnOk result (row.new ≡ taken_dropped cause (name, item.now) row.old) }
+{
+    row.takes.push(name)?;
+    drop_carried(row, item, cause)
+}
+
+/// These items, of these names, are taken, one after another, and the copies of each are dropped for this cause.
+///
+/// `Err` only where there is no memory. Some of them may then be missing in the row, and the node that took them goes no
+/// further.
+pub fn take_all_dropped(
+    row: &mut Row,
+    items: &[((u64, u64), Item)],
+    cause: Cause,
+) -> Result<(), AllocError>
+    ensures { OnOk result (row.new ≡ all_dropped cause items.now row.old) }
+{
+    for item in items {
+        take_dropped(row, item.0, &item.1, cause)?;
     }
     Ok(())
 }
