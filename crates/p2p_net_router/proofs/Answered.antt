@@ -1,6 +1,7 @@
 -- Of what kind the message was that a step took, by what the step answered.
 use Rattle.std.proofs.Common.{◌≡◌, ℕ, Bool, List, [], ◌∷◌, refl, ap, ◌∙◌, Option, Some, None}
-use Rattle.std.specs.BTreeMap.{insert_entry}
+use Rattle.std.specs.BTreeMap.{insert_entry, is_at}
+use Rattle.std.specs.Map.{remove_entry}
 use Rattle.p2p_base.specs.declared.key.Key.{Key}
 use Rattle.p2p_flow.specs.Lanes.{Lanes}
 use Rattle.p2p_flow.specs.declared.plain.Recipients.{Recipients}
@@ -74,14 +75,20 @@ was_content a d (Some (message.Content whom e priority)) encoded rs h =
     }
 was_content a d (Some (message.SubscribePeers s)) encoded rs h = cc
 
-pub record WasRelease (o : Option (Message Key)) : Type 0 where
-  pub peer : Key
+pub record WasRelease (a : Routes Key) (d : Desk Key) (o : Option (Message Key)) (peer : Key) (told : Told Key) : Type 0 where
   pub is : o ≡ Some (message.Release peer)
+  pub told_is : told ≡ told_of (message_taken d) (remove_entry (is_at (key_cmp peer)) a.links) a.subscriptions
 
-pub was_release : (a : Routes Key) (d : Desk Key) (o : Option (Message Key)) (peer : Key) (told : Told Key) → stepped.Release peer told ≡ stepped_on key_cmp a d o → WasRelease o
+pub was_release : (a : Routes Key) (d : Desk Key) (o : Option (Message Key)) (peer : Key) (told : Told Key) → stepped.Release peer told ≡ stepped_on key_cmp a d o → WasRelease a d o peer told
 was_release a d None peer told h = cc
 was_release a d (Some (message.Ready p relay c)) peer told h = cc
-was_release a d (Some (message.Release p)) peer told h = record { peer = p; is = refl }
+was_release a d (Some (message.Release p)) peer told h =
+    let e : p ≡ peer = cc in
+    let g : told ≡ told_of (message_taken d) (remove_entry (is_at (key_cmp p)) a.links) a.subscriptions = cc in
+    record {
+      is = ap (λ k. Some (message.Release k)) e;
+      told_is = g ∙ ap (λ k. told_of (message_taken d) (remove_entry (is_at (key_cmp k)) a.links) a.subscriptions) e;
+    }
 was_release a d (Some (message.Content whom e priority)) peer told h = cc
 was_release a d (Some (message.SubscribePeers s)) peer told h = cc
 

@@ -1,5 +1,5 @@
 -- A router that was asked for something holds one more message.
-use Rattle.std.proofs.Common.{◌≡◌, ◌⊎◌, inl, inr, ℕ, ◌+◌, ◌≤◌, Bool, true, false, cond, List, [], ◌∷◌, ◌++◌, refl, ap, sym, subst, ◌∙◌, arith, append-nil, Some, None}
+use Rattle.std.proofs.Common.{◌≡◌, ◌⊎◌, inl, inr, ℕ, Bool, true, false, cond, List, [], ◌∷◌, ◌++◌, refl, ap, sym, subst, ◌∙◌, arith, append-nil, Some, None}
 use Rattle.std.specs.Prelude.{flat_map, map, ◌==◌}
 use Rattle.std.specs.List.{AllByRecursion}
 use Rattle.std.specs.BTreeMap.{BTreeMap, get}
@@ -14,6 +14,7 @@ use Rattle.p2p_flow.specs.Lanes.{empty_lanes}
 use Rattle.p2p_router.specs.Mailbox.{appended}
 use Rattle.p2p_router.specs.Messenger.{Desk, is_bound, in_mailbox}
 use Rattle.p2p_router.specs.Routing.{link_of}
+use Rattle.p2p_router.specs.declared.link.Link.{Link}
 use Rattle.p2p_router.specs.declared.message.Message.{Message}
 use Rattle.p2p_router.specs.declared.message.Message.TheVariants as message
 use Rattle.p2p_router.specs.declared.messenger.Binding.{Binding}
@@ -26,8 +27,9 @@ use Rattle.p2p_log.specs.QueueCode.{same_queue}
 use Rattle.p2p_net_queues.specs.declared.board.Board.{Board}
 use Rattle.p2p_net_queues.specs.Board.{held}
 use Rattle.p2p_net_router.specs.Names.{Agrees, is_routers, label, bare_item}
-use Rattle.p2p_net_router.specs.Items.{key_cmp, message_item, messages_in, frame_item, link_with, link_to, frames_in, frames_of, items_of}
-use Rattle.p2p_net_router.specs.Sound.{IsSound, IsKnown, counted, readies, told_times, subscription_in}
+use Rattle.p2p_net_router.specs.Items.{key_cmp, message_item, messages_in, frame_item, link_to, frames_in, frames_of, items_of}
+use Rattle.p2p_net_router.specs.Ends.{AreEnded}
+use Rattle.p2p_net_router.specs.Sound.{IsSound, IsProper, IsInTurn, says, said_of, subscription_in}
 use Rattle.p2p_net_router.specs.Holds.{Holds, IsStranger}
 use Rattle.p2p_net_router.specs.Stands.{HasPlaces}
 use Rattle.p2p_net_router.specs.declared.router.Router.{Router}
@@ -35,59 +37,43 @@ use Rattle.p2p_net_router.specs.declared.name.Name.{Name}
 use Rattle.p2p_net_router.proofs.Agreeing.{Agrees-push}
 use Rattle.p2p_net_router.proofs.Copying.{key_from}
 use Rattle.p2p_net_router.proofs.Told.{same_router}
+use Rattle.p2p_net_router.proofs.Turns.{AreSame, turn_moved, turn_readied, unknown_frames}
 
--- with one more message in this mailbox, these peers, and these names
-abbrev pub asked : Router → Waiting (Message Key) → Message Key → BTreeMap ℕ Key → Board Name → Router
-asked r q m peers names = record r { messenger = record r.messenger { binding = Bound (appended q m) }; peers = peers; names = names }
+-- with one more message in this mailbox, these links and peers, and these names
+abbrev pub asked : Router → Waiting (Message Key) → Message Key → List (Key × Link) → BTreeMap ℕ Key → Board Name → Router
+asked r q m links peers names =
+    record r { messenger = record r.messenger { binding = Bound (appended q m) }; actor = record r.actor { links = links }; peers = peers; names = names }
 
-told_times-last : (k : Key) (ms : List (Message Key)) (m : Message Key) → told_times k (ms ++ m ∷ []) ≡ told_times k ms + cond (readies k m) 1 0
-told_times-last k [] m = elim (readies k m) as (λ b. cond b (1 + 0) 0 ≡ 0 + cond b 1 0) [ true ↦ refl | false ↦ refl ]
-told_times-last k (x ∷ xs) m =
-    elim (readies k x) as (λ b. cond b (1 + told_times k (xs ++ m ∷ [])) (told_times k (xs ++ m ∷ [])) ≡ cond b (1 + told_times k xs) (told_times k xs) + cond (readies k m) 1 0) [
-      | true ↦ let e = told_times-last k xs m in omega (arith, e)
-      | false ↦ told_times-last k xs m
-    ]
-
-known_more :
-    (size : ℕ) (peers more : BTreeMap ℕ Key) → ((c : ℕ) (k : Key) → get nat_cmp peers c ≡ Some k → get nat_cmp more c ≡ Some k)
-    → (m : Message Key) → IsKnown size peers m → IsKnown size more m
-known_more size peers more up (message.Ready k relay c) h = (h.0, up c k h.1)
-known_more size peers more up (message.Release k) h = h
-known_more size peers more up (message.Content whom e b) h = h
-known_more size peers more up (message.SubscribePeers s) h = h
-
-all_known_more :
-    (size : ℕ) (peers more : BTreeMap ℕ Key) → ((c : ℕ) (k : Key) → get nat_cmp peers c ≡ Some k → get nat_cmp more c ≡ Some k)
-    → (ms : List (Message Key)) (m : Message Key) → AllByRecursion (IsKnown size peers) ms → IsKnown size more m → AllByRecursion (IsKnown size more) (ms ++ m ∷ [])
-all_known_more size peers more up [] m h k = (k, tt)
-all_known_more size peers more up (x ∷ xs) m h k = (known_more size peers more up x h.0, all_known_more size peers more up xs m h.1 k)
+all_more : (P : Message Key → Type 0) (ms : List (Message Key)) (m : Message Key) → AllByRecursion P ms → P m → AllByRecursion P (ms ++ m ∷ [])
+all_more P [] m h k = (k, tt)
+all_more P (x ∷ xs) m h k = (h.0, all_more P xs m h.1 k)
 
 pub bound_items : (b : Binding Key) (q : Waiting (Message Key)) → b ≡ Bound q → messages_in b ≡ q.items
 bound_items b q e = ap messages_in e
 
 -- what the new message has to be
-pub record IsAsked (size : ℕ) (r : Router) (q : Waiting (Message Key)) (m : Message Key) (peers : BTreeMap ℕ Key) (names : Board Name) (x : Envelope) : Type 0 where
+pub record IsAsked (size : ℕ) (r : Router) (q : Waiting (Message Key)) (m : Message Key) (links : List (Key × Link)) (peers : BTreeMap ℕ Key) (x : Envelope) : Type 0 where
   pub bound : r.messenger.binding ≡ Bound q
   pub there : x.queue ≡ queue.Router r.number
   pub is : message_item r.channels.items m ≡ bare_item x
-  pub known : IsKnown size peers m
+  pub proper : IsProper size m
   pub no_list : subscription_in m ≡ []
-  pub up : (c : ℕ) (k : Key) → get nat_cmp r.peers c ≡ Some k → get nat_cmp peers c ≡ Some k
-  pub apart : (key : Key) (c d : ℕ) → get nat_cmp peers c ≡ Some key → get nat_cmp peers d ≡ Some key → c ≡ d
-  pub once : (k : Key) → (counted (link_of key_cmp r.actor.links k) + told_times k q.items) + cond (readies k m) 1 0 ≤ 1
-  pub frames : (b : Bool) (conn : ℕ) → frames_of peers r.actor.links b conn ≡ frames_of r.peers r.actor.links b conn
+  pub single : (key : Key) (c d : ℕ) → get nat_cmp peers c ≡ Some key → get nat_cmp peers d ≡ Some key → c ≡ d
+  pub turns : (k : Key) → IsInTurn size peers k (link_of key_cmp links k) (said_of k q.items ++ says k m)
+  pub frames : (b : Bool) (conn : ℕ) → frames_of peers links b conn ≡ frames_of r.peers r.actor.links b conn
 
-sound_asked : (size : ℕ) (r : Router) (q : Waiting (Message Key)) (m : Message Key) (peers : BTreeMap ℕ Key) (names : Board Name) (x : Envelope) → IsSound size r → IsAsked size r q m peers names x → IsSound size (asked r q m peers names)
-sound_asked size r q m peers names x s a =
+said_last : (k : Key) (ms : List (Message Key)) (m : Message Key) → said_of k (ms ++ m ∷ []) ≡ said_of k ms ++ says k m
+said_last k ms m = flat_map-append (says k) ms (m ∷ []) ∙ ap (λ l. said_of k ms ++ l) (append-nil (says k m))
+
+sound_asked :
+    (size : ℕ) (r : Router) (q : Waiting (Message Key)) (m : Message Key) (links : List (Key × Link)) (peers : BTreeMap ℕ Key) (names : Board Name) (x : Envelope)
+    → IsSound size r → IsAsked size r q m links peers x → IsSound size (asked r q m links peers names)
+sound_asked size r q m links peers names x s a =
     let items = bound_items r.messenger.binding q a.bound in
     record {
-      known = all_known_more size r.peers peers a.up q.items m (subst (AllByRecursion (IsKnown size r.peers)) items s.known) a.known;
-      once = λ k.
-          let e = told_times-last k q.items m in
-          let h = a.once k in
-          omega (arith, e, h);
-      apart = a.apart;
-      linked = λ k l at. let old = s.linked k l at in record { known = a.up l.conn k old.known; lanes = old.lanes };
+      proper = all_more (IsProper size) q.items m (subst (AllByRecursion (IsProper size)) items s.proper) a.proper;
+      turns = λ k. subst (IsInTurn size peers k (link_of key_cmp links k)) (sym (said_last k q.items m)) (a.turns k);
+      single = a.single;
       early = λ e. absurd (false≢true (sym e));
       subscriptions = ap (λ l. r.actor.subscriptions ++ (l ++ r.messenger.waiting))
           (flat_map-append subscription_in q.items (m ∷ [])
@@ -104,47 +90,29 @@ other_router : (n : ℕ) (q : Queue) (T : Type 0) → same_queue (queue.Router n
 other_router n q T h xs ys = sym (ap (λ b. xs ++ cond b ys []) h ∙ append-nil xs)
 
 each_asked :
-    (size : ℕ) (r : Router) (q : Waiting (Message Key)) (m : Message Key) (peers : BTreeMap ℕ Key) (names : Board Name) (x : Envelope) → IsAsked size r q m peers names x
-    → (k : Queue) → is_routers r.number k ≡ true → items_of (asked r q m peers names) k ≡ items_of r k ++ cond (same_queue (queue.Router r.number) k) (bare_item x ∷ []) []
-each_asked size r q m peers names x a (queue.Router n) own =
+    (size : ℕ) (r : Router) (q : Waiting (Message Key)) (m : Message Key) (links : List (Key × Link)) (peers : BTreeMap ℕ Key) (names : Board Name) (x : Envelope) → IsAsked size r q m links peers x
+    → (k : Queue) → is_routers r.number k ≡ true → items_of (asked r q m links peers names) k ≡ items_of r k ++ cond (same_queue (queue.Router r.number) k) (bare_item x ∷ []) []
+each_asked size r q m links peers names x a (queue.Router n) own =
     map-append (message_item r.channels.items) q.items (m ∷ [])
     ∙ (ap (λ l. map (message_item r.channels.items) l ++ message_item r.channels.items m ∷ []) (sym (bound_items r.messenger.binding q a.bound))
     ∙ (ap (λ i. map (message_item r.channels.items) (messages_in r.messenger.binding) ++ i ∷ []) a.is
     ∙ ap (λ b. map (message_item r.channels.items) (messages_in r.messenger.binding) ++ cond b (bare_item x ∷ []) []) (sym (same_router r.number n own))))
-each_asked size r q m peers names x a (queue.Peers n c) own = sym (append-nil (items_of r (queue.Peers n c)))
-each_asked size r q m peers names x a (queue.High n c) own = ap (map frame_item) (a.frames true c) ∙ sym (append-nil (items_of r (queue.High n c)))
-each_asked size r q m peers names x a (queue.Low n c) own = ap (map frame_item) (a.frames false c) ∙ sym (append-nil (items_of r (queue.Low n c)))
-each_asked size r q m peers names x a _ own = absurd (false≢true own)
+each_asked size r q m links peers names x a (queue.Peers n c) own = sym (append-nil (items_of r (queue.Peers n c)))
+each_asked size r q m links peers names x a (queue.High n c) own = ap (map frame_item) (a.frames true c) ∙ sym (append-nil (items_of r (queue.High n c)))
+each_asked size r q m links peers names x a (queue.Low n c) own = ap (map frame_item) (a.frames false c) ∙ sym (append-nil (items_of r (queue.Low n c)))
+each_asked size r q m links peers names x a _ own = absurd (false≢true own)
 
 pub Holds-asked :
-    (size : ℕ) (r : Router) (q : Waiting (Message Key)) (m : Message Key) (peers : BTreeMap ℕ Key) (names : Board Name) (x : Envelope) (items : List Envelope)
-    → Holds size r items → IsAsked size r q m peers names x → Agrees r.number label (held names) (items ++ x ∷ []) → Holds size (asked r q m peers names) (items ++ x ∷ [])
-Holds-asked size r q m peers names x items h a named = record {
-  sound = sound_asked size r q m peers names x h.sound a;
+    (size : ℕ) (r : Router) (q : Waiting (Message Key)) (m : Message Key) (links : List (Key × Link)) (peers : BTreeMap ℕ Key) (names : Board Name) (x : Envelope) (items : List Envelope)
+    → Holds size r items → IsAsked size r q m links peers x → Agrees r.number label (held names) (items ++ x ∷ []) → Holds size (asked r q m links peers names) (items ++ x ∷ [])
+Holds-asked size r q m links peers names x items h a named = record {
+  sound = sound_asked size r q m links peers names x h.sound a;
   names = named;
-  each = Agrees-push r.number bare_item (items_of r) (items_of (asked r q m peers names)) items x h.each
-      (λ k own. each_asked size r q m peers names x a k own ∙ ap (λ p. items_of r k ++ cond (same_queue p k) (bare_item x ∷ []) []) (sym a.there));
+  each = Agrees-push r.number bare_item (items_of r) (items_of (asked r q m links peers names)) items x h.each
+      (λ k own. each_asked size r q m links peers names x a k own ∙ ap (λ p. items_of r k ++ cond (same_queue p k) (bare_item x ∷ []) []) (sym a.there));
 }
 
 -- ---- a connection with a stranger
-
-no_link : (size : ℕ) (r : Router) (conn : ℕ) (key : Key) → IsSound size r → IsStranger r conn key → link_of key_cmp r.actor.links key ≡ None
-no_link size r conn key s h =
-    (elim (link_of key_cmp r.actor.links key) as (λ o. link_of key_cmp r.actor.links key ≡ o → o ≡ None) [
-      | None ↦ λ e. refl
-      | Some l ↦ λ e. absurd (h.no_key l.conn (s.linked key l e).known)
-    ]) refl
-
-not_told : (size : ℕ) (r : Router) (conn : ℕ) (key : Key) (ms : List (Message Key)) → IsStranger r conn key → AllByRecursion (IsKnown size r.peers) ms → told_times key ms ≡ 0
-not_told size r conn key [] h all = refl
-not_told size r conn key (message.Ready k relay c ∷ ms) h all =
-    (elim (key.0 == k.0) as (λ b. (key.0 == k.0) ≡ b → cond b (1 + told_times key ms) (told_times key ms) ≡ 0) [
-      | true ↦ λ t. absurd (h.no_key c (all.0.1 ∙ ap Some (sym (key_from key k t))))
-      | false ↦ λ t. not_told size r conn key ms h all.1
-    ]) refl
-not_told size r conn key (message.Release k ∷ ms) h all = absurd all.0
-not_told size r conn key (message.Content whom e b ∷ ms) h all = not_told size r conn key ms h all.1
-not_told size r conn key (message.SubscribePeers s ∷ ms) h all = not_told size r conn key ms h all.1
 
 -- the peers with one more
 abbrev pub HasPeer : BTreeMap ℕ Key → BTreeMap ℕ Key → ℕ → Key → Type 0
@@ -174,10 +142,10 @@ more_from r more conn key k c put at =
       | false ↦ λ t e. inr e
     ]) refl (sym (put c ∙ ap (λ b. cond b (Some key) (get nat_cmp r.peers c)) (is_conn conn c)) ∙ at)
 
-more_apart :
+more_single :
     (size : ℕ) (r : Router) (more : BTreeMap ℕ Key) (conn : ℕ) (key : Key) → IsSound size r → IsStranger r conn key → HasPeer r.peers more conn key
     → (k : Key) (c d : ℕ) → get nat_cmp more c ≡ Some k → get nat_cmp more d ≡ Some k → c ≡ d
-more_apart size r more conn key s h put k c d at to =
+more_single size r more conn key s h put k c d at to =
     elim (more_from r more conn key k c put at) [
       | inl a ↦ elim (more_from r more conn key k d put to) [
         | inl b ↦ sym a.0 ∙ b.0
@@ -185,7 +153,7 @@ more_apart size r more conn key s h put k c d at to =
       ]
       | inr a ↦ elim (more_from r more conn key k d put to) [
         | inl b ↦ absurd (h.no_key c (a ∙ ap Some (sym b.1)))
-        | inr b ↦ s.apart k c d a b
+        | inr b ↦ s.single k c d a b
       ]
     ]
 
@@ -197,44 +165,66 @@ more_frames size r more conn key s h put b c =
     ∙ ((elim (conn == c) as (λ t. (conn == c) ≡ t → frames_in b (link_to r.actor.links c (cond t (Some key) (get nat_cmp r.peers c))) ≡ frames_of r.peers r.actor.links b c) [
       | true ↦ λ t.
           let same : conn ≡ c = grind (arith, nat_tests) in
-          ap (λ o. frames_in b (link_with c o)) (no_link size r conn key s h)
+          unknown_frames size r.peers key (link_of key_cmp r.actor.links key) (said_of key (messages_in r.messenger.binding)) b c h.no_key (s.turns key)
           ∙ sym (ap (λ o. frames_in b (link_to r.actor.links c o)) (ap (get nat_cmp r.peers) (sym same) ∙ h.no_conn))
       | false ↦ λ t. refl
     ]) refl)
 
-once_stranger :
-    (size : ℕ) (r : Router) (q : Waiting (Message Key)) (conn : ℕ) (key k : Key) → IsSound size r → IsStranger r conn key → r.messenger.binding ≡ Bound q
-    → (counted (link_of key_cmp r.actor.links k) + told_times k q.items) + cond (k.0 == key.0) 1 0 ≤ 1
-once_stranger size r q conn key k s h bound =
-    let items = bound_items r.messenger.binding q bound in
-    let old : counted (link_of key_cmp r.actor.links k) + told_times k q.items ≤ 1 = subst (λ l. counted (link_of key_cmp r.actor.links k) + told_times k l ≤ 1) items (s.once k) in
-    (elim (k.0 == key.0) as (λ b. (k.0 == key.0) ≡ b → (counted (link_of key_cmp r.actor.links k) + told_times k q.items) + cond b 1 0 ≤ 1) [
+more_same :
+    (r : Router) (more : BTreeMap ℕ Key) (conn : ℕ) (key k : Key) → IsStranger r conn key → HasPeer r.peers more conn key → (k.0 == key.0) ≡ false → AreSame r.peers more k
+more_same r more conn key k h put other = record {
+  up = λ c at. more_up r more conn key h put c k at;
+  down = λ c at.
+      elim (more_from r more conn key k c put at) [
+        | inl a ↦ absurd (false≢true (sym other ∙ (ap (λ (j : Key). k.0 == j.0) a.1 ∙ (let e : (k.0 == k.0) ≡ true = grind (arith, nat_tests) in e))))
+        | inr a ↦ a
+      ];
+}
+
+more_turns :
+    (size : ℕ) (r : Router) (more : BTreeMap ℕ Key) (q : Waiting (Message Key)) (conn : ℕ) (key : Key) → IsSound size r → IsStranger r conn key → HasPeer r.peers more conn key
+    → r.messenger.binding ≡ Bound q → get nat_cmp more conn ≡ Some key
+    → (k : Key) → IsInTurn size more k (link_of key_cmp r.actor.links k) (said_of k q.items ++ cond (k.0 == key.0) (Some conn ∷ []) [])
+more_turns size r more q conn key s h put bound now k =
+    let old = λ (j : Key). subst (IsInTurn size r.peers j (link_of key_cmp r.actor.links j)) (ap (said_of j) (bound_items r.messenger.binding q bound)) (s.turns j) in
+    (elim (k.0 == key.0) as (λ b. (k.0 == key.0) ≡ b → IsInTurn size more k (link_of key_cmp r.actor.links k) (said_of k q.items ++ cond b (Some conn ∷ []) [])) [
       | true ↦ λ t.
-          let same : k ≡ key = key_from k key t in
-          let none : counted (link_of key_cmp r.actor.links k) ≡ 0 = ap (λ (j : Key). counted (link_of key_cmp r.actor.links j)) same ∙ ap counted (no_link size r conn key s h) in
-          let told : told_times k q.items ≡ 0 = ap (λ (j : Key). told_times j q.items) same ∙ not_told size r conn key q.items h (subst (AllByRecursion (IsKnown size r.peers)) items s.known) in
-          omega (arith, none, told)
-      | false ↦ λ t. omega (arith, old)
+          subst (λ (x : Key). IsInTurn size more x (link_of key_cmp r.actor.links x) (said_of x q.items ++ Some conn ∷ [])) (sym (key_from k key t))
+          (turn_readied size r.peers more key (link_of key_cmp r.actor.links key) (said_of key q.items) conn h.no_key now (old key))
+      | false ↦ λ t.
+          subst (IsInTurn size more k (link_of key_cmp r.actor.links k)) (sym (append-nil (said_of k q.items)))
+          (turn_moved size r.peers more k (link_of key_cmp r.actor.links k) (said_of k q.items) (more_same r more conn key k h put t) (old k))
     ]) refl
+
+pub more_here : (peers more : BTreeMap ℕ Key) (conn : ℕ) (key : Key) → HasPeer peers more conn key → get nat_cmp more conn ≡ Some key
+more_here peers more conn key put = put conn ∙ ap (λ b. cond b (Some key) (get nat_cmp peers conn)) (let e : is_eq (nat_cmp conn conn) ≡ true = grind (arith, nat_tests) in e)
+
+-- a known connection has not ended, where the new one has not
+pub more_ended :
+    (ended : ℕ → Bool) (r : Router) (more : BTreeMap ℕ Key) (conn : ℕ) (key : Key) → HasPeer r.peers more conn key → ended conn ≡ false
+    → AreEnded ended r.peers r.actor.links → AreEnded ended more r.actor.links
+more_ended ended r more conn key put lives h = record {
+  relays = h.relays;
+  known = λ c k at. elim (more_from r more conn key k c put at) [ inl a ↦ ap ended (sym a.0) ∙ lives | inr a ↦ h.known c k a ];
+}
 
 pub Holds-ready :
     (size : ℕ) (r : Router) (q : Waiting (Message Key)) (more : BTreeMap ℕ Key) (names : Board Name) (entry place conn : ℕ) (key : Key) (items : List Envelope)
     → Holds size r items → r.messenger.binding ≡ Bound q → IsStranger r conn key → HasPeer r.peers more conn key
     → ((k : Queue) → held names k ≡ held r.names k ++ cond (same_queue (queue.Router r.number) k) (record { entry = entry; place = place; tag = None } ∷ []) [])
-    → Holds size (asked r q (message.Ready key (empty_lanes size) conn) more names) (items ++ record { entry = entry; place = place; queue = queue.Router r.number; item = item.Ready conn key } ∷ [])
+    → Holds size (asked r q (message.Ready key (empty_lanes size) conn) r.actor.links more names) (items ++ record { entry = entry; place = place; queue = queue.Router r.number; item = item.Ready conn key } ∷ [])
 Holds-ready size r q more names entry place conn key items h bound stranger put named =
     let s = h.sound in
     let x : Envelope = record { entry = entry; place = place; queue = queue.Router r.number; item = item.Ready conn key } in
-    Holds-asked size r q (message.Ready key (empty_lanes size) conn) more names x items h
+    Holds-asked size r q (message.Ready key (empty_lanes size) conn) r.actor.links more names x items h
     (record {
       bound = bound;
       there = refl;
       is = refl;
-      known = (refl, put conn ∙ ap (λ b. cond b (Some key) (get nat_cmp r.peers conn)) (let e : is_eq (nat_cmp conn conn) ≡ true = grind (arith, nat_tests) in e));
+      proper = refl;
       no_list = refl;
-      up = more_up r more conn key stranger put;
-      apart = more_apart size r more conn key s stranger put;
-      once = λ k. once_stranger size r q conn key k s stranger bound;
+      single = more_single size r more conn key s stranger put;
+      turns = more_turns size r more q conn key s stranger put bound (more_here r.peers more conn key put);
       frames = more_frames size r more conn key s stranger put;
     })
     (Agrees-push r.number label (held r.names) (held names) items x h.names (λ k own. named k))

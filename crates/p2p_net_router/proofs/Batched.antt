@@ -8,14 +8,16 @@ use Rattle.p2p_log.specs.declared.queue.Queue.{Queue}
 use Rattle.p2p_log.specs.declared.item.Item.{Item}
 use Rattle.p2p_log.specs.declared.item.Envelope.{Envelope}
 use Rattle.p2p_log.specs.Lines.{name_of, ended_item, goes, stays, live, stands_in, named}
-use Rattle.p2p_log_rules.specs.Effect.{mailbox_size_at}
+use Rattle.p2p_log_rules.specs.Connections.{is_ended}
+use Rattle.p2p_log_rules.specs.Effect.{mailbox_size_at, router_capacity}
 use Rattle.p2p_log.specs.Apart.{AreApart}
 use Rattle.p2p_log.proofs.Names.{AreApart-live_from}
 use Rattle.p2p_router.specs.Messenger.{is_bound}
 use Rattle.p2p_net_router.specs.Names.{is_routers}
 use Rattle.p2p_net_router.specs.Batches.{batch_of, AreKept}
 use Rattle.p2p_net_router.specs.Holds.{Holds}
-use Rattle.p2p_net_router.specs.Stands.{StandsFor, HasPlaces, IsBeside, AreAway}
+use Rattle.p2p_net_router.specs.Items.{channel_of}
+use Rattle.p2p_net_router.specs.Stands.{StandsOver, StandsFor, HasPlaces, IsBeside, AreAway}
 use Rattle.p2p_net_router.specs.declared.router.Router.{Router}
 use Rattle.p2p_net_router.proofs.Beside.{moved_to, holds_same, stands_moved}
 use Rattle.p2p_net_router.proofs.Aside.{line_after, takes_alone}
@@ -30,6 +32,24 @@ moved_to-kept old new kept =
 
 names_taken : (batch : List Envelope) (taken : List ((ℕ × ℕ) × Item)) → taken ≡ map named batch → map (λ (t : (ℕ × ℕ) × Item). t.0) taken ≡ map name_of batch
 names_taken batch taken is = ap (map (λ (t : (ℕ × ℕ) × Item). t.0)) is ∙ map-map (λ (t : (ℕ × ℕ) × Item). t.0) named batch
+
+-- the router stands over other items, once relays and names changed
+pub over_kept :
+    (configs : List Config) (log : List Entry) (old new : Router) (items more : List Envelope)
+    → StandsOver configs log old items → AreKept old new → Holds (mailbox_size_at configs old.number) new more → StandsOver configs log new more
+over_kept configs log old new items more s kept h =
+    let same = moved_to-kept old new kept in
+    let n = old.number in
+    subst (λ r. StandsOver configs log r more) same
+    (record {
+      holds = subst (λ r. Holds (mailbox_size_at configs n) r more) (sym same) h;
+      routes_are = kept.routes ∙ s.routes_are;
+      told = ap (map (channel_of old.channels.items)) kept.subscriptions ∙ s.told;
+      registered = s.registered;
+      bound = ap (λ m. is_bound m.binding) kept.messenger ∙ s.bound;
+      places = subst (λ m. HasPlaces (router_capacity configs log n) m.binding) (sym kept.messenger) s.places;
+      ended = kept.ended (is_ended log n) s.ended;
+    })
 
 batched :
     (configs : List Config) (log : List Entry) (e : Entry) (old new : Router) (batch : List Envelope) (taken : List ((ℕ × ℕ) × Item))
@@ -50,6 +70,7 @@ batched configs log e old new batch taken s b kept is holds takes ends away =
     subst (StandsFor configs (log ++ e ∷ [])) same
     (stands_moved configs log e old new.messenger new.actor new.peers new.names (live log) s b kept.routes kept.subscriptions
     (ap (λ m. is_bound m.binding) kept.messenger) (λ k places. subst (λ m. HasPlaces k m.binding) (sym kept.messenger) places)
+    (kept.ended (is_ended log n) s.ended)
     (holds_same size moved (filter (stays (map name_of batch)) (live log)) (live (log ++ e ∷ [])) h lines))
 
 -- the clauses of a batch say that the router stands for the log

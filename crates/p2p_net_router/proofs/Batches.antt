@@ -1,7 +1,7 @@
 -- What is left of lines whose fronts were taken.
-use Rattle.std.proofs.Common.{◌≡◌, ℕ, zero, suc, ◌+◌, ◌-◌, ◌≤◌, Bool, true, false, cond, List, [], ◌∷◌, ◌++◌, length, take, drop, refl, ap, sym, subst, ◌∙◌, append-nil, Option, Some, None}
+use Rattle.std.proofs.Common.{◌≡◌, ℕ, zero, suc, ◌+◌, ◌-◌, ◌≤◌, Bool, true, false, cond, List, [], ◌∷◌, ◌++◌, length, take, drop, refl, ap, sym, subst, ◌∙◌, arith, append-nil, Option, Some, None}
 use Rattle.std.specs.Prelude.{filter, map, slice_get}
-use Rattle.std.proofs.lemmas.List.{map-append, length-map}
+use Rattle.std.proofs.lemmas.List.{map-append, length-map, take_all as take_whole}
 use Rattle.p2p_log.specs.declared.queue.Queue.{Queue}
 use Rattle.p2p_log.specs.declared.queue.Queue.TheVariants as queue
 use Rattle.p2p_log.specs.declared.item.Item.{Item}
@@ -14,7 +14,8 @@ use Rattle.p2p_log.proofs.Queues.{same_queue-refl}
 use Rattle.p2p_log.specs.Apart.{AreApart}
 use Rattle.p2p_log.proofs.Names.{AreApart-filter, filter_stays-first}
 use Rattle.p2p_net_router.proofs.Taking.{map-take_next, take_spent, take_two}
-use Rattle.p2p_net_router.specs.Batches.{batch_of, AreKept}
+use Rattle.p2p_net_router.specs.Batches.{all_of, batch_of, AreKept}
+use Rattle.p2p_net_router.specs.Ends.{AreEnded}
 use Rattle.p2p_net_router.specs.Holds.{Holds, frame_taken, frame_gone, routes_in}
 use Rattle.p2p_net_router.specs.declared.router.Router.{Router}
 use Rattle.p2p_net_router.proofs.Beside.{filter-first_away}
@@ -62,7 +63,7 @@ batch_beside n conn size items q apart high_away low_away =
     ∙ line_beside size (queue.High n conn) q items high apart refl high_away))
 
 pub AreKept-refl : (r : Router) → AreKept r r
-AreKept-refl r = record { number = refl; messenger = refl; channels = refl; peers = refl; numbers = refl; subscriptions = refl; routes = refl }
+AreKept-refl r = record { number = refl; messenger = refl; channels = refl; peers = refl; numbers = refl; subscriptions = refl; routes = refl; ended = λ f h. h }
 
 pub AreKept-trans : (a b c : Router) → AreKept a b → AreKept b c → AreKept a c
 AreKept-trans a b c f g = record {
@@ -73,6 +74,7 @@ AreKept-trans a b c f g = record {
   numbers = g.numbers ∙ f.numbers;
   subscriptions = g.subscriptions ∙ f.subscriptions;
   routes = g.routes ∙ f.routes;
+  ended = λ t h. g.ended t (f.ended t h);
 }
 
 -- ---- one more frame
@@ -179,9 +181,36 @@ batch_taken size old mid new items conn most count none some all apart kept e f 
           g.holds,
     )
 
+-- all of both lanes
+pub all_taken :
+    (size : ℕ) (old mid new : Router) (items : List Envelope) (conn high low : ℕ) (none some all : List ((ℕ × ℕ) × Item))
+    → AreApart items → AreKept old mid → none ≡ [] → high ≡ length (filter (stands_in (queue.High old.number conn)) items) → IsFrontTaken size old mid items true conn high none some
+    → low ≡ length (filter (stands_in (relay_queue false mid.number conn)) (left (take high (filter (stands_in (queue.High old.number conn)) items)) items))
+    → IsFrontTaken size mid new (left (take high (filter (stands_in (queue.High old.number conn)) items)) items) false conn low some all
+    → (all ≡ map named (all_of old.number conn items)) × Holds size new (left (all_of old.number conn items) items)
+all_taken size old mid new items conn high low none some all apart kept e long f short g =
+    let hs = filter (stands_in (queue.High old.number conn)) items in
+    let ls = filter (stands_in (queue.Low old.number conn)) items in
+    let first = left (take high hs) items in
+    let line = filter (stands_in (relay_queue false mid.number conn)) first in
+    let same : line ≡ ls =
+    ap (λ k. filter (stands_in (relay_queue false k conn)) first) kept.number ∙ line_beside high (queue.High old.number conn) (queue.Low old.number conn) items hs apart refl refl
+    in
+    let whole : take high hs ≡ hs = take_whole high hs (omega (arith, long)) in
+    let rest : take low line ≡ ls = take_whole low line (omega (arith, short)) ∙ same in
+    let so_far : some ≡ map named hs = f.taken ∙ (ap (λ l. l ++ map named (take high hs)) e ∙ ap (map named) whole) in (
+      g.taken ∙ (ap (λ l. l ++ map named (take low line)) so_far ∙ (ap (λ l. map named hs ++ map named l) rest ∙ sym (map-append named hs ls))),
+      subst (Holds size new)
+          (ap (λ l. left l first) rest
+          ∙ (ap (λ l. left ls (left l items)) whole
+          ∙ (sym (filter_stays-append (map name_of hs) (map name_of ls) items) ∙ ap (λ n. filter (stays n) items) (sym (map-append name_of hs ls)))))
+          g.holds,
+    )
+
 pub AreKept-taken :
-    (old new : Router) → new ≡ record old { actor = record old.actor { links = new.actor.links }; names = new.names } → routes_in new.actor.links ≡ routes_in old.actor.links → AreKept old new
-AreKept-taken old new rest links = record {
+    (old new : Router) → new ≡ record old { actor = record old.actor { links = new.actor.links }; names = new.names } → routes_in new.actor.links ≡ routes_in old.actor.links
+    → ((ended : ℕ → Bool) → AreEnded ended old.peers old.actor.links → AreEnded ended new.peers new.actor.links) → AreKept old new
+AreKept-taken old new rest links ends = record {
   number = ap (λ (r : Router). r.number) rest;
   messenger = ap (λ (r : Router). r.messenger) rest;
   channels = ap (λ (r : Router). r.channels) rest;
@@ -189,4 +218,5 @@ AreKept-taken old new rest links = record {
   numbers = ap (λ (r : Router). r.subscriptions) rest;
   subscriptions = ap (λ (r : Router). r.actor.subscriptions) rest;
   routes = links;
+  ended = ends;
 }

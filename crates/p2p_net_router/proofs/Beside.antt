@@ -15,7 +15,8 @@ use Rattle.p2p_log.specs.declared.queue.Queue.{Queue}
 use Rattle.p2p_log.specs.declared.queue.Queue.TheVariants as queue
 use Rattle.p2p_log.specs.QueueCode.{same_queue}
 use Rattle.p2p_log.specs.Lines.{name_of, ended_item, stays, placed, live, stands_in}
-use Rattle.p2p_log_rules.specs.Facts.{events_of, has_started, registered, channels, subscriber_of, subscribers, routes_after, routes, sum_capacities}
+use Rattle.p2p_log_rules.specs.Connections.{is_ended}
+use Rattle.p2p_log_rules.specs.Facts.{events_of, starts, has_started, registers_at, registered, channels, routed_by, subscriber_of, subscribers, routes_after, routes, sum_capacities}
 use Rattle.p2p_log_rules.specs.Effect.{mailbox_size_at, router_capacity}
 use Rattle.p2p_log_rules.proofs.Facts.{events_of-append, has_started-append, registered-append, subscribers-append, routes-append}
 use Rattle.p2p_log.proofs.Lines.{live-append, filter_stays-nil}
@@ -24,10 +25,12 @@ use Rattle.p2p_log.proofs.Names.{filter_stays-first}
 use Rattle.p2p_net_queues.specs.declared.board.Board.{Board}
 use Rattle.p2p_net_router.specs.Names.{is_routers, label, bare_item}
 use Rattle.p2p_net_router.specs.Items.{channel_of}
+use Rattle.p2p_net_router.specs.Ends.{AreEnded}
 use Rattle.p2p_net_router.specs.Holds.{Holds, routes_in}
 use Rattle.p2p_net_router.specs.Stands.{StandsOver, StandsFor, HasPlaces, IsBeside, AreAway, IsReadied}
 use Rattle.p2p_net_router.specs.declared.router.Router.{Router}
 use Rattle.p2p_net_router.specs.declared.name.Name.{Name}
+use Rattle.p2p_net_router.proofs.Endings.{ended_beside}
 
 -- the router with another mailbox, other relays, peers and names
 abbrev pub moved_to : Router → Desk Key → Routes Key → BTreeMap ℕ Key → Board Name → Router
@@ -47,35 +50,49 @@ holds_same size r items more h same = record {
   each = λ q own. h.each q own ∙ ap (map bare_item) (sym (same q own));
 }
 
--- the router moved what the entry says
+-- the router moved what the entry says, which is none of its steps, registrations and starts, and has these items
+pub moved_over :
+    (configs : List Config) (log : List Entry) (e : Entry) (r : Router) (desk : Desk Key) (actor : Routes Key) (peers : BTreeMap ℕ Key) (names : Board Name) (items more : List Envelope)
+    → StandsOver configs log r items → routed_by r.number log e ≡ [] → registers_at configs r.number e.event.act ≡ [] → starts r.number e.event.act ≡ false
+    → routes_in actor.links ≡ routes_in r.actor.links → actor.subscriptions ≡ r.actor.subscriptions
+    → is_bound desk.binding ≡ is_bound r.messenger.binding → ((k : ℕ) → HasPlaces k r.messenger.binding → HasPlaces k desk.binding)
+    → AreEnded (is_ended (log ++ e ∷ []) r.number) peers actor.links
+    → Holds (mailbox_size_at configs r.number) (moved_to r desk actor peers names) more
+    → StandsOver configs (log ++ e ∷ []) (moved_to r desk actor peers names) more
+moved_over configs log e r desk actor peers names items more s no_step no_channel no_start links subs bound places ended h =
+    let n = r.number in
+    let same : channels configs (log ++ e ∷ []) n ≡ channels configs log n =
+    ap (λ v. registered configs v n) (events_of-append log e)
+    ∙ (registered-append configs (events_of log) e.event n
+    ∙ (ap (λ l. registered configs (events_of log) n ++ l) no_channel ∙ append-nil (registered configs (events_of log) n)))
+    in
+    let up : has_started (events_of (log ++ e ∷ [])) n ≡ has_started (events_of log) n =
+    ap (λ v. has_started v n) (events_of-append log e)
+    ∙ (has_started-append (events_of log) e.event n ∙ (ap (λ x. has_started (events_of log) n || x) no_start ∙ or-false (has_started (events_of log) n)))
+    in
+    record {
+      holds = h;
+      routes_are = links ∙ (s.routes_are ∙ sym (routes-append log e n ∙ ap (routes_after (routes log n)) no_step));
+      told = ap (map (channel_of r.channels.items)) subs
+          ∙ (s.told ∙ sym (subscribers-append log e n ∙ (ap (λ l. subscribers log n ++ flat_map subscriber_of l) no_step ∙ append-nil (subscribers log n))));
+      registered = s.registered ∙ ap (map (λ (c : ℕ × ℕ). c.0)) (sym same);
+      bound = bound ∙ (s.bound ∙ sym up);
+      places = subst (λ k. HasPlaces k desk.binding) (ap (λ l. mailbox_size_at configs n + sum_capacities l) (sym same))
+          (places (router_capacity configs log n) s.places);
+      ended = ended;
+    }
+
 pub stands_moved :
     (configs : List Config) (log : List Entry) (e : Entry) (r : Router) (desk : Desk Key) (actor : Routes Key) (peers : BTreeMap ℕ Key) (names : Board Name) (items : List Envelope)
     → StandsOver configs log r items → IsBeside configs log e r.number
     → routes_in actor.links ≡ routes_in r.actor.links → actor.subscriptions ≡ r.actor.subscriptions
     → is_bound desk.binding ≡ is_bound r.messenger.binding → ((k : ℕ) → HasPlaces k r.messenger.binding → HasPlaces k desk.binding)
+    → AreEnded (is_ended log r.number) peers actor.links
     → Holds (mailbox_size_at configs r.number) (moved_to r desk actor peers names) (live (log ++ e ∷ []))
     → StandsFor configs (log ++ e ∷ []) (moved_to r desk actor peers names)
-stands_moved configs log e r desk actor peers names items s b links subs bound places h =
-    let n = r.number in
-    let same : channels configs (log ++ e ∷ []) n ≡ channels configs log n =
-    ap (λ v. registered configs v n) (events_of-append log e)
-    ∙ (registered-append configs (events_of log) e.event n
-    ∙ (ap (λ l. registered configs (events_of log) n ++ l) b.no_channel ∙ append-nil (registered configs (events_of log) n)))
-    in
-    let up : has_started (events_of (log ++ e ∷ [])) n ≡ has_started (events_of log) n =
-    ap (λ v. has_started v n) (events_of-append log e)
-    ∙ (has_started-append (events_of log) e.event n ∙ (ap (λ x. has_started (events_of log) n || x) b.no_start ∙ or-false (has_started (events_of log) n)))
-    in
-    record {
-      holds = h;
-      routes_are = links ∙ (s.routes_are ∙ sym (routes-append log e n ∙ ap (routes_after (routes log n)) b.no_step));
-      told = ap (map (channel_of r.channels.items)) subs
-          ∙ (s.told ∙ sym (subscribers-append log e n ∙ (ap (λ l. subscribers log n ++ flat_map subscriber_of l) b.no_step ∙ append-nil (subscribers log n))));
-      registered = s.registered ∙ ap (map (λ (c : ℕ × ℕ). c.0)) (sym same);
-      bound = bound ∙ (s.bound ∙ sym up);
-      places = subst (λ k. HasPlaces k desk.binding) (ap (λ l. mailbox_size_at configs n + sum_capacities l) (sym same))
-          (places (router_capacity configs log n) s.places);
-    }
+stands_moved configs log e r desk actor peers names items s b links subs bound places ended h =
+    moved_over configs log e r desk actor peers names items (live (log ++ e ∷ [])) s b.no_step b.no_channel b.no_start links subs bound places
+    (ended_beside log e r.number peers actor.links b.no_end ended) h
 
 -- what stands in the router's queues is what stood there
 abbrev pub LinesStay : List Entry → Entry → ℕ → Type 0
@@ -86,7 +103,7 @@ pub stands_beside :
     (configs : List Config) (log : List Entry) (e : Entry) (r : Router)
     → StandsFor configs log r → IsBeside configs log e r.number → LinesStay log e r.number → StandsFor configs (log ++ e ∷ []) r
 stands_beside configs log e r s b lines =
-    stands_moved configs log e r r.messenger r.actor r.peers r.names (live log) s b refl refl refl (λ k h. h)
+    stands_moved configs log e r r.messenger r.actor r.peers r.names (live log) s b refl refl refl (λ k h. h) s.ended
     (holds_same (mailbox_size_at configs r.number) r (live log) (live (log ++ e ∷ [])) s.holds lines)
 
 -- ---- lines that an entry leaves alone
@@ -117,7 +134,7 @@ placed-both n p (x ∷ xs) ys =
     (placed-both n (p + 1) xs ys ∙ ap (λ k. placed n (p + 1) xs ++ placed n k ys) (let e : (p + 1) + length xs ≡ p + suc (length xs) = omega arith in e))
 
 -- of a router's queues, one put among others that are not for them enters one
-line_readied :
+pub line_readied :
     (q : Queue) (items : List Envelope) (n : ℕ) (before after : List (Queue × Item)) (x : Queue × Item) (place : ℕ) → length before ≡ place → AreAway q before → AreAway q after
     → filter (stands_in q) (items ++ placed n 0 (before ++ x ∷ after)) ≡ filter (stands_in q) (items ++ record { entry = n; place = place; queue = x.0; item = x.1 } ∷ [])
 line_readied q items n before after x place at b a =
@@ -139,10 +156,11 @@ pub readied_stands :
     (configs : List Config) (log : List Entry) (e : Entry) (r : Router) (desk : Desk Key) (peers : BTreeMap ℕ Key) (names : Board Name) (place conn : ℕ) (key : Key)
     → StandsFor configs log r → IsBeside configs log e r.number → IsReadied e r.number place conn key
     → is_bound desk.binding ≡ is_bound r.messenger.binding → ((k : ℕ) → HasPlaces k r.messenger.binding → HasPlaces k desk.binding)
+    → AreEnded (is_ended log r.number) peers r.actor.links
     → Holds (mailbox_size_at configs r.number) (moved_to r desk r.actor peers names)
     (live log ++ record { entry = length log; place = place; queue = queue.Router r.number; item = item.Ready conn key } ∷ [])
     → StandsFor configs (log ++ e ∷ []) (moved_to r desk r.actor peers names)
-readied_stands configs log e r desk peers names place conn key s b g bound places h =
+readied_stands configs log e r desk peers names place conn key s b g bound places ended h =
     let x : Envelope = record { entry = length log; place = place; queue = queue.Router r.number; item = item.Ready conn key } in
     let whole : live (log ++ e ∷ []) ≡ live log ++ placed (length log) 0 (g.before ++ (queue.Router r.number, item.Ready conn key) ∷ g.after) =
     live-append log e
@@ -155,5 +173,5 @@ readied_stands configs log e r desk peers names place conn key s b g bound place
     ap (filter (stands_in q)) whole
     ∙ line_readied q (live log) (length log) g.before g.after (queue.Router r.number, item.Ready conn key) place g.long (g.away q own).0 (g.away q own).1
     in
-    stands_moved configs log e r desk r.actor peers names (live log) s b refl refl bound places
+    stands_moved configs log e r desk r.actor peers names (live log) s b refl refl bound places ended
     (holds_same (mailbox_size_at configs r.number) (moved_to r desk r.actor peers names) (live log ++ x ∷ []) (live (log ++ e ∷ [])) h lines)

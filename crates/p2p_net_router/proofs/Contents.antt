@@ -1,5 +1,5 @@
 -- A step that routed content, as the log has it.
-use Rattle.std.proofs.Common.{◌≡◌, ℕ, ◌+◌, ◌≤◌, Bool, true, false, cond, List, [], ◌∷◌, ◌++◌, length, refl, ap, sym, subst, ◌∙◌, arith, append-nil, Option, Some, None}
+use Rattle.std.proofs.Common.{◌≡◌, ℕ, ◌+◌, Bool, true, false, cond, List, [], ◌∷◌, ◌++◌, length, refl, ap, sym, subst, ◌∙◌, arith, append-nil, Some}
 use Rattle.std.specs.Prelude.{filter, flat_map, map, ◌==◌}
 use Rattle.std.proofs.lemmas.Bool.Decides.{nat_tests}
 use Rattle.std.proofs.lemmas.Bool.{false≢true}
@@ -10,9 +10,8 @@ use Rattle.p2p_base.specs.Queue.{without_oldest}
 use Rattle.p2p_flow.specs.declared.plain.Recipients.{Recipients}
 use Rattle.p2p_flow.specs.declared.plain.Recipients.TheVariants as to
 use Rattle.p2p_wire.specs.declared.encoded.EncodedData.{EncodedData}
-use Rattle.p2p_flow.specs.Lanes.{sent_on}
 use Rattle.p2p_router.specs.Routes.{Routes}
-use Rattle.p2p_router.specs.Routing.{link_of, addressed, copies, copies_put, put_over}
+use Rattle.p2p_router.specs.Routing.{link_of, addressed, copies, copies_put}
 use Rattle.p2p_router.specs.Messenger.{Desk, message_taken, message_waiting, in_mailbox, told_all}
 use Rattle.p2p_router.specs.Step.{stepped_on, routes_on, desk_on}
 use Rattle.p2p_router.specs.declared.link.Link.{Link}
@@ -30,6 +29,7 @@ use Rattle.p2p_log.specs.declared.entry.Entry.{Entry}
 use Rattle.p2p_log_rules.specs.declared.row.Row.{Row}
 use Rattle.p2p_log.specs.QueueCode.{same_queue}
 use Rattle.p2p_log.specs.Lines.{name_of, ended_item, stays, placed, live, stands_in}
+use Rattle.p2p_log_rules.specs.Connections.{is_ended}
 use Rattle.p2p_log_rules.specs.Facts.{subscriber_of, subscribers, with_route, routes}
 use Rattle.p2p_log_rules.specs.Effect.{mailbox_size_at, route_row, Spread, goes_to, relay_queue, spread, row_of_spread}
 use Rattle.p2p_log.specs.Apart.{AreApart}
@@ -40,7 +40,8 @@ use Rattle.p2p_net_queues.specs.Rows.{taken_row}
 use Rattle.p2p_net_router.specs.Relays.{with_spread}
 use Rattle.p2p_net_router.specs.Names.{Agrees, is_routers, label, bare, bare_item, tag_of}
 use Rattle.p2p_net_router.specs.Items.{key_cmp, channel_of, named_keys, message_item, messages_in, lists_in, frame_item, frames_of, items_of}
-use Rattle.p2p_net_router.specs.Sound.{AreNamed, counted, told_times, subscription_in}
+use Rattle.p2p_net_router.specs.Sound.{AreNamed, IsInTurn, said_of, subscription_in}
+use Rattle.p2p_net_router.specs.Ends.{AreEnded}
 use Rattle.p2p_net_router.specs.Holds.{Holds, after, routes_in}
 use Rattle.p2p_net_router.specs.Copies.{copy_spread, copies_spread}
 use Rattle.p2p_net_router.specs.Oldest.{IsOldest, without, send_of}
@@ -48,40 +49,15 @@ use Rattle.p2p_net_router.specs.Stands.{StandsFor}
 use Rattle.p2p_net_router.specs.declared.router.Router.{Router}
 use Rattle.p2p_net_router.specs.declared.name.Name.{Name}
 use Rattle.p2p_net_router.proofs.Building.{own_peers as own_queue}
-use Rattle.p2p_net_router.proofs.Copying.{IsSpreading, IsCopied, copied, item_put, key_from}
+use Rattle.p2p_net_router.proofs.Copying.{IsSpreading, IsCopied, copied, item_put}
 use Rattle.p2p_net_router.proofs.First.{bare-content, bound_first}
 use Rattle.p2p_net_router.proofs.Answered.{was_content}
-use Rattle.p2p_net_router.proofs.Linking.{link_of-with_link}
 use Rattle.p2p_net_router.proofs.Others.{copied_adds}
 use Rattle.p2p_net_router.proofs.Rings.{IsTold, told_all-told}
 use Rattle.p2p_net_router.proofs.Routed.{IsRouted, sound_stepped}
-use Rattle.p2p_net_router.proofs.Steps.{later_messages, oldest_item, is_oldest, known_first, once_first, subscriptions_first}
+use Rattle.p2p_net_router.proofs.Steps.{later_messages, oldest_item, is_oldest, proper_first, turns_first, subscriptions_first}
 use Rattle.p2p_net_router.proofs.Noting.{copies_ends}
 use Rattle.p2p_net_router.proofs.Told.{stepped_to, same_router, map-cond}
-
--- ---- the links of a router that spreads
-
-counted_put :
-    (links : List (Key × Link)) (k j : Key) (e : EncodedData) (priority : Bool) (o : Option Link) → link_of key_cmp links k ≡ o
-    → counted (link_of key_cmp (put_over key_cmp o links k e priority) j) ≡ counted (link_of key_cmp links j)
-counted_put links k j e priority None h = refl
-counted_put links k j e priority (Some l) h =
-    let new : Link = record { conn = l.conn; relay = sent_on l.relay e priority } in
-    ap counted (link_of-with_link links k j l new h)
-    ∙ ((elim (k.0 == j.0) as (λ t. (k.0 == j.0) ≡ t → counted (cond t (Some new) (link_of key_cmp links j)) ≡ counted (link_of key_cmp links j)) [
-      | true ↦ λ t. sym (ap counted (ap (link_of key_cmp links) (sym (key_from k j t)) ∙ h))
-      | false ↦ λ t. refl
-    ]) refl)
-
--- the same keys have links
-pub counted_copies :
-    (keys : List Key) (links : List (Key × Link)) (j : Key) (e : EncodedData) (priority : Bool)
-    → counted (link_of key_cmp (copies_put key_cmp links e priority keys) j) ≡ counted (link_of key_cmp links j)
-unfolding copies_put
-counted_copies [] links j e priority = refl
-counted_copies (k ∷ ks) links j e priority =
-    counted_copies ks (put_over key_cmp (link_of key_cmp links k) links k e priority) j e priority
-    ∙ counted_put links k j e priority (link_of key_cmp links k) refl
 
 -- ---- what the row puts
 
@@ -243,11 +219,11 @@ routed_content configs log entry old desk actor names row encoded rs s answered 
     let send = send_of (tag_of x.item) in
     let it : x.item ≡ item.Content encoded.channel encoded.payload w.priority send keys = bare-content encoded.channel encoded.payload w.priority keys x.item f.same in
     let oldest = is_oldest configs log old m s f in
-    let known = known_first size old m sound w.is in
+    let proper = proper_first size old m sound w.is in
     let links = old.actor.links in
     let taken = message_taken old.messenger in
     let apart = AreApart-live_from 0 log in
-    let whom : addressed links w.whom ≡ keys = addressed_named links w.whom known.0 in
+    let whom : addressed links w.whom ≡ keys = addressed_named links w.whom proper.0 in
     let after_links = copies_put key_cmp links encoded w.priority keys in
     let actor_now : actor ≡ record { links = after_links; peers = old.actor.peers; subscriptions = old.actor.subscriptions; failed = old.actor.failed } =
     actor_is
@@ -264,15 +240,18 @@ routed_content configs log entry old desk actor names row encoded rs s answered 
     let start : Spread = record { puts = []; ends = [] } in
     let spread_now = copies_spread n send 0 encoded.payload rs start in
     let base = λ (b : Bool) (conn : ℕ). map frame_item (frames_of old.peers links b conn) in
-    let going : IsSpreading size n old.peers base (routes log n) links start = record {
-      linked = sound.linked;
+    let said = λ (k : Key). said_of k (later_messages old) in
+    let ended = is_ended log n in
+    let going : IsSpreading size n ended old.peers said base (routes log n) links start = record {
+      turns = turns_first size old m sound w.is;
+      ends = s.ended;
       frames = λ b conn. sym (append-nil (base b conn));
       routes_are = s.routes_are;
     }
     in
-    let done : IsCopied size n old.peers base (routes log n) after_links (spread size (without x (live log)) n w.priority (routes log n) send 0 encoded.payload keys start) spread_now =
-    subst (λ (l : List (Routed Key)). IsCopied size n old.peers base (routes log n) after_links (spread size (without x (live log)) n w.priority (routes log n) send 0 encoded.payload keys start) (copies_spread n send 0 encoded.payload l start)) (sym copies_now)
-    (copied keys size n old.peers base (routes log n) links start w.priority send 0 encoded (without x (live log)) going
+    let done : IsCopied size n ended old.peers said base (routes log n) after_links (spread size (without x (live log)) n w.priority ended (routes log n) send 0 encoded.payload keys start) spread_now =
+    subst (λ (l : List (Routed Key)). IsCopied size n ended old.peers said base (routes log n) after_links (spread size (without x (live log)) n w.priority ended (routes log n) send 0 encoded.payload keys start) (copies_spread n send 0 encoded.payload l start)) (sym copies_now)
+    (copied keys size n ended old.peers said base (routes log n) links start w.priority send 0 encoded (without x (live log)) going
     (λ b conn. lane_long size old (live log) x f.rest b conn s.holds apart f.is))
     in
     let row_now : row ≡ with_spread (taken_row (name_of x)) spread_now = row_is (live log) x f.rest oldest in
@@ -284,10 +263,8 @@ routed_content configs log entry old desk actor names row encoded rs s answered 
           ∙ (ap (row_of_spread (name_of x)) (sym done.same) ∙ ap (λ i. route_row configs log n (name_of x) i (filter (stays (name_of x ∷ [])) (live log))) (sym it));
       takes = ap (λ (r : Row). r.takes) row_now;
       holds = record {
-        sound = sound_stepped size old desk actor names [] [] sound (bound_first old.messenger.binding m w.is) t known.1
-            (λ k. subst (λ c. c + told_times k (later_messages old) ≤ 1)
-            (sym (ap (λ (l : List (Key × Link)). counted (link_of key_cmp l k)) links_now ∙ counted_copies keys links k encoded w.priority)) (once_first size old m sound w.is k))
-            (λ k l at. done.going.linked k l (ap (λ ls. link_of key_cmp ls k) (sym links_now) ∙ at))
+        sound = sound_stepped size old desk actor names [] [] sound (bound_first old.messenger.binding m w.is) t proper.1
+            (λ k. subst (λ (ls : List (Key × Link)). IsInTurn size old.peers k (link_of key_cmp ls k) (said_of k (later_messages old))) (sym links_now) (done.going.turns k))
             (ap (λ l. l ++ (flat_map subscription_in (later_messages old) ++ old.messenger.waiting)) subs_now ∙ subscriptions_first size old m sound w.is);
         names = names_are (live log) x f.rest oldest;
         each = each_copied size old (live log) entry row desk actor names x f.rest send encoded.payload rs s.holds apart f.is f.later t.binding
@@ -297,5 +274,6 @@ routed_content configs log entry old desk actor names row encoded rs s answered 
       routes_now = ap routes_in links_now ∙ (done.going.routes_are ∙ ap (with_route (routes log n)) (sym it));
       told_now = ap (map (channel_of old.channels.items)) subs_now ∙ (s.told ∙ (sym (append-nil (subscribers log n)) ∙ ap (λ i. subscribers log n ++ subscriber_of i) (sym it)));
       binding = t.binding;
+      ended = subst (AreEnded ended old.peers) (sym links_now) done.going.ends;
       adds = λ q other. copied_adds n entry x f.rest (live log) spread_now row q other apart f.is row_now (copies_ends n send 0 encoded.payload rs start);
     }

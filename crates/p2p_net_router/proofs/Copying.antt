@@ -1,19 +1,20 @@
 -- The copies of a frame that enter relays are those that the log spreads.
 use Rattle.std.proofs.Common.{◌≡◌, ℕ, ◌+◌, Bool, true, false, cond, List, [], ◌∷◌, ◌++◌, length, refl, ap, sym, subst, ◌∙◌, arith, append_assoc, append-nil, length-append, Option, Some, None, if◌then◌else◌}
 use Rattle.std.specs.Prelude.{map, filter, count_by, nat_le, nat_lt, not, ◌==◌, ◌&&◌}
-use Rattle.std.specs.BTreeMap.{BTreeMap, get}
+use Rattle.std.specs.BTreeMap.{BTreeMap, get, is_at}
 use Rattle.std.specs.Ordering.{nat_cmp}
 use Rattle.std.proofs.lemmas.Bool.Decides.{nat_tests}
 use Rattle.std.proofs.lemmas.Bool.{false≢true}
 use Rattle.std.proofs.lemmas.List.{map-append, length-map}
 use Rattle.std.proofs.lemmas.List.Elements.{filter-append}
 use Rattle.std.proofs.lemmas.List.Sums.{length-filter}
+use Rattle.std.proofs.lemmas.Map.Steps.{set_value_same}
 use Rattle.p2p_base.specs.Queue.{Queue as Waiting, has_room, enqueued}
 use Rattle.p2p_base.specs.declared.policy.Keep.TheVariants.{Refuse}
 use Rattle.p2p_base.specs.declared.key.Key.{Key}
 use Rattle.p2p_base.specs.declared.outcome.Sent.TheVariants as sent
 use Rattle.p2p_wire.specs.declared.encoded.EncodedData.{EncodedData}
-use Rattle.p2p_flow.specs.Lanes.{Lanes, lane, with_lane, send_answer}
+use Rattle.p2p_flow.specs.Lanes.{Lanes, lane, with_lane, send_answer, sent_on}
 use Rattle.p2p_router.specs.declared.link.Link.{Link}
 use Rattle.p2p_router.specs.declared.stepped.Routed.TheVariants as routed
 use Rattle.p2p_router.specs.Routing.{link_of, with_link, routed_as, routed_over, put_over, copies, copies_put}
@@ -25,13 +26,15 @@ use Rattle.p2p_log.specs.declared.end.Cause.TheVariants as cause
 use Rattle.p2p_log.specs.QueueCode.{same_queue}
 use Rattle.p2p_log.specs.Lines.{stands_in}
 use Rattle.p2p_log_rules.specs.Facts.{route_to}
-use Rattle.p2p_log_rules.specs.Effect.{Spread, goes_to, relay_queue, spread_one, spread_to, spread}
+use Rattle.p2p_log_rules.specs.Effect.{Spread, dropped_copy, goes_to, relay_queue, spread_one, spread_to, spread}
 use Rattle.p2p_net_router.specs.Names.{bare}
 use Rattle.p2p_net_router.specs.Items.{key_cmp, link_with, link_to, frames_in, frame_item, frames_of}
-use Rattle.p2p_net_router.specs.Sound.{IsOpen, IsLinked}
+use Rattle.p2p_net_router.specs.Ends.{AreClosed, AreEnded}
+use Rattle.p2p_net_router.specs.Sound.{IsOpen, IsSpent, IsInTurn}
 use Rattle.p2p_net_router.specs.Holds.{routes_in}
 use Rattle.p2p_net_router.specs.Copies.{dropped, copy_spread, copies_spread}
 use Rattle.p2p_net_router.proofs.Linking.{link_of-with_link, routes_in-with_link, route_to-link, conn_in}
+use Rattle.p2p_net_router.proofs.Turns.{IsLinked, open_link, spent_link, linked_as}
 
 -- whether two messages go by the same lane
 abbrev pub same_lane : Bool → Bool → Bool
@@ -136,29 +139,49 @@ pub IsOpen-with : (size : ℕ) (l : Lanes EncodedData) (b : Bool) (q : Waiting E
 IsOpen-with size l true q h c o = record { high_size = c; low_size = h.low_size; high_open = o; low_open = h.low_open }
 IsOpen-with size l false q h c o = record { high_size = h.high_size; low_size = c; high_open = h.high_open; low_open = o }
 
--- all links are known, once one of them has another lane
-pub linked_set :
-    (size : ℕ) (peers : BTreeMap ℕ Key) (links : List (Key × Link)) (k : Key) (l : Link) (a : Bool) (q : Waiting EncodedData)
-    → link_of key_cmp links k ≡ Some l → ((j : Key) (m : Link) → link_of key_cmp links j ≡ Some m → IsLinked size peers j m)
+-- each key is in turn, once an open link has another lane
+pub turns_set :
+    (size : ℕ) (peers : BTreeMap ℕ Key) (said : Key → List (Option ℕ)) (links : List (Key × Link)) (k : Key) (l : Link) (a : Bool) (q : Waiting EncodedData)
+    → link_of key_cmp links k ≡ Some l → IsOpen size l.relay → get nat_cmp peers l.conn ≡ Some k → said k ≡ []
+    → ((j : Key) → IsInTurn size peers j (link_of key_cmp links j) (said j))
     → q.capacity ≡ size → q.closed ≡ false
-    → (j : Key) (m : Link) → link_of key_cmp (with_link key_cmp links k (relayed l a q)) j ≡ Some m → IsLinked size peers j m
-linked_set size peers links k l a q h all c o j m at =
+    → (j : Key) → IsInTurn size peers j (link_of key_cmp (with_link key_cmp links k (relayed l a q)) j) (said j)
+turns_set size peers said links k l a q h lanes known silent all c o j =
     let new = relayed l a q in
-    (elim (k.0 == j.0) as (λ t. (k.0 == j.0) ≡ t → cond t (Some new) (link_of key_cmp links j) ≡ Some m → IsLinked size peers j m) [
-      | true ↦ λ t e.
-          let it : new ≡ m = cc in
-          let old = all k l h in
-          subst (λ (x : Key). IsLinked size peers x m) (key_from k j t)
-          (subst (λ (x : Link). IsLinked size peers k x) it (record { known = old.known; lanes = IsOpen-with size l.relay a q old.lanes c o }))
-      | false ↦ λ t e. all j m e
-    ]) refl (sym (link_of-with_link links k j l new h) ∙ at)
+    subst (λ x. IsInTurn size peers j x (said j)) (sym (link_of-with_link links k j l new h))
+    ((elim (k.0 == j.0) as (λ t. (k.0 == j.0) ≡ t → IsInTurn size peers j (cond t (Some new) (link_of key_cmp links j)) (said j)) [
+      | true ↦ λ t.
+          subst (λ (x : Key). IsInTurn size peers x (Some new) (said x)) (key_from k j t)
+          (subst (IsInTurn size peers k (Some new)) (sym silent) (IsOpen-with size l.relay a q lanes c o, known))
+      | false ↦ λ t. all j
+    ]) refl)
+
+closed_with : (l : Lanes EncodedData) (a : Bool) (q : Waiting EncodedData) (b : Bool) → AreClosed l b → q.closed ≡ (lane l a).closed → AreClosed (with_lane l a q) b
+closed_with l true q b h same = record { high = same ∙ h.high; low = h.low }
+closed_with l false q b h same = record { high = h.high; low = same ∙ h.low }
+
+-- the relays are closed as before, once one has another lane
+pub ends_set :
+    (ended : ℕ → Bool) (peers : BTreeMap ℕ Key) (links : List (Key × Link)) (k : Key) (l : Link) (a : Bool) (q : Waiting EncodedData)
+    → link_of key_cmp links k ≡ Some l → q.closed ≡ (lane l.relay a).closed → AreEnded ended peers links → AreEnded ended peers (with_link key_cmp links k (relayed l a q))
+ends_set ended peers links k l a q h same all =
+    let new = relayed l a q in
+    record {
+      relays = λ j m at.
+          (elim (k.0 == j.0) as (λ t. (k.0 == j.0) ≡ t → cond t (Some new) (link_of key_cmp links j) ≡ Some m → AreClosed m.relay (ended m.conn)) [
+            | true ↦ λ t e. let it : new ≡ m = cc in subst (λ (x : Link). AreClosed x.relay (ended x.conn)) it (closed_with l.relay a q (ended l.conn) (all.relays k l h) same)
+            | false ↦ λ t e. all.relays j m e
+          ]) refl (sym (link_of-with_link links k j l new h) ∙ at);
+      known = all.known;
+    }
 
 abbrev pub item_put : Queue × Item → Item
 item_put x = bare x.1
 
 -- the router while it spreads: what stood in each lane, and then what was put there
-pub record IsSpreading (size n : ℕ) (peers : BTreeMap ℕ Key) (base : Bool → ℕ → List Item) (routes : List (ℕ × ℕ)) (links : List (Key × Link)) (s : Spread) : Type 0 where
-  pub linked : (k : Key) (l : Link) → link_of key_cmp links k ≡ Some l → IsLinked size peers k l
+pub record IsSpreading (size n : ℕ) (ended : ℕ → Bool) (peers : BTreeMap ℕ Key) (said : Key → List (Option ℕ)) (base : Bool → ℕ → List Item) (routes : List (ℕ × ℕ)) (links : List (Key × Link)) (s : Spread) : Type 0 where
+  pub turns : (k : Key) → IsInTurn size peers k (link_of key_cmp links k) (said k)
+  pub ends : AreEnded ended peers links
   pub frames : (b : Bool) (conn : ℕ) → map frame_item (frames_of peers links b conn) ≡ base b conn ++ map item_put (filter (goes_to (relay_queue b n conn)) s.puts)
   pub routes_are : routes_in links ≡ routes
 
@@ -214,25 +237,26 @@ spread_by room n conn priority send p frame s =
     cond room (record s { puts = s.puts ++ (relay_queue priority n conn, item.Frame (Some (send, p)) frame) ∷ [] }) (dropped send p cause.RelayFull s)
 
 IsSpreading-linked :
-    (size n : ℕ) (peers : BTreeMap ℕ Key) (base : Bool → ℕ → List Item) (routes : List (ℕ × ℕ)) (links : List (Key × Link)) (s : Spread)
+    (size n : ℕ) (ended : ℕ → Bool) (peers : BTreeMap ℕ Key) (said : Key → List (Option ℕ)) (base : Bool → ℕ → List Item) (routes : List (ℕ × ℕ)) (links : List (Key × Link)) (s : Spread)
     (k : Key) (l : Link) (priority room : Bool) (send p : ℕ) (e : EncodedData)
-    → IsSpreading size n peers base routes links s → link_of key_cmp links k ≡ Some l → has_room (lane l.relay priority) ≡ room
-    → IsSpreading size n peers base routes (with_link key_cmp links k (relayed l priority (enqueued Refuse (lane l.relay priority) e))) (spread_by room n l.conn priority send p e.payload s)
-IsSpreading-linked size n peers base routes links s k l priority room send p e h at is =
-    let it = h.linked k l at in
+    → IsSpreading size n ended peers said base routes links s → link_of key_cmp links k ≡ Some l → IsOpen size l.relay → get nat_cmp peers l.conn ≡ Some k → said k ≡ []
+    → has_room (lane l.relay priority) ≡ room
+    → IsSpreading size n ended peers said base routes (with_link key_cmp links k (relayed l priority (enqueued Refuse (lane l.relay priority) e))) (spread_by room n l.conn priority send p e.payload s)
+IsSpreading-linked size n ended peers said base routes links s k l priority room send p e h at lanes known silent is =
     let q = lane l.relay priority in
     let after = enqueued Refuse q e in
     record {
-      linked = linked_set size peers links k l priority after at h.linked (lane_size size l.relay priority it.lanes) (lane_open size l.relay priority it.lanes);
+      turns = turns_set size peers said links k l priority after at lanes known silent h.turns (lane_size size l.relay priority lanes) (lane_open size l.relay priority lanes);
+      ends = ends_set ended peers links k l priority after at refl h.ends;
       frames = λ b conn.
           let t = (l.conn == conn) && same_lane priority b in
           let more = map item_put (filter (goes_to (relay_queue b n conn)) s.puts) in
-          ap (map frame_item) (frames_set peers links k l priority b after conn at it.known)
+          ap (map frame_item) (frames_set peers links k l priority b after conn at known)
           ∙ (framed t room (frames_of peers links b conn) q.items after.items e (base b conn) more
           (λ own.
           let w = lane_conn l conn priority b own in
-          ap (λ c. frames_of peers links b c) (sym w.0) ∙ (ap (λ c. frames_of peers links c l.conn) (sym w.1) ∙ frames_own peers links k l priority at it.known))
-          (queue_after q e room (lane_open size l.relay priority it.lanes) is) (h.frames b conn)
+          ap (λ c. frames_of peers links b c) (sym w.0) ∙ (ap (λ c. frames_of peers links c l.conn) (sym w.1) ∙ frames_own peers links k l priority at known))
+          (queue_after q e room (lane_open size l.relay priority lanes) is) (h.frames b conn)
           ∙ ap (λ m. base b conn ++ m)
           (ap (λ m. more ++ m) (nest t room (frame_item e))
           ∙ (elim room as (λ c. more ++ cond c (cond t (frame_item e ∷ []) []) [] ≡ map item_put (filter (goes_to (relay_queue b n conn)) (spread_by c n l.conn priority send p e.payload s).puts)) [
@@ -249,25 +273,24 @@ room_or_full x size = grind (arith, nat_tests)
 
 -- there is room by the lane, or the queue is full by the log
 room_by :
-    (size n : ℕ) (peers : BTreeMap ℕ Key) (base : Bool → ℕ → List Item) (routes : List (ℕ × ℕ)) (links : List (Key × Link)) (s : Spread)
+    (size n : ℕ) (ended : ℕ → Bool) (peers : BTreeMap ℕ Key) (said : Key → List (Option ℕ)) (base : Bool → ℕ → List Item) (routes : List (ℕ × ℕ)) (links : List (Key × Link)) (s : Spread)
     (k : Key) (l : Link) (priority : Bool) (items : List Envelope)
-    → IsSpreading size n peers base routes links s → link_of key_cmp links k ≡ Some l
+    → IsSpreading size n ended peers said base routes links s → link_of key_cmp links k ≡ Some l → IsOpen size l.relay → get nat_cmp peers l.conn ≡ Some k
     → length (base priority l.conn) ≡ length (filter (stands_in (relay_queue priority n l.conn)) items)
     → has_room (lane l.relay priority)
     ≡ not (nat_le size (length (filter (stands_in (relay_queue priority n l.conn)) items) + count_by (goes_to (relay_queue priority n l.conn)) s.puts))
-room_by size n peers base routes links s k l priority items h at long =
-    let it = h.linked k l at in
+room_by size n ended peers said base routes links s k l priority items h at lanes known long =
     let q = relay_queue priority n l.conn in
     let frames = (lane l.relay priority).items in
     let count : length frames ≡ length (filter (stands_in q) items) + count_by (goes_to q) s.puts =
     sym (length-map frames frame_item)
-    ∙ (ap (λ l. length (map frame_item l)) (sym (frames_own peers links k l priority at it.known))
+    ∙ (ap (λ l. length (map frame_item l)) (sym (frames_own peers links k l priority at known))
     ∙ (ap length (h.frames priority l.conn)
     ∙ (length-append (base priority l.conn) (map item_put (filter (goes_to q) s.puts))
     ∙ (ap (λ x. x + length (map item_put (filter (goes_to q) s.puts))) long
     ∙ ap (λ x. length (filter (stands_in q) items) + x) (length-map (filter (goes_to q) s.puts) item_put ∙ length-filter (goes_to q) s.puts)))))
     in
-    ap (nat_lt (length frames)) (lane_size size l.relay priority it.lanes)
+    ap (nat_lt (length frames)) (lane_size size l.relay priority lanes)
     ∙ (ap (λ x. nat_lt x size) count ∙ room_or_full (length (filter (stands_in q) items) + count_by (goes_to q) s.puts) size)
 
 spread_one-by :
@@ -282,52 +305,122 @@ spread_one-by b size items n conn priority send p frame s h =
     ])
 
 -- what one copy comes to, by the log and by the router
-pub record IsCopied (size n : ℕ) (peers : BTreeMap ℕ Key) (base : Bool → ℕ → List Item) (routes : List (ℕ × ℕ)) (links : List (Key × Link)) (spread now : Spread) : Type 0 where
+pub record IsCopied (size n : ℕ) (ended : ℕ → Bool) (peers : BTreeMap ℕ Key) (said : Key → List (Option ℕ)) (base : Bool → ℕ → List Item) (routes : List (ℕ × ℕ)) (links : List (Key × Link)) (spread now : Spread) : Type 0 where
   pub same : spread ≡ now
-  pub going : IsSpreading size n peers base routes links now
+  pub going : IsSpreading size n ended peers said base routes links now
 
-copied_by :
-    (o : Option Link) (size n : ℕ) (peers : BTreeMap ℕ Key) (base : Bool → ℕ → List Item) (routes : List (ℕ × ℕ)) (links : List (Key × Link)) (s : Spread)
-    (k : Key) (priority : Bool) (send p : ℕ) (e : EncodedData) (items : List Envelope)
-    → link_of key_cmp links k ≡ o → IsSpreading size n peers base routes links s
+-- a copy to a link that is open
+copied_open :
+    (size n : ℕ) (ended : ℕ → Bool) (peers : BTreeMap ℕ Key) (said : Key → List (Option ℕ)) (base : Bool → ℕ → List Item) (routes : List (ℕ × ℕ)) (links : List (Key × Link)) (s : Spread)
+    (k : Key) (l : Link) (priority : Bool) (send p : ℕ) (e : EncodedData) (items : List Envelope)
+    → link_of key_cmp links k ≡ Some l → IsSpreading size n ended peers said base routes links s
     → ((b : Bool) (conn : ℕ) → length (base b conn) ≡ length (filter (stands_in (relay_queue b n conn)) items))
-    → IsCopied size n peers base routes (put_over key_cmp o links k e priority)
-    (spread_to size items n priority (conn_in o) send p e.payload s) (copy_spread n send p e.payload (routed_over o k e priority) s)
-copied_by None size n peers base routes links s k priority send p e items at h long = record {
-  same = refl;
-  going = record { linked = h.linked; frames = h.frames; routes_are = h.routes_are };
-}
-copied_by (Some l) size n peers base routes links s k priority send p e items at h long =
+    → IsOpen size l.relay → get nat_cmp peers l.conn ≡ Some k → said k ≡ []
+    → IsCopied size n ended peers said base routes (put_over key_cmp (Some l) links k e priority)
+    (spread_to size items n priority ended (Some l.conn) send p e.payload s) (copy_spread n send p e.payload (routed_over (Some l) k e priority) s)
+copied_open size n ended peers said base routes links s k l priority send p e items at h long lanes known silent =
     let q = relay_queue priority n l.conn in
     let full = nat_le size (length (filter (stands_in q) items) + count_by (goes_to q) s.puts) in
-    let room = room_by size n peers base routes links s k l priority items h at (long priority l.conn) in
+    let room = room_by size n ended peers said base routes links s k l priority items h at lanes known (long priority l.conn) in
     let answer : copy_spread n send p e.payload (routed_over (Some l) k e priority) s ≡ spread_by (not full) n l.conn priority send p e.payload s =
-    ap (λ r. copy_spread n send p e.payload r s) (answer_after l k priority e (not full) (lane_open size l.relay priority (h.linked k l at).lanes) room)
+    ap (λ r. copy_spread n send p e.payload r s) (answer_after l k priority e (not full) (lane_open size l.relay priority lanes) room)
     ∙ (elim (not full) as (λ b. copy_spread n send p e.payload (cond b (routed.Put k l.conn priority) (routed.RelayFull k l.conn)) s ≡ spread_by b n l.conn priority send p e.payload s) [ true ↦ refl | false ↦ refl ])
     in
+    let lives : ended l.conn ≡ false = sym (h.ends.relays k l at).high ∙ lanes.high_open in
     record {
-      same = spread_one-by full size items n l.conn priority send p e.payload s refl ∙ sym answer;
-      going = subst (λ (x : Spread). IsSpreading size n peers base routes (put_over key_cmp (Some l) links k e priority) x) (sym answer)
-          (IsSpreading-linked size n peers base routes links s k l priority (not full) send p e h at room);
+      same = ap (λ b. cond b (dropped_copy cause.ConnectionEnded send p s) (spread_one size items q send p e.payload s)) lives
+          ∙ (spread_one-by full size items n l.conn priority send p e.payload s refl ∙ sym answer);
+      going = subst (λ (x : Spread). IsSpreading size n ended peers said base routes (put_over key_cmp (Some l) links k e priority) x) (sym answer)
+          (IsSpreading-linked size n ended peers said base routes links s k l priority (not full) send p e h at lanes known silent room);
     }
+
+lane_closed : (l : Lanes EncodedData) (b : Bool) → IsSpent l → (lane l b).closed ≡ true
+lane_closed l true h = h.high_closed
+lane_closed l false h = h.low_closed
+
+closed_answer : (l : Link) (k : Key) (b : Bool) (e : EncodedData) → (lane l.relay b).closed ≡ true → routed_as (send_answer l.relay e b) k l.conn b ≡ routed.Closed k l.conn
+closed_answer l k b e closed = ap (λ c. routed_as (if c then sent.Closed e else (if has_room (lane l.relay b) then sent.Ok else sent.Rejected e)) k l.conn b) closed
+
+with_own : (l : Lanes EncodedData) (b : Bool) → with_lane l b (lane l b) ≡ l
+with_own l true = refl
+with_own l false = refl
+
+-- a closed relay stays as it is
+closed_sent : (l : Lanes EncodedData) (b : Bool) (e : EncodedData) → (lane l b).closed ≡ true → sent_on l e b ≡ l
+closed_sent l b e closed =
+    let q = lane l b in
+    ap (λ c. with_lane l b (record { items = if c then q.items else (if has_room q then q.items ++ e ∷ [] else q.items); capacity = q.capacity; closed = q.closed })) closed
+    ∙ with_own l b
+
+-- a copy to a link whose connection has ended
+copied_spent :
+    (size n : ℕ) (ended : ℕ → Bool) (peers : BTreeMap ℕ Key) (said : Key → List (Option ℕ)) (base : Bool → ℕ → List Item) (routes : List (ℕ × ℕ)) (links : List (Key × Link)) (s : Spread)
+    (k : Key) (l : Link) (priority : Bool) (send p : ℕ) (e : EncodedData) (items : List Envelope)
+    → link_of key_cmp links k ≡ Some l → IsSpreading size n ended peers said base routes links s → IsSpent l.relay
+    → IsCopied size n ended peers said base routes (put_over key_cmp (Some l) links k e priority)
+    (spread_to size items n priority ended (Some l.conn) send p e.payload s) (copy_spread n send p e.payload (routed_over (Some l) k e priority) s)
+copied_spent size n ended peers said base routes links s k l priority send p e items at h spent =
+    let closed = lane_closed l.relay priority spent in
+    let answer : copy_spread n send p e.payload (routed_over (Some l) k e priority) s ≡ dropped send p cause.ConnectionEnded s =
+    ap (λ r. copy_spread n send p e.payload r s) (closed_answer l k priority e closed)
+    in
+    let still : put_over key_cmp (Some l) links k e priority ≡ links =
+    ap (λ (x : Lanes EncodedData). with_link key_cmp links k (record { conn = l.conn; relay = x })) (closed_sent l.relay priority e closed)
+    ∙ set_value_same (is_at (key_cmp k)) links l at
+    in
+    let over : ended l.conn ≡ true = sym (h.ends.relays k l at).high ∙ spent.high_closed in
+    record {
+      same = ap (λ b. cond b (dropped_copy cause.ConnectionEnded send p s) (spread_one size items (relay_queue priority n l.conn) send p e.payload s)) over ∙ sym answer;
+      going = subst (λ (x : Spread). IsSpreading size n ended peers said base routes (put_over key_cmp (Some l) links k e priority) x) (sym answer)
+          (subst (λ (ls : List (Key × Link)). IsSpreading size n ended peers said base routes ls (dropped send p cause.ConnectionEnded s)) (sym still)
+          (record { turns = h.turns; ends = h.ends; frames = h.frames; routes_are = h.routes_are }));
+    }
+
+copied_link :
+    (size n : ℕ) (ended : ℕ → Bool) (peers : BTreeMap ℕ Key) (said : Key → List (Option ℕ)) (base : Bool → ℕ → List Item) (routes : List (ℕ × ℕ)) (links : List (Key × Link)) (s : Spread)
+    (k : Key) (l : Link) (priority : Bool) (send p : ℕ) (e : EncodedData) (items : List Envelope)
+    → link_of key_cmp links k ≡ Some l → IsSpreading size n ended peers said base routes links s
+    → ((b : Bool) (conn : ℕ) → length (base b conn) ≡ length (filter (stands_in (relay_queue b n conn)) items))
+    → IsLinked size peers k l (said k)
+    → IsCopied size n ended peers said base routes (put_over key_cmp (Some l) links k e priority)
+    (spread_to size items n priority ended (Some l.conn) send p e.payload s) (copy_spread n send p e.payload (routed_over (Some l) k e priority) s)
+copied_link size n ended peers said base routes links s k l priority send p e items at h long (open_link lanes known silent) =
+    copied_open size n ended peers said base routes links s k l priority send p e items at h long lanes known silent
+copied_link size n ended peers said base routes links s k l priority send p e items at h long (spent_link spent) =
+    copied_spent size n ended peers said base routes links s k l priority send p e items at h spent
+
+copied_by :
+    (o : Option Link) (size n : ℕ) (ended : ℕ → Bool) (peers : BTreeMap ℕ Key) (said : Key → List (Option ℕ)) (base : Bool → ℕ → List Item) (routes : List (ℕ × ℕ)) (links : List (Key × Link)) (s : Spread)
+    (k : Key) (priority : Bool) (send p : ℕ) (e : EncodedData) (items : List Envelope)
+    → link_of key_cmp links k ≡ o → IsSpreading size n ended peers said base routes links s
+    → ((b : Bool) (conn : ℕ) → length (base b conn) ≡ length (filter (stands_in (relay_queue b n conn)) items))
+    → IsCopied size n ended peers said base routes (put_over key_cmp o links k e priority)
+    (spread_to size items n priority ended (conn_in o) send p e.payload s) (copy_spread n send p e.payload (routed_over o k e priority) s)
+copied_by None size n ended peers said base routes links s k priority send p e items at h long = record {
+  same = refl;
+  going = record { turns = h.turns; ends = h.ends; frames = h.frames; routes_are = h.routes_are };
+}
+copied_by (Some l) size n ended peers said base routes links s k priority send p e items at h long =
+    copied_link size n ended peers said base routes links s k l priority send p e items at h long
+    (linked_as size peers k l (said k) (subst (λ o. IsInTurn size peers k o (said k)) at (h.turns k)))
 
 -- all copies
 pub copied :
-    (keys : List Key) (size n : ℕ) (peers : BTreeMap ℕ Key) (base : Bool → ℕ → List Item) (routes : List (ℕ × ℕ)) (links : List (Key × Link)) (s : Spread)
+    (keys : List Key) (size n : ℕ) (ended : ℕ → Bool) (peers : BTreeMap ℕ Key) (said : Key → List (Option ℕ)) (base : Bool → ℕ → List Item) (routes : List (ℕ × ℕ)) (links : List (Key × Link)) (s : Spread)
     (priority : Bool) (send p : ℕ) (e : EncodedData) (items : List Envelope)
-    → IsSpreading size n peers base routes links s
+    → IsSpreading size n ended peers said base routes links s
     → ((b : Bool) (conn : ℕ) → length (base b conn) ≡ length (filter (stands_in (relay_queue b n conn)) items))
-    → IsCopied size n peers base routes (copies_put key_cmp links e priority keys)
-    (spread size items n priority routes send p e.payload keys s) (copies_spread n send p e.payload (copies key_cmp links e priority keys) s)
+    → IsCopied size n ended peers said base routes (copies_put key_cmp links e priority keys)
+    (spread size items n priority ended routes send p e.payload keys s) (copies_spread n send p e.payload (copies key_cmp links e priority keys) s)
 unfolding copies copies_put
-copied [] size n peers base routes links s priority send p e items h long = record { same = refl; going = h }
-copied (k ∷ ks) size n peers base routes links s priority send p e items h long =
+copied [] size n ended peers said base routes links s priority send p e items h long = record { same = refl; going = h }
+copied (k ∷ ks) size n ended peers said base routes links s priority send p e items h long =
     let o = link_of key_cmp links k in
-    let one = copied_by o size n peers base routes links s k priority send p e items refl h long in
+    let one = copied_by o size n ended peers said base routes links s k priority send p e items refl h long in
     let way : route_to routes k ≡ conn_in o = ap (λ r. route_to r k) (sym h.routes_are) ∙ route_to-link links k in
     let now = copy_spread n send p e.payload (routed_over o k e priority) s in
-    let rest = copied ks size n peers base routes (put_over key_cmp o links k e priority) now priority send (p + 1) e items one.going long in
+    let rest = copied ks size n ended peers said base routes (put_over key_cmp o links k e priority) now priority send (p + 1) e items one.going long in
     record {
-      same = ap (λ (x : Spread). spread size items n priority routes send (p + 1) e.payload ks x) (ap (λ r. spread_to size items n priority r send p e.payload s) way ∙ one.same) ∙ rest.same;
+      same = ap (λ (x : Spread). spread size items n priority ended routes send (p + 1) e.payload ks x) (ap (λ r. spread_to size items n priority ended r send p e.payload s) way ∙ one.same) ∙ rest.same;
       going = rest.going;
     }

@@ -59,6 +59,10 @@ pub bare-ready : (conn : ℕ) (k : Key) (i : Item) → item.Ready conn k ≡ bar
 bare-ready conn k (item.Ready c j) h = sym h
 bare-ready conn k _ h = cc
 
+pub bare-release : (k : Key) (i : Item) → item.Release k ≡ bare i → i ≡ item.Release k
+bare-release k (item.Release j) h = sym h
+bare-release k _ h = cc
+
 pub bare-subscribe : (n : ℕ) (i : Item) → item.Subscribe n ≡ bare i → i ≡ item.Subscribe n
 bare-subscribe n (item.Subscribe c) h = sym h
 bare-subscribe n _ h = cc

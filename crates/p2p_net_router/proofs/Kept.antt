@@ -9,6 +9,7 @@ use Rattle.p2p_log.specs.declared.event.Event.{Event}
 use Rattle.p2p_log.specs.declared.event.Act.{Act}
 use Rattle.p2p_log_rules.specs.declared.row.Row.{Row}
 use Rattle.p2p_log.specs.Lines.{stays, placed, live}
+use Rattle.p2p_log_rules.specs.Connections.{steps_sender, steps_receiver}
 use Rattle.p2p_log_rules.specs.Facts.{events_of, starts, has_started, is_up, registers_at, registered, channels, taken, steps_router, routed_by, subscriber_of, subscribers, routes_after, routes, sum_capacities}
 use Rattle.p2p_log_rules.specs.Effect.{entry_of, mailbox_size_at, router_capacity}
 use Rattle.p2p_log_rules.proofs.Facts.{events_of-append, has_started-append, registered-append, subscribers-append, routes-append}
@@ -19,6 +20,7 @@ use Rattle.p2p_net_router.specs.Holds.{Holds, after}
 use Rattle.p2p_net_router.specs.Stands.{StandsFor, HasPlaces}
 use Rattle.p2p_net_router.specs.declared.router.Router.{Router}
 use Rattle.p2p_net_router.specs.declared.name.Name.{Name}
+use Rattle.p2p_net_router.proofs.Endings.{ends_none-act, ended_beside}
 
 -- the same channels, with another mailbox and other names
 abbrev pub rebound : Router → Desk Key → Board Name → Router
@@ -33,11 +35,12 @@ channels_same configs log e n none =
 pub stands_kept :
     (configs : List Config) (log : List Entry) (entry : ℕ) (event : Event) (a : Act) (r : Router) (desk : Desk Key) (names : Board Name) (row : Row)
     → StandsFor configs log r → length log ≡ entry → event.act ≡ a → steps_router r.number a ≡ false → registers_at configs r.number a ≡ []
+    → ((conn : ℕ) → (steps_sender r.number conn a || steps_receiver r.number conn a) ≡ false)
     → Holds (mailbox_size_at configs r.number) (rebound r desk names) (after entry row (live log))
     → is_bound desk.binding ≡ (is_up log r.number || starts r.number a)
     → HasPlaces (router_capacity configs log r.number) desk.binding
     → StandsFor configs (log ++ entry_of event row ∷ []) (rebound r desk names)
-stands_kept configs log entry event a r desk names row s at is other none h up places =
+stands_kept configs log entry event a r desk names row s at is other none no_half h up places =
     let n = r.number in
     let e = entry_of event row in
     let took : routed_by n log e ≡ [] = ap (λ x. cond (steps_router n x) (taken log e) []) is ∙ ap (λ b. cond b (taken log e) []) other in
@@ -52,4 +55,5 @@ stands_kept configs log entry event a r desk names row s at is other none h up p
           ∙ (ap (λ x. has_started (events_of log) n || starts n x) (sym is)
           ∙ (sym (has_started-append (events_of log) e.event n) ∙ ap (λ v. has_started v n) (sym (events_of-append log e))));
       places = subst (λ k. HasPlaces k desk.binding) (ap (λ l. mailbox_size_at configs n + sum_capacities l) (sym same)) places;
+      ended = ended_beside log e n r.peers r.actor.links (λ conn. ends_none-act e n conn a is (no_half conn)) s.ended;
     }

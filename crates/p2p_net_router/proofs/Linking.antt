@@ -5,7 +5,7 @@ use Rattle.std.specs.declared.cmp.Ordering.{Ordering}
 use Rattle.std.specs.declared.cmp.Ordering.TheVariants.{Less, Equal, Greater}
 use Rattle.std.specs.Ordering.{nat_cmp, is_eq, match_ordering}
 use Rattle.std.specs.BTreeMap.{insert_entry, is_at}
-use Rattle.std.specs.Map.{keys_of}
+use Rattle.std.specs.Map.{keys_of, remove_entry}
 use Rattle.std.proofs.lemmas.Bool.Decides.{nat_tests}
 use Rattle.p2p_base.specs.declared.key.Key.{Key}
 use Rattle.p2p_router.specs.declared.link.Link.{Link}
@@ -14,6 +14,7 @@ use Rattle.p2p_log_rules.specs.Facts.{route_to, keys_in}
 use Rattle.p2p_net_router.specs.Items.{key_cmp}
 use Rattle.p2p_net_router.specs.Holds.{routes_in}
 use Rattle.p2p_net_router.proofs.Rings.{two_choices}
+use Rattle.p2p_net_router.proofs.Rising.{IsRising, route_removed}
 
 is_key : (k e : Key) → is_at (key_cmp k) e ≡ (k.0 == e.0)
 is_key k e = grind (arith, nat_tests)
@@ -107,3 +108,34 @@ route_to-link (e ∷ es) k =
 pub keys_in-links : (links : List (Key × Link)) → keys_in (routes_in links) ≡ keys_of links
 keys_in-links [] = refl
 keys_in-links (e ∷ es) = ap (λ r. e.0 ∷ r) (keys_in-links es)
+
+-- ---- a link that is removed
+
+-- the link of another key
+pub link_of-other :
+    (links : List (Key × Link)) (k q : Key) → (k.0 == q.0) ≡ false → link_of key_cmp (remove_entry (is_at (key_cmp k)) links) q ≡ link_of key_cmp links q
+link_of-other [] k q other = refl
+link_of-other (e ∷ es) k q other =
+    (elim (is_at (key_cmp k) e.0) as (λ b. is_at (key_cmp k) e.0 ≡ b → link_of key_cmp (cond b es (e ∷ remove_entry (is_at (key_cmp k)) es)) q ≡ cond (is_at (key_cmp q) e.0) (Some e.1) (link_of key_cmp es q)) [
+      | true ↦ λ t. sym (ap (λ b. cond b (Some e.1) (link_of key_cmp es q)) (as_key k e.0 q t ∙ other))
+      | false ↦ λ t. ap (λ r. cond (is_at (key_cmp q) e.0) (Some e.1) r) (link_of-other es k q other)
+    ]) refl
+
+-- is a route that is removed
+pub routes_in-remove : (links : List (Key × Link)) (k : Key) → routes_in (remove_entry (is_at (key_cmp k)) links) ≡ remove_entry (is_at (nat_cmp k.0)) (routes_in links)
+routes_in-remove [] k = refl
+routes_in-remove (e ∷ es) k =
+    elim (is_at (key_cmp k) e.0) as (λ b. routes_in (cond b es (e ∷ remove_entry (is_at (key_cmp k)) es)) ≡ cond b (routes_in es) ((e.0.0, e.1.conn) ∷ remove_entry (is_at (nat_cmp k.0)) (routes_in es))) [
+      | true ↦ refl
+      | false ↦ ap (λ r. (e.0.0, e.1.conn) ∷ r) (routes_in-remove es k)
+    ]
+
+no_conn_in : (o : Option Link) → conn_in o ≡ None → o ≡ None
+no_conn_in None h = refl
+no_conn_in (Some l) h = cc
+
+-- and its key has none, where the keys rise
+pub link_of-removed : (links : List (Key × Link)) (k : Key) → IsRising (routes_in links) → link_of key_cmp (remove_entry (is_at (key_cmp k)) links) k ≡ None
+link_of-removed links k h =
+    no_conn_in (link_of key_cmp (remove_entry (is_at (key_cmp k)) links) k)
+    (sym (route_to-link (remove_entry (is_at (key_cmp k)) links) k) ∙ (ap (λ r. route_to r k) (routes_in-remove links k) ∙ route_removed k (routes_in links) h))

@@ -52,10 +52,9 @@ sound_listed size r s names h lt =
     let within : s < length lists = omega (arith, lt, same) in
     let long : length (popped lists s) ≡ length lists = length-set lists s (without_oldest l) in
     record {
-      known = h.known;
-      once = h.once;
-      apart = h.apart;
-      linked = h.linked;
+      proper = h.proper;
+      turns = h.turns;
+      single = h.single;
       early = h.early;
       subscriptions = h.subscriptions ∙ ap (numbers_from 0) (sym long);
       rings = AllByRecursion-set IsRing lists s (without_oldest l) h.rings (IsRing-popped l (AllByRecursion-at IsRing lists s (empty_queue 1) h.rings within));

@@ -23,6 +23,20 @@ use Rattle.p2p_net_router.proofs.Aside.{line_after}
 use Rattle.p2p_net_router.proofs.Beside.{holds_same, stands_moved}
 use Rattle.p2p_net_router.proofs.Kept.{rebound}
 
+-- the router has other items that are the same in its queues
+pub over_same :
+    (configs : List Config) (log : List Entry) (r : Router) (items more : List Envelope)
+    → StandsOver configs log r items → ((q : Queue) → is_routers r.number q ≡ true → filter (stands_in q) more ≡ filter (stands_in q) items) → StandsOver configs log r more
+over_same configs log r items more s lines = record {
+  holds = holds_same (mailbox_size_at configs r.number) r items more s.holds lines;
+  routes_are = s.routes_are;
+  told = s.told;
+  registered = s.registered;
+  bound = s.bound;
+  places = s.places;
+  ended = s.ended;
+}
+
 -- the router stands for the log with an entry that leaves these items in its queues
 pub over_beside :
     (configs : List Config) (log : List Entry) (e : Entry) (r : Router) (items : List Envelope)
@@ -30,7 +44,7 @@ pub over_beside :
     → ((q : Queue) → is_routers r.number q ≡ true → filter (stands_in q) (live (log ++ e ∷ [])) ≡ filter (stands_in q) items)
     → StandsFor configs (log ++ e ∷ []) r
 over_beside configs log e r items s b lines =
-    stands_moved configs log e r r.messenger r.actor r.peers r.names items s b refl refl refl (λ k h. h)
+    stands_moved configs log e r r.messenger r.actor r.peers r.names items s b refl refl refl (λ k h. h) s.ended
     (holds_same (mailbox_size_at configs r.number) r items (live (log ++ e ∷ [])) s.holds lines)
 
 -- where these go by the entry, which puts nothing
@@ -76,4 +90,5 @@ over_rebound configs log r desk names items more s bound places h = record {
   registered = s.registered;
   bound = bound ∙ s.bound;
   places = places _ s.places;
+  ended = s.ended;
 }

@@ -1,5 +1,5 @@
 -- The router after a step that took a message stands for the log with one more entry.
-use Rattle.std.proofs.Common.{◌≡◌, ℕ, ◌+◌, ◌≤◌, Bool, true, false, cond, List, [], ◌∷◌, ◌++◌, length, refl, ap, sym, subst, ◌∙◌, arith, append-nil, Some}
+use Rattle.std.proofs.Common.{◌≡◌, ℕ, ◌+◌, Bool, true, false, cond, List, [], ◌∷◌, ◌++◌, length, refl, ap, sym, subst, ◌∙◌, arith, append-nil}
 use Rattle.std.specs.Prelude.{filter, flat_map, map, ◌==◌, ◌||◌}
 use Rattle.std.specs.List.{AllByRecursion}
 use Rattle.std.proofs.lemmas.Bool.Decides.{nat_tests}
@@ -9,7 +9,6 @@ use Rattle.p2p_base.specs.Queue.{without_oldest}
 use Rattle.p2p_router.specs.Routes.{Routes}
 use Rattle.p2p_router.specs.Routing.{link_of}
 use Rattle.p2p_router.specs.Messenger.{Desk, message_taken, in_mailbox, is_bound}
-use Rattle.p2p_router.specs.declared.link.Link.{Link}
 use Rattle.p2p_router.specs.declared.messenger.Binding.{Binding}
 use Rattle.p2p_router.specs.declared.messenger.Binding.TheVariants.{Unbound, Bound, Closed}
 use Rattle.p2p_log.specs.declared.config.Config.{Config}
@@ -23,6 +22,7 @@ use Rattle.p2p_log.specs.declared.event.Event.{Event}
 use Rattle.p2p_log.specs.declared.event.Act.TheVariants as act
 use Rattle.p2p_log_rules.specs.declared.row.Row.{Row}
 use Rattle.p2p_log.specs.Lines.{name_of, stays, placed, live, line, stands_in}
+use Rattle.p2p_log_rules.specs.Connections.{is_ended}
 use Rattle.p2p_log_rules.specs.Facts.{events_of, starts, has_started, registers_at, registered, channels, item_named, taken, steps_router, routed_by, subscriber_of, subscribers, with_route, routes_after, routes, sum_capacities}
 use Rattle.p2p_log_rules.specs.Effect.{only, entry_of, mailbox_size_at, router_capacity, route_row, route_oldest}
 use Rattle.p2p_log_rules.proofs.Facts.{events_of-append, has_started-append, registered-append, subscribers-append, routes-append}
@@ -32,11 +32,13 @@ use Rattle.p2p_net_queues.specs.declared.board.Board.{Board}
 use Rattle.p2p_net_queues.specs.Rows.{row_goes}
 use Rattle.p2p_net_router.specs.Names.{is_routers}
 use Rattle.p2p_net_router.specs.Items.{key_cmp, messages_in}
-use Rattle.p2p_net_router.specs.Sound.{IsSound, IsKnown, IsLinked, counted, told_times, subscription_in, numbers_from}
+use Rattle.p2p_net_router.specs.Sound.{IsSound, IsProper, IsInTurn, said_of, subscription_in, numbers_from}
+use Rattle.p2p_net_router.specs.Ends.{AreEnded}
 use Rattle.p2p_net_router.specs.Holds.{Holds, after, routes_in, channels_told, Adds}
 use Rattle.p2p_net_router.specs.Stands.{StandsFor, HasPlaces}
 use Rattle.p2p_net_router.specs.declared.router.Router.{Router}
 use Rattle.p2p_net_router.specs.declared.name.Name.{Name}
+use Rattle.p2p_net_router.proofs.Endings.{ends_none-act, ended_beside}
 use Rattle.p2p_net_router.proofs.Rings.{IsTold}
 use Rattle.p2p_net_router.proofs.Told.{stepped_to}
 
@@ -50,16 +52,14 @@ bound_taken Closed = refl
 pub sound_stepped :
     (size : ℕ) (old : Router) (desk : Desk Key) (actor : Routes Key) (names : Board Name) (keys : List Key) (ss : List ℕ)
     → IsSound size old → is_bound old.messenger.binding ≡ true → IsTold old.channels.items (message_taken old.messenger) desk keys ss
-    → AllByRecursion (IsKnown size old.peers) (messages_in (in_mailbox without_oldest old.messenger.binding))
-    → ((k : Key) → counted (link_of key_cmp actor.links k) + told_times k (messages_in (in_mailbox without_oldest old.messenger.binding)) ≤ 1)
-    → ((k : Key) (l : Link) → link_of key_cmp actor.links k ≡ Some l → IsLinked size old.peers k l)
+    → AllByRecursion (IsProper size) (messages_in (in_mailbox without_oldest old.messenger.binding))
+    → ((k : Key) → IsInTurn size old.peers k (link_of key_cmp actor.links k) (said_of k (messages_in (in_mailbox without_oldest old.messenger.binding))))
     → actor.subscriptions ++ (flat_map subscription_in (messages_in (in_mailbox without_oldest old.messenger.binding)) ++ old.messenger.waiting) ≡ numbers_from 0 (length old.messenger.lists)
     → IsSound size (stepped_to old desk actor names)
-sound_stepped size old desk actor names keys ss s bound t known once linked subscriptions = record {
-  known = subst (λ b. AllByRecursion (IsKnown size old.peers) (messages_in b)) (sym t.binding) known;
-  once = λ k. subst (λ b. counted (link_of key_cmp actor.links k) + told_times k (messages_in b) ≤ 1) (sym t.binding) (once k);
-  apart = s.apart;
-  linked = linked;
+sound_stepped size old desk actor names keys ss s bound t proper turns subscriptions = record {
+  proper = subst (λ b. AllByRecursion (IsProper size) (messages_in b)) (sym t.binding) proper;
+  turns = λ k. subst (λ b. IsInTurn size old.peers k (link_of key_cmp actor.links k) (said_of k (messages_in b))) (sym t.binding) (turns k);
+  single = s.single;
   early = λ e. absurd (false≢true (sym e ∙ (ap is_bound t.binding ∙ (bound_taken old.messenger.binding ∙ bound))));
   subscriptions = ap (λ b. actor.subscriptions ++ (flat_map subscription_in (messages_in b) ++ desk.waiting)) t.binding
       ∙ (ap (λ w. actor.subscriptions ++ (flat_map subscription_in (messages_in (in_mailbox without_oldest old.messenger.binding)) ++ w)) t.waiting
@@ -124,6 +124,7 @@ pub record IsRouted (configs : List Config) (log : List Entry) (entry : ℕ) (ol
   pub routes_now : routes_in actor.links ≡ with_route (routes log old.number) x.item
   pub told_now : channels_told (stepped_to old desk actor names) ≡ subscribers log old.number ++ subscriber_of x.item
   pub binding : desk.binding ≡ in_mailbox without_oldest old.messenger.binding
+  pub ended : AreEnded (is_ended log old.number) old.peers actor.links
   pub adds : (q : Queue) → is_routers old.number q ≡ false → Adds entry row (live log) q
 
 pub routed_row :
@@ -154,6 +155,7 @@ routed_stands configs log entry event old desk actor names row s at is h =
       places = subst (λ b. HasPlaces (router_capacity configs (log ++ e ∷ []) n) b) (sym h.binding)
           (places_taken (router_capacity configs (log ++ e ∷ []) n) old.messenger.binding
           (subst (λ k. HasPlaces k old.messenger.binding) (ap (λ l. mailbox_size_at configs n + sum_capacities l) (sym same)) s.places));
+      ended = ended_beside log e n old.peers actor.links (λ conn. ends_none-act e n conn (act.Router n) is refl) h.ended;
     }
 
 -- ---- a step that took nothing
@@ -178,4 +180,5 @@ idle_stands configs log entry event r row s is idle =
       registered = s.registered ∙ ap (map (λ (c : ℕ × ℕ). c.0)) (sym same);
       bound = s.bound ∙ sym (up_kept log e n is);
       places = subst (λ k. HasPlaces k r.messenger.binding) (ap (λ l. mailbox_size_at configs n + sum_capacities l) (sym same)) s.places;
+      ended = ended_beside log e n r.peers r.actor.links (λ conn. ends_none-act e n conn (act.Router n) is refl) s.ended;
     }

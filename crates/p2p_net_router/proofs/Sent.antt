@@ -1,5 +1,5 @@
 -- A router that was handed content.
-use Rattle.std.proofs.Common.{◌≡◌, ℕ, ◌+◌, ◌≤◌, Bool, true, false, List, [], ◌∷◌, ◌++◌, length, refl, ap, sym, subst, ◌∙◌, arith, append-nil, if◌then◌else◌, Some, None}
+use Rattle.std.proofs.Common.{◌≡◌, ℕ, Bool, true, false, List, [], ◌∷◌, ◌++◌, length, refl, ap, sym, subst, ◌∙◌, arith, append-nil, if◌then◌else◌, Some, None}
 use Rattle.std.specs.Prelude.{filter, flat_map, map, nat_le, nat_lt, not}
 use Rattle.std.proofs.lemmas.Bool.Decides.{nat_tests}
 use Rattle.std.proofs.lemmas.Bool.{false≢true}
@@ -41,7 +41,7 @@ use Rattle.p2p_net_router.specs.Names.{Agrees, label, bare_item}
 use Rattle.p2p_net_router.specs.Building.{NamesBuild}
 use Rattle.p2p_net_router.specs.Frames.{refuses, frame_taken_in}
 use Rattle.p2p_net_router.specs.Items.{key_cmp, message_item}
-use Rattle.p2p_net_router.specs.Sound.{IsSound, counted, told_times}
+use Rattle.p2p_net_router.specs.Sound.{IsInTurn, said_of}
 use Rattle.p2p_net_router.specs.Holds.{Holds, after}
 use Rattle.p2p_net_router.specs.Stands.{StandsOver, HasPlaces}
 use Rattle.p2p_net_router.specs.declared.router.Router.{Router}
@@ -204,15 +204,6 @@ refused_stands configs log entry r items desk refused row bytes channel priority
     (desk_same r.messenger desk to channel bytes priority told (kept_refused r.messenger.binding _ (full_mailbox r.messenger.binding up off)))
     (ap (λ (x : Row). x.takes) e) (ap (λ (x : Row). x.puts) e) (ap (λ (x : Row). flat_map ended_item x.ends) e)
 
-once_kept :
-    (size : ℕ) (r : Router) (q : Waiting (Message Key)) (k : Key) → IsSound size r → r.messenger.binding ≡ Bound q
-    → (counted (link_of key_cmp r.actor.links k) + told_times k q.items) + 0 ≤ 1
-once_kept size r q k s bound =
-    let h : counted (link_of key_cmp r.actor.links k) + told_times k q.items ≤ 1 =
-    subst (λ l. counted (link_of key_cmp r.actor.links k) + told_times k l ≤ 1) (bound_items r.messenger.binding q bound) (s.once k)
-    in
-    omega (arith, h)
-
 pub accepted_stands :
     (configs : List Config) (log : List Entry) (entry : ℕ) (r : Router) (items : List Envelope) (desk : Desk Key) (names : Board Name) (accepted : Reply) (row : Row) (bytes : List ℕ) (channel : ℕ) (priority : Bool) (keys : List Key)
     → StandsOver configs log r items
@@ -238,16 +229,17 @@ accepted_stands configs log entry r items desk names accepted row bytes channel 
     (named n items (NamesBuild-start n r.names items entry (only accepted) refl s.holds.names))
     in
     let holds : Holds size (rebound r bound_desk names) (items ++ x ∷ []) =
-    Holds-asked size r h.q m r.peers names x items s.holds
+    Holds-asked size r h.q m r.actor.links r.peers names x items s.holds
     (record {
       bound = h.is;
       there = refl;
       is = refl;
-      known = tt;
+      proper = tt;
       no_list = refl;
-      up = λ c k g. g;
-      apart = s.holds.sound.apart;
-      once = λ k. once_kept size r h.q k s.holds.sound h.is;
+      single = s.holds.sound.single;
+      turns = λ k.
+          subst (IsInTurn size r.peers k (link_of key_cmp r.actor.links k)) (ap (said_of k) (bound_items r.messenger.binding h.q h.is) ∙ sym (append-nil (said_of k h.q.items)))
+          (s.holds.sound.turns k);
       frames = λ b c. refl;
     }) agree
     in

@@ -2,13 +2,13 @@
 use Rattle.std.proofs.Common.{◌≡◌, ℕ, Bool, true, false, cond, List, [], ◌∷◌, ◌++◌, length, refl, ap, sym, subst, ◌∙◌, arith, append-nil}
 use Rattle.std.specs.Prelude.{filter, flat_map, map, ◌==◌, ◌||◌}
 use Rattle.std.specs.List.{AllByRecursion}
-use Rattle.std.specs.BTreeMap.{BTreeMap}
 use Rattle.std.proofs.lemmas.Bool.Decides.{nat_tests}
 use Rattle.std.proofs.lemmas.Bool.{false≢true}
 use Rattle.std.proofs.lemmas.List.{map-append}
 use Rattle.std.proofs.lemmas.List.Elements.{filter-append}
 use Rattle.p2p_base.specs.declared.key.Key.{Key}
 use Rattle.p2p_base.specs.Queue.{empty_queue}
+use Rattle.p2p_router.specs.Routing.{link_of}
 use Rattle.p2p_router.specs.Messenger.{Desk, bound_to, is_unbound, is_bound}
 use Rattle.p2p_router.specs.declared.message.Message.TheVariants as message
 use Rattle.p2p_router.specs.declared.messenger.Binding.{Binding}
@@ -32,8 +32,8 @@ use Rattle.p2p_log.proofs.Lines.{filter_stays-nil}
 use Rattle.p2p_net_queues.specs.declared.board.Board.{Board}
 use Rattle.p2p_net_router.specs.Names.{Agrees, bare_item}
 use Rattle.p2p_net_router.specs.Building.{NamesBuild, subscription}
-use Rattle.p2p_net_router.specs.Items.{channel_of, message_item, messages_in, items_of}
-use Rattle.p2p_net_router.specs.Sound.{IsSound, IsKnown, told_times, subscription_in, numbers_from}
+use Rattle.p2p_net_router.specs.Items.{key_cmp, channel_of, message_item, messages_in, items_of}
+use Rattle.p2p_net_router.specs.Sound.{IsSound, IsProper, IsInTurn, said_of, subscription_in, numbers_from}
 use Rattle.p2p_net_router.specs.Holds.{Holds, after}
 use Rattle.p2p_net_router.specs.Stands.{StandsFor}
 use Rattle.p2p_net_router.specs.declared.router.Router.{Router}
@@ -61,13 +61,13 @@ started_row configs log r cs before row s e f g =
 
 -- ---- the mailbox
 
-known_waiting : (size : ℕ) (peers : BTreeMap ℕ Key) (ns : List ℕ) → AllByRecursion (IsKnown size peers) (map message.SubscribePeers ns)
-known_waiting size peers [] = tt
-known_waiting size peers (n ∷ ns) = (tt, known_waiting size peers ns)
+proper_waiting : (size : ℕ) (ns : List ℕ) → AllByRecursion (IsProper size) (map message.SubscribePeers ns)
+proper_waiting size [] = tt
+proper_waiting size (n ∷ ns) = (tt, proper_waiting size ns)
 
-none_ready : (k : Key) (ns : List ℕ) → told_times k (map message.SubscribePeers ns) ≡ 0
-none_ready k [] = refl
-none_ready k (n ∷ ns) = none_ready k ns
+nothing_said : (k : Key) (ns : List ℕ) → said_of k (map message.SubscribePeers ns) ≡ []
+nothing_said k [] = refl
+nothing_said k (n ∷ ns) = nothing_said k ns
 
 waiting_lists : (ns : List ℕ) → flat_map subscription_in (map message.SubscribePeers ns) ≡ ns
 waiting_lists [] = refl
@@ -80,14 +80,11 @@ waiting_items channels (n ∷ ns) = ap (λ l. item.Subscribe (channel_of channel
 sound_started :
     (size places : ℕ) (r : Router) (names : Board Name) → IsSound size r → r.messenger.binding ≡ Unbound → IsSound size (rebound r (bound_to r.messenger (empty_queue places)) names)
 sound_started size places r names s none = record {
-  known = known_waiting size r.peers r.messenger.waiting;
-  once = λ k.
-      let e = none_ready k r.messenger.waiting in
-      let h = s.once k in
-      let z : told_times k (messages_in r.messenger.binding) ≡ 0 = ap (λ b. told_times k (messages_in b)) none in
-      omega (arith, e, h, z);
-  apart = s.apart;
-  linked = s.linked;
+  proper = proper_waiting size r.messenger.waiting;
+  turns = λ k.
+      subst (IsInTurn size r.peers k (link_of key_cmp r.actor.links k)) (ap (λ b. said_of k (messages_in b)) none ∙ sym (nothing_said k r.messenger.waiting))
+      (s.turns k);
+  single = s.single;
   early = λ e. absurd (false≢true (sym e));
   subscriptions = ap (λ l. r.actor.subscriptions ++ l) (append-nil (flat_map subscription_in (map message.SubscribePeers r.messenger.waiting)) ∙ waiting_lists r.messenger.waiting)
       ∙ (ap (λ b. r.actor.subscriptions ++ (flat_map subscription_in (messages_in b) ++ r.messenger.waiting)) (sym none) ∙ s.subscriptions);
@@ -191,6 +188,6 @@ started_stands configs log entry places event r desk names cs before row s at is
     }
     in
     subst (λ (d : Desk Key). StandsFor configs (log ++ entry_of event row ∷ []) (rebound r d names)) (sym bound)
-    (stands_kept configs log entry event (act.Start n) r (bound_to r.messenger (empty_queue places)) names row s at is refl refl
+    (stands_kept configs log entry event (act.Start n) r (bound_to r.messenger (empty_queue places)) names row s at is refl refl (λ conn. refl)
     (subst (Holds size (rebound r (bound_to r.messenger (empty_queue places)) names)) (sym whole) holds)
     (or-here (is_up log n) ∙ ap (λ b. is_up log n || b) (sym (same_node n))) room)

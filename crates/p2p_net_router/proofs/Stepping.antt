@@ -31,7 +31,8 @@ use Rattle.p2p_net_router.proofs.Answered.{was_idle}
 use Rattle.p2p_net_router.proofs.Contents.{routed_content}
 use Rattle.p2p_net_router.proofs.Others.{idle_adds}
 use Rattle.p2p_net_router.proofs.Routed.{IsRouted, routed_row, routed_stands}
-use Rattle.p2p_net_router.proofs.Steps.{routed_ready, routed_subscription, idle_row, idle_stepped, not_released}
+use Rattle.p2p_net_router.proofs.Released.{routed_release}
+use Rattle.p2p_net_router.proofs.Steps.{routed_ready, routed_subscription, idle_row, idle_stepped}
 use Rattle.p2p_net_router.proofs.Told.{stepped_to}
 
 -- what a step comes to, whatever it took
@@ -70,7 +71,7 @@ of_known configs log entry old desk actor names row stepped.Idle stands answered
 of_known configs log entry old desk actor names row (stepped.Ready peer conn replaced told) stands answered actor_is desk_is idle row_is names_are =
     by_route configs log entry old desk actor names row stands (routed_ready configs log entry old desk actor names row peer conn replaced told stands answered actor_is desk_is row_is names_are)
 of_known configs log entry old desk actor names row (stepped.Release peer told) stands answered actor_is desk_is idle row_is names_are =
-    absurd (not_released configs log old peer told stands answered)
+    by_route configs log entry old desk actor names row stands (routed_release configs log entry old desk actor names row peer told stands answered actor_is desk_is row_is names_are)
 of_known configs log entry old desk actor names row (stepped.Content encoded rs) stands answered actor_is desk_is idle row_is names_are =
     by_route configs log entry old desk actor names row stands (routed_content configs log entry old desk actor names row encoded rs stands answered actor_is desk_is row_is names_are)
 of_known configs log entry old desk actor names row (stepped.SubscribePeers number told) stands answered actor_is desk_is idle row_is names_are =

@@ -1,5 +1,5 @@
 -- Each kind of step, as the log has it.
-use Rattle.std.proofs.Common.{◌≡◌, ℕ, ◌+◌, ◌<◌, ◌≤◌, List, [], ◌∷◌, ◌++◌, length, refl, ap, sym, subst, ◌∙◌, append_assoc, append-nil, Option, Some, None}
+use Rattle.std.proofs.Common.{◌≡◌, ℕ, ◌<◌, List, [], ◌∷◌, ◌++◌, length, refl, ap, sym, subst, ◌∙◌, append_assoc, append-nil, Option, Some, None}
 use Rattle.std.specs.Prelude.{filter, flat_map, map}
 use Rattle.std.specs.List.{AllByRecursion}
 use Rattle.std.specs.BTreeMap.{insert_entry}
@@ -29,6 +29,7 @@ use Rattle.p2p_log_rules.specs.declared.row.Row.{Row}
 use Rattle.p2p_log.specs.declared.event.Event.{Event}
 use Rattle.p2p_log.specs.declared.event.Act.TheVariants as act
 use Rattle.p2p_log.specs.Lines.{name_of, stays, live, line, stands_in}
+use Rattle.p2p_log_rules.specs.Connections.{is_ended}
 use Rattle.p2p_log_rules.specs.Facts.{subscriber_of, subscribers, with_route, routes, keys_in}
 use Rattle.p2p_log_rules.specs.Effect.{only, entry_of, mailbox_size_at, route_row}
 use Rattle.p2p_log.proofs.Names.{AreApart-live_from}
@@ -36,18 +37,19 @@ use Rattle.p2p_net_queues.specs.declared.board.Board.{Board}
 use Rattle.p2p_net_queues.specs.Board.{held}
 use Rattle.p2p_net_router.specs.Names.{Agrees, label, bare_item}
 use Rattle.p2p_net_router.specs.Items.{key_cmp, channel_of, message_item, messages_in, frames_of}
-use Rattle.p2p_net_router.specs.Sound.{IsSound, IsKnown, counted, told_times, subscription_in, numbers_from}
+use Rattle.p2p_net_router.specs.Sound.{IsSound, IsProper, IsInTurn, says, said_of, subscription_in, numbers_from}
+use Rattle.p2p_net_router.specs.Ends.{AreEnded}
 use Rattle.p2p_net_router.specs.Holds.{after, routes_in}
 use Rattle.p2p_net_router.specs.Oldest.{IsOldest, told_row}
 use Rattle.p2p_net_router.specs.Stands.{StandsFor}
 use Rattle.p2p_net_router.specs.declared.router.Router.{Router}
 use Rattle.p2p_net_router.specs.declared.name.Name.{Name}
 use Rattle.p2p_net_router.proofs.First.{IsFirst, first_same, none_same, messages_first, messages_none, bound_first, bare-ready, bare-subscribe}
-use Rattle.p2p_net_router.proofs.Answered.{was_ready, was_subscription, was_release, was_idle}
+use Rattle.p2p_net_router.proofs.Answered.{was_ready, was_subscription, was_idle}
 use Rattle.p2p_net_router.proofs.Linking.{routes_in-insert, keys_in-links}
 use Rattle.p2p_net_router.proofs.Others.{told_adds}
 use Rattle.p2p_net_router.proofs.Numbers.{numbers_within, all_left, all_right, distinct_told}
-use Rattle.p2p_net_router.proofs.Readying.{not_linked, once_insert, linked_insert, frames_insert}
+use Rattle.p2p_net_router.proofs.Readying.{own_turn, turns_insert, ends_insert, frames_insert}
 use Rattle.p2p_net_router.proofs.Rings.{IsTold, told_all-told, heard_all}
 use Rattle.p2p_net_router.proofs.Routed.{IsRouted, sound_stepped, line_is, idle_stands}
 use Rattle.p2p_net_router.proofs.Standing.{answer, nothing}
@@ -71,12 +73,15 @@ pub is_oldest :
     → IsOldest r.number r.names (live log) f.one f.rest
 is_oldest configs log r m s f = record { apart = AreApart-live_from 0 log; first = f.is; agree = s.holds.names }
 
--- what is known of the messages, with the oldest one first
-pub known_first : (size : ℕ) (r : Router) (m : Message Key) → IsSound size r → message_waiting r.messenger ≡ Some m → AllByRecursion (IsKnown size r.peers) (m ∷ later_messages r)
-known_first size r m s h = subst (λ ms. AllByRecursion (IsKnown size r.peers) ms) (messages_first r.messenger.binding m h) s.known
+-- what may come, with the oldest message first
+pub proper_first : (size : ℕ) (r : Router) (m : Message Key) → IsSound size r → message_waiting r.messenger ≡ Some m → AllByRecursion (IsProper size) (m ∷ later_messages r)
+proper_first size r m s h = subst (AllByRecursion (IsProper size)) (messages_first r.messenger.binding m h) s.proper
 
-pub once_first : (size : ℕ) (r : Router) (m : Message Key) → IsSound size r → message_waiting r.messenger ≡ Some m → (k : Key) → counted (link_of key_cmp r.actor.links k) + told_times k (m ∷ later_messages r) ≤ 1
-once_first size r m s h k = subst (λ ms. counted (link_of key_cmp r.actor.links k) + told_times k ms ≤ 1) (messages_first r.messenger.binding m h) (s.once k)
+-- and what is said of a key
+pub turns_first :
+    (size : ℕ) (r : Router) (m : Message Key) → IsSound size r → message_waiting r.messenger ≡ Some m
+    → (k : Key) → IsInTurn size r.peers k (link_of key_cmp r.actor.links k) (says k m ++ said_of k (later_messages r))
+turns_first size r m s h k = subst (λ ms. IsInTurn size r.peers k (link_of key_cmp r.actor.links k) (said_of k ms)) (messages_first r.messenger.binding m h) (s.turns k)
 
 pub subscriptions_first :
     (size : ℕ) (r : Router) (m : Message Key) → IsSound size r → message_waiting r.messenger ≡ Some m
@@ -85,7 +90,7 @@ subscriptions_first size r m s h =
     ap (λ ms. r.actor.subscriptions ++ (flat_map subscription_in ms ++ r.messenger.waiting)) (sym (messages_first r.messenger.binding m h)) ∙ s.subscriptions
 
 -- those that are told are there
-told_within : (size : ℕ) (r : Router) → IsSound size r → AllByRecursion (λ s. s < length r.messenger.lists) r.actor.subscriptions
+pub told_within : (size : ℕ) (r : Router) → IsSound size r → AllByRecursion (λ s. s < length r.messenger.lists) r.actor.subscriptions
 told_within size r s =
     all_left (λ n. n < length r.messenger.lists) r.actor.subscriptions (flat_map subscription_in (messages_in r.messenger.binding) ++ r.messenger.waiting)
     (subst (AllByRecursion (λ n. n < length r.messenger.lists)) (sym s.subscriptions) (numbers_within (length r.messenger.lists)))
@@ -113,7 +118,8 @@ routed_ready configs log entry old desk actor names row peer conn replaced told 
     let x = f.one in
     let it : x.item ≡ item.Ready conn peer = bare-ready conn peer x.item f.same in
     let oldest = is_oldest configs log old m s f in
-    let known = known_first size old m sound w.is in
+    let proper = proper_first size old m sound w.is in
+    let own = own_turn size old.peers old.actor.links peer conn (said_of peer (later_messages old)) (turns_first size old m sound w.is peer) in
     let subs = old.actor.subscriptions in
     let taken = message_taken old.messenger in
     let within = told_within size old sound in
@@ -124,7 +130,7 @@ routed_ready configs log entry old desk actor names row peer conn replaced told 
     let actor_now : actor ≡ record { links = links; peers = peers; subscriptions = subs; failed = old.actor.failed } =
     actor_is
     ∙ (ap (routes_on key_cmp old.actor old.messenger) w.is
-    ∙ (ap (λ r. record { links = insert_entry key_cmp old.actor.links peer (record { conn = conn; relay = r }); peers = peers; subscriptions = heard taken subs; failed = old.actor.failed }) known.0.0
+    ∙ (ap (λ r. record { links = insert_entry key_cmp old.actor.links peer (record { conn = conn; relay = r }); peers = peers; subscriptions = heard taken subs; failed = old.actor.failed }) proper.0
     ∙ ap (λ l. record { links = links; peers = peers; subscriptions = l; failed = old.actor.failed }) all))
     in
     let links_now : actor.links ≡ links = ap (λ (r : Routes Key). r.links) actor_now in
@@ -132,12 +138,12 @@ routed_ready configs log entry old desk actor names row peer conn replaced told 
     let desk_now : desk ≡ told_all taken (keys_of links) subs =
     desk_is
     ∙ (ap (desk_on key_cmp old.actor old.messenger) w.is
-    ∙ (ap (λ r. told_all taken (keys_of (insert_entry key_cmp old.actor.links peer (record { conn = conn; relay = r }))) (heard taken subs)) known.0.0
+    ∙ (ap (λ r. told_all taken (keys_of (insert_entry key_cmp old.actor.links peer (record { conn = conn; relay = r }))) (heard taken subs)) proper.0
     ∙ ap (told_all taken (keys_of links)) all))
     in
     let told_now : told ≡ record { peers = keys_of links; subscriptions = subs } =
     w.told_is
-    ∙ (ap (λ r. told_of taken (insert_entry key_cmp old.actor.links peer (record { conn = conn; relay = r })) subs) known.0.0
+    ∙ (ap (λ r. told_of taken (insert_entry key_cmp old.actor.links peer (record { conn = conn; relay = r })) subs) proper.0
     ∙ ap (λ l. record { peers = keys_of links; subscriptions = l }) all)
     in
     let t : IsTold channels taken desk (keys_of links) subs =
@@ -147,7 +153,7 @@ routed_ready configs log entry old desk actor names row peer conn replaced told 
     let row_now : row ≡ told_row n x (live log) puts (keys_of links) (map (channel_of channels) subs) =
     row_is (live log) x f.rest oldest ∙ ap (λ (o : Told Key). told_row n x (live log) puts o.peers (map (channel_of channels) o.subscriptions)) told_now
     in
-    let none = not_linked old.actor.links peer w.relay conn (later_messages old) (once_first size old m sound w.is peer) in
+    let none = own.unlinked in
     let step : IsStep n old (live log) entry row desk (keys_of links) subs puts = record {
       x = x;
       rest = f.rest;
@@ -171,10 +177,9 @@ routed_ready configs log entry old desk actor names row peer conn replaced told 
           ∙ ap (λ i. route_row configs log n (name_of x) i (filter (stays (name_of x ∷ [])) (live log))) (sym it)));
       takes = ap (λ (r : Row). r.takes) row_now;
       holds = record {
-        sound = sound_stepped size old desk actor names (keys_of links) subs sound (bound_first old.messenger.binding m w.is) t known.1
-            (λ k. subst (λ (l : List (Key × Link)). counted (link_of key_cmp l k) + told_times k (later_messages old) ≤ 1) (sym links_now)
-            (once_insert old.actor.links peer k w.relay conn new (later_messages old) none (once_first size old m sound w.is k)))
-            (λ k l at. linked_insert size old.peers old.actor.links peer conn sound.linked known.0.1 k l (ap (λ ls. link_of key_cmp ls k) (sym links_now) ∙ at))
+        sound = sound_stepped size old desk actor names (keys_of links) subs sound (bound_first old.messenger.binding m w.is) t proper.1
+            (λ k. subst (λ (l : List (Key × Link)). IsInTurn size old.peers k (link_of key_cmp l k) (said_of k (later_messages old))) (sym links_now)
+            (turns_insert size old.peers old.actor.links peer conn (λ j. said_of j (later_messages old)) own (turns_first size old m sound w.is) k))
             (ap (λ l. l ++ (flat_map subscription_in (later_messages old) ++ old.messenger.waiting)) subs_now ∙ subscriptions_first size old m sound w.is);
         names = names_are (live log) x f.rest oldest;
         each = each_told size old (live log) entry row desk actor names (keys_of links) subs puts s.holds step
@@ -183,6 +188,7 @@ routed_ready configs log entry old desk actor names row peer conn replaced told 
       routes_now = ap routes_in links_now ∙ (routes_now ∙ ap (with_route (routes log n)) (sym it));
       told_now = ap (map (channel_of channels)) subs_now ∙ (s.told ∙ (sym (append-nil (subscribers log n)) ∙ ap (λ i. subscribers log n ++ subscriber_of i) (sym it)));
       binding = t.binding;
+      ended = subst (AreEnded (is_ended log n) old.peers) (sym links_now) (ends_insert size (is_ended log n) old.peers old.actor.links peer conn own.known s.ended);
       adds = λ q other. told_adds n entry x f.rest (live log) puts (keys_of links) (map (channel_of channels) subs) row q other step.distinct step.apart f.is row_now;
     }
 
@@ -210,7 +216,7 @@ routed_subscription configs log entry old desk actor names row number told s ans
     let c = channel_of channels number in
     let it : x.item ≡ item.Subscribe c = bare-subscribe c x.item f.same in
     let oldest = is_oldest configs log old m s f in
-    let known = known_first size old m sound w.is in
+    let proper = proper_first size old m sound w.is in
     let subs = old.actor.subscriptions in
     let one = number ∷ [] in
     let links = old.actor.links in
@@ -258,9 +264,8 @@ routed_subscription configs log entry old desk actor names row number told s ans
           ∙ ap (λ i. route_row configs log n (name_of x) i (filter (stays (name_of x ∷ [])) (live log))) (sym it));
       takes = ap (λ (r : Row). r.takes) row_now;
       holds = record {
-        sound = sound_stepped size old desk actor names (keys_of links) one sound (bound_first old.messenger.binding m w.is) t known.1
-            (λ k. subst (λ (l : List (Key × Link)). counted (link_of key_cmp l k) + told_times k (later_messages old) ≤ 1) (sym links_now) (once_first size old m sound w.is k))
-            (λ k l at. sound.linked k l (ap (λ ls. link_of key_cmp ls k) (sym links_now) ∙ at))
+        sound = sound_stepped size old desk actor names (keys_of links) one sound (bound_first old.messenger.binding m w.is) t proper.1
+            (λ k. subst (λ (l : List (Key × Link)). IsInTurn size old.peers k (link_of key_cmp l k) (said_of k (later_messages old))) (sym links_now) (turns_first size old m sound w.is k))
             (ap (λ l. l ++ (flat_map subscription_in (later_messages old) ++ old.messenger.waiting)) subs_now
             ∙ (append_assoc subs one (flat_map subscription_in (later_messages old) ++ old.messenger.waiting) ∙ numbered));
         names = names_are (live log) x f.rest oldest;
@@ -270,10 +275,11 @@ routed_subscription configs log entry old desk actor names row number told s ans
       told_now = ap (map (channel_of channels)) subs_now
           ∙ (map-append (channel_of channels) subs one ∙ (ap (λ l. l ++ c ∷ []) s.told ∙ ap (λ i. subscribers log n ++ subscriber_of i) (sym it)));
       binding = t.binding;
+      ended = subst (AreEnded (is_ended log n) old.peers) (sym links_now) s.ended;
       adds = λ q other. told_adds n entry x f.rest (live log) [] (keys_of links) (c ∷ []) row q other step.distinct step.apart f.is row_now;
     }
 
--- ---- nothing waits, or what never waits
+-- ---- nothing waits
 
 pub idle_row : (configs : List Config) (log : List Entry) (r : Router) → StandsFor configs log r → message_waiting r.messenger ≡ None → line log (queue.Router r.number) ≡ []
 idle_row configs log r s h =
@@ -295,10 +301,3 @@ idle_stepped configs log entry event old desk actor row s is idle answered actor
     subst (λ (d : Desk Key). StandsFor configs (log ++ entry_of event row ∷ []) (stepped_to old d actor old.names)) (sym desk_now)
     (subst (λ (a : Routes Key). StandsFor configs (log ++ entry_of event row ∷ []) (stepped_to old old.messenger a old.names)) (sym actor_now)
     (idle_stands configs log entry event old row s is idle))
-
-pub not_released :
-    (configs : List Config) (log : List Entry) (old : Router) (peer : Key) (told : Told Key) → StandsFor configs log old
-    → stepped.Release peer told ≡ stepped_on key_cmp old.actor old.messenger (message_waiting old.messenger) → ⊥
-not_released configs log old peer told s answered =
-    let w = was_release old.actor old.messenger (message_waiting old.messenger) peer told answered in
-    (known_first (mailbox_size_at configs old.number) old (message.Release w.peer) s.holds.sound w.is).0

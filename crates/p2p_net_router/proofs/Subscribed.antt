@@ -1,5 +1,5 @@
 -- A router before its start: with nothing, and with one more channel that wants lists of peers.
-use Rattle.std.proofs.Common.{◌≡◌, ℕ, zero, suc, ◌+◌, ◌<◌, ◌≤◌, Bool, true, false, cond, eqb-true, List, [], ◌∷◌, ◌++◌, length, length-append, refl, ap, sym, subst, ◌∙◌, arith, append_assoc, append-nil, Option, Some, None}
+use Rattle.std.proofs.Common.{◌≡◌, ℕ, zero, suc, ◌+◌, ◌<◌, Bool, true, false, cond, eqb-true, List, [], ◌∷◌, ◌++◌, length, length-append, refl, ap, sym, subst, ◌∙◌, arith, append_assoc, append-nil, Option, Some, None}
 use Rattle.std.specs.Prelude.{filter, flat_map, map, slice_get, ◌==◌, ◌||◌}
 use Rattle.std.specs.List.{AllByRecursion, list_any}
 use Rattle.std.specs.BTreeMap.{get}
@@ -15,6 +15,7 @@ use Rattle.p2p_router.specs.Messenger.{Desk, new_desk, subscribed, is_unbound, i
 use Rattle.p2p_router.specs.declared.messenger.Binding.TheVariants.{Unbound}
 use Rattle.p2p_log.specs.declared.config.Config.{Config}
 use Rattle.p2p_log.specs.declared.entry.Entry.{Entry}
+use Rattle.p2p_log.specs.declared.event.Act.TheVariants as act
 use Rattle.p2p_log.specs.declared.queue.Queue.{Queue}
 use Rattle.p2p_log.specs.declared.queue.Queue.TheVariants as queue
 use Rattle.p2p_log.specs.declared.item.Item.TheVariants as item
@@ -25,10 +26,11 @@ use Rattle.p2p_log_rules.proofs.Facts.{events_of-append, has_started-append, reg
 use Rattle.p2p_log.proofs.Lines.{live-append, filter_stays-nil}
 use Rattle.p2p_net_queues.specs.Board.{held}
 use Rattle.p2p_net_router.specs.Items.{key_cmp, lists_in, message_item, messages_in, frame_item, frames_in, link_to, items_of, channel_of}
-use Rattle.p2p_net_router.specs.Sound.{IsSound, IsRing, IsKnown, IsNumber, AreDistinct, counted, told_times, subscription_in, numbers_from}
+use Rattle.p2p_net_router.specs.Sound.{IsSound, IsRing, IsProper, IsAwaited, IsInTurn, IsNumber, AreDistinct, said_of, subscription_in, numbers_from}
 use Rattle.p2p_net_router.specs.Holds.{Holds, routes_in}
 use Rattle.p2p_net_router.specs.Stands.{StandsFor, HasPlaces, IsRegistration}
 use Rattle.p2p_net_router.specs.declared.router.Router.{Router}
+use Rattle.p2p_net_router.proofs.Endings.{ends_none-act, ended_beside}
 use Rattle.p2p_net_router.proofs.Started.{is_none}
 
 -- ---- nothing
@@ -51,13 +53,11 @@ no_items r h _ = refl
 
 sound_fresh : (size : ℕ) (r : Router) → IsFresh r → IsSound size r
 sound_fresh size r h = record {
-  known = subst (λ (d : Desk Key). AllByRecursion (IsKnown size r.peers) (messages_in d.binding)) (sym h.messenger) tt;
-  once = λ k.
-      let a : counted (link_of key_cmp r.actor.links k) ≡ 0 = ap (λ (x : Routes Key). counted (link_of key_cmp x.links k)) h.actor in
-      let b : told_times k (messages_in r.messenger.binding) ≡ 0 = ap (λ (d : Desk Key). told_times k (messages_in d.binding)) h.messenger in
-      omega (arith, a, b);
-  apart = λ k c d a b. absurd (let e : None ≡ Some k = sym (h.peers c) ∙ a in cc);
-  linked = λ k l at. absurd (let e : None ≡ Some l = sym (ap (λ (x : Routes Key). link_of key_cmp x.links k) h.actor) ∙ at in cc);
+  proper = subst (λ (d : Desk Key). AllByRecursion (IsProper size) (messages_in d.binding)) (sym h.messenger) tt;
+  turns = λ k.
+      subst (λ (x : Routes Key). IsInTurn size r.peers k (link_of key_cmp x.links k) (said_of k (messages_in r.messenger.binding))) (sym h.actor)
+      (subst (λ (d : Desk Key). IsAwaited r.peers k (said_of k (messages_in d.binding))) (sym h.messenger) (λ c at. let e : None ≡ Some k = sym (h.peers c) ∙ at in absurd (cc)));
+  single = λ k c d a b. absurd (let e : None ≡ Some k = sym (h.peers c) ∙ a in cc);
   early = λ e. ap (λ (x : Routes Key). x.subscriptions) h.actor;
   subscriptions = ap (λ (x : Routes Key). x.subscriptions ++ (flat_map subscription_in (messages_in r.messenger.binding) ++ r.messenger.waiting)) h.actor
       ∙ (ap (λ (d : Desk Key). flat_map subscription_in (messages_in d.binding) ++ d.waiting) h.messenger
@@ -81,6 +81,10 @@ fresh_stands configs r h = record {
   registered = h.channels;
   bound = ap (λ (d : Desk Key). is_bound d.binding) h.messenger;
   places = subst (λ (d : Desk Key). HasPlaces (router_capacity configs [] r.number) d.binding) (sym h.messenger) tt;
+  ended = record {
+    relays = λ k l at. absurd (let e : None ≡ Some l = sym (ap (λ (x : Routes Key). link_of key_cmp x.links k) h.actor) ∙ at in cc);
+    known = λ c k at. absurd (let e : None ≡ Some k = sym (h.peers c) ∙ at in cc);
+  };
 }
 
 -- ---- one more channel
@@ -198,10 +202,9 @@ sound_more size r new d s h apart =
     ap (λ b. r.actor.subscriptions ++ (flat_map subscription_in (messages_in b) ++ r.messenger.waiting)) (sym h.unbound) ∙ s.subscriptions
     in
     record {
-      known = subst (λ b. AllByRecursion (IsKnown size r.peers) (messages_in b)) (sym binding) tt;
-      once = λ k. subst (λ b. counted (link_of key_cmp r.actor.links k) + told_times k (messages_in b) ≤ 1) (h.unbound ∙ sym binding) (s.once k);
-      apart = s.apart;
-      linked = s.linked;
+      proper = subst (λ b. AllByRecursion (IsProper size) (messages_in b)) (sym binding) tt;
+      turns = λ k. subst (λ b. IsInTurn size r.peers k (link_of key_cmp r.actor.links k) (said_of k (messages_in b))) (h.unbound ∙ sym binding) (s.turns k);
+      single = s.single;
       early = λ e. s.early (ap is_bound h.unbound);
       subscriptions = ap (λ b. r.actor.subscriptions ++ (flat_map subscription_in (messages_in b) ++ new.messenger.waiting)) binding
           ∙ (ap (λ w. r.actor.subscriptions ++ w) waiting
@@ -276,6 +279,7 @@ subscribed_stands configs log e r new d s g h absent =
           ∙ (ap (λ x. has_started (events_of log) n || starts n x) (sym g.is)
           ∙ (sym (has_started-append (events_of log) e.event n) ∙ ap (λ v. has_started v n) (sym (events_of-append log e)))))));
       places = subst (λ (m : Desk Key). HasPlaces (router_capacity configs (log ++ e ∷ []) n) m.binding) (sym h.desk) tt;
+      ended = ended_beside log e n r.peers r.actor.links (λ conn. ends_none-act e n conn (act.Register d n g.rate) g.is refl) s.ended;
     })
 
 pub is_subscribed :

@@ -1,7 +1,7 @@
 -- A frame that is taken out of a relay.
-use Rattle.std.proofs.Common.{◌≡◌, ℕ, ◌+◌, ◌≤◌, Bool, true, false, cond, List, [], ◌∷◌, drop, refl, ap, sym, subst, ◌∙◌, arith, Option, Some, None}
+use Rattle.std.proofs.Common.{◌≡◌, ℕ, Bool, true, false, cond, List, [], ◌∷◌, drop, refl, ap, sym, subst, ◌∙◌, arith, Option, Some, None}
 use Rattle.std.specs.Prelude.{filter, map, slice_get, ◌==◌, ◌&&◌}
-use Rattle.std.specs.BTreeMap.{get}
+use Rattle.std.specs.BTreeMap.{BTreeMap, get}
 use Rattle.std.specs.Ordering.{nat_cmp}
 use Rattle.std.specs.BTreeMap.{is_at}
 use Rattle.std.proofs.lemmas.Bool.Decides.{nat_tests}
@@ -27,16 +27,18 @@ use Rattle.p2p_net_queues.specs.declared.board.Board.{Board}
 use Rattle.p2p_net_queues.specs.Board.{held}
 use Rattle.p2p_net_router.specs.Names.{is_routers, label, bare_item}
 use Rattle.p2p_net_router.specs.Items.{key_cmp, messages_in, frame_item, frames_of, frames_in, link_to, link_with, items_of}
-use Rattle.p2p_net_router.specs.Sound.{IsSound, counted, told_times}
+use Rattle.p2p_net_router.specs.Ends.{AreEnded}
+use Rattle.p2p_net_router.specs.Sound.{IsOpen, IsInTurn, IsSound, said_of}
 use Rattle.p2p_net_router.specs.Holds.{Holds, frame_taken, frame_gone, routes_in}
 use Rattle.p2p_net_router.specs.Frames.{frame_waiting, without_frame}
 use Rattle.p2p_net_router.specs.declared.router.Router.{Router}
 use Rattle.p2p_net_router.specs.declared.name.Name.{Name}
 use Rattle.p2p_net_router.proofs.Agreeing.{Agrees-pop}
 use Rattle.p2p_net_router.proofs.Contents.{own_lane, lane_items}
-use Rattle.p2p_net_router.proofs.Copying.{same_lane, relayed, frames_set, frames_own, linked_set, lane_size, lane_open, lane_conn, key_from}
+use Rattle.p2p_net_router.proofs.Copying.{same_lane, relayed, frames_set, frames_own, turns_set, ends_set, lane_size, lane_open, lane_conn}
 use Rattle.p2p_net_router.proofs.First.{IsFirst, first_same, none_same, first_of, none_of, bare-frame}
-use Rattle.p2p_net_router.proofs.Linking.{link_of-with_link, routes_in-with_link}
+use Rattle.p2p_net_router.proofs.Linking.{routes_in-with_link}
+use Rattle.p2p_net_router.proofs.Turns.{IsLinked, open_link, spent_link, linked_as, spent_lane, empty_link}
 
 -- the router with other links and other names
 abbrev pub relinked : Router → List (Key × Link) → Board Name → Router
@@ -45,46 +47,49 @@ relinked r links names = record r { actor = record r.actor { links = links }; na
 abbrev popped : Link → Bool → Link
 popped l priority = relayed l priority (without_oldest (lane l.relay priority))
 
-counted_set :
-    (links : List (Key × Link)) (k j : Key) (l new : Link) → link_of key_cmp links k ≡ Some l
-    → counted (link_of key_cmp (with_link key_cmp links k new) j) ≡ counted (link_of key_cmp links j)
-counted_set links k j l new h =
-    ap counted (link_of-with_link links k j l new h)
-    ∙ ((elim (k.0 == j.0) as (λ t. (k.0 == j.0) ≡ t → counted (cond t (Some new) (link_of key_cmp links j)) ≡ counted (link_of key_cmp links j)) [
-      | true ↦ λ t. sym (ap counted (ap (link_of key_cmp links) (sym (key_from k j t)) ∙ h))
-      | false ↦ λ t. refl
-    ]) refl)
-
--- where the frames of a connection are kept
-record IsKept (r : Router) (conn : ℕ) (key : Key) (l : Link) : Type 0 where
-  peer : get nat_cmp r.peers conn ≡ Some key
+-- where the frames of a connection are kept: its link is open
+record IsKept (size : ℕ) (r : Router) (conn : ℕ) (key : Key) (l : Link) : Type 0 where
   link : link_of key_cmp r.actor.links key ≡ Some l
   conn_is : l.conn ≡ conn
+  lanes : IsOpen size l.relay
+  known : get nat_cmp r.peers l.conn ≡ Some key
+  silent : said_of key (messages_in r.messenger.binding) ≡ []
 
-kept : (size : ℕ) (r : Router) (conn : ℕ) (key : Key) (l : Link) → IsSound size r → get nat_cmp r.peers conn ≡ Some key → link_of key_cmp r.actor.links key ≡ Some l → IsKept r conn key l
-kept size r conn key l s peer link = record { peer = peer; link = link; conn_is = s.apart key l.conn conn (s.linked key l link).known peer }
+kept_by :
+    (size : ℕ) (r : Router) (conn : ℕ) (key : Key) (l : Link) (priority : Bool) (e : EncodedData) → IsSound size r → get nat_cmp r.peers conn ≡ Some key → link_of key_cmp r.actor.links key ≡ Some l
+    → oldest (lane l.relay priority) ≡ Some e → IsLinked size r.peers key l (said_of key (messages_in r.messenger.binding)) → IsKept size r conn key l
+kept_by size r conn key l priority e s peer link first (open_link lanes known silent) =
+    record { link = link; conn_is = s.single key l.conn conn known peer; lanes = lanes; known = known; silent = silent }
+kept_by size r conn key l priority e s peer link first (spent_link spent) =
+    absurd (let none : None ≡ Some e = sym (ap (λ xs. slice_get xs 0) (spent_lane l.relay priority spent)) ∙ first in cc)
 
-frames_kept : (size : ℕ) (r : Router) (conn : ℕ) (key : Key) (l : Link) (b : Bool) → IsSound size r → IsKept r conn key l → frames_of r.peers r.actor.links b conn ≡ (lane l.relay b).items
-frames_kept size r conn key l b s h =
-    ap (frames_of r.peers r.actor.links b) (sym h.conn_is) ∙ frames_own r.peers r.actor.links key l b h.link (s.linked key l h.link).known
+kept :
+    (size : ℕ) (r : Router) (conn : ℕ) (key : Key) (l : Link) (priority : Bool) (e : EncodedData) → IsSound size r → get nat_cmp r.peers conn ≡ Some key → link_of key_cmp r.actor.links key ≡ Some l
+    → oldest (lane l.relay priority) ≡ Some e → IsKept size r conn key l
+kept size r conn key l priority e s peer link first =
+    kept_by size r conn key l priority e s peer link first
+    (linked_as size r.peers key l (said_of key (messages_in r.messenger.binding))
+    (subst (λ o. IsInTurn size r.peers key o (said_of key (messages_in r.messenger.binding))) link (s.turns key)))
+
+frames_kept : (size : ℕ) (r : Router) (conn : ℕ) (key : Key) (l : Link) (b : Bool) → IsKept size r conn key l → frames_of r.peers r.actor.links b conn ≡ (lane l.relay b).items
+frames_kept size r conn key l b h =
+    ap (frames_of r.peers r.actor.links b) (sym h.conn_is) ∙ frames_own r.peers r.actor.links key l b h.link h.known
 
 sound_taken :
-    (size : ℕ) (r : Router) (conn : ℕ) (key : Key) (l : Link) (priority : Bool) (names : Board Name) → IsSound size r → IsKept r conn key l
+    (size : ℕ) (r : Router) (conn : ℕ) (key : Key) (l : Link) (priority : Bool) (names : Board Name) → IsSound size r → IsKept size r conn key l
     → IsSound size (relinked r (with_link key_cmp r.actor.links key (popped l priority)) names)
-sound_taken size r conn key l priority names s h =
-    let lanes = (s.linked key l h.link).lanes in
-    record {
-      known = s.known;
-      once = λ k. subst (λ c. c + told_times k (messages_in r.messenger.binding) ≤ 1) (sym (counted_set r.actor.links key k l (popped l priority) h.link)) (s.once k);
-      apart = s.apart;
-      linked = linked_set size r.peers r.actor.links key l priority (without_oldest (lane l.relay priority)) h.link s.linked (lane_size size l.relay priority lanes) (lane_open size l.relay priority lanes);
-      early = s.early;
-      subscriptions = s.subscriptions;
-      rings = s.rings;
-      channels = s.channels;
-      distinct = s.distinct;
-      numbered = s.numbered;
-    }
+sound_taken size r conn key l priority names s h = record {
+  proper = s.proper;
+  turns = turns_set size r.peers (λ k. said_of k (messages_in r.messenger.binding)) r.actor.links key l priority (without_oldest (lane l.relay priority)) h.link h.lanes h.known h.silent s.turns
+      (lane_size size l.relay priority h.lanes) (lane_open size l.relay priority h.lanes);
+  single = s.single;
+  early = s.early;
+  subscriptions = s.subscriptions;
+  rings = s.rings;
+  channels = s.channels;
+  distinct = s.distinct;
+  numbered = s.numbered;
+}
 
 same_turned : (a b : Bool) (n m c d : ℕ) → (n == m) ≡ true → ((c == d) && same_lane a b) ≡ same_queue (relay_queue a n c) (relay_queue b m d)
 same_turned true true n m c d h = grind (arith, nat_tests)
@@ -111,13 +116,13 @@ popped_frames true own old h = ap (λ l. map frame_item (drop 1 l)) (sym (h refl
 popped_frames false own old h = refl
 
 lane_popped :
-    (size : ℕ) (r : Router) (conn : ℕ) (key : Key) (l : Link) (priority b : Bool) (names : Board Name) (c n : ℕ) → IsSound size r → IsKept r conn key l → (r.number == n) ≡ true
+    (size : ℕ) (r : Router) (conn : ℕ) (key : Key) (l : Link) (priority b : Bool) (names : Board Name) (c n : ℕ) → IsSound size r → IsKept size r conn key l → (r.number == n) ≡ true
     → map frame_item (frames_of r.peers (with_link key_cmp r.actor.links key (popped l priority)) b c)
     ≡ cond (same_queue (relay_queue priority r.number conn) (relay_queue b n c)) (drop 1 (map frame_item (frames_of r.peers r.actor.links b c))) (map frame_item (frames_of r.peers r.actor.links b c))
 lane_popped size r conn key l priority b names c n s h own =
     let t = (l.conn == c) && same_lane priority b in
     let old = frames_of r.peers r.actor.links b c in
-    let known = (s.linked key l h.link).known in
+    let known = h.known in
     ap (map frame_item) (frames_set r.peers r.actor.links key l priority b (without_oldest (lane l.relay priority)) c h.link known)
     ∙ (popped_frames t (lane l.relay priority).items old
     (λ e.
@@ -126,7 +131,7 @@ lane_popped size r conn key l priority b names c n s h own =
     ∙ ap (λ k. cond k (drop 1 (map frame_item old)) (map frame_item old)) (ap (λ k. (k == c) && same_lane priority b) h.conn_is ∙ same_turned priority b r.number n conn c own))
 
 each_taken :
-    (size : ℕ) (r : Router) (conn : ℕ) (key : Key) (l : Link) (priority : Bool) (names : Board Name) → IsSound size r → IsKept r conn key l
+    (size : ℕ) (r : Router) (conn : ℕ) (key : Key) (l : Link) (priority : Bool) (names : Board Name) → IsSound size r → IsKept size r conn key l
     → (q : Queue) → is_routers r.number q ≡ true
     → items_of (relinked r (with_link key_cmp r.actor.links key (popped l priority)) names) q ≡ cond (same_queue (relay_queue priority r.number conn) q) (drop 1 (items_of r q)) (items_of r q)
 each_taken size r conn key l priority names s h (queue.Router n) own = sym (ap (λ b. cond b (drop 1 (items_of r (queue.Router n))) (items_of r (queue.Router n))) (lane_not_router priority r.number conn n))
@@ -164,7 +169,8 @@ no_frame :
     (size : ℕ) (r : Router) (conn : ℕ) (key : Key) (priority : Bool) (o : Option Link) → IsSound size r → get nat_cmp r.peers conn ≡ Some key → link_of key_cmp r.actor.links key ≡ o → frame_waiting o priority ≡ None
     → frames_of r.peers r.actor.links priority conn ≡ []
 no_frame size r conn key priority None s peer at h = ap (λ o. frames_in priority (link_to r.actor.links conn o)) peer ∙ ap (λ o. frames_in priority (link_with conn o)) at
-no_frame size r conn key priority (Some l) s peer at h = frames_kept size r conn key l priority s (kept size r conn key l s peer at) ∙ none_of (lane l.relay priority).items h
+no_frame size r conn key priority (Some l) s peer at h =
+    ap (λ o. frames_in priority (link_to r.actor.links conn o)) peer ∙ (ap (λ o. frames_in priority (link_with conn o)) at ∙ empty_link l priority conn (none_of (lane l.relay priority).items h))
 
 lane_same : (l : Lanes EncodedData) (b : Bool) (q : Waiting EncodedData) → q ≡ lane l b → with_lane l b q ≡ l
 lane_same l true q h = ap (λ x. record { high = x; low = l.low }) h
@@ -190,15 +196,15 @@ taken_nothing size r conn key priority links s peer none is =
 
 -- the frame that waits first, and its item
 frame_first :
-    (size : ℕ) (r : Router) (conn : ℕ) (key : Key) (l : Link) (priority : Bool) (e : EncodedData) (items : List Envelope) → Holds size r items → IsKept r conn key l → oldest (lane l.relay priority) ≡ Some e
+    (size : ℕ) (r : Router) (conn : ℕ) (key : Key) (l : Link) (priority : Bool) (e : EncodedData) (items : List Envelope) → Holds size r items → IsKept size r conn key l → oldest (lane l.relay priority) ≡ Some e
     → IsFirst frame_item bare_item e (drop 1 (lane l.relay priority).items) (filter (stands_in (relay_queue priority r.number conn)) items)
 frame_first size r conn key l priority e items h k first =
     first_same frame_item bare_item e (drop 1 (lane l.relay priority).items) (filter (stands_in (relay_queue priority r.number conn)) items)
-    (ap (map frame_item) (sym (first_of (lane l.relay priority).items e first) ∙ sym (frames_kept size r conn key l priority h.sound k))
+    (ap (map frame_item) (sym (first_of (lane l.relay priority).items e first) ∙ sym (frames_kept size r conn key l priority k))
     ∙ (sym (lane_items r r.number priority conn) ∙ h.each (relay_queue priority r.number conn) (own_lane r.number priority conn)))
 
 name_first :
-    (size : ℕ) (r : Router) (conn : ℕ) (key : Key) (l : Link) (priority : Bool) (e : EncodedData) (name : Name) (items : List Envelope) → (h : Holds size r items) → (k : IsKept r conn key l)
+    (size : ℕ) (r : Router) (conn : ℕ) (key : Key) (l : Link) (priority : Bool) (e : EncodedData) (name : Name) (items : List Envelope) → (h : Holds size r items) → (k : IsKept size r conn key l)
     → (first : oldest (lane l.relay priority) ≡ Some e) → Some name ≡ slice_get (held r.names (relay_queue priority r.number conn)) 0
     → name ≡ label (frame_first size r conn key l priority e items h k first).one
 name_first size r conn key l priority e name items h k first named =
@@ -215,7 +221,7 @@ pub taken_frame :
     → IsTaken size r conn priority (Some ((name.entry, name.place), item.Frame name.tag e.payload)) links names
 taken_frame size r conn key l priority e name links names s peer at first is named step =
     let q = relay_queue priority r.number conn in
-    let k = kept size r conn key l s peer at in
+    let k = kept size r conn key l priority e s peer at first in
     let label_is = λ (items : List Envelope) (h : Holds size r items). name_first size r conn key l priority e name items h k first named in
     record {
       value = λ items h.
@@ -249,6 +255,13 @@ routes_taken links key priority None at = refl
 routes_taken links key priority (Some l) at =
     routes_in-with_link links key l (record { conn = l.conn; relay = with_lane l.relay priority (without_oldest (lane l.relay priority)) }) at refl
 
+-- the relays are closed as before
+pub ends_taken :
+    (ended : ℕ → Bool) (peers : BTreeMap ℕ Key) (links : List (Key × Link)) (key : Key) (priority : Bool) (o : Option Link) → link_of key_cmp links key ≡ o
+    → AreEnded ended peers links → AreEnded ended peers (without_frame o links key priority)
+ends_taken ended peers links key priority None at h = h
+ends_taken ended peers links key priority (Some l) at h = ends_set ended peers links key l priority (without_oldest (lane l.relay priority)) at refl h
+
 record HasFrame (links : List (Key × Link)) (key : Key) (priority : Bool) (e : EncodedData) : Type 0 where
   l : Link
   at : link_of key_cmp links key ≡ Some l
@@ -278,7 +291,7 @@ pub name_there :
     → None ≡ slice_get (held r.names (relay_queue priority r.number conn)) 0 → ⊥
 name_there size r conn key priority e items h peer waits none =
     let f = has_frame r.actor.links key priority e (link_of key_cmp r.actor.links key) refl waits in
-    let k = kept size r conn key f.l h.sound peer f.at in
+    let k = kept size r conn key f.l priority e h.sound peer f.at f.first in
     let first = frame_first size r conn key f.l priority e items h k f.first in
     let q = relay_queue priority r.number conn in
     let same : None ≡ Some (label first.one) = none ∙ ap (λ ns. slice_get ns 0) (h.names q (own_lane r.number priority conn) ∙ ap (map label) first.is) in

@@ -18,7 +18,7 @@ abbrev pub copy_spread : ℕ → ℕ → ℕ → List ℕ → Routed Key → Spr
 copy_spread n send p frame (routed.Put peer conn priority) s = record s { puts = s.puts ++ (relay_queue priority n conn, item.Frame (Some (send, p)) frame) ∷ [] }
 copy_spread n send p frame (routed.NoConnection peer) s = dropped send p cause.NoConnection s
 copy_spread n send p frame (routed.RelayFull peer conn) s = dropped send p cause.RelayFull s
-copy_spread n send p frame (routed.Closed peer conn) s = dropped send p cause.NoConnection s
+copy_spread n send p frame (routed.Closed peer conn) s = dropped send p cause.ConnectionEnded s
 
 -- the copies from this place on
 abbrev pub copies_spread : ℕ → ℕ → ℕ → List ℕ → List (Routed Key) → Spread → Spread

@@ -35,11 +35,10 @@ named_keys (to.One key) = key ∷ []
 abbrev pub channel_of : List ℕ → ℕ → ℕ
 channel_of channels s = slice_index_or channels s 0
 
--- the item that a message is, without its name. No connection of a network is released, so a release is no item of a log:
--- `IsKnown` excludes it
+-- the item that a message is, without its name
 abbrev pub message_item : List ℕ → Message Key → Item
 message_item channels (message.Ready peer relay conn) = item.Ready conn peer
-message_item channels (message.Release peer) = item.Answer
+message_item channels (message.Release peer) = item.Release peer
 message_item channels (message.Content whom encoded priority) = item.Content encoded.channel encoded.payload priority 0 (named_keys whom)
 message_item channels (message.SubscribePeers s) = item.Subscribe (channel_of channels s)
 

@@ -1,6 +1,7 @@
 pub mod Batches
 pub mod Building
 pub mod Copies
+pub mod Ends
 pub mod Frames
 pub mod Holds
 pub mod Items

@@ -1,5 +1,5 @@
 -- What a router keeps true of itself.
-use Rattle.std.specs.Prelude.{◌≡◌, ℕ, zero, suc, ◌+◌, ◌<◌, ◌≤◌, Bool, false, ◌==◌, cond, List, [], ◌∷◌, ◌++◌, length, flat_map, Option, Some, None}
+use Rattle.std.specs.Prelude.{◌≡◌, ℕ, zero, suc, ◌<◌, ◌≤◌, true, false, ◌==◌, cond, List, [], ◌∷◌, ◌++◌, length, flat_map, Option, Some, None}
 use Rattle.std.specs.List.{AllByRecursion, list_any}
 use Rattle.std.specs.BTreeMap.{BTreeMap, get}
 use Rattle.std.specs.Ordering.{nat_cmp}
@@ -23,30 +23,23 @@ AreNamed to.All = ⊥
 AreNamed (to.Some keys) = Unit {0}
 AreNamed (to.One key) = Unit {0}
 
--- a message of a network without releases: a connection that is ready is known, and its relay is empty
-abbrev pub IsKnown : ℕ → BTreeMap ℕ Key → Message Key → Type 0
-IsKnown size peers (message.Ready peer relay conn) = (relay ≡ empty_lanes size) × (get nat_cmp peers conn ≡ Some peer)
-IsKnown size peers (message.Release peer) = ⊥
-IsKnown size peers (message.Content whom encoded priority) = AreNamed whom
-IsKnown size peers (message.SubscribePeers s) = Unit {0}
+-- a message that may come: one of a connection that is ready has an empty relay, and content goes to named recipients
+abbrev pub IsProper : ℕ → Message Key → Type 0
+IsProper size (message.Ready peer relay conn) = relay ≡ empty_lanes size
+IsProper size (message.Release peer) = Unit {0}
+IsProper size (message.Content whom encoded priority) = AreNamed whom
+IsProper size (message.SubscribePeers s) = Unit {0}
 
--- whether a message tells of a connection with this key
-abbrev pub readies : Key → Message Key → Bool
-readies key (message.Ready peer relay conn) = key.0 == peer.0
-readies key _ = false
+-- what a message says of a key: that this connection of it is ready, or that it has none
+abbrev pub says : Key → Message Key → List (Option ℕ)
+says key (message.Ready peer relay conn) = cond (key.0 == peer.0) (Some conn ∷ []) []
+says key (message.Release peer) = cond (key.0 == peer.0) (None ∷ []) []
+says key (message.Content whom encoded priority) = []
+says key (message.SubscribePeers s) = []
 
--- how many of these messages tell of a connection with this key
-abbrev pub told_times : Key → List (Message Key) → ℕ
-told_times key [] = 0
-told_times key (m ∷ ms) = cond (readies key m) (1 + told_times key ms) (told_times key ms)
-
-abbrev pub counted : Option Link → ℕ
-counted None = 0
-counted (Some l) = 1
-
--- how many connections with a key the router has, or is told of
-abbrev pub times_ready : Router → Key → ℕ
-times_ready r key = counted (link_of key_cmp r.actor.links key) + told_times key (messages_in r.messenger.binding)
+-- what these messages say of it, in order
+abbrev pub said_of : Key → List (Message Key) → List (Option ℕ)
+said_of key ms = flat_map (says key) ms
 
 -- both lanes have this size, and are open
 pub record IsOpen (size : ℕ) (l : Lanes EncodedData) : Type 0 where
@@ -55,10 +48,31 @@ pub record IsOpen (size : ℕ) (l : Lanes EncodedData) : Type 0 where
   pub high_open : l.high.closed ≡ false
   pub low_open : l.low.closed ≡ false
 
--- a link of a key: its connection is known by the key, and its lanes are open
-pub record IsLinked (size : ℕ) (peers : BTreeMap ℕ Key) (key : Key) (l : Link) : Type 0 where
-  pub known : get nat_cmp peers l.conn ≡ Some key
-  pub lanes : IsOpen size l.relay
+-- both lanes are closed, and hold nothing
+pub record IsSpent (l : Lanes EncodedData) : Type 0 where
+  pub high_closed : l.high.closed ≡ true
+  pub low_closed : l.low.closed ≡ true
+  pub high_empty : l.high.items ≡ []
+  pub low_empty : l.low.items ≡ []
+
+-- no connection is known by a key
+abbrev pub IsUnknown : BTreeMap ℕ Key → Key → Type 0
+IsUnknown peers key = (c : ℕ) → get nat_cmp peers c ≡ Some key → ⊥
+
+-- of a key without a link this is said: nothing, where no connection is known by it, or that the one that is known is ready
+abbrev pub IsAwaited : BTreeMap ℕ Key → Key → List (Option ℕ) → Type 0
+IsAwaited peers key [] = IsUnknown peers key
+IsAwaited peers key (Some c ∷ []) = get nat_cmp peers c ≡ Some key
+IsAwaited peers key (Some c ∷ o ∷ said) = ⊥
+IsAwaited peers key (None ∷ said) = ⊥
+
+-- and of one with a link: nothing, where it is open and its connection is known by the key, or that it is released, where it is
+-- closed, and then what is said without it
+abbrev pub IsInTurn : ℕ → BTreeMap ℕ Key → Key → Option Link → List (Option ℕ) → Type 0
+IsInTurn size peers key None said = IsAwaited peers key said
+IsInTurn size peers key (Some l) [] = IsOpen size l.relay × (get nat_cmp peers l.conn ≡ Some key)
+IsInTurn size peers key (Some l) (None ∷ said) = IsSpent l.relay × IsAwaited peers key said
+IsInTurn size peers key (Some l) (Some c ∷ said) = ⊥
 
 -- an open ring of one list
 pub record IsRing (l : Waiting (List Key)) : Type 0 where
@@ -86,13 +100,12 @@ IsNumber channels c None = list_any (λ d. d == c) channels ≡ false
 IsNumber channels c (Some s) = (s < length channels) × (channel_of channels s ≡ c)
 
 pub record IsSound (size : ℕ) (r : Router) : Type 0 where
-  -- what the router is told is known
-  pub known : AllByRecursion (IsKnown size r.peers) (messages_in r.messenger.binding)
+  -- what the router is told may come
+  pub proper : AllByRecursion (IsProper size) (messages_in r.messenger.binding)
+  -- and is in turn
+  pub turns : (key : Key) → IsInTurn size r.peers key (link_of key_cmp r.actor.links key) (said_of key (messages_in r.messenger.binding))
   -- a key has one connection
-  pub once : (key : Key) → times_ready r key ≤ 1
-  -- and a connection one key
-  pub apart : (key : Key) (c d : ℕ) → get nat_cmp r.peers c ≡ Some key → get nat_cmp r.peers d ≡ Some key → c ≡ d
-  pub linked : (key : Key) (l : Link) → link_of key_cmp r.actor.links key ≡ Some l → IsLinked size r.peers key l
+  pub single : (key : Key) (c d : ℕ) → get nat_cmp r.peers c ≡ Some key → get nat_cmp r.peers d ≡ Some key → c ≡ d
   -- without a mailbox nothing was taken
   pub early : is_bound r.messenger.binding ≡ false → r.actor.subscriptions ≡ []
   -- each subscription is kept, told of, or waits, in order

@@ -1,5 +1,5 @@
 -- When a router stands for a log.
-use Rattle.std.specs.Prelude.{◌≡◌, ℕ, true, false, List, [], ◌∷◌, ◌++◌, length, map}
+use Rattle.std.specs.Prelude.{◌≡◌, ◌==◌, ℕ, true, false, List, [], ◌∷◌, ◌++◌, length, map}
 use Rattle.std.specs.List.{AllByRecursion}
 use Rattle.p2p_base.specs.declared.key.Key.{Key}
 use Rattle.p2p_router.specs.Messenger.{is_bound}
@@ -17,8 +17,10 @@ use Rattle.p2p_net_router.specs.Names.{is_routers}
 use Rattle.p2p_log.specs.declared.event.Rate.{Rate}
 use Rattle.p2p_log.specs.declared.event.Act.TheVariants as act
 use Rattle.p2p_log.specs.Lines.{live}
+use Rattle.p2p_log_rules.specs.Connections.{ends_connection, is_ended}
 use Rattle.p2p_log_rules.specs.Facts.{channels, is_up, registers_at, starts, routed_by, routes, subscribers}
 use Rattle.p2p_log_rules.specs.Effect.{mailbox_size_at, router_capacity}
+use Rattle.p2p_net_router.specs.Ends.{AreEnded}
 use Rattle.p2p_net_router.specs.Holds.{Holds, routes_in, channels_told}
 use Rattle.p2p_net_router.specs.declared.router.Router.{Router}
 
@@ -36,11 +38,12 @@ pub record IsRegistration (e : Entry) (n channel : ℕ) : Type 0 where
   pub puts : e.puts ≡ []
   pub ends : e.ends ≡ []
 
--- the entry is none of the steps of a node's router, of its registrations and of its starts
+-- the entry is none of the steps of a node's router, of its registrations and of its starts, and ends none of its connections
 pub record IsBeside (configs : List Config) (log : List Entry) (e : Entry) (n : ℕ) : Type 0 where
   pub no_step : routed_by n log e ≡ []
   pub no_channel : registers_at configs n e.event.act ≡ []
   pub no_start : starts n e.event.act ≡ false
+  pub no_end : (conn : ℕ) → ends_connection n conn e ≡ false
 
 -- none of these puts goes to the queue
 abbrev pub AreAway : Queue → List (Queue × Item) → Type 0
@@ -56,6 +59,17 @@ pub record IsReadied (e : Entry) (n place conn : ℕ) (key : Key) : Type 0 where
   pub long : length before ≡ place
   pub away : (q : Queue) → is_routers n q ≡ true → AreAway q before × AreAway q after
 
+-- the entry ends this connection of a node and no other, and is none of its router's steps, of its registrations and of its starts:
+-- it puts first that the key is released, and nothing else for the router
+pub record IsEnding (configs : List Config) (log : List Entry) (e : Entry) (n conn : ℕ) (key : Key) : Type 0 where
+  pub no_step : routed_by n log e ≡ []
+  pub no_channel : registers_at configs n e.event.act ≡ []
+  pub no_start : starts n e.event.act ≡ false
+  pub ends : (c : ℕ) → ends_connection n c e ≡ (c == conn)
+  pub rest : List (Queue × Item)
+  pub puts : e.puts ≡ (queue.Router n, item.Release key) ∷ rest
+  pub away : (q : Queue) → is_routers n q ≡ true → AreAway q rest
+
 -- a router has these items in its queues, and the rest is as the log says
 pub record StandsOver (configs : List Config) (log : List Entry) (r : Router) (items : List Envelope) : Type 0 where
   pub holds : Holds (mailbox_size_at configs r.number) r items
@@ -64,6 +78,7 @@ pub record StandsOver (configs : List Config) (log : List Entry) (r : Router) (i
   pub registered : r.channels.items ≡ map (λ (c : ℕ × ℕ). c.0) (channels configs log r.number)
   pub bound : is_bound r.messenger.binding ≡ is_up log r.number
   pub places : HasPlaces (router_capacity configs log r.number) r.messenger.binding
+  pub ended : AreEnded (is_ended log r.number) r.peers r.actor.links
 
 -- and these are what stands there by the log
 abbrev pub StandsFor : List Config → List Entry → Router → Type 0

@@ -1,8 +1,9 @@
 //! What is asked of a router beside its steps.
-ghost use Rattle.std.specs.Prelude.{◌≡◌, ◌≤◌, ◌<◌, ◌^◌, ℕ, ◌++◌, ◌∷◌, [], length, nat_le, slice_get, filter, map, IfOk, OnOk, IsTrue, Some, if◌then◌else◌};
+ghost use Rattle.std.specs.Prelude.{◌≡◌, ◌≤◌, ◌<◌, ◌^◌, ℕ, Bool, false, ◌++◌, ◌∷◌, [], length, nat_le, slice_get, filter, map, IfOk, OnOk, IsTrue, Some, if◌then◌else◌};
 ghost use Rattle.std.specs.Ordering.{nat_cmp, is_eq};
 ghost use Rattle.std.specs.BTreeMap.{get};
 ghost use Rattle.p2p_log_rules.specs.Frames.{frame_of};
+ghost use Rattle.p2p_log_rules.specs.Connections.{is_ended};
 ghost use Rattle.p2p_log_rules.specs.Facts.{is_up};
 ghost use Rattle.p2p_log.specs.Lines.{stands_in, stays};
 ghost use Rattle.p2p_log_rules.specs.Effect.{only as only_reply, entry_of, mailbox_size_at, copies_end, relay_queue, router_capacity, sent_row, start_row};
@@ -16,6 +17,7 @@ ghost use Rattle.p2p_router.specs.Routing.{link_of};
 ghost use Rattle.p2p_net_router.specs.Items.{key_cmp};
 ghost use Rattle.p2p_net_router.specs.Frames.{refuses, frame_taken_in, frame_waiting, without_frame};
 ghost use Rattle.p2p_net_router.specs.Building.{NamesBuild, subscription};
+ghost use Rattle.p2p_net_router.specs.Ends.{AreEnded};
 ghost use Rattle.p2p_net_router.specs.Holds.{Holds, IsStranger, after, frame_taken, frame_gone, routes_in};
 ghost use Rattle.p2p_net_router.specs.Stands.{StandsOver, StandsFor, HasPlaces, IsBeside, IsReadied};
 ghost use Rattle.p2p_net_router.specs.Telling.{accepted_reply, refused_reply};
@@ -231,7 +233,7 @@ impl Router {
         ensures peers { OnOk result ((c : ℕ) → get nat_cmp self.new.peers c ≡ (if is_eq (nat_cmp conn c) then Some key else get nat_cmp self.old.peers c)) }
         ensures rest { OnOk result (self.new ≡ record self.old { messenger = self.new.messenger; peers = self.new.peers; names = self.new.names }) }
         ensures stands { OnOk result ((configs : _) (log : _) (e : _) → StandsFor configs log self.old → length log ≡ turn.entry → size ≡ mailbox_size_at configs self.old.number
-            → IsStranger self.old conn key → IsBeside configs log e self.old.number → IsReadied e self.old.number place conn key
+            → is_ended log self.old.number conn ≡ false → IsStranger self.old conn key → IsBeside configs log e self.old.number → IsReadied e self.old.number place conn key
             → StandsFor configs (log ++ e ∷ []) self.new) }
         ensures bound { OnOk result (IsTrue (is_bound self.new.messenger.binding)) }
         ensures places { OnOk result ((places : _) → HasPlaces places self.old.messenger.binding → HasPlaces places self.new.messenger.binding) }
@@ -311,6 +313,7 @@ impl Router {
             → result ≡ frame_taken (slice_get (filter (stands_in (relay_queue priority self.old.number conn)) items) 0) }
         ensures holds { (size : _) (items : _) → Holds size self.old items → AreApart items → Holds size self.new (filter (stays (frame_gone result)) items) }
         ensures routes { routes_in self.new.actor.links ≡ routes_in self.old.actor.links }
+        ensures ends { (ended : ℕ → Bool) → AreEnded ended self.old.peers self.old.actor.links → AreEnded ended self.new.peers self.new.actor.links }
         ensures rest { self.new ≡ record self.old { actor = record self.old.actor { links = self.new.actor.links }; names = self.new.names } }
     {
         let Some(key) = self.peers.get(&conn).copied() else {

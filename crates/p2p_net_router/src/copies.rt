@@ -49,8 +49,7 @@ fn note_copy(
         }
         Routed::NoConnection { .. } => Cause::NoConnection,
         Routed::RelayFull { .. } => Cause::RelayFull,
-        // The relays of a network are never closed.
-        Routed::Closed { .. } => Cause::NoConnection,
+        Routed::Closed { .. } => Cause::ConnectionEnded,
     };
     row.ends
         .push(End::Copy(copy.0, copy.1, Outcome::Dropped(cause)))?;

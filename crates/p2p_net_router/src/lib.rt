@@ -11,6 +11,7 @@ mod lists;
 mod name;
 mod names;
 mod peers;
+mod release;
 mod router;
 mod step;
 mod telling;

@@ -138,7 +138,6 @@ fn note_answer(
         Stepped::SubscribePeers { told, .. } => Ok(note_told(
             turn, names, row, None, channels, told,
         )?),
-        // No connection of a network is released.
         Stepped::Release { told, .. } => Ok(note_told(turn, names, row, None, channels, told)?),
         Stepped::Content { encoded, copies } => Ok(note_content(
             turn,

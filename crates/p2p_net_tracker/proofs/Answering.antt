@@ -34,6 +34,7 @@ use Rattle.p2p_net_tracker.specs.declared.tracker.Tracker.{Tracker}
 use Rattle.p2p_net_tracker.specs.Reading.{read_first, Pops, ReadsFrom, OnlyAnswers, noted, ReadsAnswerBy, ReadsAnswer, AnswersBy, Answers, ContinuesBy, Continues}
 use Rattle.p2p_net_tracker.specs.Stands.{asks_of, asks_at, AreFresh, is_told, TrackerStands}
 use Rattle.p2p_net_tracker.proofs.Changes.{tracker_frame, TellsAsker, tracker_read}
+use Rattle.p2p_net_tracker.proofs.Ended.{steps_half, no_end-act}
 use Rattle.p2p_net_tracker.proofs.Facts.{fresh-longer, was_answered-append, was_answered-kept}
 
 -- what was asked of a node, by the act that asked
@@ -66,6 +67,7 @@ with_board configs log n t b s holds = record {
   asked = s.asked;
   answered = s.answered;
   fresh = s.fresh;
+  ended = s.ended;
   dialer = s.dialer;
   heard = s.heard;
   handshakes = s.handshakes;
@@ -78,7 +80,7 @@ and_false true = refl
 and_false false = refl
 
 module _ (configs : List Config) (log : List Entry) (at seed n : ℕ) (a : Act) (t u : Tracker) (r : Row) (s : TrackerStands configs log n t) (no_step : steps_tracker n a ≡ false) (no_question : asks_of n a ≡ None)
-    (no_admission : handshakes_by n log (entry_of (record { at = at; seed = seed; act = a }) r) (handshakes_of log n) ≡ handshakes_of log n) where
+    (no_half : steps_half n a ≡ false) (no_admission : handshakes_by n log (entry_of (record { at = at; seed = seed; act = a }) r) (handshakes_of log n) ≡ handshakes_of log n) where
   abbrev e : Entry
   e = entry_of (record { at = at; seed = seed; act = a }) r
 
@@ -95,6 +97,7 @@ module _ (configs : List Config) (log : List Entry) (at seed n : ℕ) (a : Act) 
         no_question = no_question;
         no_answer = λ d asked. ap (λ (k : Row). answers d a k.reply) is ∙ none d;
         no_late_answer = λ d past. ap (λ (k : Row). answers d a k.reply) is ∙ none d;
+        no_end = no_end-act n e no_half;
         handshakes = no_admission;
         mailbox = left (queue.Tracker n);
         told = λ q own. left q;
@@ -115,7 +118,7 @@ module _ (configs : List Config) (log : List Entry) (at seed n : ℕ) (a : Act) 
   read_stands q [] answered empty asker is none pops same kept noted_all fresh =
       still_stands reply.Pending is none (same ∙ ap (λ m. record t { told = u.told; answered = m }) (kept refl)) (popped_none q pops asker.own empty)
   read_stands q (x ∷ rest) answered first asker is none pops same kept noted_all fresh =
-      tracker_read configs log e n t u q x rest answered s no_step no_question no_admission
+      tracker_read configs log e n t u q x rest answered s no_step no_question (no_end-act n e no_half) no_admission
       (record { first = first; gone = ap (λ (k : Row). k.takes ++ flat_map ended_item k.ends) is }) (ap (λ (k : Row). k.puts) is) asker same noted_all fresh pops
 
 first_row : (held_there l : List Envelope) → held_there ≡ l → read_first (slice_get held_there 0) ≡ oldest_row reply.Pending l
@@ -201,7 +204,7 @@ tracker_answers configs log at seed n e index t u r s asked h =
     by_taken true is reads =
         let only_gone : OnlyAnswers reply.Gone t u r = subst (λ b. ReadsAnswerBy b n e t u r) is reads in (
           only_gone.0 ∙ sym (row_is ∙ at_is true is),
-          still_stands configs log at seed n (act.Answer e) t u r s refl refl refl reply.Gone only_gone.0 (λ d. no_answer_gone d e) (only_gone.1 ∙ ap (λ (k : Tracker). record t { told = k.told }) (sym only_gone.1))
+          still_stands configs log at seed n (act.Answer e) t u r s refl refl refl refl reply.Gone only_gone.0 (λ d. no_answer_gone d e) (only_gone.1 ∙ ap (λ (k : Tracker). record t { told = k.told }) (sym only_gone.1))
               (λ p own. ap (λ (k : Tracker). held k.told p) only_gone.1 ∙ s.told p own),
         )
     by_taken false is reads =
@@ -210,7 +213,7 @@ tracker_answers configs log at seed n e index t u r s asked h =
         let first : r ≡ oldest_row reply.Pending (line log q) = taking.0 ∙ first_row (held t.told q) (line log q) (s.told q (eq-eqb n n refl)) in
         let entry = entry_of (record { at = at; seed = seed; act = act.Answer e }) r in (
           first ∙ sym (row_is ∙ at_is false is),
-          read_stands configs log at seed n (act.Answer e) t u r s refl refl refl q (line log q) (noted (is_answer r.reply) e t.answered) refl
+          read_stands configs log at seed n (act.Answer e) t u r s refl refl refl refl q (line log q) (noted (is_answer r.reply) e t.answered) refl
               (record { own = eq-eqb n n refl; no_dialer = refl; no_listener = refl; no_handshake = λ k. refl }) first (λ d. no_answer_pending d e) taking.1.0 taking.1.1
               (λ none. noted_empty (line log q) r e t.answered first none)
               (λ d wants. note_taken t.answered (was_answered log d) (is_answer r.reply) e d (s.answered d wants) ∙ sym (was_answered-append log entry d))
@@ -233,7 +236,7 @@ module _ (configs : List Config) (log : List Entry) (at seed n e : ℕ) (t u : T
       let first : r ≡ oldest_row reply.Pending (line log q) = reads.0 ∙ first_row (held t.told q) (line log q) (s.told q asker.own) in
       let entry = entry_of (record { at = at; seed = seed; act = act.Next e }) r in (
         first,
-        read_stands configs log at seed n (act.Next e) t u r s refl refl refl q (line log q) t.answered refl asker first (λ d. refl) reads.1.0 reads.1.1 (λ none. refl)
+        read_stands configs log at seed n (act.Next e) t u r s refl refl refl refl q (line log q) t.answered refl asker first (λ d. refl) reads.1.0 reads.1.1 (λ none. refl)
             (λ d wants. s.answered d wants ∙ sym (was_answered-kept log entry d refl))
             (fresh-longer log entry t.answered s.fresh (λ d past. refl)),
       )

@@ -40,8 +40,10 @@ use Rattle.p2p_net_queues.specs.Board.{held}
 use Rattle.p2p_net_queues.specs.Tables as table
 use Rattle.p2p_net_tracker.specs.declared.tracker.Tracker.{Tracker}
 use Rattle.p2p_net_tracker.specs.Begins.{IsNew}
+use Rattle.p2p_net_tracker.specs.Heeding.{is_noted}
 use Rattle.p2p_net_queues.specs.Matching.{Match}
 use Rattle.p2p_net_tracker.specs.Stands.{IsTicket, IsMessage, IsAnswer, HeardStands, HandshakeStands, AreDistinct, IsHeldByPeer, ReleasesHeld, ConnectsReserved, TrackerStands}
+use Rattle.p2p_net_tracker.proofs.Ended.{is_ended-none}
 use Rattle.p2p_net_tracker.proofs.Serving.{MayRelease, MayConnect, item-may_take}
 
 no_calls : (configs : List Config) (n : ℕ) → calls_of configs [] n ≡ []
@@ -100,6 +102,7 @@ tracker_new configs n c t is h =
       asked = λ d. ap (λ l. table.at l d) h.questions;
       answered = λ d is. cc;
       fresh = λ d past. (ap (λ l. table.at l d) h.answered, none_answered d);
+      ended = λ conn. ap (λ l. is_noted l conn) h.ended ∙ sym (is_ended-none n conn);
       dialer = subst (λ l. Match (λ x a. IsAnswer x.item a) l t.mailbox.dialer) (sym (no_line (queue.Dialer n)))
           (subst (Match (λ (x : Envelope) a. IsAnswer x.item a) []) (sym (ap (λ (m : Mailbox Key). m.dialer) h.mailbox)) tt);
       heard = subst (λ o. HeardStands o (line [] (queue.Update n))) (sym (ap (λ (m : Mailbox Key). m.heard) h.mailbox)) (no_line (queue.Update n));

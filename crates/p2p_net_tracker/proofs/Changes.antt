@@ -22,6 +22,7 @@ use Rattle.p2p_log.specs.QueueCode.{same_queue}
 use Rattle.p2p_log.specs.Lines.{name_of, ended_item, goes, line, placed, stands_in}
 use Rattle.p2p_log.proofs.Queues.{same_queue-refl}
 use Rattle.p2p_log.proofs.QueueNames.{queue_from_same}
+use Rattle.p2p_log_rules.specs.Connections.{ends_connection}
 use Rattle.p2p_log_rules.specs.Handshakes.{handshakes_by, handshakes_of}
 use Rattle.p2p_log_rules.specs.Tracking.{key_cmp, asked_by, steps_tracker, update_subscriptions, blocked_subscriptions}
 use Rattle.p2p_net_queues.specs.Board.{held}
@@ -35,6 +36,7 @@ use Rattle.p2p_net_tracker.specs.declared.question.Question.{Question}
 use Rattle.p2p_net_tracker.specs.declared.question.Question.TheVariants as question
 use Rattle.p2p_net_queues.specs.Matching.{Match}
 use Rattle.p2p_net_tracker.specs.Stands.{asks_of, asks_at, AreFresh, is_told, IsTicket, kind_of, HasTicket, Says, IsMessage, IsAnswer, HeardStands, TrackerStands, LeavesTracker}
+use Rattle.p2p_net_tracker.proofs.Ended.{noted_stay}
 use Rattle.p2p_net_tracker.proofs.Facts.{asks_at-kept, fresh-longer, was_answered-kept, calls-kept, update_subscriptions-kept, blocked_subscriptions-kept, asked_by-longer, handshaking-kept, source_at-longer}
 use Rattle.p2p_net_queues.proofs.Matching.{Match-weaker, Match-last, slice_get-last}
 
@@ -96,6 +98,7 @@ tracker_frame configs log e n t s q = record {
       let before : asks_at log n d ≡ Some question.PeerSet = sym (asks_at-kept log e n d q.no_question) ∙ is in
       s.answered d before ∙ sym (was_answered-kept log e d (q.no_answer d before));
   fresh = fresh-longer log e t.answered s.fresh q.no_late_answer;
+  ended = noted_stay log e n t.ended s.ended q.no_end;
   dialer = subst (λ l. Match (λ x a. IsAnswer x.item a) l t.mailbox.dialer) (sym (q.told (queue.Dialer n) (eq-eqb n n refl))) s.dialer;
   heard = subst (HeardStands t.mailbox.heard) (sym (q.told (queue.Update n) (eq-eqb n n refl))) s.heard;
   handshakes = handshaking-kept log e n t.mailbox.handshakes q.handshakes (λ k. q.told (queue.Handshake n k) (eq-eqb n n refl)) s.handshakes;
@@ -126,6 +129,7 @@ kept_open false false xs m h = refl
 pub record Asks (log : List Entry) (e : Entry) (n : ℕ) : Type 0 where
   pub no_step : steps_tracker n e.event.act ≡ false
   pub no_answer : (d : ℕ) → answers d e.event.act e.reply ≡ false
+  pub no_end : (conn : ℕ) → ends_connection n conn e ≡ false
   pub no_admission : handshakes_by n log e (handshakes_of log n) ≡ handshakes_of log n
   pub takes : e.takes ≡ []
   pub puts : e.puts ≡ (queue.Tracker n, item.Call (length log)) ∷ []
@@ -179,6 +183,7 @@ tracker_asked configs log e n t desk tickets questions_now m s q more put says q
       asked = asked;
       answered = λ d is. answered d is ∙ sym (was_answered-kept log e d (q.no_answer d));
       fresh = fresh-longer log e t.answered s.fresh (λ d past. q.no_answer d);
+      ended = noted_stay log e n t.ended s.ended q.no_end;
       dialer = subst (λ l. Match (λ y a. IsAnswer y.item a) l t.mailbox.dialer) (sym (same (queue.Dialer n) (eq-eqb n n refl))) s.dialer;
       heard = subst (HeardStands t.mailbox.heard) (sym (same (queue.Update n) (eq-eqb n n refl))) s.heard;
       handshakes = handshaking-kept log e n t.mailbox.handshakes q.no_admission (λ k. same (queue.Handshake n k) (eq-eqb n n refl)) s.handshakes;
@@ -197,12 +202,12 @@ pub record TellsAsker (n : ℕ) (q : Queue) : Type 0 where
 
 -- the entry takes the first item of a queue in which it told one who asked by an oracle, and does no more; these were answered then
 pub tracker_read : (configs : List Config) (log : List Entry) (e : Entry) (n : ℕ) (t u : Tracker) (q : Queue) (x : Envelope) (rest : List Envelope) (answered : List (ℕ × Bool)) → TrackerStands configs log n t
-    → steps_tracker n e.event.act ≡ false → asks_of n e.event.act ≡ None → handshakes_by n log e (handshakes_of log n) ≡ handshakes_of log n → TakesFirst log e q x rest → e.puts ≡ [] → TellsAsker n q
+    → steps_tracker n e.event.act ≡ false → asks_of n e.event.act ≡ None → ((conn : ℕ) → ends_connection n conn e ≡ false) → handshakes_by n log e (handshakes_of log n) ≡ handshakes_of log n → TakesFirst log e q x rest → e.puts ≡ [] → TellsAsker n q
     → u ≡ record t { told = u.told; answered = answered }
     → ((d : ℕ) → asks_at log n d ≡ Some question.PeerSet → is_some (table.at answered d) ≡ was_answered (log ++ e ∷ []) d)
     → AreFresh (log ++ e ∷ []) answered
     → ((p : Queue) → held u.told p ≡ (if same_queue q p then drop 1 (held t.told p) else held t.told p)) → TrackerStands configs (log ++ e ∷ []) n u
-tracker_read configs log e n t u q x rest answered s no_step no_question no_admission takes none asker same noted fresh pops =
+tracker_read configs log e n t u q x rest answered s no_step no_question no_end no_admission takes none asker same noted fresh pops =
     subst (TrackerStands configs (log ++ e ∷ []) n) (sym same) (record {
       follows = subst (Follows key_cmp t.actor.directory t.actor.controls) (sym (calls-kept configs log e n no_step)) s.follows;
       rules = s.rules;
@@ -223,6 +228,7 @@ tracker_read configs log e n t u q x rest answered s no_step no_question no_admi
       asked = λ d. s.asked d ∙ sym (asks_at-kept log e n d no_question);
       answered = λ d is. noted d (sym (asks_at-kept log e n d no_question) ∙ is);
       fresh = fresh;
+      ended = noted_stay log e n t.ended s.ended no_end;
       dialer = subst (λ l. Match (λ y a. IsAnswer y.item a) l t.mailbox.dialer) (sym (other (queue.Dialer n) asker.no_dialer)) s.dialer;
       heard = subst (HeardStands t.mailbox.heard) (sym (other (queue.Update n) asker.no_listener)) s.heard;
       handshakes = handshaking-kept log e n t.mailbox.handshakes no_admission (λ k. other (queue.Handshake n k) (asker.no_handshake k)) s.handshakes;

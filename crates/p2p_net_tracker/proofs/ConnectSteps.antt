@@ -15,6 +15,7 @@ use Rattle.p2p_log.specs.QueueCode.{same_queue}
 use Rattle.p2p_log.specs.Lines.{ended_item, goes, line, placed, stands_in}
 use Rattle.p2p_log.proofs.Queues.{same_queue-refl}
 use Rattle.p2p_log_rules.specs.Effect.{begin_row, entry_of}
+use Rattle.p2p_log_rules.specs.Connections.{ends_connection}
 use Rattle.p2p_log_rules.specs.Handshakes.{handshakes_by, handshakes_of}
 use Rattle.p2p_log_rules.specs.Tracking.{steps_tracker}
 use Rattle.p2p_log_rules.specs.TrackerRows.{answers}
@@ -24,6 +25,7 @@ use Rattle.p2p_net_tracker.specs.declared.tracker.Tracker.{Tracker}
 use Rattle.p2p_net_tracker.specs.Connecting.{connected_by}
 use Rattle.p2p_net_tracker.specs.Stands.{asks_of, is_told, IsAnswer, HeardStands, TrackerStands}
 use Rattle.p2p_net_tracker.proofs.Changes.{told_apart}
+use Rattle.p2p_net_tracker.proofs.Ended.{no_end-reply, noted_stay}
 use Rattle.p2p_net_tracker.proofs.Facts.{handshaking-kept}
 use Rattle.p2p_net_tracker.proofs.Moved.{tracker_moved, desk_grows}
 
@@ -32,13 +34,14 @@ pub record Connects (log : List Entry) (e : Entry) (n conn : ℕ) (peer : Key) :
   pub no_step : steps_tracker n e.event.act ≡ false
   pub no_question : asks_of n e.event.act ≡ None
   pub no_answer : (d : ℕ) → answers d e.event.act e.reply ≡ false
+  pub no_end : (conn : ℕ) → ends_connection n conn e ≡ false
   pub no_admission : handshakes_by n log e (handshakes_of log n) ≡ handshakes_of log n
   pub takes : e.takes ≡ []
   pub puts : e.puts ≡ (queue.Tracker n, item.Connect conn peer) ∷ (queue.Router n, item.Ready conn peer) ∷ []
   pub ends : e.ends ≡ []
 
 -- the router's queue is none in which the tracker tells something
-router_apart : (n m : ℕ) (q : Queue) → is_told n q ≡ true → same_queue q (queue.Router m) ≡ false
+pub router_apart : (n m : ℕ) (q : Queue) → is_told n q ≡ true → same_queue q (queue.Router m) ≡ false
 router_apart n m (queue.Update k) h = refl
 router_apart n m (queue.Dialer k) h = refl
 router_apart n m (queue.Control k e) h = refl
@@ -57,6 +60,7 @@ tracker_connected configs log e n conn peer t s q =
       no_step = q.no_step;
       no_question = q.no_question;
       no_answer = q.no_answer;
+      ended = noted_stay log e n t.ended s.ended q.no_end;
       rest = refl;
       items = grows.items;
       closed = grows.closed;
@@ -99,5 +103,6 @@ tracker_connected configs log e n conn peer t s q =
 pub tracker_begun : (configs : List Config) (log : List Entry) (at seed n conn : ℕ) (peer : Key) (t : Tracker) → TrackerStands configs log n t
     → TrackerStands configs (log ++ entry_of (record { at = at; seed = seed; act = act.SendStep conn n }) (begin_row n conn peer) ∷ []) n (connected_by (length log) conn peer t)
 tracker_begun configs log at seed n conn peer t s =
-    tracker_connected configs log (entry_of (record { at = at; seed = seed; act = act.SendStep conn n }) (begin_row n conn peer)) n conn peer t s
-    (record { no_step = refl; no_question = refl; no_answer = λ d. refl; no_admission = refl; takes = refl; puts = refl; ends = refl })
+    let e = entry_of (record { at = at; seed = seed; act = act.SendStep conn n }) (begin_row n conn peer) in
+    tracker_connected configs log e n conn peer t s
+    (record { no_step = refl; no_question = refl; no_answer = λ d. refl; no_end = no_end-reply n e refl; no_admission = refl; takes = refl; puts = refl; ends = refl })

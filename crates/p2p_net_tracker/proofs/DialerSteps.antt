@@ -12,6 +12,7 @@ use Rattle.p2p_log.specs.QueueCode.{same_queue}
 use Rattle.p2p_log.specs.Lines.{name_of, goes, line, live, stays, stands_in}
 use Rattle.p2p_log.proofs.QueueNames.{queue_from_same}
 use Rattle.p2p_log.proofs.Queues.{same_queue-refl}
+use Rattle.p2p_log_rules.specs.Connections.{ends_connection}
 use Rattle.p2p_log_rules.specs.Handshakes.{handshakes_by, handshakes_of}
 use Rattle.p2p_log_rules.specs.Tracking.{steps_tracker}
 use Rattle.p2p_log_rules.specs.TrackerRows.{answers}
@@ -21,6 +22,7 @@ use Rattle.p2p_net_tracker.specs.declared.tracker.Tracker.{Tracker}
 use Rattle.p2p_net_queues.specs.Matching.{Match}
 use Rattle.p2p_net_tracker.specs.Stands.{asks_of, is_told, IsMessage, IsAnswer, HeardStands, TrackerStands}
 use Rattle.p2p_net_tracker.proofs.Changes.{same_tickets, messages-longer}
+use Rattle.p2p_net_tracker.proofs.Ended.{noted_stay}
 use Rattle.p2p_net_tracker.proofs.Facts.{handshaking-kept}
 use Rattle.p2p_net_queues.proofs.Matching.{Match-drop}
 use Rattle.p2p_net_tracker.proofs.Moved.{tracker_moved, by_place}
@@ -35,6 +37,7 @@ pub record DialerMoves (log : List Entry) (e : Entry) (n : ℕ) (t u : Tracker) 
   pub no_step : steps_tracker n e.event.act ≡ false
   pub no_question : asks_of n e.event.act ≡ None
   pub no_answer : (d : ℕ) → answers d e.event.act e.reply ≡ false
+  pub no_end : (conn : ℕ) → ends_connection n conn e ≡ false
   pub no_admission : handshakes_by n log e (handshakes_of log n) ≡ handshakes_of log n
   pub rest : u ≡ record t { mailbox = record t.mailbox { desk = u.mailbox.desk; dialer = u.mailbox.dialer }; names = t.names ++ map name_of xs; told = u.told }
   pub items : u.mailbox.desk.messages.items ≡ t.mailbox.desk.messages.items ++ ms
@@ -94,6 +97,7 @@ tracker_dialed configs log e n t u took xs ms s q =
       no_step = q.no_step;
       no_question = q.no_question;
       no_answer = q.no_answer;
+      ended = noted_stay log e n t.ended s.ended q.no_end;
       rest = refl;
       items = q.items;
       closed = q.closed;

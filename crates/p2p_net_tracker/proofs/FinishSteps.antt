@@ -15,6 +15,7 @@ use Rattle.p2p_log.specs.declared.item.Envelope.{Envelope}
 use Rattle.p2p_log.specs.declared.entry.Entry.{Entry}
 use Rattle.p2p_log.specs.QueueCode.{same_queue}
 use Rattle.p2p_log.specs.Lines.{line}
+use Rattle.p2p_log_rules.specs.Connections.{ends_connection}
 use Rattle.p2p_log_rules.specs.Handshakes.{handshakes_by, handshakes_of, is_handshaking}
 use Rattle.p2p_log_rules.specs.Tracking.{steps_tracker}
 use Rattle.p2p_log_rules.specs.TrackerRows.{answers}
@@ -25,6 +26,7 @@ use Rattle.p2p_net_tracker.specs.declared.tracker.Tracker.{Tracker}
 use Rattle.p2p_net_queues.specs.Matching.{Match}
 use Rattle.p2p_net_tracker.specs.Stands.{asks_of, is_told, IsAnswer, HeardStands, HandshakeStands, TrackerStands}
 use Rattle.p2p_net_tracker.proofs.Distinct.{distinct-with_line}
+use Rattle.p2p_net_tracker.proofs.Ended.{noted_stay}
 use Rattle.p2p_net_tracker.proofs.Hearing.{runs_is, item_told}
 use Rattle.p2p_net_tracker.proofs.Moved.{tracker_moved, by_place}
 
@@ -33,6 +35,7 @@ pub record FinishMoves (log : List Entry) (e : Entry) (n h place : ℕ) (ok : Bo
   pub no_step : steps_tracker n e.event.act ≡ false
   pub no_question : asks_of n e.event.act ≡ None
   pub no_answer : (d : ℕ) → answers d e.event.act e.reply ≡ false
+  pub no_end : (conn : ℕ) → ends_connection n conn e ≡ false
   pub names : handshakes_by n log e (handshakes_of log n) ≡ handshakes_of log n
   pub runs : is_handshaking log n h ≡ true
   pub rest : u ≡ record t { mailbox = with_item_in t.mailbox h (shake.Finished ok); told = u.told }
@@ -49,6 +52,7 @@ tracker_after_finish configs log e n h place ok t u s q =
       no_step = q.no_step;
       no_question = q.no_question;
       no_answer = q.no_answer;
+      ended = noted_stay log e n t.ended s.ended q.no_end;
       rest = ap (λ l. record now { names = l }) (sym (append-nil t.names));
       items = sym (append-nil t.mailbox.desk.messages.items);
       closed = refl;

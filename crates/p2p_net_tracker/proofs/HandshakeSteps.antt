@@ -21,6 +21,7 @@ use Rattle.p2p_log.specs.declared.item.Envelope.{Envelope}
 use Rattle.p2p_log.specs.declared.entry.Entry.{Entry}
 use Rattle.p2p_log.specs.QueueCode.{same_queue}
 use Rattle.p2p_log.specs.Lines.{line}
+use Rattle.p2p_log_rules.specs.Connections.{ends_connection}
 use Rattle.p2p_log_rules.specs.Handshakes.{unless_ended, handshakes_by, handshakes_of, is_handshaking}
 use Rattle.p2p_log_rules.specs.Tracking.{steps_tracker}
 use Rattle.p2p_log_rules.specs.TrackerRows.{answers}
@@ -31,6 +32,7 @@ use Rattle.p2p_net_tracker.specs.declared.tracker.Tracker.{Tracker}
 use Rattle.p2p_net_queues.specs.Matching.{Match}
 use Rattle.p2p_net_tracker.specs.Stands.{asks_of, is_told, IsAnswer, HeardStands, IsToldHandshake, HandshakeStands, AreDistinct, TrackerStands}
 use Rattle.p2p_net_tracker.proofs.Distinct.{distinct-with_line}
+use Rattle.p2p_net_tracker.proofs.Ended.{noted_stay}
 use Rattle.p2p_net_queues.proofs.Matching.{Match-drop}
 use Rattle.p2p_net_tracker.proofs.Moved.{tracker_moved, by_place, asked_line, names_are, asked_messages, asked_desk, IsAsked, asked_match, desk_grows}
 
@@ -48,6 +50,7 @@ pub record HandshakeMoves (log : List Entry) (e : Entry) (n h : ℕ) (t u : Trac
   pub no_step : steps_tracker n e.event.act ≡ false
   pub no_question : asks_of n e.event.act ≡ None
   pub no_answer : (d : ℕ) → answers d e.event.act e.reply ≡ false
+  pub no_end : (conn : ℕ) → ends_connection n conn e ≡ false
   pub names : handshakes_by n log e (handshakes_of log n) ≡ unless_ended ended h (handshakes_of log n)
   pub rest : u ≡ record t { mailbox = record t.mailbox { desk = asked_desk t.mailbox.desk put; handshakes = u.mailbox.handshakes }; names = t.names ++ names_asked (length log) asked; told = u.told }
   pub waiting : (k : ℕ) → line_of u.mailbox.handshakes k ≡ cond (k == h) (after_step ended (line_of t.mailbox.handshakes h)) (line_of t.mailbox.handshakes k)
@@ -77,6 +80,7 @@ tracker_after_handshake configs log e n h t u ended asked put s q =
       no_step = q.no_step;
       no_question = q.no_question;
       no_answer = q.no_answer;
+      ended = noted_stay log e n t.ended s.ended q.no_end;
       rest = ap (λ l. record now { names = t.names ++ l }) (sym (names_are n (length log) asked));
       items = grows.items;
       closed = grows.closed;

@@ -60,7 +60,7 @@ use Rattle.p2p_net_queues.proofs.Matching.{Match-last}
 use Rattle.p2p_net_tracker.proofs.Rings.{is_same, count-first}
 
 -- neither the listener nor a handshake is told this
-abbrev IsAside : Put Key → Type 0
+abbrev pub IsAside : Put Key → Type 0
 IsAside (put.Listenable addresses dropped) = ⊥
 IsAside (put.Acceptable handshake acceptable) = ⊥
 IsAside (put.Listen handshake grant) = ⊥

@@ -20,6 +20,7 @@ use Rattle.p2p_log.specs.declared.entry.Entry.{Entry}
 use Rattle.p2p_log.specs.QueueCode.{same_queue}
 use Rattle.p2p_log.specs.Lines.{line}
 use Rattle.p2p_log.proofs.Queues.{same_queue-refl}
+use Rattle.p2p_log_rules.specs.Connections.{ends_connection}
 use Rattle.p2p_log_rules.specs.Handshakes.{handshakes_by, handshakes_of, is_handshaking, source_at}
 use Rattle.p2p_log_rules.specs.Tracking.{steps_tracker}
 use Rattle.p2p_log_rules.specs.TrackerRows.{answers}
@@ -30,6 +31,7 @@ use Rattle.p2p_net_tracker.specs.declared.tracker.Tracker.{Tracker}
 use Rattle.p2p_net_queues.specs.Matching.{Match}
 use Rattle.p2p_net_tracker.specs.Stands.{asks_of, is_told, IsAnswer, HeardStands, IsToldHandshake, HandshakeStands, TrackerStands}
 use Rattle.p2p_net_tracker.proofs.Distinct.{distinct-begun}
+use Rattle.p2p_net_tracker.proofs.Ended.{noted_stay}
 use Rattle.p2p_net_tracker.proofs.Facts.{handshaking-kept}
 use Rattle.p2p_net_tracker.proofs.Hearing.{one_waits}
 use Rattle.p2p_net_tracker.proofs.Moved.{tracker_moved, by_place}
@@ -41,6 +43,7 @@ pub record UpdateMoves (log : List Entry) (e : Entry) (n : ℕ) (t u : Tracker) 
   pub no_step : steps_tracker n e.event.act ≡ false
   pub no_question : asks_of n e.event.act ≡ None
   pub no_answer : (d : ℕ) → answers d e.event.act e.reply ≡ false
+  pub no_end : (conn : ℕ) → ends_connection n conn e ≡ false
   pub no_admission : handshakes_by n log e (handshakes_of log n) ≡ handshakes_of log n
   pub rest : u ≡ record t { mailbox = record t.mailbox { heard = None }; told = u.told }
   pub mailbox : line (log ++ e ∷ []) (queue.Tracker n) ≡ line log (queue.Tracker n)
@@ -54,6 +57,7 @@ tracker_updated configs log e n t u s q =
       no_step = q.no_step;
       no_question = q.no_question;
       no_answer = q.no_answer;
+      ended = noted_stay log e n t.ended s.ended q.no_end;
       rest = ap (λ l. record now { names = l }) (sym (append-nil t.names));
       items = sym (append-nil t.mailbox.desk.messages.items);
       closed = refl;
@@ -79,6 +83,7 @@ pub record AskMoves (log : List Entry) (e : Entry) (n : ℕ) (t u : Tracker) (ke
   pub no_step : steps_tracker n e.event.act ≡ false
   pub no_question : asks_of n e.event.act ≡ None
   pub no_answer : (d : ℕ) → answers d e.event.act e.reply ≡ false
+  pub no_end : (conn : ℕ) → ends_connection n conn e ≡ false
   pub admits : handshakes_by n log e (handshakes_of log n) ≡ handshakes_of log n ++ length log ∷ []
   pub source_is : source_at (log ++ e ∷ []) (length log) ≡ Some source
   pub rest : u ≡ record t { mailbox = record t.mailbox { desk = u.mailbox.desk; handshakes = begun t.mailbox.handshakes (length log) }; names = t.names ++ (length log, 0) ∷ [] }
@@ -129,6 +134,7 @@ tracker_asked configs log e n t u key source s q =
       no_step = q.no_step;
       no_question = q.no_question;
       no_answer = q.no_answer;
+      ended = noted_stay log e n t.ended s.ended q.no_end;
       rest = refl;
       items = q.items;
       closed = q.closed;

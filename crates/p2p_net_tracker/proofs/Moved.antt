@@ -16,12 +16,14 @@ use Rattle.p2p_log.specs.declared.item.Envelope.{Envelope}
 use Rattle.p2p_log.specs.declared.entry.Entry.{Entry}
 use Rattle.p2p_log.specs.Lines.{name_of, placed, stands_in, line}
 use Rattle.p2p_log.proofs.Queues.{same_queue-refl}
+use Rattle.p2p_log_rules.specs.Connections.{is_ended}
 use Rattle.p2p_log_rules.specs.Handshakes.{is_handshaking}
 use Rattle.p2p_log_rules.specs.Tracking.{key_cmp, steps_tracker}
 use Rattle.p2p_log_rules.specs.TrackerRows.{answers}
 use Rattle.p2p_net_queues.specs.Board.{held}
 use Rattle.p2p_net_queues.proofs.Going.{put_in}
 use Rattle.p2p_net_tracker.specs.Dialed.{asked_puts, names_asked}
+use Rattle.p2p_net_tracker.specs.Heeding.{is_noted}
 use Rattle.p2p_net_tracker.specs.declared.naming.Tickets.{Tickets}
 use Rattle.p2p_net_tracker.specs.declared.tracker.Tracker.{Tracker}
 use Rattle.p2p_net_queues.specs.Matching.{Match}
@@ -35,7 +37,8 @@ pub record TrackerMoves (log : List Entry) (e : Entry) (n : ℕ) (t u : Tracker)
   pub no_step : steps_tracker n e.event.act ≡ false
   pub no_question : asks_of n e.event.act ≡ None
   pub no_answer : (d : ℕ) → answers d e.event.act e.reply ≡ false
-  pub rest : u ≡ record t { mailbox = u.mailbox; names = t.names ++ map name_of xs; told = u.told }
+  pub rest : u ≡ record t { mailbox = u.mailbox; names = t.names ++ map name_of xs; ended = u.ended; told = u.told }
+  pub ended : (conn : ℕ) → is_noted u.ended conn ≡ is_ended (log ++ e ∷ []) n conn
   -- what waits for it
   pub items : u.mailbox.desk.messages.items ≡ t.mailbox.desk.messages.items ++ ms
   pub closed : u.mailbox.desk.messages.closed ≡ t.mailbox.desk.messages.closed
@@ -77,6 +80,7 @@ tracker_moved configs log e n t u xs ms s q =
       asked = λ d. s.asked d ∙ sym (asks_at-kept log e n d q.no_question);
       answered = λ d is. s.answered d (sym (asks_at-kept log e n d q.no_question) ∙ is) ∙ sym (was_answered-kept log e d (q.no_answer d));
       fresh = fresh-longer log e t.answered s.fresh (λ d past. q.no_answer d);
+      ended = q.ended;
       dialer = q.dialer;
       heard = q.heard;
       handshakes = q.handshakes;

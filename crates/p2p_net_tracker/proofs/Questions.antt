@@ -38,6 +38,7 @@ use Rattle.p2p_net_tracker.specs.Asking.{asking_row, asks_for, with_question, wi
 use Rattle.p2p_net_tracker.specs.Stands.{kind_of, asks_of, asks_at, Says, TrackerStands}
 use Rattle.p2p_net_tracker.proofs.Answering.{still_stands}
 use Rattle.p2p_net_tracker.proofs.Changes.{same_tickets, Asks, tracker_asked}
+use Rattle.p2p_net_tracker.proofs.Ended.{steps_half, no_end-act}
 use Rattle.p2p_net_tracker.proofs.Facts.{asks_at-longer, asks_at-kept}
 use Rattle.p2p_net_queues.proofs.Matching.{Match-long, slice_get-longer, slice_get-last}
 
@@ -64,7 +65,7 @@ asks_here : (n : ℕ) (what : Asked) → asks_of n (act.Ask what n) ≡ kind_of 
 asks_here n what = ap (λ b. cond b (kind_of what) None) (eq-eqb n n refl)
 
 module _ (configs : List Config) (log : List Entry) (at seed n : ℕ) (a : Act) (t u : Tracker) (r : Row) (s : TrackerStands configs log n t) (is : r ≡ asking_row (told_of t.mailbox.desk) n (length log))
-    (no_step : steps_tracker n a ≡ false) (no_answer : (d : ℕ) → answers d a r.reply ≡ false)
+    (no_step : steps_tracker n a ≡ false) (no_answer : (d : ℕ) → answers d a r.reply ≡ false) (no_half : steps_half n a ≡ false)
     (no_admission : handshakes_by n log (entry_of (record { at = at; seed = seed; act = a }) r) (handshakes_of log n) ≡ handshakes_of log n) where
   abbrev e : Entry
   e = entry_of (record { at = at; seed = seed; act = a }) r
@@ -73,6 +74,7 @@ module _ (configs : List Config) (log : List Entry) (at seed n : ℕ) (a : Act) 
   asks = record {
     no_step = no_step;
     no_answer = no_answer;
+    no_end = no_end-act n e no_half;
     no_admission = no_admission;
     takes = ap (λ (k : Row). k.takes) is;
     puts = ap (λ (k : Row). k.puts) is;
@@ -186,19 +188,19 @@ track_asked configs log at seed n index peers t u r s is same = by (nat_lt t.ora
         → (r ≡ track_row configs log n peers) × TrackerStands configs (log ++ entry_of (record { at = at; seed = seed; act = act.Ask (ask.Track index peers) n }) r ∷ []) n u
     by true large is same = (
       is ∙ (ap (λ k. only (reply.PeerSetTooLarge k t.oracle.max_peers_per_set)) size ∙ (ap (λ k. only (reply.PeerSetTooLarge (size_at configs n peers) k)) s.most ∙ sym (row_is true large))),
-      still_stands configs log at seed n (act.Ask (ask.Track index peers) n) t u r s refl (asks_here n (ask.Track index peers)) refl (reply.PeerSetTooLarge (size_by t peers) t.oracle.max_peers_per_set) is (λ d. refl)
+      still_stands configs log at seed n (act.Ask (ask.Track index peers) n) t u r s refl (asks_here n (ask.Track index peers)) refl refl (reply.PeerSetTooLarge (size_by t peers) t.oracle.max_peers_per_set) is (λ d. refl)
           (same ∙ ap (λ (k : Tracker). record t { told = k.told }) (sym same)) (λ p own. ap (λ (k : Tracker). held k.told p) same ∙ s.told p own),
     )
     by false fits is same =
-        let done = message_asked configs log at seed n (act.Ask (ask.Track index peers) n) t u r s is refl (λ d. refl) refl (message.Register index peers) (asks_here n (ask.Track index peers)) (0, refl, tt) same in
+        let done = message_asked configs log at seed n (act.Ask (ask.Track index peers) n) t u r s is refl (λ d. refl) refl refl (message.Register index peers) (asks_here n (ask.Track index peers)) (0, refl, tt) same in
         (done.0 ∙ sym (row_is false fits), done.1)
 
 pub ask_stands : (configs : List Config) (log : List Entry) (at seed n : ℕ) (what : Asked) (t u : Tracker) (r : Row) → TrackerStands configs log n t
     → r ≡ ask_answer t n (length log) what → u ≡ after_asking t (length log) what
     → (r ≡ ask_row configs log n what) × TrackerStands configs (log ++ entry_of (record { at = at; seed = seed; act = act.Ask what n }) r ∷ []) n u
 ask_stands configs log at seed n (ask.Track index peers) t u r s is same = track_asked configs log at seed n index peers t u r s is same
-ask_stands configs log at seed n (ask.PeerSet index) t u r s is same = peer_set_asked configs log at seed n (act.Ask (ask.PeerSet index) n) t u r s is refl (λ d. refl) refl index refl same
-ask_stands configs log at seed n ask.Subscribe t u r s is same = subscribe_asked configs log at seed n (act.Ask ask.Subscribe n) t u r s is refl (λ d. refl) refl refl same
-ask_stands configs log at seed n ask.Blocked t u r s is same = blocked_asked configs log at seed n (act.Ask ask.Blocked n) t u r s is refl (λ d. refl) refl refl same
+ask_stands configs log at seed n (ask.PeerSet index) t u r s is same = peer_set_asked configs log at seed n (act.Ask (ask.PeerSet index) n) t u r s is refl (λ d. refl) refl refl index refl same
+ask_stands configs log at seed n ask.Subscribe t u r s is same = subscribe_asked configs log at seed n (act.Ask ask.Subscribe n) t u r s is refl (λ d. refl) refl refl refl same
+ask_stands configs log at seed n ask.Blocked t u r s is same = blocked_asked configs log at seed n (act.Ask ask.Blocked n) t u r s is refl (λ d. refl) refl refl refl same
 ask_stands configs log at seed n what t u r s is same =
-    message_asked configs log at seed n (act.Ask what n) t u r s is refl (λ d. refl) refl (message_of what 0) (asks_here n what) (0, refl, tt) same
+    message_asked configs log at seed n (act.Ask what n) t u r s is refl (λ d. refl) refl refl (message_of what 0) (asks_here n what) (0, refl, tt) same

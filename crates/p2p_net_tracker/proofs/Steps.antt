@@ -1,6 +1,6 @@
 -- A step of a node's tracker: its row is the log's, and it stands for the log with that entry.
 use Rattle.std.proofs.Common.{◌≡◌, ℕ, Bool, true, false, cond, List, [], ◌∷◌, ◌++◌, map, drop, length, refl, ap, sym, subst, ◌∙◌, arith, eq-eqb, append-nil, Option, Some, inl}
-use Rattle.std.specs.Prelude.{filter, flat_map, slice_get, count_by, ◌==◌}
+use Rattle.std.specs.Prelude.{filter, flat_map, slice_get, count_by}
 use Rattle.std.specs.List.{list_any, IsDistinct}
 use Rattle.std.specs.Map.{keys_of}
 use Rattle.std.specs.BTreeMap.{is_at}
@@ -34,36 +34,37 @@ use Rattle.p2p_log.specs.declared.item.Item.TheVariants as item
 use Rattle.p2p_log.specs.declared.item.Envelope.{Envelope}
 use Rattle.p2p_log.specs.declared.entry.Entry.{Entry}
 use Rattle.p2p_log.specs.declared.entry.Reply.TheVariants as reply
-use Rattle.p2p_log.specs.declared.event.Act.TheVariants as act
 use Rattle.p2p_log.specs.Lines.{name_of, ended_item, goes, stays, live, line, placed, stands_in}
 use Rattle.p2p_log_rules.specs.declared.row.Row.{Row}
+use Rattle.p2p_log_rules.specs.Connections.{is_ended}
 use Rattle.p2p_log_rules.specs.Facts.{taken, item_named}
-use Rattle.p2p_log_rules.specs.Effect.{entry_of}
 use Rattle.p2p_log_rules.specs.Handshakes.{is_handshaking}
 use Rattle.p2p_log_rules.specs.Rows.{only}
 use Rattle.p2p_log_rules.specs.Tracking.{key_cmp, rules_at, item_calls, step_calls, grants_peer, call_where, calls_of, subscribes, subscribes_blocked, update_subscriptions, blocked_subscriptions}
 use Rattle.p2p_log_rules.specs.TrackerPuts as puts
+use Rattle.p2p_log_rules.specs.TrackerPuts.{heeded}
 use Rattle.p2p_log_rules.specs.TrackerRows.{rings_of, told_row, served_row, tracker_step}
 use Rattle.p2p_log_rules.proofs.Recorded.{item_named-first}
-use Rattle.p2p_log_rules.proofs.Handshakes.{handshakes_of-kept}
 use Rattle.p2p_net_queues.specs.Board.{held}
 use Rattle.p2p_net_queues.specs.Rows.{taken_row}
 use Rattle.p2p_net_queues.proofs.Going.{line-kept}
 use Rattle.p2p_net_tracker.specs.declared.tracker.Tracker.{Tracker}
+use Rattle.p2p_net_tracker.specs.Heeding.{is_noted, heeded_by}
 use Rattle.p2p_net_tracker.specs.Naming.{named_puts}
 use Rattle.p2p_net_tracker.specs.Telling.{lost, told_in, told_to}
 use Rattle.p2p_net_tracker.specs.Stepping.{ActorSteps, Tells, TellsFor, TellsBy, Steps}
 use Rattle.p2p_net_queues.specs.Matching.{Match}
 use Rattle.p2p_net_tracker.specs.Stands.{is_told, IsTicket, IsMessage, IsAnswer, HeardStands, HandshakeStands, AreDistinct, AsksRun, TrackerStands}
-use Rattle.p2p_net_tracker.proofs.Changes.{same_tickets, messages-longer}
-use Rattle.p2p_net_tracker.proofs.Desk.{LeavesDesk, all_left}
+use Rattle.p2p_net_tracker.proofs.Desk.{all_left}
 use Rattle.p2p_net_tracker.proofs.Dialing.{answers_in, answers-after, answers-named}
 use Rattle.p2p_log_rules.proofs.Calls.{calls_of-append}
-use Rattle.p2p_net_tracker.proofs.Facts.{asks_at-kept, fresh-longer, was_answered-kept, update_subscriptions-append, blocked_subscriptions-append}
+use Rattle.p2p_net_tracker.proofs.Facts.{update_subscriptions-append, blocked_subscriptions-append}
+use Rattle.p2p_net_tracker.proofs.LateKills.{without_late, heeded-same, named-late, mailbox-late, few-late, grants-late, unblocked-late}
 use Rattle.p2p_net_tracker.proofs.Hearing.{TellsFew, runs_is, unblocked_once, item_few, heard-after, handshakes-after, keys-after}
 use Rattle.p2p_net_queues.proofs.Matching.{Match-append}
 use Rattle.p2p_net_tracker.proofs.Named.{has_any-is, named-unblocked, named-item}
 use Rattle.p2p_net_tracker.proofs.Rings.{is_same}
+use Rattle.p2p_net_tracker.proofs.StepLeft.{step_entry, stands_after}
 use Rattle.p2p_net_tracker.proofs.Serving.{AskerRuns, item-calls, item-updates, item-sets}
 use Rattle.p2p_net_tracker.proofs.ToldLines.{named-each, Told, holds_told, mailbox-told, dialer-told, heard-told, handshake-told, lost_is, away_none, away_first, mailbox_first}
 
@@ -72,62 +73,6 @@ equal_keys p q h = ap (λ n. record { 0 = n }) (same p.0 q.0 h)
   where
     same : (a b : ℕ) → is_at (nat_cmp a) b ≡ true → a ≡ b
     same a b h = grind (arith, nat_tests)
-
--- the entry of a step with this row
-abbrev step_entry : ℕ → ℕ → ℕ → Row → Entry
-step_entry at seed n r = entry_of (record { at = at; seed = seed; act = act.Tracker n }) r
-
--- what a step leaves as it was, and what it makes of the rest: these messages wait in these envelopes
-record Left (configs : List Config) (log : List Entry) (at seed n : ℕ) (t u : Tracker) (r : Row) (waits : List Envelope) (messages : List (Message Key)) : Type 0 where
-  rest : u ≡ record t { actor = u.actor; mailbox = u.mailbox; names = u.names; told = u.told }
-  rules : u.actor.directory.rules ≡ t.actor.directory.rules
-  cooldown : u.actor.cooldown ≡ t.actor.cooldown
-  works : u.actor.has_failed ≡ false
-  follows : Follows key_cmp u.actor.directory u.actor.controls (calls_of configs (log ++ step_entry at seed n r ∷ []) n)
-  subscribed : Match (IsTicket t.tickets.updates) u.actor.updates (update_subscriptions (log ++ step_entry at seed n r ∷ []) n)
-  subscribed_blocked : Match (IsTicket t.tickets.blocked) u.actor.sets (blocked_subscriptions (log ++ step_entry at seed n r ∷ []) n)
-  mailbox : line (log ++ step_entry at seed n r ∷ []) (queue.Tracker n) ≡ waits
-  names_left : u.names ≡ map name_of waits
-  each : Match (λ x m. IsMessage t.tickets log x.item m) waits messages
-  desk : LeavesDesk t.mailbox.desk (record u.mailbox.desk { messages = record u.mailbox.desk.messages { items = t.mailbox.desk.messages.items } })
-  items : u.mailbox.desk.messages.items ≡ messages
-  answered : Match (λ x a. IsAnswer x.item a) (line (log ++ step_entry at seed n r ∷ []) (queue.Dialer n)) u.mailbox.dialer
-  heard_left : HeardStands u.mailbox.heard (line (log ++ step_entry at seed n r ∷ []) (queue.Update n))
-  told_handshakes : (k : ℕ) → HandshakeStands (line_of u.mailbox.handshakes k) (is_handshaking log n k) (line (log ++ step_entry at seed n r ∷ []) (queue.Handshake n k))
-  distinct : AreDistinct u.mailbox.handshakes
-  told_left : (q : Queue) → is_told n q ≡ true → held u.told q ≡ line (log ++ step_entry at seed n r ∷ []) q
-
-stands_after : (configs : List Config) (log : List Entry) (at seed n : ℕ) (t u : Tracker) (r : Row) (waits : List Envelope) (messages : List (Message Key)) → TrackerStands configs log n t
-    → Left configs log at seed n t u r waits messages → TrackerStands configs (log ++ step_entry at seed n r ∷ []) n u
-stands_after configs log at seed n t u r waits messages s h =
-    let e = step_entry at seed n r in
-    subst (TrackerStands configs (log ++ e ∷ []) n) (sym h.rest) (record {
-      follows = h.follows;
-      rules = h.rules ∙ s.rules;
-      cooldown = h.cooldown ∙ s.cooldown;
-      works = h.works;
-      local = s.local;
-      most = s.most;
-      is_open = ap (λ m. m.closed) h.desk.messages ∙ s.is_open;
-      size = ap (λ m. m.capacity) h.desk.messages ∙ s.size;
-      names = h.names_left ∙ ap (map name_of) (sym h.mailbox);
-      messages = subst (λ l. Match (λ x m. IsMessage t.tickets (log ++ e ∷ []) x.item m) l u.mailbox.desk.messages.items) (sym h.mailbox)
-          (subst (Match (λ (x : Envelope) m. IsMessage t.tickets (log ++ e ∷ []) x.item m) waits) (sym h.items)
-          (messages-longer t.tickets t.tickets (same_tickets t.tickets) log (e ∷ []) waits messages h.each));
-      questions = h.desk.questions ∙ s.questions;
-      updates = h.desk.updates ∙ s.updates;
-      sets = h.desk.sets ∙ s.sets;
-      subscribed = h.subscribed;
-      subscribed_blocked = h.subscribed_blocked;
-      asked = λ d. s.asked d ∙ sym (asks_at-kept log e n d refl);
-      answered = λ d is. s.answered d (sym (asks_at-kept log e n d refl) ∙ is) ∙ sym (was_answered-kept log e d refl);
-      fresh = fresh-longer log e t.answered s.fresh (λ d past. refl);
-      dialer = h.answered;
-      heard = h.heard_left;
-      handshakes = λ k. subst (λ l. HandshakeStands (line_of u.mailbox.handshakes k) (list_any (λ j. k == j) l) (line (log ++ e ∷ []) (queue.Handshake n k))) (sym (handshakes_of-kept log e n refl)) (h.told_handshakes k);
-      distinct = h.distinct;
-      told = h.told_left;
-    })
 
 -- ---- the facts after a step, by what it took
 
@@ -177,6 +122,16 @@ module _ (configs : List Config) (log : List Entry) (at seed n : ℕ) (t u : Tra
 
   abbrev e : Entry
   e = step_entry at seed n r
+
+  -- what the actor put, but for the kills of connections that have ended
+  abbrev heed : List (Put Key) → List (Put Key)
+  heed put = without_late (is_noted t.ended) put
+
+  tells_heeded : (before : Row) (put : List (Put Key)) → Tells (length log) before (heeded_by t.ended (named_puts n t.tickets put)) t u r → Tells (length log) before (named_puts n t.tickets (heed put)) t u r
+  tells_heeded before put = subst (λ xs. Tells (length log) before xs t u r) (sym (named-late (is_noted t.ended) n t.tickets put))
+
+  heeded_is : (put : List (Put Key)) (xs : List puts.Put) → named_puts n t.tickets put ≡ xs → named_puts n t.tickets (heed put) ≡ heeded (is_ended log n) xs
+  heeded_is put xs is = named-late (is_noted t.ended) n t.tickets put ∙ (ap (heeded (is_noted t.ended)) is ∙ heeded-same (is_noted t.ended) (is_ended log n) s.ended xs)
 
   -- the actor's next calls, by the rules of the log
   follows_next : (st : Stepped Key) (m : Option (Message Key)) (next : List (Call Key))
@@ -256,20 +211,26 @@ module _ (configs : List Config) (log : List Entry) (at seed n : ℕ) (t u : Tra
       → put ≡ unblocked key_cmp rules t.actor.updates t.actor.sets t.mailbox.desk.sets t.mailbox.heard calls at (call.UnblockExpired at)
       → (r ≡ told_row log [] (puts.unblocked_puts rules n at us bs calls (call.UnblockExpired at))) × TrackerStands configs (log ++ e ∷ []) n u
   after_unblocked put steps tells rest is =
-      let told = told_now [] (only reply.Ok) put tells.0 refl refl refl (λ p own. away_none log p) in
+      let kept = heed put in
+      let telling = tells_heeded (only reply.Ok) put tells.0 in
+      let told = told_now [] (only reply.Ok) kept telling refl refl refl (λ p own. away_none log p) in
       let none = none_taken log e told.takes in
       let reply_is : r.reply ≡ reply.Ok = ap (λ (k : Row). k.reply) tells.0.row in
-      let desk = all_left put t.mailbox in
-      let mailbox : u.mailbox ≡ after_puts put t.mailbox = steps.put in
-      let waits = mailbox-told log e n [] (named_puts n t.tickets put) told ∙ away_none log (queue.Tracker n) in
-      let few : TellsFew (runs_in t.mailbox) put =
-      subst (TellsFew (runs_in t.mailbox)) (sym is)
-      (inl (unblocked_once rules t.actor.updates t.actor.sets t.mailbox.desk.sets t.mailbox.heard (runs_in t.mailbox) calls at (call.UnblockExpired at)))
+      let desk = all_left kept t.mailbox in
+      let mailbox : u.mailbox ≡ after_puts kept t.mailbox = steps.put ∙ sym (mailbox-late (is_noted t.ended) put t.mailbox) in
+      let waits = mailbox-told log e n [] (named_puts n t.tickets kept) told ∙ away_none log (queue.Tracker n) in
+      let few : TellsFew (runs_in t.mailbox) kept =
+      few-late (is_noted t.ended) (runs_in t.mailbox) put
+      (subst (TellsFew (runs_in t.mailbox)) (sym is)
+      (inl (unblocked_once rules t.actor.updates t.actor.sets t.mailbox.desk.sets t.mailbox.heard (runs_in t.mailbox) calls at (call.UnblockExpired at))))
       in
-      let named : named_puts n t.tickets put ≡ puts.unblocked_puts rules n at us bs calls (call.UnblockExpired at) =
-      ap (named_puts n t.tickets) is ∙ named-unblocked n t.tickets rules t.mailbox.heard at t.actor.updates t.actor.sets us bs t.mailbox.desk.sets s.subscribed s.subscribed_blocked (runs_in t.mailbox) calls (call.UnblockExpired at)
+      let due = puts.unblocked_puts rules n at us bs calls (call.UnblockExpired at) in
+      let named : named_puts n t.tickets kept ≡ due =
+      heeded_is put due
+      (ap (named_puts n t.tickets) is ∙ named-unblocked n t.tickets rules t.mailbox.heard at t.actor.updates t.actor.sets us bs t.mailbox.desk.sets s.subscribed s.subscribed_blocked (runs_in t.mailbox) calls (call.UnblockExpired at))
+      ∙ unblocked-late (is_ended log n) rules n at us bs calls (call.UnblockExpired at)
       in (
-        row_now [] (only reply.Ok) put (puts.unblocked_puts rules n at us bs calls (call.UnblockExpired at)) tells.0 refl (λ p own. away_none log p) named,
+        row_now [] (only reply.Ok) kept due telling refl (λ p own. away_none log p) named,
         stands_after configs log at seed n t u r (line log (queue.Tracker n)) t.mailbox.desk.messages.items s (record {
           rest = rest;
           rules = steps.rules;
@@ -291,11 +252,11 @@ module _ (configs : List Config) (log : List Entry) (at seed n : ℕ) (t u : Tra
             sets = ap (λ (m : Mailbox Key). length m.desk.sets) mailbox ∙ desk.sets;
           };
           items = ap (λ (m : Mailbox Key). m.desk.messages.items) mailbox ∙ ap (λ (q : base.Queue (Message Key)). q.items) desk.messages;
-          answered = answers_now [] put t.mailbox told mailbox s.dialer;
-          heard_left = heard_now [] put t.mailbox told mailbox few s.heard;
-          told_handshakes = handshakes_now [] put t.mailbox told mailbox few s.handshakes;
-          distinct = distinct_now put t.mailbox mailbox s.distinct;
-          told_left = told_after [] (only reply.Ok) put tells.0 refl told;
+          answered = answers_now [] kept t.mailbox told mailbox s.dialer;
+          heard_left = heard_now [] kept t.mailbox told mailbox few s.heard;
+          told_handshakes = handshakes_now [] kept t.mailbox told mailbox few s.handshakes;
+          distinct = distinct_now kept t.mailbox mailbox s.distinct;
+          told_left = told_after [] (only reply.Ok) kept telling refl told;
         }),
       )
 
@@ -306,30 +267,36 @@ module _ (configs : List Config) (log : List Entry) (at seed n : ℕ) (t u : Tra
       → ActorSteps t.actor u.actor t.mailbox u.mailbox at seed (stepped.Message put) → TellsBy (stepped.Message put) (length log) n t u r
       → u ≡ record t { actor = u.actor; mailbox = u.mailbox; names = u.names; told = u.told }
       → put ≡ puts_for key_cmp rules t.actor.updates t.actor.sets t.mailbox.desk.sets t.mailbox.heard (runs_in t.mailbox) calls at m
-      → (r ≡ told_row log (name_of x ∷ []) (puts.item_puts rules n at us bs calls log x.item)) × TrackerStands configs (log ++ e ∷ []) n u
+      → (r ≡ told_row log (name_of x ∷ []) (heeded (is_ended log n) (puts.item_puts rules n at us bs calls log x.item))) × TrackerStands configs (log ++ e ∷ []) n u
   after_message x waits m ms i put first items is says asker each steps tells rest puts_is =
       let name : slice_get t.names 0 ≡ Some (name_of x) = ap (λ l. slice_get l 0) (s.names ∙ ap (map name_of) first) in
-      let telling : Tells (length log) (taken_row (name_of x)) (named_puts n t.tickets put) t u r = subst (λ o. TellsFor o (length log) (named_puts n t.tickets put) t u r) name tells.0 in
+      let kept = heed put in
+      let telling : Tells (length log) (taken_row (name_of x)) (named_puts n t.tickets kept) t u r =
+      tells_heeded (taken_row (name_of x)) put (subst (λ o. TellsFor o (length log) (heeded_by t.ended (named_puts n t.tickets put)) t u r) name tells.0)
+      in
       let next : next_message t.mailbox.desk ≡ Some m = ap (λ l. slice_get l 0) items in
       let away = away_first log n x waits first in
-      let told = told_now (name_of x ∷ []) (taken_row (name_of x)) put telling refl refl refl away in
+      let told = told_now (name_of x ∷ []) (taken_row (name_of x)) kept telling refl refl refl away in
       let taken_is : taken log e ≡ i ∷ [] = first_taken log e (queue.Tracker n) x waits first told.takes ∙ ap (λ k. k ∷ []) is in
       let reply_is : r.reply ≡ reply.Ok = ap (λ (k : Row). k.reply) telling.row in
       let start = left_in (stepped.Message put) t.mailbox in
-      let desk = all_left put start in
-      let mailbox : u.mailbox ≡ after_puts put start = steps.put in
+      let desk = all_left kept start in
+      let mailbox : u.mailbox ≡ after_puts kept start = steps.put ∙ sym (mailbox-late (is_noted t.ended) put start) in
       let xs = puts.item_puts rules n at us bs calls log i in
-      let named : named_puts n t.tickets put ≡ xs =
-      ap (named_puts n t.tickets) puts_is ∙ named-item n t.tickets rules t.mailbox.heard at t.actor.updates t.actor.sets us bs t.mailbox.desk.sets s.subscribed s.subscribed_blocked (runs_in t.mailbox) calls log i m
-      (λ k. runs_is (line_of t.mailbox.handshakes k) (is_handshaking log n k) (line log (queue.Handshake n k)) (s.handshakes k)) says
+      let due = heeded (is_ended log n) xs in
+      let named : named_puts n t.tickets kept ≡ due =
+      heeded_is put xs
+      (ap (named_puts n t.tickets) puts_is ∙ named-item n t.tickets rules t.mailbox.heard at t.actor.updates t.actor.sets us bs t.mailbox.desk.sets s.subscribed s.subscribed_blocked (runs_in t.mailbox) calls log i m
+      (λ k. runs_is (line_of t.mailbox.handshakes k) (is_handshaking log n k) (line log (queue.Handshake n k)) (s.handshakes k)) says)
       in
-      let row_is : r ≡ told_row log (name_of x ∷ []) xs = row_now (name_of x ∷ []) (taken_row (name_of x)) put xs telling refl away named in
-      let few : TellsFew (runs_in start) put =
-      subst (TellsFew (runs_in t.mailbox)) (sym puts_is) (item_few rules t.actor.updates t.actor.sets t.mailbox.desk.sets t.mailbox.heard (runs_in t.mailbox) calls at t.tickets log i m says)
+      let row_is : r ≡ told_row log (name_of x ∷ []) due = row_now (name_of x ∷ []) (taken_row (name_of x)) kept due telling refl away named in
+      let few : TellsFew (runs_in start) kept =
+      few-late (is_noted t.ended) (runs_in start) put
+      (subst (TellsFew (runs_in t.mailbox)) (sym puts_is) (item_few rules t.actor.updates t.actor.sets t.mailbox.desk.sets t.mailbox.heard (runs_in t.mailbox) calls at t.tickets log i m says))
       in
-      let puts_are : r.puts ≡ xs = ap (λ (k : Row). k.puts) row_is
+      let grants : list_any grants_peer r.puts ≡ list_any grants_peer xs = ap (λ (k : Row). list_any grants_peer k.puts) row_is ∙ grants-late (is_ended log n) xs
       in (
-        row_is ∙ ap (λ k. told_row log (name_of x ∷ []) (puts.item_puts rules n at us bs calls log k)) (sym is),
+        row_is ∙ ap (λ k. told_row log (name_of x ∷ []) (heeded (is_ended log n) (puts.item_puts rules n at us bs calls log k))) (sym is),
         stands_after configs log at seed n t u r waits ms s (record {
           rest = rest;
           rules = steps.rules;
@@ -340,12 +307,12 @@ module _ (configs : List Config) (log : List Entry) (at seed n : ℕ) (t u : Tra
               ∙ (item-calls rules n t.tickets log i m at (jitter_of rules.cooldown seed) us bs calls says asker
               ∙ sym (calls-step configs log at seed n r (i ∷ []) taken_is
               ∙ (ap (λ k. step_calls log k (i ∷ []) at (jitter_of rules.cooldown seed) (list_any grants_peer r.puts) calls) reply_is
-              ∙ ap (λ l. item_calls log i at (jitter_of rules.cooldown seed) (list_any grants_peer l) calls) puts_are))));
+              ∙ ap (λ b. item_calls log i at (jitter_of rules.cooldown seed) b calls) grants))));
           subscribed = subst (λ ts. Match (IsTicket t.tickets.updates) ts (update_subscriptions (log ++ e ∷ []) n)) (sym (steps.updates ∙ ap (λ o. by_step (stepped.Message put) o updates_for t.actor.updates) next))
               (subst (Match (IsTicket t.tickets.updates) (updates_for m t.actor.updates)) (sym (updates-step log at seed n r (i ∷ []) taken_is)) (item-updates t.tickets log i m t.actor.updates us says s.subscribed));
           subscribed_blocked = subst (λ ts. Match (IsTicket t.tickets.blocked) ts (blocked_subscriptions (log ++ e ∷ []) n)) (sym (steps.sets ∙ ap (λ o. by_step (stepped.Message put) o sets_for t.actor.sets) next))
               (subst (Match (IsTicket t.tickets.blocked) (sets_for m t.actor.sets)) (sym (sets-step log at seed n r (i ∷ []) taken_is)) (item-sets t.tickets log i m t.actor.sets bs says s.subscribed_blocked));
-          mailbox = mailbox-told log e n (name_of x ∷ []) (named_puts n t.tickets put) told ∙ mailbox_first log n x waits first;
+          mailbox = mailbox-told log e n (name_of x ∷ []) (named_puts n t.tickets kept) told ∙ mailbox_first log n x waits first;
           names_left = tells.1 ∙ ap (drop 1) (s.names ∙ ap (map name_of) first);
           each = each;
           desk = record {
@@ -355,11 +322,11 @@ module _ (configs : List Config) (log : List Entry) (at seed n : ℕ) (t u : Tra
             sets = ap (λ (k : Mailbox Key). length k.desk.sets) mailbox ∙ desk.sets;
           };
           items = ap (λ (k : Mailbox Key). k.desk.messages.items) mailbox ∙ (ap (λ (q : base.Queue (Message Key)). q.items) desk.messages ∙ ap (drop 1) items);
-          answered = answers_now (name_of x ∷ []) put start told mailbox s.dialer;
-          heard_left = heard_now (name_of x ∷ []) put start told mailbox few s.heard;
-          told_handshakes = handshakes_now (name_of x ∷ []) put start told mailbox few s.handshakes;
-          distinct = distinct_now put start mailbox s.distinct;
-          told_left = told_after (name_of x ∷ []) (taken_row (name_of x)) put telling refl told;
+          answered = answers_now (name_of x ∷ []) kept start told mailbox s.dialer;
+          heard_left = heard_now (name_of x ∷ []) kept start told mailbox few s.heard;
+          told_handshakes = handshakes_now (name_of x ∷ []) kept start told mailbox few s.handshakes;
+          distinct = distinct_now kept start mailbox s.distinct;
+          told_left = told_after (name_of x ∷ []) (taken_row (name_of x)) kept telling refl told;
         }),
       )
 

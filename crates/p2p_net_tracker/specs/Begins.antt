@@ -21,4 +21,5 @@ pub record IsNew (c : Config) (t : Tracker) : Type 0 where
   pub tickets : t.tickets ≡ record { questions = []; updates = []; blocked = [] }
   pub questions : t.questions ≡ []
   pub answered : t.answered ≡ []
+  pub ended : t.ended ≡ []
   pub told : (q : Queue) → held t.told q ≡ []

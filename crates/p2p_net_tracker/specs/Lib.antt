@@ -2,8 +2,10 @@ pub mod Asking
 pub mod Begins
 pub mod Connecting
 pub mod Dialed
+pub mod Ending
 pub mod Finishing
 pub mod Handshaking
+pub mod Heeding
 pub mod Naming
 pub mod Reading
 pub mod Stands

@@ -32,6 +32,7 @@ use Rattle.p2p_log.specs.declared.asked.Asked.TheVariants as ask
 use Rattle.p2p_log.specs.declared.event.Act.{Act}
 use Rattle.p2p_log.specs.declared.event.Act.TheVariants as act
 use Rattle.p2p_log.specs.Lines.{name_of, line}
+use Rattle.p2p_log_rules.specs.Connections.{ends_connection, is_ended}
 use Rattle.p2p_log_rules.specs.Facts.{key_at}
 use Rattle.p2p_log_rules.specs.Handshakes.{handshakes_by, handshakes_of, is_handshaking, source_at}
 use Rattle.p2p_log_rules.specs.Rows.{mailbox_size_at}
@@ -41,6 +42,7 @@ use Rattle.p2p_net_queues.specs.Matching.{Match}
 use Rattle.p2p_net_queues.specs.Board.{held}
 use Rattle.p2p_net_queues.specs.Tables as table
 use Rattle.p2p_net_tracker.specs.Asking.{message_of}
+use Rattle.p2p_net_tracker.specs.Heeding.{is_noted}
 use Rattle.p2p_net_tracker.specs.Naming.{grant_of}
 use Rattle.p2p_net_tracker.specs.declared.question.Question.{Question}
 use Rattle.p2p_net_tracker.specs.declared.question.Question.TheVariants as question
@@ -181,6 +183,8 @@ pub record TrackerStands (configs : List Config) (log : List Entry) (n : ℕ) (t
   pub asked : (d : ℕ) → table.at t.questions d ≡ asks_at log n d
   pub answered : (d : ℕ) → asks_at log n d ≡ Some question.PeerSet → is_some (table.at t.answered d) ≡ was_answered log d
   pub fresh : AreFresh log t.answered
+  -- which connections of the node have ended
+  pub ended : (conn : ℕ) → is_noted t.ended conn ≡ is_ended log n conn
   -- what the dialer is answered is its line
   pub dialer : Match (λ x a. IsAnswer x.item a) (line log (queue.Dialer n)) t.mailbox.dialer
   -- what the listener is told is its line, and so it is for each handshake
@@ -196,6 +200,7 @@ pub record LeavesTracker (log : List Entry) (e : Entry) (n : ℕ) : Type 0 where
   pub no_question : asks_of n e.event.act ≡ None
   pub no_answer : (d : ℕ) → asks_at log n d ≡ Some question.PeerSet → answers d e.event.act e.reply ≡ false
   pub no_late_answer : (d : ℕ) → length log ≤ d → answers d e.event.act e.reply ≡ false
+  pub no_end : (conn : ℕ) → ends_connection n conn e ≡ false
   pub handshakes : handshakes_by n log e (handshakes_of log n) ≡ handshakes_of log n
   pub mailbox : line (log ++ e ∷ []) (queue.Tracker n) ≡ line log (queue.Tracker n)
   pub told : (q : Queue) → is_told n q ≡ true → line (log ++ e ∷ []) q ≡ line log q

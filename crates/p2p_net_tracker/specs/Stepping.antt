@@ -22,6 +22,7 @@ use Rattle.p2p_log_rules.specs.Rows.{only}
 use Rattle.p2p_log_rules.specs.Tracking.{key_cmp}
 use Rattle.p2p_net_queues.specs.Board.{held}
 use Rattle.p2p_net_queues.specs.Rows.{taken_row}
+use Rattle.p2p_net_tracker.specs.Heeding.{heeded_by}
 use Rattle.p2p_net_tracker.specs.Naming.{named_puts}
 use Rattle.p2p_net_tracker.specs.Telling.{told_in, told_to}
 use Rattle.p2p_net_tracker.specs.declared.tracker.Tracker.{Tracker}
@@ -56,8 +57,8 @@ TellsFor (Some name) k puts old new r = Tells k (taken_row name) puts old new r
 
 abbrev pub TellsBy : Stepped Key → ℕ → ℕ → Tracker → Tracker → Row → Type 0
 TellsBy stepped.Idle k n old new r = TellsNothing old new r (only reply.Idle) × (new.names ≡ old.names)
-TellsBy (stepped.EndedBlocks put) k n old new r = Tells k (only reply.Ok) (named_puts n old.tickets put) old new r × (new.names ≡ old.names)
-TellsBy (stepped.Message put) k n old new r = TellsFor (slice_get old.names 0) k (named_puts n old.tickets put) old new r × (new.names ≡ drop 1 old.names)
+TellsBy (stepped.EndedBlocks put) k n old new r = Tells k (only reply.Ok) (heeded_by old.ended (named_puts n old.tickets put)) old new r × (new.names ≡ old.names)
+TellsBy (stepped.Message put) k n old new r = TellsFor (slice_get old.names 0) k (heeded_by old.ended (named_puts n old.tickets put)) old new r × (new.names ≡ drop 1 old.names)
 
 -- what a step of the entry k comes to at the node n
 pub record Steps (k n now seed : ℕ) (old new : Tracker) (r : Row) : Type 0 where

@@ -4,8 +4,10 @@
 pub mod asking;
 pub mod connecting;
 pub mod dialed;
+pub mod ending;
 pub mod finishing;
 pub mod handshaking;
+pub mod heeding;
 pub mod naming;
 pub mod question;
 pub mod reading;

@@ -6,14 +6,16 @@ ghost use Rattle.p2p_log.specs.Lines.{placed, stands_in};
 ghost use Rattle.p2p_log_rules.specs.TrackerRows.{ring_of, rings_of};
 ghost use Rattle.p2p_net_queues.specs.Board.{held};
 ghost use Rattle.p2p_log_rules.specs.Rows.{overwritten};
+ghost use Rattle.p2p_net_tracker.specs.Heeding.{heeded_by};
 ghost use Rattle.p2p_net_tracker.specs.Naming.{named_puts};
 ghost use Rattle.p2p_net_tracker.specs.Telling.{is_ring, lost, name_first, told_in, told_to};
 
+use crate::heeding::heed;
 use crate::naming::{Tickets, name_all};
 use p2p_base::{Key, List};
 use p2p_log::{End, Envelope, Item, Queue};
 use p2p_log_rules::Row;
-use p2p_net_queues::{Board, Turn};
+use p2p_net_queues::{Board, Table, Turn};
 use p2p_tracker::Put;
 use std::alloc::AllocError;
 
@@ -28,18 +30,22 @@ fn is_ring(queue: &Queue) -> bool
     }
 }
 
-/// Puts what the tracker put where those who asked find it, and ends what it overwrites.
+/// Puts what the tracker put where those who asked find it, but for the kills of connections that have ended, and ends what it
+/// overwrites.
 pub fn tell(
     turn: Turn,
     tickets: &Tickets,
+    ended: &Table<()>,
     told: &mut Board<Envelope>,
     row: &mut Row,
     put: List<Put<Key>>,
 ) -> Result<(), AllocError>
-    ensures row { OnOk result (row.new ≡ told_in (held told.old) (named_puts turn.node tickets.now put) row.old) }
-    ensures told { OnOk result ((q : Name) → held told.new q ≡ told_to (held told.old) (named_puts turn.node tickets.now put) turn.entry (length row.old.puts) q) }
+    ensures row { OnOk result (row.new ≡ told_in (held told.old) (heeded_by ended.now (named_puts turn.node tickets.now put)) row.old) }
+    ensures told { OnOk result ((q : Name) → held told.new q
+        ≡ told_to (held told.old) (heeded_by ended.now (named_puts turn.node tickets.now put)) turn.entry (length row.old.puts) q) }
 {
-    let puts = name_all(turn.alloc, turn.node, tickets, put)?;
+    let named = name_all(turn.alloc, turn.node, tickets, put)?;
+    let puts = heed(turn.alloc, ended, named)?;
     overwrite(told, row, puts.as_slice())?;
     put_all(turn, told, row, puts)?;
     Ok(())

@@ -32,6 +32,8 @@ pub struct Tracker {
     pub questions: Table<Question>,
     /// The questions for peer sets whose answer was taken.
     pub answered: Table<bool>,
+    /// The connections of the node that have ended.
+    pub ended: Table<()>,
     /// What it put and what was not taken.
     pub told: Board<Envelope>,
 }
@@ -68,6 +70,7 @@ impl Tracker {
             tickets: Tickets::new(alloc),
             questions: Table::new(alloc),
             answered: Table::new(alloc),
+            ended: Table::new(alloc),
             told: Board::new(alloc),
         })
     }
@@ -90,7 +93,14 @@ impl Tracker {
             Stepped::Idle => Ok(only(turn.alloc, Reply::Idle)),
             Stepped::EndedBlocks { put } => {
                 let mut row = only(turn.alloc, Reply::Ok);
-                tell(turn, &self.tickets, &mut self.told, &mut row, put)?;
+                tell(
+                    turn,
+                    &self.tickets,
+                    &self.ended,
+                    &mut self.told,
+                    &mut row,
+                    put,
+                )?;
                 Ok(row)
             }
             Stepped::Message { put } => {
@@ -98,7 +108,14 @@ impl Tracker {
                     return Ok(only(turn.alloc, Reply::Idle));
                 };
                 let mut row = taking(turn.alloc, name)?;
-                tell(turn, &self.tickets, &mut self.told, &mut row, put)?;
+                tell(
+                    turn,
+                    &self.tickets,
+                    &self.ended,
+                    &mut self.told,
+                    &mut row,
+                    put,
+                )?;
                 Ok(row)
             }
         }

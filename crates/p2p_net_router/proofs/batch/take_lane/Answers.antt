@@ -22,7 +22,7 @@ loop-index-preserved c =
           apart inv.kept (inv.front size items h apart) (λ its k. sym c.in-Some.is ∙ c.take.ensures.value size its k)
           (λ its k a. subst (λ (o : Option ((ℕ × ℕ) × Item)). Holds size c.take.new.self (filter (stays (frame_gone o)) its)) c.in-Some.is (c.take.ensures.holds size its k a))
           c.in_ok-push-in-Some.ensures.ok;
-      kept = AreKept-trans c.args.router.now c.loop-index.router c.take.new.self inv.kept (AreKept-taken c.loop-index.router c.take.new.self c.take.ensures.rest c.take.ensures.routes);
+      kept = AreKept-trans c.args.router.now c.loop-index.router c.take.new.self inv.kept (AreKept-taken c.loop-index.router c.take.new.self c.take.ensures.rest c.take.ensures.routes c.take.ensures.ends);
       at_most =
           let more = ap length c.in_ok-push-in-Some.ensures.ok ∙ length-append c.loop-index.taken (c.in-Some.frame ∷ []) in
           let h = inv.at_most in
@@ -47,7 +47,7 @@ returns-in-None-clause-holds c =
 
 pub returns-in-None-clause-kept : goal.returns-in-None-clause-kept
 returns-in-None-clause-kept c =
-    AreKept-trans c.args.router.now c.loop-index.router c.take.new.self c.loop-index.invariant.kept (AreKept-taken c.loop-index.router c.take.new.self c.take.ensures.rest c.take.ensures.routes)
+    AreKept-trans c.args.router.now c.loop-index.router c.take.new.self c.loop-index.invariant.kept (AreKept-taken c.loop-index.router c.take.new.self c.take.ensures.rest c.take.ensures.routes c.take.ensures.ends)
 
 pub returns-clause-taken : goal.returns-clause-taken
 returns-clause-taken c =

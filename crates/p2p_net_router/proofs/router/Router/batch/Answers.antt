@@ -1,5 +1,6 @@
+use Rattle.p2p_log_rules.specs.Effect.{mailbox_size_at}
 use Rattle.p2p_net_router.proofs.Batches.{batch_taken, AreApart-left, AreKept-trans}
-use Rattle.p2p_net_router.proofs.Batched.{stands_batched}
+use Rattle.p2p_net_router.proofs.Batched.{over_kept, stands_batched}
 use Rattle.p2p_net_router.proofs.router.Router.batch.Goals as goal
 
 pub returns-clause-taken : goal.returns-clause-taken
@@ -34,3 +35,8 @@ returns-clause-stands c =
     λ configs log e s b takes ends away.
     stands_batched configs log e c.args.self.now c.take_lane-2.new.router c.args.conn c.args.size c.take_lane-2.new.taken
     (returns-clause-kept c) (returns-clause-taken c) (returns-clause-holds c) s b takes ends away
+
+pub returns-clause-over : goal.returns-clause-over
+returns-clause-over c =
+    λ configs log items s apart.
+    over_kept configs log c.args.self.now c.take_lane-2.new.router items _ s (returns-clause-kept c) (returns-clause-holds c (mailbox_size_at configs c.args.self.now.number) items s.holds apart)

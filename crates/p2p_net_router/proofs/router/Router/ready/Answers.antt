@@ -3,13 +3,14 @@ use Rattle.std.specs.Prelude.{IsTrue}
 use Rattle.p2p_log.specs.declared.queue.Queue.TheVariants as queue
 use Rattle.p2p_log.specs.declared.item.Item.TheVariants as item
 use Rattle.p2p_log.specs.Lines.{live}
+use Rattle.p2p_log_rules.specs.Connections.{is_ended}
 use Rattle.p2p_base.specs.declared.key.Key.{Key}
 use Rattle.p2p_flow.specs.Lanes.{Lanes}
 use Rattle.p2p_wire.specs.declared.encoded.EncodedData.{EncodedData}
 use Rattle.p2p_router.specs.Mailbox.{appended}
 use Rattle.p2p_router.specs.Messenger.{Desk, is_bound, in_mailbox}
 use Rattle.p2p_router.specs.declared.message.Message.TheVariants as message
-use Rattle.p2p_net_router.proofs.Asked.{Holds-readied, bound_appended, places_appended}
+use Rattle.p2p_net_router.proofs.Asked.{more_ended, Holds-readied, bound_appended, places_appended}
 use Rattle.p2p_net_router.proofs.Beside.{moved_to, readied_stands}
 use Rattle.p2p_net_router.specs.Holds.{Holds}
 use Rattle.p2p_net_router.specs.Stands.{HasPlaces}
@@ -36,7 +37,7 @@ returns-clause-places c =
 
 pub returns-clause-stands : goal.returns-clause-stands
 returns-clause-stands c =
-    λ configs log e s at room stranger b g.
+    λ configs log e s at room lives stranger b g.
     let r = c.args.self.now in
     let told =
     c.in_ok-tell_ready.ensures
@@ -49,5 +50,6 @@ returns-clause-stands c =
     readied_stands configs log e r c.tell_ready.new.messenger c.insert.new.self c.push.new.self c.args.place c.args.conn c.args.key s b g
     (ap (λ (d : Desk Key). is_bound d.binding) told ∙ bound_appended r.messenger.binding _)
     (λ k h. subst (λ (d : Desk Key). HasPlaces k d.binding) (sym told) (places_appended k r.messenger.binding _ h))
+    (more_ended (is_ended log r.number) r c.insert.new.self c.args.conn c.args.key (c.in_ok-insert.ensures.updates.0) lives s.ended)
     (subst (λ k. Holds k (moved_to r c.tell_ready.new.messenger r.actor c.insert.new.self c.push.new.self) (live log ++ record { entry = length log; place = c.args.place; queue = queue.Router r.number; item = item.Ready c.args.conn c.args.key } ∷ [])) room
     (subst (λ n. Holds c.args.size (moved_to r c.tell_ready.new.messenger r.actor c.insert.new.self c.push.new.self) (live log ++ record { entry = n; place = c.args.place; queue = queue.Router r.number; item = item.Ready c.args.conn c.args.key } ∷ [])) (sym at) holds))

@@ -8,10 +8,11 @@ use Rattle.p2p_router.specs.Routing.{link_of}
 use Rattle.p2p_log.specs.QueueCode.{same_queue}
 use Rattle.p2p_log.specs.Lines.{stays}
 use Rattle.p2p_net_queues.specs.Board.{held}
+use Rattle.p2p_net_router.specs.Ends.{AreEnded}
 use Rattle.p2p_net_router.specs.Frames.{frame_waiting}
 use Rattle.p2p_net_router.specs.Holds.{Holds, routes_in}
 use Rattle.p2p_net_router.specs.Items.{key_cmp}
-use Rattle.p2p_net_router.proofs.Taken.{taken_none, no_peer, taken_nothing, taken_some, name_there, routes_taken}
+use Rattle.p2p_net_router.proofs.Taken.{ends_taken, taken_none, no_peer, taken_nothing, taken_some, name_there, routes_taken}
 use Rattle.p2p_net_router.proofs.router.Router.take.Goals as goal
 
 pub returns-in_default-clause-holds : goal.returns-in_default-clause-holds
@@ -93,3 +94,24 @@ pub returns-clause-routes : goal.returns-clause-routes
 returns-clause-routes c =
     let links = c.args.self.now.actor.links in
     ap (λ (x : Routes Key). routes_in x.links) c.take_frame.ensures.after ∙ routes_taken links c.in-Some.key c.args.priority (link_of key_cmp links c.in-Some.key) refl
+
+pub returns-in_default-take_frame-clause-ends : goal.returns-in_default-take_frame-clause-ends
+returns-in_default-take_frame-clause-ends c =
+    λ ended h.
+    let r = c.args.self.now in
+    subst (λ (a : Routes Key). AreEnded ended r.peers a.links) (sym c.take_frame.ensures.after)
+    (ends_taken ended r.peers r.actor.links c.in-Some.key c.args.priority (link_of key_cmp r.actor.links c.in-Some.key) refl h)
+
+pub returns-in_default-pop-clause-ends : goal.returns-in_default-pop-clause-ends
+returns-in_default-pop-clause-ends c =
+    λ ended h.
+    let r = c.args.self.now in
+    subst (λ (a : Routes Key). AreEnded ended r.peers a.links) (sym c.take_frame.ensures.after)
+    (ends_taken ended r.peers r.actor.links c.in-Some.key c.args.priority (link_of key_cmp r.actor.links c.in-Some.key) refl h)
+
+pub returns-clause-ends : goal.returns-clause-ends
+returns-clause-ends c =
+    λ ended h.
+    let r = c.args.self.now in
+    subst (λ (a : Routes Key). AreEnded ended r.peers a.links) (sym c.take_frame.ensures.after)
+    (ends_taken ended r.peers r.actor.links c.in-Some.key c.args.priority (link_of key_cmp r.actor.links c.in-Some.key) refl h)

@@ -3,6 +3,7 @@ use Rattle.std.proofs.Common.{◌≡◌, length, Some, ap, sym, subst, ◌∙◌
 use Rattle.p2p_log_rules.specs.declared.row.Row.{Row}
 use Rattle.p2p_net_queues.specs.Board.{held}
 use Rattle.p2p_net_queues.specs.Rows.{taken_row}
+use Rattle.p2p_net_tracker.specs.Heeding.{heeded_by}
 use Rattle.p2p_net_tracker.specs.Naming.{named_puts}
 use Rattle.p2p_net_tracker.specs.Telling.{told_in, told_to}
 use Rattle.p2p_net_tracker.specs.Stepping.{TellsBy, TellsFor}
@@ -12,7 +13,7 @@ use Rattle.p2p_net_tracker.proofs.tracker.Tracker.step.Goals as goal
 pub returns-in_ok-tell-in-Message : goal.returns-in_ok-tell-in-Message
 returns-in_ok-tell-in-Message c =
     let t = c.args.self.now in
-    let puts = named_puts c.args.turn.node t.tickets c.in-Message.put in
+    let puts = heeded_by t.ended (named_puts c.args.turn.node t.tickets c.in-Message.put) in
     let row : c.in_ok-row-in-Message.row ≡ taken_row c.in-Some.name = c.in_ok-row-in-Message.ensures in
     let name : Some c.in-Some.name ≡ slice_get t.names 0 = sym c.in-Some.is ∙ c.pop.ensures.first in
     let new = record t { actor = c.step.new.self; mailbox = c.step.new.way; names = c.pop.new.self; told = c.tell-in-Message.new.told } in
