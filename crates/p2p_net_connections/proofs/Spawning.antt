@@ -10,7 +10,8 @@ use Rattle.p2p_log.specs.declared.queue.Queue.TheVariants as queue
 use Rattle.p2p_log.specs.declared.entry.Entry.{Entry}
 use Rattle.p2p_log.specs.Lines.{line}
 use Rattle.p2p_log_rules.specs.Facts.{with_named}
-use Rattle.p2p_log_rules.specs.Spawning.{Spawned, connections_of}
+use Rattle.p2p_log_rules.specs.Connections.{live_connection}
+use Rattle.p2p_log_rules.specs.Spawning.{Spawned}
 use Rattle.p2p_net_queues.specs.Tables.{at}
 use Rattle.p2p_net_queues.proofs.Tables.{at-inserted}
 use Rattle.p2p_net_connections.specs.Connections.{spawned_on, spawned_with}
@@ -27,7 +28,7 @@ on_cond false c o = refl
 -- an entry in which its spawner makes one, over this link and by this reservation
 pub connections_spawned :
     (configs : List Config) (log : List Entry) (e : Entry) (n link : ℕ) (m : Metadata Key) (cs : Connections) → ConnectionsStand configs log n cs
-    → ((conn : ℕ) → connections_of (log ++ e ∷ []) n conn ≡ with_named (length log) (Some (record { key = peer_of m; link = link })) (connections_of log n) conn)
+    → ((conn : ℕ) → live_connection (log ++ e ∷ []) n conn ≡ with_named (length log) (Some (record { key = peer_of m; link = link })) (live_connection log n) conn)
     → BeginsNone log e n → ReceivesNone configs log e n → ((conn : ℕ) → line (log ++ e ∷ []) (queue.Ready n conn) ≡ line log (queue.Ready n conn))
     → ConnectionsStand configs (log ++ e ∷ []) n (spawned_with (length log) link m cs)
 connections_spawned configs log e n link m cs s made none receives lines = record {

@@ -5,10 +5,9 @@ use Rattle.p2p_log.specs.declared.config.Config.{Config}
 use Rattle.p2p_log.specs.declared.queue.Queue.TheVariants as queue
 use Rattle.p2p_log.specs.declared.entry.Entry.{Entry}
 use Rattle.p2p_log.specs.Lines.{line}
-use Rattle.p2p_log_rules.specs.Connections.{begins, is_begun, answers_by, is_running}
+use Rattle.p2p_log_rules.specs.Connections.{begins, is_begun, answers_by, is_running, live_connection}
 use Rattle.p2p_log_rules.specs.Metering.{pings, ping_quota, limit_at, admitted_by, admitted}
 use Rattle.p2p_log_rules.specs.Pings.{ping_frequency_at, last_pinged}
-use Rattle.p2p_log_rules.specs.Spawning.{connections_of}
 use Rattle.p2p_net_queues.specs.Lines.{HoldsLines}
 use Rattle.p2p_net_queues.specs.Meters.{Meters}
 use Rattle.p2p_net_queues.specs.Tables.{at}
@@ -16,7 +15,7 @@ use Rattle.p2p_net_connections.specs.Connections.{runs_on, pinged_on, spawned_on
 use Rattle.p2p_net_connections.specs.declared.connections.Connections.{Connections}
 
 pub record ConnectionsStand (configs : List Config) (log : List Entry) (n : ℕ) (cs : Connections) : Type 0 where
-  pub spawned : (conn : ℕ) → spawned_on (at cs.spawned conn) ≡ connections_of log n conn
+  pub spawned : (conn : ℕ) → spawned_on (at cs.spawned conn) ≡ live_connection log n conn
   pub begun : (conn : ℕ) → is_some (at cs.stages conn) ≡ is_begun log n conn
   pub running : (conn : ℕ) → runs_on (at cs.stages conn) ≡ is_running log n conn
   pub pinged : (conn : ℕ) → pinged_on (at cs.stages conn) ≡ last_pinged configs log n conn
@@ -25,9 +24,9 @@ pub record ConnectionsStand (configs : List Config) (log : List Entry) (n : ℕ)
   pub holds : HoldsLines (queue.Held n) log cs.held
   pub pings : Meters nat_cmp log (ping_quota (ping_frequency_at configs n)) (λ conn. admitted configs log n conn pings) cs.pings
 
--- an entry in which its spawner makes no connection
+-- an entry in which its spawner makes no connection, and none ends
 abbrev pub SpawnsNone : List Entry → Entry → ℕ → Type 0
-SpawnsNone log e n = (conn : ℕ) → connections_of (log ++ e ∷ []) n conn ≡ connections_of log n conn
+SpawnsNone log e n = (conn : ℕ) → live_connection (log ++ e ∷ []) n conn ≡ live_connection log n conn
 
 -- an entry in which none of them begins or pings, and none takes an answer
 pub record BeginsNone (log : List Entry) (e : Entry) (n : ℕ) : Type 0 where

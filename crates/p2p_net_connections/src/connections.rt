@@ -36,7 +36,7 @@ pub enum Stage {
 /// and waits for their quotas.
 #[derive(Drop)]
 pub struct Connections {
-    /// Each connection that its spawner made.
+    /// Each connection that its spawner made and that has not ended.
     pub spawned: Table<Connection>,
     /// How far those are that have begun.
     pub stages: Table<Stage>,
@@ -72,7 +72,7 @@ impl Connections {
         }
     }
 
-    /// The connection that an event made.
+    /// The connection that an event made, while it has not ended.
     pub fn find(&self, conn: u64) -> Option<&Connection>
         ensures { option_copied result ≡ at self.now.spawned conn }
     {

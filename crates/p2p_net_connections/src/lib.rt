@@ -3,6 +3,7 @@
 #![tactic(auto)]
 
 pub mod connections;
+mod ending;
 pub mod holding;
 pub mod pinging;
 

@@ -1,0 +1,65 @@
+-- The connections of a node after an entry that ends one of them.
+use Rattle.std.proofs.Common.{◌≡◌, ℕ, Bool, true, false, cond, List, [], ◌∷◌, ◌++◌, refl, ap, sym, subst, ◌∙◌, Option, None}
+use Rattle.std.specs.Prelude.{◌==◌, ◌||◌, is_some}
+use Rattle.std.specs.List.{list_any}
+use Rattle.std.specs.Ordering.{nat_cmp}
+use Rattle.p2p_log.specs.declared.config.Config.{Config}
+use Rattle.p2p_log.specs.declared.queue.Queue.TheVariants as queue
+use Rattle.p2p_log.specs.declared.entry.Entry.{Entry}
+use Rattle.p2p_log_rules.specs.Connections.{begins, answers_by, ends_connection, is_ended, live_connection}
+use Rattle.p2p_log_rules.specs.Metering.{pings, ping_quota, limit_at, admitted_by, admitted}
+use Rattle.p2p_log_rules.specs.Pings.{ping_frequency_at}
+use Rattle.p2p_log_rules.specs.Spawning.{Spawned, connections_of}
+use Rattle.p2p_log_rules.proofs.Connections.{is_ended-append}
+use Rattle.p2p_net_queues.specs.Lines.{HoldsLines}
+use Rattle.p2p_net_queues.specs.Meters.{Meters}
+use Rattle.p2p_net_queues.specs.Tables.{AreBut, at}
+use Rattle.p2p_net_connections.specs.Connections.{runs_on, pinged_on, spawned_on}
+use Rattle.p2p_net_connections.specs.Stands.{ConnectionsStand}
+use Rattle.p2p_net_connections.specs.declared.connections.Connection.{Connection}
+use Rattle.p2p_net_connections.specs.declared.connections.Connections.{Connections}
+use Rattle.p2p_net_connections.proofs.Changes.{begun-kept, running-kept, pings_kept}
+use Rattle.p2p_net_connections.proofs.Pings.{pinged-kept}
+
+-- an entry that ends this connection and no other; none is made or begins, none runs that did not, and none admits a ping
+pub record EndsOne (configs : List Config) (log : List Entry) (e : Entry) (n conn : ℕ) : Type 0 where
+  pub ends : (k : ℕ) → ends_connection n k e ≡ (k == conn)
+  pub makes_none : (k : ℕ) → connections_of (log ++ e ∷ []) n k ≡ connections_of log n k
+  pub no_begin : (k : ℕ) → begins n k e ≡ false
+  pub no_run : (k : ℕ) → list_any (λ b. b) (answers_by n k log e) ≡ false
+  pub no_ping : (k : ℕ) → admitted_by (limit_at configs n) n k pings log e ≡ []
+
+-- it is none of those that live from then on
+pub live_connection-ended : (configs : List Config) (log : List Entry) (e : Entry) (n conn : ℕ) → EndsOne configs log e n conn → (k : ℕ)
+    → live_connection (log ++ e ∷ []) n k ≡ cond (k == conn) None (live_connection log n k)
+live_connection-ended configs log e n conn one k =
+    ap (λ b. cond b None (connections_of (log ++ e ∷ []) n k)) (is_ended-append log e n k ∙ ap (λ b. is_ended log n k || b) (one.ends k))
+    ∙ (ap (λ o. cond (is_ended log n k || (k == conn)) None o) (one.makes_none k) ∙ by (is_ended log n k) (k == conn) (connections_of log n k))
+  where
+    by : (b c : Bool) (o : Option Spawned) → cond (b || c) None o ≡ cond c None (cond b None o)
+    by true true o = refl
+    by true false o = refl
+    by false true o = refl
+    by false false o = refl
+
+spawned_but : (b : Bool) (o : Option Connection) → spawned_on (cond b None o) ≡ cond b None (spawned_on o)
+spawned_but true o = refl
+spawned_but false o = refl
+
+-- without it, and with what waits then, they stand for the log
+pub connections_ended : (configs : List Config) (log : List Entry) (e : Entry) (n conn : ℕ) (cs new : Connections) → ConnectionsStand configs log n cs → EndsOne configs log e n conn
+    → AreBut conn None cs.spawned new.spawned → new.stages ≡ cs.stages → new.pings ≡ cs.pings
+    → HoldsLines (queue.Ready n) (log ++ e ∷ []) new.answers → HoldsLines (queue.Held n) (log ++ e ∷ []) new.held
+    → ConnectionsStand configs (log ++ e ∷ []) n new
+connections_ended configs log e n conn cs new s one left stages quota waits holds = record {
+  spawned = λ k.
+      ap spawned_on (left k)
+      ∙ (spawned_but (k == conn) (at cs.spawned k)
+      ∙ (ap (λ (o : Option Spawned). cond (k == conn) None o) (s.spawned k) ∙ sym (live_connection-ended configs log e n conn one k)));
+  begun = λ k. ap (λ st. is_some (at st k)) stages ∙ (s.begun k ∙ sym (begun-kept log e n k (one.no_begin k)));
+  running = λ k. ap (λ st. runs_on (at st k)) stages ∙ (s.running k ∙ sym (running-kept log e n k (one.no_run k)));
+  pinged = λ k. ap (λ st. pinged_on (at st k)) stages ∙ (s.pinged k ∙ sym (pinged-kept configs log e n k (one.no_begin k)));
+  waits = waits;
+  holds = holds;
+  pings = subst (Meters nat_cmp (log ++ e ∷ []) (ping_quota (ping_frequency_at configs n)) (λ k. admitted configs (log ++ e ∷ []) n k pings)) (sym quota) (pings_kept configs log e n cs s one.no_ping);
+}
