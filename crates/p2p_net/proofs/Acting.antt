@@ -49,6 +49,7 @@ use Rattle.p2p_net.proofs.Trying.{attempt_performs}
 use Rattle.p2p_net.proofs.Tracking.{ask_performs, answer_performs, next_performs, tracker_performs}
 use Rattle.p2p_net.proofs.Sending.{send_step_performs}
 use Rattle.p2p_net.proofs.RecvStep.{recv_step_performs}
+use Rattle.p2p_log_laws.proofs.Living.{none_ended}
 
 -- ---- acts that name one node
 
@@ -76,7 +77,7 @@ node_performs configs log moment seed (act.Ask what n) x y l links r s t lawful 
 node_performs configs log moment seed (act.Answer e) x y l links r s t lawful valid late one d = answer_performs configs log moment seed e x y l links r s t valid d.0.0 d.0.1 d.1
 node_performs configs log moment seed (act.Next e) x y l links r s t lawful valid late one d = next_performs configs log moment seed e x y l links r s t valid d.0.0 d.0.1 d.1
 node_performs configs log moment seed (act.Tracker n) x y l links r s t lawful valid late one d = tracker_performs configs log moment seed n x y l links r s t (asks_run configs log n lawful) d.0 d.1
-node_performs configs log moment seed (act.Spawner n) x y l links r s t lawful valid late one d = spawner_performs configs log moment seed n x y l links r s t d.0 d.1
+node_performs configs log moment seed (act.Spawner n) x y l links r s t lawful valid late one d = spawner_performs configs log moment seed n x y l links r s t (none_ended configs (events_of log) log lawful n (length log)) d.0 d.1
 node_performs configs log moment seed (act.Dialer n) x y l links r s t lawful valid late one d = dialer_performs configs log moment seed n x y l links r s t d.0 d.1
 node_performs configs log moment seed (act.Listener n) x y l links r s t lawful valid late one d = listener_performs configs log moment seed n x y l links r s t d.0 d.1
 node_performs configs log moment seed (act.Handshake e n) x y l links r s t lawful valid late one d = handshake_performs configs log moment seed e n x y l links r s t d.0 d.1

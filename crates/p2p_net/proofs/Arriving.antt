@@ -25,7 +25,8 @@ use Rattle.p2p_log_rules.specs.Closing as closing
 use Rattle.p2p_log_rules.specs.Closing.{refused_by}
 use Rattle.p2p_log_rules.specs.Effect
 use Rattle.p2p_log_rules.specs.Effect.{only, delivered_row, deliver_row, hold_row, pass_row, frame_row, receive_row, retry_row}
-use Rattle.p2p_log_rules.specs.Metering.{Metered, pings, messages, is_of, metered_by, metered_in, holds, limit_at, admits_one, admitted_by, steps_receiver, may_pass}
+use Rattle.p2p_log_rules.specs.Connections.{steps_receiver}
+use Rattle.p2p_log_rules.specs.Metering.{Metered, pings, messages, is_of, metered_by, metered_in, holds, limit_at, admits_one, admitted_by, may_pass}
 use Rattle.p2p_net_queues.specs.Rows.{taken_row}
 use Rattle.p2p_net_channels.specs.declared.arrival.Arrived.{Arrived}
 use Rattle.p2p_net_channels.specs.declared.arrival.Arriving.{Arriving}

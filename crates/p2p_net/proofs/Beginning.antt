@@ -19,10 +19,10 @@ use Rattle.p2p_log.specs.Lines.{line}
 use Rattle.p2p_log.proofs.Queues.{same_queue-sym}
 use Rattle.p2p_log_rules.specs.declared.row.Half.{Half}
 use Rattle.p2p_log_rules.specs.declared.row.Row.{Row}
-use Rattle.p2p_log_rules.specs.Connections.{half_at, is_begun, is_answer, is_running}
+use Rattle.p2p_log_rules.specs.Connections.{live_half, is_begun, is_answer, is_running, is_ended}
 use Rattle.p2p_log_rules.specs.Effect.{row, effect, entry_of, begin_row, mailbox_size_at}
 use Rattle.p2p_log_rules.specs.Facts.{is_up, taken}
-use Rattle.p2p_log_rules.proofs.Connections.{HalfParts, half_parts}
+use Rattle.p2p_log_rules.proofs.Connections.{HalfParts, half_parts, is_live, live_connection-kept, ends_none-reply}
 use Rattle.p2p_log_rules.proofs.Spawning.{connections_of-unmade}
 use Rattle.p2p_log_laws.specs.Leading.{ConnectionsAreOne}
 use Rattle.p2p_net_queues.specs.Tables as table
@@ -56,7 +56,7 @@ idle_stage None h = refl
 idle_stage (Some s) h = absurd (cc)
 
 module _ (configs : List Config) (log : List Entry) (at seed conn n : ℕ) (half : Half) (x y : Node) (l links : Links) (r : Row) (s : NodeStands configs log n x) (t : LinksStand log l) (one : ConnectionsAreOne log)
-    (up : is_up log n ≡ true) (has : half_at log n conn ≡ Some half) (idle : is_begun log n conn ≡ false) (d : Begins (length log) n conn half.peer x y r) (kept : links ≡ l) where
+    (up : is_up log n ≡ true) (has : live_half log n conn ≡ Some half) (idle : is_begun log n conn ≡ false) (d : Begins (length log) n conn half.peer x y r) (kept : links ≡ l) where
   abbrev ev : Event
   ev = asked at seed (act.SendStep conn n)
 
@@ -67,7 +67,7 @@ module _ (configs : List Config) (log : List Entry) (at seed conn n : ℕ) (half
   e = entry_of ev due
 
   parts : HalfParts log n conn half
-  parts = half_parts log n conn half has
+  parts = half_parts log n conn half (is_live log n conn half has).at
 
   key_is : parts.connection.key ≡ half.peer
   key_is = sym (ap (λ (h : Half). h.peer) parts.is)
@@ -115,7 +115,7 @@ module _ (configs : List Config) (log : List Entry) (at seed conn n : ℕ) (half
 
   connections_now : ConnectionsStand configs (log ++ e ∷ []) n (begun_with conn x.connections)
   connections_now =
-      connections_begun configs log e n conn x.connections connects (connections_of-unmade log e n refl) not_running (λ c. step_begins n conn c e refl refl)
+      connections_begun configs log e n conn x.connections connects (λ c. live_connection-kept log e n c (ends_none-reply e n c refl) (connections_of-unmade log e n refl c)) not_running (λ c. step_begins n conn c e refl refl)
       (λ c. step_answers log e n conn c refl ∙ nothing (c == conn) (taken log e) (taken-none log e refl)) (receives_nothing configs log e n (taken-none log e refl) (λ c. beside (queue.Held n c) refl refl)) (λ c. beside (queue.Ready n c) refl refl)
     where
       nothing : (b : Bool) (items : List Item) → items ≡ [] → cond b (map is_answer items) [] ≡ []
@@ -142,8 +142,9 @@ module _ (configs : List Config) (log : List Entry) (at seed conn n : ℕ) (half
       record {
         number = ap (λ (z : Router). z.number) calls.rest ∙ routes.number;
         stands = calls.stands configs log e routes.stands refl size_is
+            (ap (λ k. is_ended log k conn) routes.number ∙ (is_live log n conn half has).lives)
             (subst (IsStranger x.router conn) key_is (IsStranger-unbegun log n conn parts.connection x.router routes.hears one parts.made idle))
-            (step_beside configs log e x.router.number conn n refl) (subst (λ k. IsReadied e k 1 conn half.peer) (sym routes.number) readied);
+            (step_beside configs log e x.router.number conn n refl refl) (subst (λ k. IsReadied e k 1 conn half.peer) (sym routes.number) readied);
         hears = HearsOfBegun-told log e n conn parts.connection x.router.peers y.router.peers routes.hears (λ k. subst (λ p. tree.get nat_cmp y.router.peers k ≡ cond (is_eq (nat_cmp conn k)) (Some p) (tree.get nat_cmp x.router.peers k)) (sym key_is) (calls.peers k)) parts.made (step_begins n conn conn e refl refl ∙ eq-eqb conn conn refl);
       }
 

@@ -109,7 +109,7 @@ module _ (configs : List Config) (log : List Entry) (at seed n c : ℕ) (to : Re
       done x.channels x.router (told ∙ sym is) same
       (channels_unasked configs log e n c to x.channels chan refl (λ d. asks_here n c d to) (admits_apart configs log e n a refl (λ d. refl)) (λ d. line-untouched configs log ev (queue.Channel n d) refl refl)
       (checks_by_reply reply.Gone (ap (λ (z : Row). z.reply) is)) (λ d. refl) has)
-      (RouterStands-idle configs log e n x.router (record { no_step = refl; no_channel = refl; no_start = refl }) still.takes still.puts still.ends routes)
+      (RouterStands-idle configs log e n x.router (record { no_step = refl; no_channel = refl; no_start = refl; no_end = λ conn. refl }) still.takes still.puts still.ends routes)
 
   -- the channels, whose quota was asked, with these checks
   channels_now : (m : List (ℕ × Checked)) → ((name : ℕ) → table.at m name ≡ checked_at (log ++ e ∷ []) n name) → ChannelsStand configs (log ++ e ∷ []) n (record (keys_metered c keys at x.channels) { checks = m })
@@ -125,7 +125,7 @@ module _ (configs : List Config) (log : List Entry) (at seed n c : ℕ) (to : Re
   router_now rep new is over number peers =
       RouterStands-moved configs log e n x.router new routes
       (subst (λ (z : Row). StandsFor configs (log ++ entry_of ev z ∷ []) new) (sym is)
-      (over_gone configs log (entry_of ev (taking names (only rep))) new names over (record { no_step = refl; no_channel = refl; no_start = refl }) (append-nil names) refl))
+      (over_gone configs log (entry_of ev (taking names (only rep))) new names over (record { no_step = refl; no_channel = refl; no_start = refl; no_end = λ conn. refl }) (append-nil names) refl))
       number peers
 
   module _ (mid : Node) (o : Offered) (row_now : Row) (h : IsOffered configs log n c at to x mid o) (is : r ≡ listed o.list row_now) where
@@ -227,7 +227,7 @@ module _ (configs : List Config) (log : List Entry) (at seed check : ℕ) (bytes
     unsent rep due told same =
         let still = effect-still configs log spent rep due in
         done_with (record x.channels { checks = left }) x.router (told ∙ sym due) same channels_then
-        (RouterStands-idle configs log entry n x.router (record { no_step = refl; no_channel = refl; no_start = refl }) still.takes still.puts still.ends routes_then)
+        (RouterStands-idle configs log entry n x.router (record { no_step = refl; no_channel = refl; no_start = refl; no_end = λ conn. refl }) still.takes still.puts still.ends routes_then)
 
     module _ (c : Checked) where
       abbrev accepted : Reply
@@ -270,7 +270,7 @@ module _ (configs : List Config) (log : List Entry) (at seed check : ℕ) (bytes
           done_with (record x.channels { checks = left }) y.router (row_is ∙ sym due_now) d.0 channels_then
           (RouterStands-moved configs log entry n x.router y.router routes_then
           (subst (λ (z : Row). StandsFor configs (log ++ entry_of spent z ∷ []) y.router) (same_row ∙ sym due_now)
-          (over_taking configs log spent y.router [] handed over_now (record { no_step = refl; no_channel = refl; no_start = refl }) takes))
+          (over_taking configs log spent y.router [] handed over_now (record { no_step = refl; no_channel = refl; no_start = refl; no_end = λ conn. refl }) takes))
           (ap (λ (z : Router). z.number) calls.rest) (ap (λ (z : Router). z.peers) calls.rest))
 
   by_check : (o : Option Checked) → table.at x.channels.checks check ≡ o → (left : List (ℕ × Checked)) → table.AreBut check None x.channels.checks left → SpendsCheck o (length log) priority bytes (with_checks left x) y r

@@ -227,6 +227,7 @@ module _ (configs : List Config) (log : List Entry) (moment seed n : ℕ) (x y :
         tracker_dialed configs log (e took o) n x.tracker y.tracker took (waits_in k n o) (message_in o) tracked
         (record {
           no_step = refl;
+          no_end = λ conn. refl;
           no_question = refl;
           no_answer = λ d. refl;
           no_admission = refl;

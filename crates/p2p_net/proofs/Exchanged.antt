@@ -259,6 +259,7 @@ module _ (configs : List Config) (log : List Entry) (moment seed link : ℕ) (ok
   unfolding effect
   leaves_tracker none = record {
     no_step = refl;
+    no_end = λ conn. refl;
     no_question = refl;
     no_answer = λ d h. refl;
     no_late_answer = λ d h. refl;
@@ -273,6 +274,7 @@ module _ (configs : List Config) (log : List Entry) (moment seed link : ℕ) (ok
   unfolding effect
   tracker_tells h same t tracks listens = tracker_after_finish configs log e m h (length c.told.puts) agree c.second.tracker c.last.tracker tracks (record {
     no_step = refl;
+    no_end = λ conn. refl;
     no_question = refl;
     no_answer = λ d. refl;
     names = refl;

@@ -14,7 +14,7 @@ use Rattle.p2p_log.specs.declared.event.Rate.{Rate}
 use Rattle.p2p_log.specs.declared.event.Act.{Act}
 use Rattle.p2p_log.specs.declared.event.Act.TheVariants as act
 use Rattle.p2p_log.specs.Lines.{live, line, stands_in}
-use Rattle.p2p_log_rules.specs.Connections.{steps_sender, is_done, is_answer}
+use Rattle.p2p_log_rules.specs.Connections.{steps_sender, is_done, is_answer, ends_connection}
 use Rattle.p2p_log_rules.specs.Facts.{starts, registers_at, capacity_for, taken, steps_router}
 use Rattle.p2p_log_rules.specs.Spawning.{steps_spawner}
 use Rattle.p2p_log_rules.proofs.Spawning.{connections_of-unmade}
@@ -48,6 +48,8 @@ use Rattle.p2p_net.proofs.ActKinds.{registers_unless, starts_unless, routes_unle
 use Rattle.p2p_net.proofs.Receivers.{receives_unnamed, admits_unnamed, sends_unnamed, closes_unnamed}
 use Rattle.p2p_net.proofs.Routers.{RouterStands-moved}
 use Rattle.p2p_net.proofs.Touching.{line-unnamed}
+use Rattle.p2p_log_rules.proofs.Connections.{live_connection-kept}
+use Rattle.p2p_log_laws.proofs.Living.{ends_none}
 
 -- the event of an effect, and its act
 pub effect-act : (configs : List Config) (log : List Entry) (ev : Event) → (effect configs log ev).event.act ≡ ev.act
@@ -94,8 +96,9 @@ routed_none log e n a h =
 starts_none : (log : List Entry) (n : ℕ) (a : Act) → names log a (at router n) ≡ false → starts n a ≡ false
 starts_none log n a h = starts_unless n a (λ m is. let f : names log (act.Start m) (at router n) ≡ false = sym (ap (λ x. names log x (at router n)) is) ∙ h in grind (arith, nat_tests))
 
-pub beside_by : (configs : List Config) (log : List Entry) (e : Entry) (n : ℕ) (a : Act) → e.event.act ≡ a → names log a (at router n) ≡ false → IsBeside configs log e n
-beside_by configs log e n a is h = record {
+pub beside_by : (configs : List Config) (log : List Entry) (e : Entry) (n : ℕ) (a : Act) → e.event.act ≡ a → names log a (at router n) ≡ false → ((conn : ℕ) → ends_connection n conn e ≡ false) → IsBeside configs log e n
+beside_by configs log e n a is h lives = record {
+  no_end = lives;
   no_step = ap (λ x. cond (steps_router n x) (taken log e) []) is ∙ routed_none log e n a h;
   no_channel = ap (registers_at configs n) is ∙ registers_none configs log n router a (λ c m rate k. grind (arith, nat_tests)) h;
   no_start = ap (starts n) is ∙ starts_none log n a h;
@@ -117,7 +120,7 @@ pub router_frame : (configs : List Config) (log : List Entry) (ev : Event) (n : 
 router_frame configs log ev n r s h =
     let e = effect configs log ev in
     RouterStands-moved configs log e n r r s
-    (stands_beside configs log e r s.stands (subst (IsBeside configs log e) (sym s.number) (beside_by configs log e n ev.act (effect-act configs log ev) h))
+    (stands_beside configs log e r s.stands (subst (IsBeside configs log e) (sym s.number) (beside_by configs log e n ev.act (effect-act configs log ev) h (ends_none configs log ev n)))
     (λ q own.
     line_of (log ++ e ∷ []) q
     ∙ (line-unnamed configs log ev q (ap (names log ev.act) (router_home n q (subst (λ k. is_routers k q ≡ true) s.number own)) ∙ h) ∙ sym (line_of log q))))
@@ -245,7 +248,7 @@ part_frame connections configs log ev n x s h =
     let e = effect configs log ev in
     connections_frame configs log e n x.connections s
     (record {
-      spawns = λ conn. connections_of-unmade log e n (ap (steps_spawner n) (effect-act configs log ev) ∙ spawns_none log n ev.act h) conn;
+      spawns = λ conn. live_connection-kept log e n conn (ends_none configs log ev n conn) (connections_of-unmade log e n (ap (steps_spawner n) (effect-act configs log ev) ∙ spawns_none log n ev.act h) conn);
       begins = begins_unsent log e n ev.act (effect-act configs log ev) (λ conn. sends_none log n conn ev.act h);
       receives = receives_unnamed configs log e n ev.act (effect-act configs log ev) h (λ conn. line-unnamed configs log ev (queue.Held n conn) h);
       lines = λ conn. line-unnamed configs log ev (queue.Ready n conn) h;
@@ -255,6 +258,7 @@ part_frame tracker configs log ev n x s h =
     tracker_frame configs log e n x.tracker s
     (record {
       no_step = ap (steps_tracker n) (effect-act configs log ev) ∙ tracks_none log n ev.act h;
+      no_end = ends_none configs log ev n;
       no_question = ap (asks_of n) (effect-act configs log ev) ∙ asks_none log n ev.act h;
       no_answer = λ d asked. ap (λ a. answers d a e.reply) (effect-act configs log ev) ∙ answers_none log n d ev.act e.reply h asked;
       no_late_answer = λ d past. late_answer configs log ev d past;

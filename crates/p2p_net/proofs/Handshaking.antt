@@ -250,6 +250,7 @@ module _ (configs : List Config) (log : List Entry) (moment seed name n : ℕ) (
           (tracker_after_handshake configs log (e due) n name x.tracker y.tracker ended (item_in o) (message_in o) tracked
           (record {
             no_step = refl;
+            no_end = λ conn. refl;
             no_question = refl;
             no_answer = λ k. refl;
             names = handshakes_stepped log (e due) n name items ended refl took_is log_ends;

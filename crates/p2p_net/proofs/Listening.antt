@@ -224,6 +224,7 @@ module _ (configs : List Config) (log : List Entry) (moment seed n : ℕ) (x y :
         (tracker_updated configs log (e due_update) n x.tracker y.tracker tracked
         (record {
           no_step = refl;
+          no_end = λ conn. refl;
           no_question = refl;
           no_answer = λ d. refl;
           no_admission = ap (λ b. cond b hs hs) (eq-eqb n n refl);
@@ -403,6 +404,7 @@ module _ (configs : List Config) (log : List Entry) (moment seed n : ℕ) (x y :
           (tracker_frame configs log (e (due told)) n x.tracker tracked
           (record {
             no_step = refl;
+            no_end = λ conn. refl;
             no_question = refl;
             no_answer = λ d is_asked. refl;
             no_late_answer = λ d past. refl;
@@ -426,6 +428,7 @@ module _ (configs : List Config) (log : List Entry) (moment seed n : ℕ) (x y :
           (tracker_asked configs log (e d) n x.tracker y.tracker a.key a.from.ip tracked
           (record {
             no_step = refl;
+            no_end = λ conn. refl;
             no_question = refl;
             no_answer = λ q. refl;
             admits = admits_told gates.Admitted;

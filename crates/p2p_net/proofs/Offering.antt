@@ -93,7 +93,7 @@ module _ (configs : List Config) (log : List Entry) (at seed n c : ℕ) (bytes :
   unfolding effect
   router_now inner new is none over number peers =
       RouterStands-moved configs log e n x.router new routes
-      (subst (λ (z : Row). StandsFor configs (log ++ entry_of ev z ∷ []) new) (sym is) (over_taking configs log ev new names inner over (record { no_step = refl; no_channel = refl; no_start = refl }) none))
+      (subst (λ (z : Row). StandsFor configs (log ++ entry_of ev z ∷ []) new) (sym is) (over_taking configs log ev new names inner over (record { no_step = refl; no_channel = refl; no_start = refl; no_end = λ conn. refl }) none))
       number peers
 
   -- or nothing
@@ -103,7 +103,7 @@ module _ (configs : List Config) (log : List Entry) (at seed n c : ℕ) (bytes :
   router_idle rep new is over number peers =
       RouterStands-moved configs log e n x.router new routes
       (subst (λ (z : Row). StandsFor configs (log ++ entry_of ev z ∷ []) new) (sym is)
-      (over_gone configs log (entry_of ev (taking names (only rep))) new names over (record { no_step = refl; no_channel = refl; no_start = refl }) (append-nil names) refl))
+      (over_gone configs log (entry_of ev (taking names (only rep))) new names over (record { no_step = refl; no_channel = refl; no_start = refl; no_end = λ conn. refl }) (append-nil names) refl))
       number peers
 
   module _ (mid : Node) (o : Offered) (row_now : Row) (h : IsOffered configs log n c at to x mid o) (is : r ≡ listed o.list row_now) where
@@ -169,7 +169,7 @@ module _ (configs : List Config) (log : List Entry) (at seed n c : ℕ) (bytes :
   gone has is told same =
       let still = effect-still configs log ev reply.Gone is in
       done x.channels x.router (told ∙ sym is) same (unregistered has)
-      (RouterStands-idle configs log e n x.router (record { no_step = refl; no_channel = refl; no_start = refl }) still.takes still.puts still.ends routes)
+      (RouterStands-idle configs log e n x.router (record { no_step = refl; no_channel = refl; no_start = refl; no_end = λ conn. refl }) still.takes still.puts still.ends routes)
 
   -- the row, by whether the channel is registered
   due_on : (p : Option ℕ) → capacity_at x.channels c ≡ p → row configs log at seed a ≡ elim p [ None ↦ only reply.Gone | Some _ ↦ taking names (send_keys_row configs log bytes c n priority keys admitted) ]

@@ -1,6 +1,6 @@
 -- What an act has to show at a node, and acts that move nothing.
 use Rattle.std.proofs.Common.{◌≡◌, ℕ, Bool, true, false, cond, List, [], ◌∷◌, ◌++◌, length, refl, ap, sym, subst, ◌∙◌, append-nil, Option, None}
-use Rattle.std.specs.Prelude.{map, filter, flat_map, ◌==◌, ◌&&◌}
+use Rattle.std.specs.Prelude.{map, filter, flat_map, ◌==◌, ◌&&◌, ◌||◌}
 use Rattle.p2p_log.specs.declared.config.Config.{Config}
 use Rattle.p2p_log.specs.declared.queue.Queue.{Queue}
 use Rattle.p2p_log.specs.declared.queue.Queue.TheVariants as queue
@@ -18,7 +18,7 @@ use Rattle.p2p_log_rules.specs.Dialing.{Pace, pace_at, Dials, acted_dials, dials
 use Rattle.p2p_net_dialer.proofs.Changes.{dialer_frame}
 use Rattle.p2p_net_listener.proofs.Changes.{listener_frame}
 use Rattle.p2p_log_rules.specs.Closing.{closed_by}
-use Rattle.p2p_log_rules.specs.Connections.{steps_sender, is_done, is_answer}
+use Rattle.p2p_log_rules.specs.Connections.{steps_sender, is_done, is_answer, steps_receiver, is_end, ends_connection}
 use Rattle.p2p_log_rules.specs.Facts.{starts, registers_at, taken, item_named, steps_router}
 use Rattle.p2p_log_rules.proofs.Spawning.{connections_of-untaken}
 use Rattle.p2p_log_rules.specs.Effect.{only, row, effect}
@@ -43,6 +43,7 @@ use Rattle.p2p_net.specs.declared.node.Node.{Node}
 use Rattle.p2p_net.proofs.ActKinds.{registers_unless, starts_unless}
 use Rattle.p2p_net.proofs.Receivers.{receives_nothing, admits_nothing, sends_at, sends_apart}
 use Rattle.p2p_net.proofs.Routers.{RouterStands-idle}
+use Rattle.p2p_log_rules.proofs.Connections.{live_connection-kept}
 
 -- an event with this act
 abbrev pub asked : ℕ → ℕ → Act → Event
@@ -61,12 +62,14 @@ pub record Simulates (configs : List Config) (log : List Entry) (ev : Event) (no
 
 -- ---- acts that move nothing
 
--- whether an act with this reply registers, starts, begins, sends and closes nothing, and leaves the trackers alone
+-- whether an act with this reply registers, starts, begins, ends, sends and closes nothing, and leaves the trackers alone
 abbrev pub is_quiet : Act → Reply → Bool
 is_quiet (act.Register c n rate) r = false
 is_quiet (act.Start n) r = false
 is_quiet (act.SendStep conn n) reply.Ok = false
+is_quiet (act.SendStep conn n) (reply.Ended why) = false
 is_quiet (act.SendStep conn n) r = true
+is_quiet (act.RecvStep conn n) (reply.Ended why) = false
 is_quiet (act.Send bytes c n priority to) r = false
 is_quiet (act.Check c n to) r = false
 is_quiet (act.SendChecked bytes check priority) r = false
@@ -107,6 +110,27 @@ quiet_begins n conn (act.SendStep d m) _ h = and_false ((m == n) && (d == conn))
     and_false true = refl
     and_false false = refl
 quiet_begins n conn _ r h = refl
+
+-- and none ends
+quiet_ends : (n conn : ℕ) (a : Act) (r : Reply) → is_quiet a r ≡ true → ((steps_sender n conn a || steps_receiver n conn a) && is_end r) ≡ false
+quiet_ends n conn (act.SendStep d m) (reply.Ended why) h = cc
+quiet_ends n conn (act.SendStep d m) _ h = and_false (((m == n) && (d == conn)) || false)
+  where
+    and_false : (b : Bool) → (b && false) ≡ false
+    and_false true = refl
+    and_false false = refl
+quiet_ends n conn (act.RecvStep d m) (reply.Ended why) h = cc
+quiet_ends n conn (act.RecvStep d m) _ h = and_false ((m == n) && (d == conn))
+  where
+    and_false : (b : Bool) → (b && false) ≡ false
+    and_false true = refl
+    and_false false = refl
+quiet_ends n conn _ r h = refl
+
+still_ends : (e : Entry) (n conn : ℕ) (a : Act) (rep : Reply) → e.event.act ≡ a → e.reply ≡ rep → is_quiet a rep ≡ true → ends_connection n conn e ≡ false
+still_ends e n conn a rep is told q =
+    ap (λ b. (steps_sender n conn b || steps_receiver n conn b) && is_end e.reply) is
+    ∙ (ap (λ r. (steps_sender n conn a || steps_receiver n conn a) && is_end r) told ∙ quiet_ends n conn a rep q)
 
 -- nothing is sent
 quiet_sends : (log : List Entry) (n : ℕ) (a : Act) (r : Reply) → is_quiet a r ≡ true → sends_at log n a ≡ false
@@ -213,6 +237,7 @@ part_still router configs log e n x a rep s is q h =
       no_step = ap (λ b. cond (steps_router n b) (taken log e) []) is ∙ either_nothing (steps_router n a) (taken log e) (taken-none log e h.takes);
       no_channel = ap (registers_at configs n) is ∙ quiet_registers configs n a rep q;
       no_start = ap (starts n) is ∙ quiet_starts n a rep q;
+      no_end = λ conn. still_ends e n conn a rep is h.reply q;
     })
     h.takes h.puts h.ends s
 part_still channels configs log e n x a rep s is q h =
@@ -227,7 +252,7 @@ part_still channels configs log e n x a rep s is q h =
 part_still connections configs log e n x a rep s is q h =
     connections_frame configs log e n x.connections s
     (record {
-      spawns = connections_of-untaken log e n (taken-none log e h.takes);
+      spawns = λ conn. live_connection-kept log e n conn (still_ends e n conn a rep is h.reply q) (connections_of-untaken log e n (taken-none log e h.takes) conn);
       begins = record {
         no_begin = λ conn. ap (λ b. steps_sender n conn b && is_done e.reply) is ∙ (ap (λ r. steps_sender n conn a && is_done r) h.reply ∙ quiet_begins n conn a rep q);
         no_answer = λ conn. ap (λ b. cond (steps_sender n conn b) (map is_answer (taken log e)) []) is ∙ either_nothing (steps_sender n conn a) (map is_answer (taken log e)) (ap (map is_answer) (taken-none log e h.takes));
@@ -239,6 +264,7 @@ part_still tracker configs log e n x a rep s is q h =
     tracker_frame configs log e n x.tracker s
     (record {
       no_step = ap (steps_tracker n) is ∙ quiet_tracks n a rep q;
+      no_end = λ conn. still_ends e n conn a rep is h.reply q;
       no_question = ap (asks_of n) is ∙ quiet_asks n a rep q;
       no_answer = λ d asked. ap (λ b. answers d b e.reply) is ∙ quiet_answers d a rep e.reply q;
       no_late_answer = λ d past. ap (λ b. answers d b e.reply) is ∙ quiet_answers d a rep e.reply q;

@@ -13,9 +13,9 @@ use Rattle.p2p_log_rules.specs.declared.row.Checked.{Checked}
 use Rattle.p2p_log_rules.specs.Admitting.{asked_for, asked_moments, rate_at, sent_moments}
 use Rattle.p2p_log_rules.specs.Checking.{checking_node, keys_checked, acted_checks, checked_at}
 use Rattle.p2p_log_rules.specs.Closing.{closed_by}
-use Rattle.p2p_log_rules.specs.Connections.{is_done}
+use Rattle.p2p_log_rules.specs.Connections.{is_done, steps_receiver}
 use Rattle.p2p_log_rules.specs.Facts.{taken, peers_told, with_begun, with_named}
-use Rattle.p2p_log_rules.specs.Metering.{Metered, pings, messages, limit_at, admits_one, admitted_by, steps_receiver}
+use Rattle.p2p_log_rules.specs.Metering.{Metered, pings, messages, limit_at, admits_one, admitted_by}
 use Rattle.p2p_net_channels.specs.Stands.{AdmitsNone, SendsNone, ClosesNone}
 use Rattle.p2p_net_connections.specs.Stands.{ReceivesNone}
 use Rattle.p2p_net.specs.Places.{channels, connections, at, names}

@@ -19,7 +19,7 @@ use Rattle.p2p_log.specs.QueueCode.{same_queue}
 use Rattle.p2p_log.specs.Lines.{line, name_of, placed, stands_in, ended_item}
 use Rattle.p2p_log_rules.specs.declared.row.Half.{Half}
 use Rattle.p2p_log_rules.specs.declared.row.Row.{Row}
-use Rattle.p2p_log_rules.specs.Connections.{half_at, is_running}
+use Rattle.p2p_log_rules.specs.Connections.{live_half, is_running, is_end}
 use Rattle.p2p_log_rules.specs.Facts.{events_of, latest_moment}
 use Rattle.p2p_log_rules.specs.Metering.{pings, messages, holds, limit_at, admitted_by}
 use Rattle.p2p_log_rules.specs.Effect.{entry_of, only, row, effect, hold_row, held_row, receive_row, other_side}
@@ -56,7 +56,8 @@ use Rattle.p2p_net.proofs.Frames.{begins_unsent}
 use Rattle.p2p_net.proofs.Halves.{half_is}
 use Rattle.p2p_net.proofs.Performing.{asked, Performs, stays_performs, IsStill, line-still, links_still}
 use Rattle.p2p_net.proofs.Receivers.{sends_apart}
-use Rattle.p2p_net.proofs.Taking.{stepped_as, link_channel, link_held, channel_link, held_link, Takes, takes_first, line_off, line_aside, not-not, other-none, passed_holds, passed_takes, passed_ends, passed_aside, held_aside, admits_of, admits_idle, message_channels, other_channels, delivered_waits, unheld_holds, held_holds}
+use Rattle.p2p_net.proofs.Taking.{stepped_as, link_channel, link_held, channel_link, held_link, Takes, takes_first, line_off, line_aside, not-not, other-none, passed_holds, passed_lives, passed_takes, passed_ends, passed_aside, held_aside, admits_of, admits_idle, message_channels, other_channels, delivered_waits, unheld_holds, held_holds}
+use Rattle.p2p_log_rules.proofs.Connections.{live_connection-kept, ends_none-reply}
 
 -- ---- what comes of a step
 
@@ -110,8 +111,8 @@ module _ (configs : List Config) (log : List Entry) (at seed conn n : ℕ) (half
   begins_none : (due : Row) → BeginsNone log (made due) n
   begins_none due = begins_unsent log (made due) n (act.RecvStep conn n) refl (λ c. refl)
 
-  spawns_none : (due : Row) → SpawnsNone log (made due) n
-  spawns_none due = connections_of-unmade log (made due) n refl
+  spawns_none : (due : Row) → is_end due.reply ≡ false → SpawnsNone log (made due) n
+  spawns_none due lives c = live_connection-kept log (made due) n c (ends_none-reply (made due) n c lives) (connections_of-unmade log (made due) n refl c)
 
   sends_none : (due : Row) → SendsNone log (made due) n
   sends_none due = sends_apart log (made due) n (act.RecvStep conn n) refl refl
@@ -171,19 +172,19 @@ module _ (configs : List Config) (log : List Entry) (at seed conn n : ℕ) (half
   beside_ping due none lines = other_channels configs log n conn at (made due) late x.channels chan refl (sends_none due) (λ q. refl) none lines
 
   -- the connections beside a message, by what is held then
-  beside_message : (due : Row) (w : List (ℕ × List Envelope)) → ((d : ℕ) → admitted_by (limit_at configs n) n d pings log (made due) ≡ []) → ((c : ℕ) → line (log ++ made due ∷ []) (queue.Ready n c) ≡ line log (queue.Ready n c))
+  beside_message : (due : Row) → is_end due.reply ≡ false → (w : List (ℕ × List Envelope)) → ((d : ℕ) → admitted_by (limit_at configs n) n d pings log (made due) ≡ []) → ((c : ℕ) → line (log ++ made due ∷ []) (queue.Ready n c) ≡ line log (queue.Ready n c))
       → HoldsLines (queue.Held n) (log ++ made due ∷ []) w → ConnectionsStand configs (log ++ made due ∷ []) n (record x.connections { held = w })
-  beside_message due w none lines held = connections_received configs log (made due) n x.connections w connects (spawns_none due) (begins_none due) lines held none
+  beside_message due lives w none lines held = connections_received configs log (made due) n x.connections w connects (spawns_none due lives) (begins_none due) lines held none
 
   -- the connections after a ping, by what is held then
-  pinged_connections : (due : Row) (w : List (ℕ × List Envelope)) → ((d : ℕ) → admitted_by (limit_at configs n) n d pings log (made due) ≡ cond ((d == conn) && may_ping x.connections conn at) (at ∷ []) [])
+  pinged_connections : (due : Row) → is_end due.reply ≡ false → (w : List (ℕ × List Envelope)) → ((d : ℕ) → admitted_by (limit_at configs n) n d pings log (made due) ≡ cond ((d == conn) && may_ping x.connections conn at) (at ∷ []) [])
       → ((c : ℕ) → line (log ++ made due ∷ []) (queue.Ready n c) ≡ line log (queue.Ready n c)) → HoldsLines (queue.Held n) (log ++ made due ∷ []) w
       → ConnectionsStand configs (log ++ made due ∷ []) n (record (ping_metered conn at x.connections) { held = w })
-  pinged_connections due w admits lines held = connections_metered configs log (made due) n conn at x.connections w connects (spawns_none due) (begins_none due) lines late refl admits held
+  pinged_connections due lives w admits lines held = connections_metered configs log (made due) n conn at x.connections w connects (spawns_none due lives) (begins_none due) lines late refl admits held
 
   -- ---- off the link
 
-  module _ (has : half_at log n conn ≡ Some half) (running : is_running log n conn ≡ true) (f : Envelope) (fs : List Envelope) (first : line log (queue.Link half.link (other_side half.writes)) ≡ f ∷ fs) where
+  module _ (has : live_half log n conn ≡ Some half) (running : is_running log n conn ≡ true) (f : Envelope) (fs : List Envelope) (first : line log (queue.Link half.link (other_side half.writes)) ≡ f ∷ fs) where
     abbrev p : Queue
     p = queue.Link half.link (other_side half.writes)
 
@@ -237,7 +238,7 @@ module _ (configs : List Config) (log : List Entry) (at seed conn n : ℕ) (half
         let aside : (q : Queue) → same_queue q (queue.Channel n m.channel) ≡ false → filter (stands_in q) (placed (length log) 0 due.puts) ≡ [] = λ q apart. passed_aside why q (length log) n half.peer m (name_of f) apart in
         built due (delivered_to why (length log) 0 n half.peer m (metered m.channel conn at x.channels)) x.connections is told parts
         (passed_channels p f fs why half.peer m h (λ q. link_channel half.link n q (other_side half.writes)) says)
-        (beside_message due x.connections.held (no_pings due p f fs m.channel false h (passed_holds why n half.peer m (name_of f))) (ready_now due takes ends (λ c. aside (queue.Ready n c) refl)) (held_now due takes ends (λ c. aside (queue.Held n c) refl)))
+        (beside_message due (passed_lives why n half.peer m (name_of f)) x.connections.held (no_pings due p f fs m.channel false h (passed_holds why n half.peer m (name_of f))) (ready_now due takes ends (λ c. aside (queue.Ready n c) refl)) (held_now due takes ends (λ c. aside (queue.Held n c) refl)))
         (links_now due takes ends (λ u j. aside (queue.Link j u) (channel_link n m.channel j u)) kept)
 
     -- a ping that its quota admits
@@ -247,7 +248,7 @@ module _ (configs : List Config) (log : List Entry) (at seed conn n : ℕ) (half
         let due = taken_row (name_of f) in
         let h : Takes log (made due) (limit_at configs n) p f fs pings = record { first = first; takes = refl; ends = refl; counts = read } in
         built due x.channels (ping_metered conn at x.connections) is told parts (beside_ping due (no_messages due p f fs false h refl) (channel_now due refl refl (λ c. refl)))
-        (pinged_connections due x.connections.held (pings_admitted due p f fs true h refl says) (ready_now due refl refl (λ c. refl)) (held_now due refl refl (λ c. refl))) (links_now due refl refl (λ u j. refl) kept)
+        (pinged_connections due refl x.connections.held (pings_admitted due p f fs true h refl says) (ready_now due refl refl (λ c. refl)) (held_now due refl refl (λ c. refl))) (links_now due refl refl (λ u j. refl) kept)
 
     -- what is held then, with one more
     abbrev held_more : Item → List (ℕ × List Envelope)
@@ -269,7 +270,7 @@ module _ (configs : List Config) (log : List Entry) (at seed conn n : ℕ) (half
         let aside : (q : Queue) → same_queue q (queue.Held n conn) ≡ false → filter (stands_in q) (placed (length log) 0 due.puts) ≡ [] = λ q apart. held_aside q (length log) n conn i apart in
         built due (metered m.channel conn at x.channels) (record x.connections { held = held_more i }) is told parts
         (asked_channels due m.channel (messages_admitted due p f fs m false h refl says) (channel_now due refl refl (λ c. aside (queue.Channel n c) refl)))
-        (beside_message due (held_more i) (no_pings due p f fs m.channel true h refl) (ready_now due refl refl (λ c. aside (queue.Ready n c) refl)) (held_put i))
+        (beside_message due refl (held_more i) (no_pings due p f fs m.channel true h refl) (ready_now due refl refl (λ c. aside (queue.Ready n c) refl)) (held_put i))
         (links_now due refl refl (λ u j. aside (queue.Link j u) (held_link n conn j u)) kept)
 
     -- a ping that its quota does not admit yet
@@ -282,7 +283,7 @@ module _ (configs : List Config) (log : List Entry) (at seed conn n : ℕ) (half
         let aside : (q : Queue) → same_queue q (queue.Held n conn) ≡ false → filter (stands_in q) (placed (length log) 0 due.puts) ≡ [] = λ q apart. held_aside q (length log) n conn i apart in
         built due x.channels (record (ping_metered conn at x.connections) { held = held_more i }) is told parts
         (beside_ping due (no_messages due p f fs true h refl) (channel_now due refl refl (λ c. aside (queue.Channel n c) refl)))
-        (pinged_connections due (held_more i) (pings_admitted due p f fs false h refl says) (ready_now due refl refl (λ c. aside (queue.Ready n c) refl)) (held_put i))
+        (pinged_connections due refl (held_more i) (pings_admitted due p f fs false h refl says) (ready_now due refl refl (λ c. aside (queue.Ready n c) refl)) (held_put i))
         (links_now due refl refl (λ u j. aside (queue.Link j u) (held_link n conn j u)) kept)
 
     -- the row of a step that takes it
@@ -326,7 +327,7 @@ module _ (configs : List Config) (log : List Entry) (at seed conn n : ℕ) (half
 
   -- ---- what is held
 
-  module _ (has : half_at log n conn ≡ Some half) (running : is_running log n conn ≡ true) (kept : links ≡ l) (f : Envelope) (fs : List Envelope) (first : line log (queue.Held n conn) ≡ f ∷ fs) where
+  module _ (has : live_half log n conn ≡ Some half) (running : is_running log n conn ≡ true) (kept : links ≡ l) (f : Envelope) (fs : List Envelope) (first : line log (queue.Held n conn) ≡ f ∷ fs) where
     abbrev h : Queue
     h = queue.Held n conn
 
@@ -360,7 +361,7 @@ module _ (configs : List Config) (log : List Entry) (at seed conn n : ℕ) (half
         let aside : (q : Queue) → same_queue q (queue.Channel n m.channel) ≡ false → filter (stands_in q) (placed (length log) 0 due.puts) ≡ [] = λ q apart. passed_aside why q (length log) n half.peer m (name_of f) apart in
         built due (delivered_to why (length log) 0 n half.peer m (metered m.channel conn at x.channels)) (record x.connections { held = held_less }) is told parts
         (passed_channels h f fs why half.peer m took (λ q. refl) says)
-        (beside_message due held_less (no_pings due h f fs m.channel false took (passed_holds why n half.peer m (name_of f))) (λ c. line_still due (queue.Ready n c) takes ends refl (aside (queue.Ready n c) refl))
+        (beside_message due (passed_lives why n half.peer m (name_of f)) held_less (no_pings due h f fs m.channel false took (passed_holds why n half.peer m (name_of f))) (λ c. line_still due (queue.Ready n c) takes ends refl (aside (queue.Ready n c) refl))
         (unheld_holds configs log n conn at (made due) late x.connections connects f fs due.puts (taken_off due takes ends) refl (λ c. aside (queue.Held n c) refl)))
         (links_stay due takes ends (λ u j. aside (queue.Link j u) (channel_link n m.channel j u)))
 
@@ -372,7 +373,7 @@ module _ (configs : List Config) (log : List Entry) (at seed conn n : ℕ) (half
         let took : Takes log (made due) (limit_at configs n) h f fs pings = record { first = first; takes = refl; ends = refl; counts = read } in
         built due x.channels (record (ping_metered conn at x.connections) { held = held_less }) is told parts
         (beside_ping due (no_messages due h f fs false took refl) (λ c. line_still due (queue.Channel n c) refl refl refl refl))
-        (pinged_connections due held_less (pings_admitted due h f fs true took refl says) (λ c. line_still due (queue.Ready n c) refl refl refl refl)
+        (pinged_connections due refl held_less (pings_admitted due h f fs true took refl says) (λ c. line_still due (queue.Ready n c) refl refl refl refl)
         (unheld_holds configs log n conn at (made due) late x.connections connects f fs [] (taken_off due refl refl) refl (λ c. refl)))
         (links_stay due refl refl (λ u j. refl))
 
@@ -382,7 +383,7 @@ module _ (configs : List Config) (log : List Entry) (at seed conn n : ℕ) (half
         let due = only reply.Idle in
         built due (metered m.channel conn at x.channels) x.connections is told parts
         (asked_channels due m.channel (λ d q. admits_idle configs log n conn at (made due) late refl d (messages q) ∙ sym (refused (d == conn) (q == m.channel) says)) (λ q. line-still log (made due) reply.Idle (queue.Channel n q) still))
-        (beside_message due x.connections.held (λ d. admits_idle configs log n conn at (made due) late refl d pings) (λ c. line-still log (made due) reply.Idle (queue.Ready n c) still)
+        (beside_message due refl x.connections.held (λ d. admits_idle configs log n conn at (made due) late refl d pings) (λ c. line-still log (made due) reply.Idle (queue.Ready n c) still)
         (holds_frame (queue.Held n) log (made due) x.connections.held connects.holds (λ c. line-still log (made due) reply.Idle (queue.Held n c) still)))
         (subst (LinksStand (log ++ made due ∷ [])) (sym kept) (links_still log (made due) (act.RecvStep conn n) reply.Idle l t refl refl still))
       where
@@ -399,7 +400,7 @@ module _ (configs : List Config) (log : List Entry) (at seed conn n : ℕ) (half
         let due = only reply.Idle in
         built due x.channels (ping_metered conn at x.connections) is told parts
         (beside_ping due (λ d q. admits_idle configs log n conn at (made due) late refl d (messages q)) (λ q. line-still log (made due) reply.Idle (queue.Channel n q) still))
-        (pinged_connections due x.connections.held (λ d. admits_idle configs log n conn at (made due) late refl d pings ∙ sym (refused (d == conn) says)) (λ c. line-still log (made due) reply.Idle (queue.Ready n c) still)
+        (pinged_connections due refl x.connections.held (λ d. admits_idle configs log n conn at (made due) late refl d pings ∙ sym (refused (d == conn) says)) (λ c. line-still log (made due) reply.Idle (queue.Ready n c) still)
         (holds_frame (queue.Held n) log (made due) x.connections.held connects.holds (λ c. line-still log (made due) reply.Idle (queue.Held n c) still)))
         (subst (LinksStand (log ++ made due ∷ [])) (sym kept) (links_still log (made due) (act.RecvStep conn n) reply.Idle l t refl refl still))
       where
@@ -449,7 +450,7 @@ module _ (configs : List Config) (log : List Entry) (at seed conn n : ℕ) (half
   limit_is : x.config.max_message_size ≡ limit_at configs n
   limit_is = sym (ap (λ (o : Option Config). elim o [ None ↦ 0 | Some c ↦ c.max_message_size ]) s.own.config)
 
-  by_frames : (has : half_at log n conn ≡ Some half) (running : is_running log n conn ≡ true) (fs : List Envelope) → line log (queue.Held n conn) ≡ [] → line log (queue.Link half.link (other_side half.writes)) ≡ fs
+  by_frames : (has : live_half log n conn ≡ Some half) (running : is_running log n conn ≡ true) (fs : List Envelope) → line log (queue.Held n conn) ≡ [] → line log (queue.Link half.link (other_side half.writes)) ≡ fs
       → ReceivesBy (frame_in (limit_at configs n) (slice_get fs 0)) (length log) n conn at half x y l links r → Done
   unfolding row
   by_frames has running [] none first d =
@@ -460,7 +461,7 @@ module _ (configs : List Config) (log : List Entry) (at seed conn n : ℕ) (half
   by_frames has running (f ∷ fs) none first d =
       off_performs has running f fs first (arrival_in (limit_at configs n) f.item) refl (stepped has running f fs first none) d
 
-  by_held : (has : half_at log n conn ≡ Some half) (running : is_running log n conn ≡ true) (ws : List Envelope) → line log (queue.Held n conn) ≡ ws → TakesBy (slice_get ws 0) (length log) n conn at half x y l links r
+  by_held : (has : live_half log n conn ≡ Some half) (running : is_running log n conn ≡ true) (ws : List Envelope) → line log (queue.Held n conn) ≡ ws → TakesBy (slice_get ws 0) (length log) n conn at half x y l links r
       → Done
   by_held has running [] none d =
       let u = other_side half.writes in
@@ -472,7 +473,7 @@ module _ (configs : List Config) (log : List Entry) (at seed conn n : ℕ) (half
       let same : held_first x.connections conn ≡ Some w = ap (λ (v : List Envelope). slice_get v 0) (connects.holds conn ∙ first) in
       held_performs has running d.1 w ws first (held_arrival w.item) refl (retried has running d.1 w ws first) (subst (λ o. RetriesBy (kept_in o) (length log) n conn at half.peer x y r) same d.0)
 
-  by_stage : (o : Option Stage) → half_at log n conn ≡ Some half → is_running log n conn ≡ runs_on o → TakesAt o (length log) n conn at half x y l links r → Done
+  by_stage : (o : Option Stage) → live_half log n conn ≡ Some half → is_running log n conn ≡ runs_on o → TakesAt o (length log) n conn at half x y l links r → Done
   unfolding row
   by_stage (Some (stage.Running pinged)) has running d =
       by_held has running (line log (queue.Held n conn)) refl (subst (λ o. TakesBy o (length log) n conn at half x y l links r) (ap (λ (v : List Envelope). slice_get v 0) (connects.holds conn)) d)
@@ -480,7 +481,7 @@ module _ (configs : List Config) (log : List Entry) (at seed conn n : ℕ) (half
   by_stage None has running d = idle (stepped_as configs log conn n at (Some half) false has running) d.0.0 d.0.1 d.1
 
 step_on : (configs : List Config) (log : List Entry) (at seed conn n : ℕ) (o : Option Half) (x y : Node) (l links : Links) (r : Row) → NodeStands configs log n x → LinksStand log l → latest_moment (events_of log) ≤ at
-    → half_at log n conn ≡ o → TakesOn o (length log) n conn at x y l links r → Performs configs log (asked at seed (act.RecvStep conn n)) n y links r
+    → live_half log n conn ≡ o → TakesOn o (length log) n conn at x y l links r → Performs configs log (asked at seed (act.RecvStep conn n)) n y links r
 unfolding row
 step_on configs log at seed conn n None x y l links r s t late has d =
     stays_performs configs log (asked at seed (act.RecvStep conn n)) n x y l links r reply.Gone s t (stepped_as configs log conn n at None (is_running log n conn) has refl) refl d.0.0 d.0.1 d.1

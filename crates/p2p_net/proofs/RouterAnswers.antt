@@ -18,7 +18,7 @@ use Rattle.p2p_log.specs.QueueCode.{same_queue}
 use Rattle.p2p_log.specs.Lines.{line, name_of, placed, stands_in, ended_item}
 use Rattle.p2p_log_rules.specs.declared.row.Half.{Half}
 use Rattle.p2p_log_rules.specs.declared.row.Row.{Row}
-use Rattle.p2p_log_rules.specs.Connections.{half_at, steps_sender, is_done, begins, is_begun, is_answer, answers_by, is_running}
+use Rattle.p2p_log_rules.specs.Connections.{live_half, steps_sender, is_done, begins, is_begun, is_answer, answers_by, is_running, is_end}
 use Rattle.p2p_log_rules.specs.Effect.{only, row, effect, takes_oldest, half_row, sender_row, send_step_row}
 use Rattle.p2p_log_rules.specs.Pings.{ping_frequency_at, is_past, ping_is_due}
 use Rattle.p2p_log_rules.specs.Facts.{is_up, starts, registers_at, steps_router, taken, item_named}
@@ -56,12 +56,13 @@ use Rattle.p2p_net.proofs.EachPart.{with_parts, each_part, not_among-links}
 use Rattle.p2p_net.proofs.Receivers.{receives_apart}
 use Rattle.p2p_net.proofs.Routers.{RouterStands-moved}
 use Rattle.p2p_net.proofs.Performing.{asked, Performs, IsStill, part_still, links_still}
+use Rattle.p2p_log_rules.proofs.Connections.{live_connection-kept, ends_none-reply}
 
 -- the row of a step, where the node runs, by the half and how far it is
-pub half_steps : (configs : List Config) (log : List Entry) (conn n at : ℕ) (half : Half) (begun running : Bool) → is_up log n ≡ true → half_at log n conn ≡ Some half → is_begun log n conn ≡ begun → is_running log n conn ≡ running
+pub half_steps : (configs : List Config) (log : List Entry) (conn n at : ℕ) (half : Half) (begun running : Bool) → is_up log n ≡ true → live_half log n conn ≡ Some half → is_begun log n conn ≡ begun → is_running log n conn ≡ running
     → send_step_row configs log conn n at ≡ half_row configs log n conn at half begun running
 half_steps configs log conn n at half begun running up has starts runs =
-    ap (λ b. cond b (sender_row configs log n conn at (half_at log n conn)) (only reply.Gone)) up
+    ap (λ b. cond b (sender_row configs log n conn at (live_half log n conn)) (only reply.Gone)) up
     ∙ (ap (sender_row configs log n conn at) has
     ∙ (ap (λ b. half_row configs log n conn at half b (is_running log n conn)) starts ∙ ap (half_row configs log n conn at half begun) runs))
 
@@ -91,8 +92,9 @@ line_begun log e n conn x rest q h =
     ∙ (ap (λ p. cond (same_queue (queue.Ready n conn) q) rest (line log q) ++ filter (stands_in q) (placed (length log) 0 p)) h.puts ∙ append-nil (cond (same_queue (queue.Ready n conn) q) rest (line log q)))
 
 -- a step of a sending half is none of a router's
-pub step_beside : (configs : List Config) (log : List Entry) (e : Entry) (m conn n : ℕ) → e.event.act ≡ act.SendStep conn n → IsBeside configs log e m
-step_beside configs log e m conn n acts = record {
+pub step_beside : (configs : List Config) (log : List Entry) (e : Entry) (m conn n : ℕ) → e.event.act ≡ act.SendStep conn n → is_end e.reply ≡ false → IsBeside configs log e m
+step_beside configs log e m conn n acts lives = record {
+  no_end = λ c. ends_none-reply e m c lives;
   no_step = ap (λ b. cond (steps_router m b) (taken log e) []) acts;
   no_channel = ap (registers_at configs m) acts;
   no_start = ap (starts m) acts;
@@ -140,7 +142,7 @@ took_stands configs log e n conn cs x rest s begun idle acts ok h = by (is_answe
     waits c = waits_taken (queue.Ready n) (same_ready n) log conn x rest cs.answers s.waits h.first c ∙ sym (line_begun log e n conn x rest (queue.Ready n c) h)
 
     spawns : SpawnsNone log e n
-    spawns = connections_of-unmade log e n (ap (steps_spawner n) acts)
+    spawns c = live_connection-kept log e n c (ends_none-reply e n c (ap is_end ok)) (connections_of-unmade log e n (ap (steps_spawner n) acts) c)
 
     receives : ReceivesNone configs log e n
     receives = step_receives configs log e n conn acts (λ c. line_begun log e n conn x rest (queue.Held n c) h)
@@ -169,9 +171,10 @@ abbrev pub named_parts : List place.Part
 named_parts = place.connections ∷ place.router ∷ place.tracker ∷ []
 
 -- a step of a sending half that leaves the queues of a tracker alone
-pub step_untold : (log : List Entry) (e : Entry) (n conn : ℕ) → e.event.act ≡ act.SendStep conn n → line (log ++ e ∷ []) (queue.Tracker n) ≡ line log (queue.Tracker n)
+pub step_untold : (log : List Entry) (e : Entry) (n conn : ℕ) → e.event.act ≡ act.SendStep conn n → is_end e.reply ≡ false → line (log ++ e ∷ []) (queue.Tracker n) ≡ line log (queue.Tracker n)
     → ((q : Queue) → is_told n q ≡ true → line (log ++ e ∷ []) q ≡ line log q) → LeavesTracker log e n
-step_untold log e n conn acts mailbox told = record {
+step_untold log e n conn acts lives mailbox told = record {
+  no_end = λ c. ends_none-reply e n c lives;
   no_step = ap (steps_tracker n) acts;
   no_question = ap (asks_of n) acts;
   no_answer = λ d h. ap (λ a. answers d a e.reply) acts;
@@ -183,7 +186,7 @@ step_untold log e n conn acts mailbox told = record {
 
 -- it takes what its router answered, where there is something
 pub run_performs : (configs : List Config) (log : List Entry) (at seed conn n : ℕ) (half : Half) (xs : List Envelope) (x y : Node) (l links : Links) (r : Row) → NodeStands configs log n x → LinksStand log l
-    → is_up log n ≡ true → half_at log n conn ≡ Some half → is_begun log n conn ≡ true → is_running log n conn ≡ false → waiting x.connections.answers conn ≡ xs → Runs conn at x y r → links ≡ l
+    → is_up log n ≡ true → live_half log n conn ≡ Some half → is_begun log n conn ≡ true → is_running log n conn ≡ false → waiting x.connections.answers conn ≡ xs → Runs conn at x y r → links ≡ l
     → Performs configs log (asked at seed (act.SendStep conn n)) n y links r
 unfolding effect row
 run_performs configs log at seed conn n half [] x y l links r s t up has begun idle is d kept =
@@ -235,6 +238,7 @@ run_performs configs log at seed conn n half (w ∷ ws) x y l links r s t up has
     let rout : RouterStands configs log n x.router = s.each place.router in
     let first : line log (queue.Ready n conn) ≡ w ∷ ws = sym (cs.waits conn) ∙ is in
     let row_is : send_step_row configs log conn n at ≡ takes_oldest (w ∷ ws) = half_steps configs log conn n at half true false up has begun idle ∙ ap takes_oldest first in
+    let lives : is_end e.reply ≡ false = ap (λ (z : Row). is_end z.reply) row_is in
     let takes : Takes log e n conn w ws = record { first = first; takes = ap (λ (z : Row). z.takes) row_is; puts = ap (λ (z : Row). z.puts) row_is; ends = ap (λ (z : Row). z.ends) row_is } in
     let parts : y ≡ record x { connections = record x.connections { stages = stages_with (Some w) conn at x.connections.stages; answers = popped_at x.connections.answers conn } } =
     d.1 ∙ ap (λ vs. record x { connections = record x.connections { stages = stages_with (slice_get vs 0) conn at x.connections.stages; answers = popped_at x.connections.answers conn } }) is
@@ -248,11 +252,11 @@ run_performs configs log at seed conn n half (w ∷ ws) x y l links r s t up has
             (
               subst (RouterStands configs (log ++ e ∷ []) n) (sym (ap (λ (z : Node). z.router) parts))
                   (RouterStands-moved configs log e n x.router x.router rout
-                  (stands_begun configs log e x.router conn n rout.stands (step_beside configs log e x.router.number conn n refl) (takes.takes ∙ sym (ap (λ vs. (takes_oldest vs).takes) first)) takes.puts takes.ends) refl refl),
+                  (stands_begun configs log e x.router conn n rout.stands (step_beside configs log e x.router.number conn n refl lives) (takes.takes ∙ sym (ap (λ vs. (takes_oldest vs).takes) first)) takes.puts takes.ends) refl refl),
               (
                 subst (TrackerStands configs (log ++ e ∷ []) n) (sym (ap (λ (z : Node). z.tracker) parts))
                     (tracker_frame configs log e n x.tracker (s.each place.tracker)
-                    (step_untold log e n conn refl (line_begun log e n conn w ws (queue.Tracker n) takes)
+                    (step_untold log e n conn refl lives (line_begun log e n conn w ws (queue.Tracker n) takes)
                     (λ q own. line_begun log e n conn w ws q takes ∙ ap (λ b. cond b ws (line log q)) (away (is_told n) (queue.Ready n conn) q refl own)))),
                 tt,
               ),

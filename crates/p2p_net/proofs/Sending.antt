@@ -7,7 +7,7 @@ use Rattle.p2p_log.specs.declared.entry.Reply.TheVariants as reply
 use Rattle.p2p_log.specs.declared.event.Act.TheVariants as act
 use Rattle.p2p_log_rules.specs.declared.row.Half.{Half}
 use Rattle.p2p_log_rules.specs.declared.row.Row.{Row}
-use Rattle.p2p_log_rules.specs.Connections.{half_at}
+use Rattle.p2p_log_rules.specs.Connections.{live_half}
 use Rattle.p2p_log_rules.specs.Effect.{only, row, sender_row}
 use Rattle.p2p_log_rules.specs.Facts.{is_up}
 use Rattle.p2p_log_rules.specs.Pings.{is_past}
@@ -44,14 +44,14 @@ module _ (configs : List Config) (log : List Entry) (at seed conn n : ℕ) (x y 
 
   down : is_up log n ≡ false → row configs log at seed (act.SendStep conn n) ≡ only reply.Gone
   unfolding row
-  down off = ap (λ b. cond b (sender_row configs log n conn at (half_at log n conn)) (only reply.Gone)) off
+  down off = ap (λ b. cond b (sender_row configs log n conn at (live_half log n conn)) (only reply.Gone)) off
 
-  nobody : is_up log n ≡ true → half_at log n conn ≡ None → row configs log at seed (act.SendStep conn n) ≡ only reply.Gone
+  nobody : is_up log n ≡ true → live_half log n conn ≡ None → row configs log at seed (act.SendStep conn n) ≡ only reply.Gone
   unfolding row
   nobody up none =
-      ap (λ b. cond b (sender_row configs log n conn at (half_at log n conn)) (only reply.Gone)) up ∙ ap (sender_row configs log n conn at) none
+      ap (λ b. cond b (sender_row configs log n conn at (live_half log n conn)) (only reply.Gone)) up ∙ ap (sender_row configs log n conn at) none
 
-  at_stage : (half : Half) (o : Option Stage) → is_up log n ≡ true → half_at log n conn ≡ Some half → table.at x.connections.stages conn ≡ o → StepsAt o (length log) n conn at half x y l links r → Done
+  at_stage : (half : Half) (o : Option Stage) → is_up log n ≡ true → live_half log n conn ≡ Some half → table.at x.connections.stages conn ≡ o → StepsAt o (length log) n conn at half x y l links r → Done
   at_stage half None up has is d = begin_performs configs log at seed conn n half x y l links r s t one up has (sym (connects.begun conn) ∙ ap (λ (p : Option Stage). is_some p) is) d.0 d.1
   at_stage half (Some stage.Begun) up has is d =
       run_performs configs log at seed conn n half (waiting x.connections.answers conn) x y l links r s t up has (sym (connects.begun conn) ∙ ap (λ (p : Option Stage). is_some p) is) (sym (connects.running conn) ∙ ap runs_on is) refl d.0 d.1
@@ -59,7 +59,7 @@ module _ (configs : List Config) (log : List Entry) (at seed conn n : ℕ) (x y 
       write_performs configs log at seed conn n half (is_past x.config.ping_frequency at (Some pinged)) x y l links r s t up has (sym (connects.begun conn) ∙ ap (λ (p : Option Stage). is_some p) is)
       (sym (connects.running conn) ∙ ap runs_on is) (due_is configs log n conn at pinged x s is) d
 
-  by_half : (o : Option Half) → is_up log n ≡ true → half_at log n conn ≡ o → StepsHalf o (length log) n conn at x y l links r → Done
+  by_half : (o : Option Half) → is_up log n ≡ true → live_half log n conn ≡ o → StepsHalf o (length log) n conn at x y l links r → Done
   by_half None up none d = gone (nobody up none) d.0.0 d.0.1 d.1
   by_half (Some half) up has d = at_stage half (table.at x.connections.stages conn) up has refl d
 

@@ -1,6 +1,6 @@
 -- A step of a node's spawner makes a connection of the oldest message of its mailbox.
-use Rattle.std.proofs.Common.{◌≡◌, ℕ, Bool, true, false, cond, List, [], ◌∷◌, ◌++◌, length, refl, ap, sym, subst, ◌∙◌, append-nil, eq-eqb, Some, None}
-use Rattle.std.specs.Prelude.{drop}
+use Rattle.std.proofs.Common.{◌≡◌, ℕ, Bool, true, false, cond, List, [], ◌∷◌, ◌++◌, length, refl, ap, sym, subst, ◌∙◌, append-nil, eq-eqb, eqb-true, Some, None}
+use Rattle.std.specs.Prelude.{◌==◌, drop}
 use Rattle.p2p_tracker_directory.specs.Reserved.{peer_of}
 use Rattle.p2p_log.specs.declared.config.Config.{Config}
 use Rattle.p2p_log.specs.declared.queue.Queue.{Queue}
@@ -19,7 +19,7 @@ use Rattle.p2p_log_rules.specs.declared.row.Row.{Row}
 use Rattle.p2p_log_rules.specs.Effect.{entry_of, effect, row}
 use Rattle.p2p_log_rules.specs.Facts.{is_up, taken, with_named, with_begun}
 use Rattle.p2p_log_rules.specs.Rows.{only, takes_oldest}
-use Rattle.p2p_log_rules.specs.Spawning.{spawned_of, connections_of}
+use Rattle.p2p_log_rules.specs.Spawning.{Spawned, spawned_of, connections_of}
 use Rattle.p2p_log_rules.proofs.Spawning.{connections_of-acted}
 use Rattle.p2p_net_queues.proofs.Going.{line-taken}
 use Rattle.p2p_net_queues.specs.Rows.{taken_row}
@@ -41,8 +41,20 @@ use Rattle.p2p_net.proofs.Receivers.{receives_apart}
 use Rattle.p2p_net.proofs.Readying.{started_is}
 use Rattle.p2p_net.proofs.Performing.{asked, Performs, IsStill, line-still, part_still, stays_performs}
 use Rattle.p2p_net_tracker.proofs.Steps.{first_taken}
+use Rattle.p2p_log_rules.specs.Connections.{is_ended, live_connection}
+use Rattle.p2p_log_rules.proofs.Connections.{is_ended-kept, ends_none-act}
 
-module _ (configs : List Config) (log : List Entry) (moment seed n : ℕ) (x y : Node) (l ls : Links) (r : Row) (s : NodeStands configs log n x) (t : LinksStand log l) (kept : ls ≡ l) where
+-- a connection of a new name is one of those that live
+live_named : (log : List Entry) (n conn : ℕ) (c : Spawned) → is_ended log n (length log) ≡ false
+    → cond (is_ended log n conn) None (with_named (length log) (Some c) (connections_of log n) conn) ≡ with_named (length log) (Some c) (live_connection log n) conn
+live_named log n conn c fresh = by (conn == length log) refl
+  where
+    by : (b : Bool) → (conn == length log) ≡ b → cond (is_ended log n conn) None (cond b (Some c) (connections_of log n conn)) ≡ cond b (Some c) (live_connection log n conn)
+    by true is = ap (λ e. cond e None (Some c)) (ap (is_ended log n) (eqb-true conn (length log) is) ∙ fresh)
+    by false is = refl
+
+module _ (configs : List Config) (log : List Entry) (moment seed n : ℕ) (x y : Node) (l ls : Links) (r : Row) (s : NodeStands configs log n x) (t : LinksStand log l) (kept : ls ≡ l)
+    (fresh : is_ended log n (length log) ≡ false) where
   abbrev a : Act
   a = act.Spawner n
 
@@ -120,11 +132,14 @@ module _ (configs : List Config) (log : List Entry) (moment seed n : ℕ) (x y :
       line-taken log (e due) q z zs q first refl
       ∙ (append-nil (cond (same_queue q q) zs waits) ∙ (ap (λ b. cond b zs waits) (same_queue-refl q) ∙ sym (ap (drop 1) first)))
       in
-      let made : (conn : ℕ) → connections_of (log ++ e due ∷ []) n conn
-      ≡ with_named (length log) (Some (record { key = peer_of w.reservation; link = w.link })) (connections_of log n) conn =
+      let c : Spawned = record { key = peer_of w.reservation; link = w.link } in
+      let made : (conn : ℕ) → live_connection (log ++ e due ∷ []) n conn ≡ with_named (length log) (Some c) (live_connection log n) conn =
       λ conn.
-      connections_of-acted log (e due) n true (eq-eqb n n refl) conn
-      ∙ ap (λ (items : List Item). with_begun (spawned_of items) (length log) (connections_of log n) conn) (took ∙ ap (λ i. i ∷ []) takes.item)
+      ap (λ b. cond b None (connections_of (log ++ e due ∷ []) n conn)) (is_ended-kept log (e due) n conn (ends_none-act (e due) n conn a refl refl))
+      ∙ (ap (λ o. cond (is_ended log n conn) None o)
+      (connections_of-acted log (e due) n true (eq-eqb n n refl) conn
+      ∙ ap (λ (items : List Item). with_begun (spawned_of items) (length log) (connections_of log n) conn) (took ∙ ap (λ i. i ∷ []) takes.item))
+      ∙ live_named log n conn c fresh)
       in
       performs due is (d.0 ∙ ap taken_row takes.name) (subst (λ z. z ≡ with_parts both x z) (sym d.1) refl)
       (subst (SpawnerStands configs (log ++ e due ∷ []) n) (sym (ap (λ (z : Node). z.spawning) d.1)) (spawner_less configs log (e due) n x.spawning spawns left))
@@ -139,10 +154,10 @@ module _ (configs : List Config) (log : List Entry) (moment seed n : ℕ) (x y :
       let took = spawner_takes configs log n x.spawning z zs spawns first in
       spawn up z zs first took.0 took.1.1 (subst (λ o. SpawnsBy o (length log) x y r) took.1.0 d)
 
-pub spawner_performs : (configs : List Config) (log : List Entry) (moment seed n : ℕ) (x y : Node) (l ls : Links) (r : Row) → NodeStands configs log n x → LinksStand log l
+pub spawner_performs : (configs : List Config) (log : List Entry) (moment seed n : ℕ) (x y : Node) (l ls : Links) (r : Row) → NodeStands configs log n x → LinksStand log l → is_ended log n (length log) ≡ false
     → SpawnerStepsBy (is_started x) (length log) x y r → ls ≡ l → Performs configs log (asked moment seed (act.Spawner n)) n y ls r
-spawner_performs configs log moment seed n x y l ls r s t d kept = by (is_started x) (sym (started_is configs log n x s)) d
+spawner_performs configs log moment seed n x y l ls r s t fresh d kept = by (is_started x) (sym (started_is configs log n x s)) d
   where
     by : (b : Bool) → is_up log n ≡ b → SpawnerStepsBy b (length log) x y r → Performs configs log (asked moment seed (act.Spawner n)) n y ls r
-    by true up d = by_line configs log moment seed n x y l ls r s t kept up (line log (queue.Spawner n)) refl d
-    by false down d = gone configs log moment seed n x y l ls r s t kept down d.0 d.1
+    by true up d = by_line configs log moment seed n x y l ls r s t kept fresh up (line log (queue.Spawner n)) refl d
+    by false down d = gone configs log moment seed n x y l ls r s t kept fresh down d.0 d.1

@@ -17,7 +17,7 @@ use Rattle.p2p_log.specs.QueueCode.{same_queue}
 use Rattle.p2p_log.specs.Lines.{line, name_of, placed, stands_in, ended_item}
 use Rattle.p2p_log_rules.specs.declared.row.Half.{Half}
 use Rattle.p2p_log_rules.specs.declared.row.Row.{Row}
-use Rattle.p2p_log_rules.specs.Connections.{half_at, is_running}
+use Rattle.p2p_log_rules.specs.Connections.{live_half, is_running, is_end}
 use Rattle.p2p_log_rules.specs.Facts.{events_of, latest_moment, taken, registers_at}
 use Rattle.p2p_log_rules.specs.Metering.{Metered, messages, is_of, metered_in, holds, limit_at, admitted_by}
 use Rattle.p2p_log_rules.specs.Effect.{only, receiver_row, recv_step_row}
@@ -50,7 +50,7 @@ stepped_row configs log conn n at o runs = elim o [
   | Some half ↦ cond runs (receiver_row configs log n conn at half) (only reply.Idle)
 ]
 
-pub stepped_as : (configs : List Config) (log : List Entry) (conn n at : ℕ) (o : Option Half) (runs : Bool) → half_at log n conn ≡ o → is_running log n conn ≡ runs
+pub stepped_as : (configs : List Config) (log : List Entry) (conn n at : ℕ) (o : Option Half) (runs : Bool) → live_half log n conn ≡ o → is_running log n conn ≡ runs
     → recv_step_row configs log conn n at ≡ stepped_row configs log conn n at o runs
 stepped_as configs log conn n at o runs has is = ap (λ h. stepped_row configs log conn n at h (is_running log n conn)) has ∙ ap (stepped_row configs log conn n at o) is
 
@@ -116,6 +116,10 @@ other-none false b at = refl
 pub passed_holds : (why : Option Cause) (n : ℕ) (from : Key) (m : Arrived) (name : ℕ × ℕ) → holds (delivered why n from m (taken_row name)).puts ≡ false
 passed_holds (Some why) n from m name = refl
 passed_holds None n from m name = refl
+
+pub passed_lives : (why : Option Cause) (n : ℕ) (from : Key) (m : Arrived) (name : ℕ × ℕ) → is_end (delivered why n from m (taken_row name)).reply ≡ false
+passed_lives (Some why) n from m name = refl
+passed_lives None n from m name = refl
 
 pub passed_takes : (why : Option Cause) (n : ℕ) (from : Key) (m : Arrived) (name : ℕ × ℕ) → (delivered why n from m (taken_row name)).takes ≡ name ∷ []
 passed_takes (Some why) n from m name = refl

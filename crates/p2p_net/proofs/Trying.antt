@@ -172,6 +172,7 @@ module _ (configs : List Config) (log : List Entry) (moment seed name n : ℕ) (
         (tracker_dialed configs log (e due) n x.tracker after false (asked_line n (length log) (item_in o)) (asked_messages (message_in o)) tracked
         (record {
           no_step = refl;
+          no_end = λ conn. refl;
           no_question = refl;
           no_answer = λ d. refl;
           no_admission = refl;

@@ -19,12 +19,12 @@ use Rattle.p2p_log.proofs.Names.{AreApart-live_from}
 use Rattle.p2p_log.proofs.Queues.{same_queue-sym}
 use Rattle.p2p_log_rules.specs.declared.row.Half.{Half}
 use Rattle.p2p_log_rules.specs.declared.row.Row.{Row}
-use Rattle.p2p_log_rules.specs.Connections.{half_at, is_begun, is_answer, is_running}
+use Rattle.p2p_log_rules.specs.Connections.{live_half, is_begun, is_answer, is_running, is_end}
 use Rattle.p2p_log_rules.specs.Effect.{row, effect, write_row, batch_size_at, beside_ping, batch, ping_puts, running_row, mailbox_size_at}
 use Rattle.p2p_log_rules.specs.Pings.{ping_frequency_at, is_past, ping_is_due}
 use Rattle.p2p_log_rules.specs.Facts.{is_up, taken}
 use Rattle.p2p_log_rules.specs.Spawning.{steps_spawner}
-use Rattle.p2p_log_rules.proofs.Connections.{is_running-append}
+use Rattle.p2p_log_rules.proofs.Connections.{is_running-append, live_connection-kept, ends_none-reply}
 use Rattle.p2p_log_rules.proofs.Spawning.{connections_of-unmade}
 use Rattle.p2p_log_rules.proofs.Touches.{away}
 use Rattle.p2p_net_queues.specs.Lines.{HoldsLines}
@@ -95,6 +95,11 @@ write_puts : (link : ℕ) (s : Side) (due : Bool) (fs : List ((ℕ × ℕ) × It
 write_puts link s true fs = refl
 write_puts link s false [] = refl
 write_puts link s false (f ∷ fs) = refl
+
+write_lives : (link : ℕ) (s : Side) (due : Bool) (fs : List ((ℕ × ℕ) × Item)) → is_end (write_frames_row link s due fs).reply ≡ false
+write_lives link s true fs = refl
+write_lives link s false [] = refl
+write_lives link s false (f ∷ fs) = refl
 
 write_ends : (link : ℕ) (s : Side) (due : Bool) (fs : List ((ℕ × ℕ) × Item)) → (write_frames_row link s due fs).ends ≡ []
 write_ends link s true fs = refl
@@ -177,7 +182,7 @@ due_is configs log n conn at pinged x s is =
     ∙ ap (λ (o : Option Config). is_past (elim o [ None ↦ 0 | Some c ↦ c.ping_frequency ]) at (Some pinged)) s.own.config
 
 module _ (configs : List Config) (log : List Entry) (at seed conn n : ℕ) (half : Half) (due : Bool) (x y : Node) (l links : Links) (r : Row) (s : NodeStands configs log n x) (t : LinksStand log l)
-    (up : is_up log n ≡ true) (has : half_at log n conn ≡ Some half) (begun : is_begun log n conn ≡ true) (running : is_running log n conn ≡ true) (pings : ping_is_due configs log n conn at ≡ due)
+    (up : is_up log n ≡ true) (has : live_half log n conn ≡ Some half) (begun : is_begun log n conn ≡ true) (running : is_running log n conn ≡ true) (pings : ping_is_due configs log n conn at ≡ due)
     (d : Writes (length log) conn at half due x y l links r) where
   abbrev ev : Event
   ev = asked at seed (act.SendStep conn n)
@@ -242,6 +247,9 @@ module _ (configs : List Config) (log : List Entry) (at seed conn n : ℕ) (half
   unfolding e effect
   ends = ap (λ (z : Row). z.ends) (sym framed) ∙ write_ends half.link half.writes due frames
 
+  lives : is_end e.reply ≡ false
+  lives = ap is_end replies ∙ write_lives half.link half.writes due frames
+
   -- a line of which it takes nothing and where it puts nothing
   beside : (p : Queue) → same_queue (queue.High n conn) p ≡ false → same_queue (queue.Low n conn) p ≡ false → same_queue p q ≡ false → line (log ++ e ∷ []) p ≡ line log p
   beside p high low away_from =
@@ -252,7 +260,7 @@ module _ (configs : List Config) (log : List Entry) (at seed conn n : ℕ) (half
   connections_now = by due refl
     where
       spawns : SpawnsNone log e n
-      spawns = connections_of-unmade log e n (ap (steps_spawner n) acts)
+      spawns c = live_connection-kept log e n c (ends_none-reply e n c lives) (connections_of-unmade log e n (ap (steps_spawner n) acts) c)
 
       waits : HoldsLines (queue.Ready n) (log ++ e ∷ []) x.connections.answers
       waits c = connects.waits c ∙ sym (beside (queue.Ready n c) refl refl (ready_apart n half.link c half.writes))
@@ -274,14 +282,14 @@ module _ (configs : List Config) (log : List Entry) (at seed conn n : ℕ) (half
   router_now =
       let calls = d.1.0 in
       RouterStands-moved configs log e n x.router y.router routes
-      (calls.stands configs log e routes.stands (step_beside configs log e x.router.number conn n acts) takes ends
+      (calls.stands configs log e routes.stands (step_beside configs log e x.router.number conn n acts lives) takes ends
       (λ p own. subst (AreAway p) (sym puts) (batch_away due half.link half.writes p frames (same_queue-sym p q ∙ same_queue-other x.router.number q p refl own))))
       calls.kept.number calls.kept.peers
 
   tracker_now : TrackerStands configs (log ++ e ∷ []) n x.tracker
   tracker_now =
       tracker_frame configs log e n x.tracker (s.each place.tracker)
-      (step_untold log e n conn acts (beside (queue.Tracker n) refl refl (same_queue-sym (queue.Tracker n) q ∙ away (is_tracker n) q (queue.Tracker n) refl (eq-eqb n n refl)))
+      (step_untold log e n conn acts lives (beside (queue.Tracker n) refl refl (same_queue-sym (queue.Tracker n) q ∙ away (is_tracker n) q (queue.Tracker n) refl (eq-eqb n n refl)))
       (λ p own.
       beside p (away (is_told n) (queue.High n conn) p refl own) (away (is_told n) (queue.Low n conn) p refl own)
       (same_queue-sym p q ∙ away (is_told n) q p refl own)))

@@ -26,6 +26,7 @@ use Rattle.p2p_net_router.specs.Stands.{StandsFor, StandsOver, IsBeside, IsRegis
 use Rattle.p2p_net_router.specs.Telling.{accepted_reply, refused_reply}
 use Rattle.p2p_net_router.specs.declared.router.Router.{Router}
 use Rattle.p2p_net_router.specs.declared.telling.Telling.{Telling}
+use Rattle.p2p_log_rules.specs.Connections.{is_ended}
 
 -- a channel wants the lists of peers
 pub record Subscribes (channel : ℕ) (old new : Router) : Type 0 where
@@ -45,7 +46,7 @@ pub record Readies (entry place conn size : ℕ) (key : Key) (old new : Router) 
   pub rest : new ≡ record old { messenger = new.messenger; peers = new.peers; names = new.names }
   pub peers : (c : ℕ) → get nat_cmp new.peers c ≡ (if is_eq (nat_cmp conn c) then Some key else get nat_cmp old.peers c)
   pub stands : (configs : List Config) (log : List Entry) (e : Entry) → StandsFor configs log old → length log ≡ entry → size ≡ mailbox_size_at configs old.number
-      → IsStranger old conn key → IsBeside configs log e old.number → IsReadied e old.number place conn key → StandsFor configs (log ++ e ∷ []) new
+      → is_ended log old.number conn ≡ false → IsStranger old conn key → IsBeside configs log e old.number → IsReadied e old.number place conn key → StandsFor configs (log ++ e ∷ []) new
 
 -- the list of peers that waits for a channel is taken, which has this name
 pub record TakesList (c : ℕ) (old new : Router) (o : Option (ℕ × ℕ)) : Type 0 where
