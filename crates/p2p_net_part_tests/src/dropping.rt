@@ -2,7 +2,7 @@
 use bytes::Bytes;
 use p2p_base::{Key, List};
 use p2p_log::{Cause, End, Envelope, Item, Outcome, Queue, Reply};
-use p2p_net_queues::{Deque, drop_items, only};
+use p2p_net_queues::{Deque, drop_items, drop_named, only, take_all_dropped};
 use std::alloc::{AllocError, Global};
 
 // An item by the copies that it carries.
@@ -70,6 +70,36 @@ fn end_so(alloc: Global, things: &[Thing], due: &[End]) -> Result<bool, AllocErr
     Ok(row.ends.as_slice() == due)
 }
 
+// These items, each under the name of its place and the number 10.
+fn named(alloc: Global, things: &[Thing]) -> Result<List<((u64, u64), Item)>, AllocError> {
+    let mut items = List::empty(alloc);
+    for (place, thing) in things.iter().enumerate() {
+        items.push(((place as u64, 10), item_of(alloc, *thing)?))?;
+    }
+    Ok(items)
+}
+
+// Whether they end so, where they are dropped by their names.
+fn end_so_by_name(alloc: Global, things: &[Thing], due: &[End]) -> Result<bool, AllocError> {
+    let items = named(alloc, things)?;
+    let mut row = only(alloc, Reply::Ok);
+    drop_named(&mut row, items.as_slice(), WHY)?;
+    Ok(row.takes.is_empty() && row.ends.as_slice() == due)
+}
+
+// Whether these names are taken and these copies end, where they are taken and their copies dropped.
+fn taken_so(
+    alloc: Global,
+    things: &[Thing],
+    names: &[(u64, u64)],
+    due: &[End],
+) -> Result<bool, AllocError> {
+    let items = named(alloc, things)?;
+    let mut row = only(alloc, Reply::Ok);
+    take_all_dropped(&mut row, items.as_slice(), WHY)?;
+    Ok(row.takes.as_slice() == names && row.ends.as_slice() == due)
+}
+
 const DROPPED: Outcome = Outcome::Dropped(WHY);
 
 const THINGS: &[Thing] = &[
@@ -104,4 +134,36 @@ const ENDS: &[End] = &[
 fn each_item_ends_with_the_copies_that_it_carries(rt: HostRuntime) {
     assert_eq!(rt; end_so(rt.alloc(), THINGS, ENDS), Ok(true));
     assert_eq!(rt; end_so(rt.alloc(), &[], &[]), Ok(true));
+}
+
+#[test]
+fn each_item_that_is_named_ends_with_the_copies_that_it_carries(rt: HostRuntime) {
+    assert_eq!(rt; end_so_by_name(rt.alloc(), THINGS, ENDS), Ok(true));
+    assert_eq!(rt; end_so_by_name(rt.alloc(), &[], &[]), Ok(true));
+}
+
+const NAMES: &[(u64, u64)] = &[
+    (0, 10),
+    (1, 10),
+    (2, 10),
+    (3, 10),
+    (4, 10),
+    (5, 10),
+    (6, 10),
+    (7, 10),
+];
+
+const COPIES: &[End] = &[
+    End::Copy(5, 0, DROPPED),
+    End::Copy(5, 1, DROPPED),
+    End::Copy(5, 2, DROPPED),
+    End::Copy(6, 1, DROPPED),
+    End::Copy(7, 2, DROPPED),
+    End::Copy(8, 3, DROPPED),
+];
+
+#[test]
+fn what_is_taken_leaves_its_copies_to_be_dropped(rt: HostRuntime) {
+    assert_eq!(rt; taken_so(rt.alloc(), THINGS, NAMES, COPIES), Ok(true));
+    assert_eq!(rt; taken_so(rt.alloc(), &[], &[], &[]), Ok(true));
 }

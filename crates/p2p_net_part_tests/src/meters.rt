@@ -1,7 +1,7 @@
 //! What the quotas of a node's connections admit, and what waits for them, by the parts that keep both.
 use bytes::Bytes;
 use p2p_base::{Key, List};
-use p2p_log::{Item, Queue, Reply};
+use p2p_log::{Cause, End, Item, Outcome, Queue, Reply};
 use p2p_net_channels::Channels;
 use p2p_net_connections::Connections;
 use p2p_net_queues::{Turn, only};
@@ -191,6 +191,8 @@ enum Do {
     // Looks at the oldest that is held for it, or takes that.
     Look(u64),
     Unhold(u64),
+    // All that is held for it ends.
+    Drop(u64),
 }
 
 // What a step of a script shows.
@@ -203,6 +205,8 @@ enum Seen {
     Nothing,
     Ping((u64, u64)),
     Message((u64, u64), u64, (u64, u64)),
+    // So many items ended, and so many copies of theirs.
+    Ended(usize, usize),
     Other,
 }
 
@@ -249,6 +253,23 @@ fn look(connections: &Connections, conn: u64) -> Seen {
     }
 }
 
+// Ends all that is held for a connection.
+fn drop_all(alloc: Global, connections: &mut Connections, conn: u64) -> Result<Seen, AllocError> {
+    let mut row = only(alloc, Reply::Ok);
+    connections.drop_held(alloc, &mut row, conn)?;
+    let mut items: usize = 0;
+    let mut copies: usize = 0;
+    for end in row.ends.as_slice() {
+        match end {
+            End::Item(_, _) => items = items.saturating_add(1),
+            End::Copy(1, 0, Outcome::Dropped(Cause::ConnectionEnded)) => copies =
+                copies.saturating_add(1),
+            End::Copy(_, _, _) => return Ok(Seen::Other),
+        }
+    }
+    Ok(Seen::Ended(items, copies))
+}
+
 // Does one step of a script, under this number of its entry.
 fn act(
     alloc: Global,
@@ -264,6 +285,7 @@ fn act(
             connections.unhold(conn);
             Ok(Seen::Done)
         }
+        Do::Drop(conn) => Ok(drop_all(alloc, connections, conn)?),
     }
 }
 
@@ -282,6 +304,13 @@ const HELD: &[(u64, Do, Seen)] = &[
     (12, Do::Unhold(31), Seen::Done),
     (13, Do::Look(31), Seen::Nothing),
     (14, Do::Look(32), Seen::Message((5, 0), 5, (1, 0))),
+    (15, Do::HoldPing(31), Seen::Put(3, 31)),
+    (16, Do::HoldMessage(31), Seen::Put(3, 31)),
+    (17, Do::HoldMessage(31), Seen::Put(3, 31)),
+    (18, Do::Drop(31), Seen::Ended(3, 2)),
+    (19, Do::Look(31), Seen::Nothing),
+    (20, Do::Drop(31), Seen::Ended(0, 0)),
+    (21, Do::Look(32), Seen::Message((5, 0), 5, (1, 0))),
 ];
 
 // The place of the first step of a script that shows another thing. `None` where each shows what is written.

@@ -20,6 +20,10 @@ enum Do {
     SendToThree,
     // Takes the oldest frame of connection 2, with priority or without.
     Take(bool),
+    // Takes all frames of connection 2.
+    TakeAll,
+    // Connection 2, with the key 5, ends.
+    Release,
 }
 
 // What a step of a script shows.
@@ -32,6 +36,11 @@ enum Seen {
     // No frame waits, or one that is no copy.
     Nothing,
     NoCopy,
+    // How many frames were taken.
+    Frames(usize),
+    // The router was told of the end, or has no mailbox to be told in.
+    Told,
+    Untold,
 }
 
 fn moved(row: &Row) -> Seen {
@@ -84,6 +93,15 @@ fn take(router: &mut Router, priority: bool) -> Seen {
     }
 }
 
+// A connection ends, with no frame left.
+fn release(alloc: Global, router: &mut Router, entry: u64) -> Result<Seen, AllocError> {
+    if !router.messenger.bound() {
+        return Ok(Seen::Untold);
+    }
+    router.release(turn(alloc, entry), 0, 2, Key(5))?;
+    Ok(Seen::Told)
+}
+
 // Does one step of a script, under this number of its entry.
 fn act(alloc: Global, router: &mut Router, entry: u64, act: Do) -> Result<Seen, AllocError> {
     match act {
@@ -92,6 +110,8 @@ fn act(alloc: Global, router: &mut Router, entry: u64, act: Do) -> Result<Seen, 
         Do::SendToTwo => send(alloc, router, entry, &[Key(5), Key(6)]),
         Do::SendToThree => send(alloc, router, entry, &[Key(5), Key(6), Key(5)]),
         Do::Take(priority) => Ok(take(router, priority)),
+        Do::TakeAll => Ok(Seen::Frames(router.take_all(alloc, 2)?.len())),
+        Do::Release => release(alloc, router, entry),
     }
 }
 
@@ -140,6 +160,44 @@ fn each_copy_waits_in_a_relay_or_ends(rt: HostRuntime) {
     assert_eq!(rt; first_other_started(rt.alloc(), ROUTED), Ok(None));
 }
 
+const ENDED: &[(u64, Do, Seen)] = &[
+    (3, Do::Step, Seen::Moved(1, 1, 0)),
+    (4, Do::Step, Seen::Moved(1, 2, 1)),
+    (5, Do::SendToOne, Seen::Moved(0, 1, 0)),
+    (6, Do::Step, Seen::Moved(1, 1, 0)),
+    // The message waits in the relay, and the connection ends.
+    (7, Do::TakeAll, Seen::Frames(1)),
+    (7, Do::TakeAll, Seen::Frames(0)),
+    (7, Do::Release, Seen::Told),
+    // A message comes behind the release.
+    (8, Do::SendToOne, Seen::Moved(0, 1, 0)),
+    // Each subscriber is told that the peer is gone.
+    (9, Do::Step, Seen::Moved(1, 1, 1)),
+    // The message has no connection.
+    (10, Do::Step, Seen::Moved(1, 0, 1)),
+    (11, Do::TakeAll, Seen::Frames(0)),
+];
+
+#[test]
+fn a_connection_that_ends_leaves_no_frame_and_no_route(rt: HostRuntime) {
+    assert_eq!(rt; first_other_started(rt.alloc(), ENDED), Ok(None));
+}
+
+// A message that stands before the release in the mailbox finds a closed relay.
+const CLOSED: &[(u64, Do, Seen)] = &[
+    (3, Do::Step, Seen::Moved(1, 1, 0)),
+    (4, Do::Step, Seen::Moved(1, 2, 1)),
+    (5, Do::SendToOne, Seen::Moved(0, 1, 0)),
+    (6, Do::Release, Seen::Told),
+    (7, Do::Step, Seen::Moved(1, 0, 1)),
+    (8, Do::Step, Seen::Moved(1, 1, 1)),
+];
+
+#[test]
+fn a_copy_for_a_connection_that_has_ended_is_dropped(rt: HostRuntime) {
+    assert_eq!(rt; first_other_started(rt.alloc(), CLOSED), Ok(None));
+}
+
 const FULL: &[(u64, Do, Seen)] = &[
     (3, Do::SendToOne, Seen::Moved(0, 1, 0)),
     (4, Do::SendToOne, Seen::Moved(0, 1, 0)),
@@ -151,7 +209,10 @@ fn a_full_mailbox_refuses_a_message(rt: HostRuntime) {
     assert_eq!(rt; first_other_started(rt.alloc(), FULL), Ok(None));
 }
 
-const UNBOUND: &[(u64, Do, Seen)] = &[(0, Do::SendToTwo, Seen::Moved(0, 0, 2))];
+const UNBOUND: &[(u64, Do, Seen)] = &[
+    (0, Do::SendToTwo, Seen::Moved(0, 0, 2)),
+    (0, Do::Release, Seen::Untold),
+];
 
 #[test]
 fn a_router_without_a_mailbox_loses_all_copies(rt: HostRuntime) {

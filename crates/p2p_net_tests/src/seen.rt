@@ -143,6 +143,7 @@ pub fn said_by(reply: &Reply) -> Said {
         Reply::Update(update) => Said::Update(update.index, update.all.primary.len()),
         Reply::Blocked(keys) => Said::Blocked(keys.len()),
         Reply::Gates(told) => Said::Gates(*told),
+        Reply::Ended(_) => Said::Other,
     }
 }
 

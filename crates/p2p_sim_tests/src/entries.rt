@@ -3,7 +3,7 @@ use crate::items::{Thing, blocked, item_of, tracked, update};
 use bytes::Bytes;
 use p2p_base::{Feedback, Key, List, Unreliable};
 use p2p_gates_rules::Reply as GatesReply;
-use p2p_log::{Act, End, Entry, Event, Item, Queue, Rate, Recipients, Reply, Report};
+use p2p_log::{Act, End, Ended, Entry, Event, Item, Queue, Rate, Recipients, Reply, Report};
 use p2p_sim_report::write_report;
 use std::alloc::{AllocError, Global};
 
@@ -55,6 +55,7 @@ pub enum Said {
     Update,
     Blocked,
     Gates(GatesReply),
+    Ended(Ended),
 }
 
 fn register() -> Act {
@@ -148,6 +149,7 @@ fn reply_of(alloc: Global, said: Said) -> Result<Reply, AllocError> {
         Said::Update => Ok(Reply::Update(update(alloc)?)),
         Said::Blocked => Ok(Reply::Blocked(blocked(alloc)?)),
         Said::Gates(told) => Ok(Reply::Gates(told)),
+        Said::Ended(why) => Ok(Reply::Ended(why)),
     }
 }
 

@@ -2,7 +2,7 @@
 use crate::entries::{Do, Row, Said, is_written};
 use crate::items::Thing;
 use p2p_base::{Feedback, Key, Unreliable};
-use p2p_log::{Cause, End, Outcome, Queue, Side};
+use p2p_log::{Cause, End, Ended, Outcome, Queue, Side};
 
 const PEERS: Queue = Queue::Peers {
     node: 0,
@@ -211,6 +211,45 @@ const ROWS: &[Row] = &[
             End::Copy(8, 2, Outcome::Dropped(Cause::ReceiverClosed)),
         ],
     },
+    Row {
+        asked: Do::SendStep,
+        said: Said::Ended(Ended::Killed),
+        takes: &[],
+        puts: &[],
+        ends: &[
+            End::Copy(8, 3, Outcome::Dropped(Cause::ConnectionEnded)),
+            End::Copy(8, 4, Outcome::Dropped(Cause::FrameRefused)),
+            End::Copy(8, 5, Outcome::Dropped(Cause::ChannelUnregistered)),
+        ],
+    },
+    Row {
+        asked: Do::SendStep,
+        said: Said::Ended(Ended::SendFailed),
+        takes: &[],
+        puts: &[],
+        ends: &[],
+    },
+    Row {
+        asked: Do::RecvStep,
+        said: Said::Ended(Ended::ReceiveFailed),
+        takes: &[],
+        puts: &[],
+        ends: &[],
+    },
+    Row {
+        asked: Do::RecvStep,
+        said: Said::Ended(Ended::DecodeFailed),
+        takes: &[],
+        puts: &[],
+        ends: &[],
+    },
+    Row {
+        asked: Do::RecvStep,
+        said: Said::Ended(Ended::InvalidChannel),
+        takes: &[],
+        puts: &[],
+        ends: &[],
+    },
 ];
 
 const LINES: &[&str] = &[
@@ -236,6 +275,11 @@ const LINES: &[&str] = &[
     r#"{"end":[],"n":19,"put":[],"reply":{"checked":[]},"take":[]}"#,
     r#"{"end":[],"n":20,"put":[],"reply":{"retry":"18446744073709551616"},"take":[]}"#,
     r#"{"end":[["item",5,0],["copy",8,2,"receiver_closed"]],"n":21,"put":[],"reply":"ok","take":[]}"#,
+    r#"{"end":[["copy",8,3,"connection_ended"],["copy",8,4,"frame_refused"],["copy",8,5,"channel_unregistered"]],"n":22,"put":[],"reply":{"ended":"killed"},"take":[]}"#,
+    r#"{"end":[],"n":23,"put":[],"reply":{"ended":"send_failed"},"take":[]}"#,
+    r#"{"end":[],"n":24,"put":[],"reply":{"ended":"receive_failed"},"take":[]}"#,
+    r#"{"end":[],"n":25,"put":[],"reply":{"ended":"decode_failed"},"take":[]}"#,
+    r#"{"end":[],"n":26,"put":[],"reply":{"ended":"invalid_channel"},"take":[]}"#,
     r#"{"copy":[2,0],"fate":["delivered","channel:1:7",6]}"#,
     r#"{"copy":[2,1],"fate":["dropped","no_connection",3]}"#,
     r#"{"copy":[2,2],"fate":["dropped","relay_full",3]}"#,
@@ -247,7 +291,7 @@ const LINES: &[&str] = &[
     r#"{"copy":[11,0],"fate":["waiting","link:4:out"]}"#,
     r#"{"copy":[11,1],"fate":["waiting","held:1:4"]}"#,
     r#"{"copy":[15,0],"fate":["waiting","router:0"]}"#,
-    r#"{"copies":11,"entries":22}"#,
+    r#"{"copies":11,"entries":27}"#,
 ];
 
 #[test]
