@@ -15,6 +15,8 @@ use Rattle.p2p_log.specs.declared.end.Outcome.{Outcome as How}
 use Rattle.p2p_log.specs.declared.end.Outcome.TheVariants as outcome
 use Rattle.p2p_log.specs.declared.end.Cause.{Cause}
 use Rattle.p2p_log.specs.declared.end.Cause.TheVariants as cause
+use Rattle.p2p_log.specs.declared.entry.Ended.{Ended}
+use Rattle.p2p_log.specs.declared.entry.Ended.TheVariants as ended
 use Rattle.p2p_log.specs.declared.entry.Entry.{Entry}
 use Rattle.p2p_log.specs.declared.entry.Reply.{Reply}
 use Rattle.p2p_log.specs.declared.entry.Reply.TheVariants as reply
@@ -32,6 +34,8 @@ use Rattle.p2p_log.specs.Lines.{line, live, name_of, stands_in, stays}
 use Rattle.p2p_log_rules.specs.Facts.{is_up, channels, capacity_in, capacity_for, sum_capacities, subscribers, routes, with_route, keys_in, route_to}
 use Rattle.p2p_log_rules.specs.Connections.{live_half, is_begun, is_running, is_ended}
 pub use Rattle.p2p_log_rules.specs.Dropping.{other_side}
+use Rattle.p2p_log_rules.specs.Dropping.{is_dropped, attempt_step_row, handshake_step_row}
+use Rattle.p2p_log_rules.specs.Ending.{end_row}
 use Rattle.p2p_log_rules.specs.Frames.{frame_of, message_in, is_ping_in}
 pub use Rattle.p2p_log_rules.specs.Metering.{limit_at}
 use Rattle.p2p_log_rules.specs.Metering.{pings, messages, may_pass}
@@ -40,9 +44,8 @@ pub use Rattle.p2p_log_rules.specs.Rows.{only, takes_oldest, mailbox_size_at, ov
 use Rattle.p2p_log_rules.specs.Admitting.{offered, keys_admitted, retry_moment}
 use Rattle.p2p_log_rules.specs.Checking.{checking_node, checked_at}
 use Rattle.p2p_log_rules.specs.Closing.{is_closed, has_reader, close_row, refused_by}
-use Rattle.p2p_log_rules.specs.Attempting.{attempt_row, resolve_row, refuse_row, connect_row}
+use Rattle.p2p_log_rules.specs.Attempting.{resolve_row, refuse_row, connect_row}
 use Rattle.p2p_log_rules.specs.Dialing.{dialer_row}
-use Rattle.p2p_log_rules.specs.Handshaking.{handshake_row}
 use Rattle.p2p_log_rules.specs.Links.{finish_row}
 use Rattle.p2p_log_rules.specs.Listening.{listener_row}
 use Rattle.p2p_log_rules.specs.Spawning.{spawner_row}
@@ -265,10 +268,23 @@ beside_ping false size = size
 abbrev pub batch : List Entry → ℕ → ℕ → ℕ → List Envelope
 batch log n conn most = take most (line log (queue.High n conn) ++ line log (queue.Low n conn))
 
+-- to write a batch: where the other end of the link was dropped, the connection ends in its place
+abbrev pub written_row : List Entry → ℕ → ℕ → Half → Bool → Bool → List Envelope → Row
+written_row log n conn half dropped false [] = only reply.Idle
+written_row log n conn half true due xs = end_row log n conn half ended.SendFailed cause.ConnectionEnded xs
+written_row log n conn half false due xs = write_row (queue.Link half.link half.writes) due xs
+
+-- what it is told comes before its messages, where a batch has room beside its ping: that it ends
+abbrev pub told_row : List Entry → ℕ → ℕ → Half → List Envelope → Bool → Row → Row
+told_row log n conn half (x ∷ _) true r = end_row log n conn half ended.Killed cause.ConnectionEnded (x ∷ [])
+told_row log n conn half _ room r = r
+
 -- a step of a half that runs, by whether its ping is due
 abbrev pub running_row : List Config → List Entry → ℕ → ℕ → Half → Bool → Row
 running_row configs log n conn half due =
-    write_row (queue.Link half.link half.writes) due (batch log n conn (beside_ping due (batch_size_at configs n)))
+    let most = beside_ping due (batch_size_at configs n) in
+    told_row log n conn half (line log (queue.Control n conn)) (nat_lt 0 most)
+    (written_row log n conn half (is_dropped configs log half.link (other_side half.writes)) due (batch log n conn most))
 
 -- it begins: the tracker and the router are told whom it is with
 abbrev pub begin_row : ℕ → ℕ → Key → Row
@@ -311,58 +327,66 @@ hold_row n conn name i = record { reply = reply.Ok; takes = name ∷ []; puts = 
 abbrev pub pass_row : ℕ × ℕ → Row
 pass_row name = record { reply = reply.Ok; takes = name ∷ []; puts = []; ends = [] }
 
-module _ (configs : List Config) (log : List Entry) (n conn at : ℕ) where
+module _ (configs : List Config) (log : List Entry) (n conn at : ℕ) (half : Half) where
+  -- the connection ends for what came, whose copy is dropped
+  abbrev pub refused_row : Ended → Cause → Envelope → Row
+  refused_row why c x = end_row log n conn half why c (x ∷ [])
+
   -- the first frame in flight: a message by its channel's quota, where that is registered
-  abbrev pub message_row : ℕ × ℕ → Key → ℕ × ℕ → Option (ℕ × List ℕ) → Row
-  message_row name from copy None = only reply.Idle
-  message_row name from copy (Some message) =
+  abbrev pub message_row : Envelope → ℕ × ℕ → Option (ℕ × List ℕ) → Row
+  message_row x copy None = refused_row ended.DecodeFailed cause.FrameRefused x
+  message_row x copy (Some message) =
       elim (capacity_in (channels configs log n) message.0) [
-        | None ↦ only reply.Idle
+        | None ↦ refused_row ended.InvalidChannel cause.ChannelUnregistered x
         | Some capacity ↦
             cond (may_pass configs log n conn at (messages message.0))
-            (deliver_row log n name from copy message capacity)
-            (hold_row n conn name (item.Held message.0 message.1 copy))
+            (deliver_row log n (name_of x) half.peer copy message capacity)
+            (hold_row n conn (name_of x) (item.Held message.0 message.1 copy))
       ]
 
   -- a ping by the quota of pings
-  abbrev pub ping_row : ℕ × ℕ → Bool → Row
-  ping_row name false = only reply.Idle
-  ping_row name true = cond (may_pass configs log n conn at pings) (pass_row name) (hold_row n conn name item.Ping)
+  abbrev pub ping_row : Envelope → Bool → Row
+  ping_row x false = refused_row ended.DecodeFailed cause.FrameRefused x
+  ping_row x true = cond (may_pass configs log n conn at pings) (pass_row (name_of x)) (hold_row n conn (name_of x) item.Ping)
 
-  abbrev pub frame_row : Key → ℕ × ℕ → Item → Row
-  frame_row from name (item.Frame (Some copy) frame) = message_row name from copy (message_in frame (limit_at configs n))
-  frame_row from name (item.Frame None frame) = ping_row name (is_ping_in frame (limit_at configs n))
-  frame_row from name _ = only reply.Idle
+  abbrev pub frame_row : Envelope → Item → Row
+  frame_row x (item.Frame (Some copy) frame) = message_row x copy (message_in frame (limit_at configs n))
+  frame_row x (item.Frame None frame) = ping_row x (is_ping_in frame (limit_at configs n))
+  frame_row x _ = only reply.Idle
 
-  abbrev pub receive_row : Key → List Envelope → Row
-  receive_row from [] = only reply.Idle
-  receive_row from (x ∷ _) = frame_row from (name_of x) x.item
+  -- where no frame is in flight and the other end was dropped, none will come
+  abbrev pub receive_row : List Envelope → Row
+  receive_row [] =
+      cond (is_dropped configs log half.link (other_side half.writes))
+      (end_row log n conn half ended.ReceiveFailed cause.ConnectionEnded [])
+      (only reply.Idle)
+  receive_row (x ∷ _) = frame_row x x.item
 
   -- what is held: it is delivered once its quota admits it
-  abbrev pub retry_row : Key → ℕ × ℕ → Item → Row
-  retry_row from name (item.Held c bytes copy) =
+  abbrev pub retry_row : ℕ × ℕ → Item → Row
+  retry_row name (item.Held c bytes copy) =
       elim (capacity_in (channels configs log n) c) [
         | None ↦ only reply.Idle
         | Some capacity ↦
-            cond (may_pass configs log n conn at (messages c)) (deliver_row log n name from copy (c, bytes) capacity) (only reply.Idle)
+            cond (may_pass configs log n conn at (messages c)) (deliver_row log n name half.peer copy (c, bytes) capacity) (only reply.Idle)
       ]
-  retry_row from name item.Ping = cond (may_pass configs log n conn at pings) (pass_row name) (only reply.Idle)
-  retry_row from name _ = only reply.Idle
+  retry_row name item.Ping = cond (may_pass configs log n conn at pings) (pass_row name) (only reply.Idle)
+  retry_row name _ = only reply.Idle
 
   -- what is held comes first, and while it is held no frame is taken
-  abbrev pub held_row : Key → List Envelope → List Envelope → Row
-  held_row from [] frames = receive_row from frames
-  held_row from (x ∷ _) frames = retry_row from (name_of x) x.item
+  abbrev pub held_row : List Envelope → List Envelope → Row
+  held_row [] frames = receive_row frames
+  held_row (x ∷ _) frames = retry_row (name_of x) x.item
 
-  abbrev pub receiver_row : Half → Row
-  receiver_row half = held_row half.peer (line log (queue.Held n conn)) (line log (queue.Link half.link (other_side half.writes)))
+  abbrev pub receiver_row : Row
+  receiver_row = held_row (line log (queue.Held n conn)) (line log (queue.Link half.link (other_side half.writes)))
+
+abbrev pub receiving_row : List Config → List Entry → ℕ → ℕ → ℕ → Option Half → Row
+receiving_row configs log n conn at None = only reply.Gone
+receiving_row configs log n conn at (Some half) = cond (is_running log n conn) (receiver_row configs log n conn at half) (only reply.Idle)
 
 abbrev pub recv_step_row : List Config → List Entry → ℕ → ℕ → ℕ → Row
-recv_step_row configs log conn n at =
-    elim (live_half log n conn) [
-      | None ↦ only reply.Gone
-      | Some half ↦ cond (is_running log n conn) (receiver_row configs log n conn at half) (only reply.Idle)
-    ]
+recv_step_row configs log conn n at = cond (is_up log n) (receiving_row configs log n conn at (live_half log n conn)) (only reply.Gone)
 
 -- ---- all acts
 
@@ -383,9 +407,9 @@ row configs log at seed (act.Answer question) = answer_row log question
 row configs log at seed (act.Next question) = next_row log question
 row configs log at seed (act.Dialer n) = dialer_row configs log n at seed
 row configs log at seed (act.Listener n) = listener_row configs log n at
-row configs log at seed (act.Handshake e n) = handshake_row configs log e n at
+row configs log at seed (act.Handshake e n) = handshake_step_row configs log e n at
 row configs log at seed (act.Spawner n) = spawner_row log n
-row configs log at seed (act.Attempt e n) = attempt_row configs log e n at seed
+row configs log at seed (act.Attempt e n) = attempt_step_row configs log e n at seed
 row configs log at seed (act.Resolve addresses e n) = resolve_row configs log addresses e n
 row configs log at seed (act.Connect e from n to) = connect_row configs log e from n to
 row configs log at seed (act.Refuse e n) = refuse_row configs log e n

@@ -12,7 +12,7 @@ use Rattle.p2p_log.specs.declared.item.Item.{Item}
 use Rattle.p2p_log.specs.declared.item.Item.TheVariants as item
 use Rattle.p2p_log.specs.declared.entry.Entry.{Entry}
 use Rattle.p2p_log.specs.declared.event.Rate.{Rate}
-use Rattle.p2p_log_rules.specs.Connections.{steps_receiver}
+use Rattle.p2p_log_rules.specs.Connections.{steps_receiver, is_end}
 use Rattle.p2p_log_rules.specs.Facts.{events_of, rates, rate_in, taken, history}
 use Rattle.p2p_log_rules.specs.Listening.{quota_of}
 use Rattle.p2p_log_rules.specs.Pings.{ping_frequency_at}
@@ -54,9 +54,10 @@ admits_one limit what (i ∷ items) puts = is_of what (metered_in limit i) && no
 abbrev pub limit_at : List Config → ℕ → ℕ
 limit_at configs n = elim (slice_get configs n) [ None ↦ 0 | Some c ↦ c.max_message_size ]
 
+-- a step that ends its connection admits nothing
 abbrev pub admitted_by : ℕ → ℕ → ℕ → Metered → List Entry → Entry → List ℕ
 admitted_by limit n conn what before e =
-    cond (steps_receiver n conn e.event.act && admits_one limit what (taken before e) e.puts) (e.event.at ∷ []) []
+    cond (steps_receiver n conn e.event.act && not (is_end e.reply) && admits_one limit what (taken before e) e.puts) (e.event.at ∷ []) []
 
 -- the moments at which a connection admitted these, oldest first
 unfoldable pub admitted : List Config → List Entry → ℕ → ℕ → Metered → List ℕ

@@ -37,7 +37,7 @@ module _ (n name : ℕ) (items : List Item) where
 abbrev pub connections_by : ℕ → List Entry → Entry → (ℕ → Option Spawned) → ℕ → Option Spawned
 connections_by n before e connections = acted_connections n (length before) (taken before e) e.event.act connections
 
--- the connections that a node's spawner made, by the events that made them: none of them ends yet
+-- the connections that a node's spawner made, by the events that made them, those that have ended too
 unfoldable pub connections_of : List Entry → ℕ → ℕ → Option Spawned
 connections_of log n = state_from (connections_by n) [] log (λ k. None)
 
