@@ -35,7 +35,7 @@ use Rattle.p2p_log_laws.proofs.Weighing.{taken_items}
 -- ---- a step of a listener that admits takes an arrival
 
 module _ (configs : List Config) (log : List Entry) (n : ℕ) where
-  record IsAdmitted (r : Row) : Type 0 where
+  pub record IsAdmitted (r : Row) : Type 0 where
     pub x : Envelope
     pub rest : List Envelope
     pub first : line log (queue.Arrivals n) ≡ x ∷ rest
@@ -46,7 +46,7 @@ module _ (configs : List Config) (log : List Entry) (n : ℕ) where
     pub takes : r.takes ≡ name_of x ∷ []
     pub ends : flat_map ended_item r.ends ≡ []
 
-  abbrev Admits : Row → Type 0
+  abbrev pub Admits : Row → Type 0
   Admits r = r.reply ≡ reply.Gates gates.Admitted → IsAdmitted r
 
   module _ (at : ℕ) (known : Known) (place : Bool) where
@@ -64,7 +64,7 @@ module _ (configs : List Config) (log : List Entry) (n : ℕ) where
     turn_admits [] so = arrives (line log (queue.Arrivals n)) refl so
     turn_admits (x ∷ rest) so = absurd (cc)
 
-  listener_admits : (at : ℕ) → Admits (listener_row configs log n at)
+  pub listener_admits : (at : ℕ) → Admits (listener_row configs log n at)
   listener_admits at = by (is_up log n)
     where
       by : (b : Bool) → Admits
@@ -75,7 +75,7 @@ module _ (configs : List Config) (log : List Entry) (n : ℕ) where
 -- ---- a handshake that runs ran before, or begins so
 
 module _ (n m h : ℕ) (names : List ℕ) where
-  abbrev IsBegun : Act → Reply → Type 0
+  abbrev pub IsBegun : Act → Reply → Type 0
   IsBegun a r = (h ≡ m) × (a ≡ act.Listener n) × (r ≡ reply.Gates gates.Admitted)
 
   admitted : (j : ℕ) → j ≡ n → (r : Reply) → is_among h (with_admitted m r names) ≡ true → (is_among h names ≡ true) ⊎ IsBegun (act.Listener j) r
@@ -91,7 +91,7 @@ module _ (n m h : ℕ) (names : List ℕ) where
   admitted j here (reply.Gates _) runs = inl runs
   admitted j here _ runs = inl runs
 
-  acted : (r : Reply) (items : List Item) (a : Act) → is_among h (acted_handshakes n m r items a names) ≡ true → (is_among h names ≡ true) ⊎ IsBegun a r
+  pub acted : (r : Reply) (items : List Item) (a : Act) → is_among h (acted_handshakes n m r items a names) ≡ true → (is_among h names ≡ true) ⊎ IsBegun a r
   acted r items (act.Listener j) runs = by (j == n) refl runs
     where
       by : (b : Bool) → (j == n) ≡ b → is_among h (cond b (with_admitted m r names) names) ≡ true → (is_among h names ≡ true) ⊎ IsBegun (act.Listener j) r

@@ -36,7 +36,8 @@ use Rattle.p2p_log_rules.specs.Connections.{is_ended}
 use Rattle.p2p_log_rules.specs.declared.row.Row.{Row}
 use Rattle.p2p_log_rules.specs.Attempting.{Attempt, dial_rules_at, attempts_of, resolved, given_up_row, resolved_row, ready_row, link_of, took_row as attempt_took_row, attempt_turn, attempt_by, attempt_row}
 use Rattle.p2p_log_rules.specs.Dialing.{Dials, dials_of, in_drawn_order, last_key, dial_puts, answered_row, due_row, dialer_turn, dialer_row}
-use Rattle.p2p_log_rules.specs.Effect.{entry_of, row, send_step_row}
+use Rattle.p2p_log_rules.specs.Dropping.{LinkEnd, gave_up, dialing_end, dropping, attempt_step_row}
+use Rattle.p2p_log_rules.specs.Effect.{entry_of, row, send_step_row, recv_step_row}
 use Rattle.p2p_log_rules.specs.Facts.{is_up, taken}
 use Rattle.p2p_log_rules.specs.Handshakes.{is_handshaking, is_accepted, source_at, steps_handshake, takes_acceptance}
 use Rattle.p2p_log_rules.specs.Listening.{known_of, gate_rules_at, gates_puts, arrived_row, arrival_turn, listener_turn, has_place, listener_row}
@@ -47,15 +48,18 @@ use Rattle.p2p_log_rules.specs.TrackerPuts as puts
 use Rattle.p2p_log_rules.specs.TrackerPuts.{acceptance, listen_grant, handshake_puts, item_puts, heeded}
 use Rattle.p2p_log_rules.specs.TrackerRows as rows
 use Rattle.p2p_log_rules.proofs.Moves.{one_taken}
-use Rattle.p2p_log_rules.proofs.Touches.{Reach, writes, away}
+use Rattle.p2p_log_rules.proofs.Touches.{away}
+use Rattle.p2p_log_laws.proofs.Reaching.{Reach, writes}
 use Rattle.p2p_log_laws.specs.Grants.{one}
 use Rattle.p2p_log_laws.specs.NodeGrants.{put_of}
 use Rattle.p2p_log_laws.specs.OneAnswer.{Words, tells, asks_about, is_for, ends_exchange}
+use Rattle.p2p_log_laws.proofs.DropShape.{each_dropping}
+use Rattle.p2p_log_laws.proofs.Dropped.{taken_same, taken-dropping}
 use Rattle.p2p_log_laws.proofs.ListenerShape.{listener_shape}
 use Rattle.p2p_log_laws.proofs.Plain.{and_false}
 use Rattle.p2p_log_laws.proofs.Shape.{Shape, no_moves}
 use Rattle.p2p_log_laws.proofs.Shapes.{row_shape}
-use Rattle.p2p_log_laws.proofs.Starting.{each_sent}
+use Rattle.p2p_log_laws.proofs.HalfSteps.{released, each_step, send_is, receive_is}
 use Rattle.p2p_log_laws.proofs.TrackerMoves.{served_moves, unblocked_moves}
 use Rattle.p2p_log_laws.proofs.TrackerPuts.{EachKind, each_unblocked, each_asked, each_connected}
 use Rattle.p2p_log_laws.proofs.Weighing.{weight, count_by-one}
@@ -139,6 +143,28 @@ module _ (w : Words) (n name : ℕ) where
       none : (a b c : ℕ) → a ≡ 0 → b ≡ 0 → a + b ≤ c
       none a b c is also = omega (arith, is, also)
 
+  -- the same of a row that drops an end too
+  pub dropped : (log : List Entry) (ev : Event) (r : Row) (o : Option LinkEnd) → Answers log ev r → Moves log (dropping log o r) → Answers log ev (dropping log o r)
+  dropped log ev r None h d = h
+  dropped log ev r (Some e) h d = record {
+    moves = d;
+    few = elim h.few [
+      | inl few ↦ inl (kept (count_by (is_for w n name) r.puts) (one (w.acceptance && accepts_now log ev r)) (weight (is_for w n name) h.moves.taken)
+          (one (w.acceptance && accepts_now log ev (dropping log (Some e) r))) (weight (is_for w n name) d.taken) few (ap (λ b. one (w.acceptance && b)) same)
+          (taken_same log r (Some e) h.moves d (is_for w n name)))
+      | inr other ↦ inr (elim other [
+        | inl begins ↦ inl (record { named = begins.named; one_put = begins.one_put; none_accepted = same ∙ begins.none_accepted })
+        | inr ends ↦ inr (record { ending = ends.ending; one_put = ends.one_put; none_accepted = same ∙ ends.none_accepted })
+      ])
+    ];
+  }
+    where
+      kept : (a b c more also : ℕ) → a + b ≤ c → more ≡ b → also ≡ c → a + more ≤ also
+      kept a b c more also le is same = omega (arith, le, is, same)
+
+      same : accepts_now log ev (dropping log (Some e) r) ≡ accepts_now log ev r
+      same = ap (λ items. steps_handshake n name ev.act && takes_acceptance items) (taken-dropping log ev (Some e) r)
+
   module _ (configs : List Config) (log : List Entry) (at seed : ℕ) where
     abbrev event : Act → Event
     event a = record { at = at; seed = seed; act = a }
@@ -158,9 +184,19 @@ module _ (w : Words) (n name : ℕ) where
     link_silent e side.Out i = silent_away (queue.Link e side.Out) i refl refl
     link_silent e side.In i = silent_away (queue.Link e side.In) i refl refl
 
+    released_silent : (m : ℕ) (key : Key) → Each Silent (released m key)
+    released_silent m key = (silent_away (queue.Router m) (item.Release key) refl refl, (silent_item (queue.Tracker m) (item.Release key) refl refl, tt))
+
     pub sender_silent : (conn m : ℕ) → Each Silent (send_step_row configs log conn m at).puts
     sender_silent conn m =
-        each_sent configs log conn m at Silent (λ key. silent_item (queue.Tracker m) (item.Connect conn key) refl refl) (λ key. silent_away (queue.Router m) (item.Ready conn key) refl refl) link_silent
+        each_step Silent log m conn (send_step_row configs log conn m at) (released_silent m)
+        (send_is configs log conn m at Silent (λ key. silent_item (queue.Tracker m) (item.Connect conn key) refl refl) (λ key. silent_away (queue.Router m) (item.Ready conn key) refl refl) link_silent)
+
+    -- and a receiving one
+    pub receiver_silent : (conn m : ℕ) → Each Silent (recv_step_row configs log conn m at).puts
+    receiver_silent conn m =
+        each_step Silent log m conn (recv_step_row configs log conn m at) (released_silent m)
+        (receive_is configs log conn m at Silent (λ i. silent_away (queue.Held m conn) i refl refl) (λ c i. silent_away (queue.Channel m c) i refl refl))
 
     -- ---- questions of an oracle, of a dialer and of an attempt
 
@@ -227,8 +263,10 @@ module _ (w : Words) (n name : ℕ) where
         by false = tt
     trying_silent m full private a (x ∷ xs) = tried_silent m full private a (name_of x) x.item xs
 
-    pub attempt_silent : (e m : ℕ) → Each Silent (attempt_row configs log e m at seed).puts
-    attempt_silent e m = by (attempts_of configs log m e)
+    pub attempt_silent : (e m : ℕ) → Each Silent (attempt_step_row configs log e m at seed).puts
+    attempt_silent e m =
+        let r : Row = attempt_row configs log e m at seed in
+        each_dropping Silent log (cond (gave_up r.puts) (dialing_end (attempts_of configs log m e)) None) r (by (attempts_of configs log m e))
       where
         by : (o : Option Attempt) → Each Silent (attempt_by o m at seed (is_spawner_full configs log m) (dial_rules_at configs m).private (line log (queue.Attempt m e))).puts
         by None = tt

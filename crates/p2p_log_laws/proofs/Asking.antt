@@ -26,12 +26,11 @@ use Rattle.p2p_log.specs.Lines.{line}
 use Rattle.p2p_log.proofs.Each.{Each-weaker}
 use Rattle.p2p_log_rules.specs.Connections.{is_ended}
 use Rattle.p2p_log_rules.specs.declared.row.Row.{Row}
-use Rattle.p2p_log_rules.specs.Attempting.{attempt_row}
+use Rattle.p2p_log_rules.specs.Dropping.{attempt_step_row, handshake_step_row}
 use Rattle.p2p_log_rules.specs.Dialing.{dialer_row}
-use Rattle.p2p_log_rules.specs.Effect.{row}
+use Rattle.p2p_log_rules.specs.Effect.{row, send_step_row, recv_step_row}
 use Rattle.p2p_log_rules.specs.Facts.{is_up}
 use Rattle.p2p_log_rules.specs.Handshakes.{is_handshaking, source_at, steps_handshake}
-use Rattle.p2p_log_rules.specs.Handshaking.{handshake_row}
 use Rattle.p2p_log_rules.specs.Listening.{listener_row}
 use Rattle.p2p_log_rules.specs.Rows.{only}
 use Rattle.p2p_log_rules.specs.Tracking.{key_cmp, rules_at, asked_by, calls_of, update_subscriptions, blocked_subscriptions}
@@ -40,14 +39,15 @@ use Rattle.p2p_log_rules.specs.TrackerPuts.{acceptance, listen_grant, handshake_
 use Rattle.p2p_log_rules.specs.TrackerRows as rows
 use Rattle.p2p_log_rules.specs.declared.row.Opening.{Opening}
 use Rattle.p2p_log_rules.specs.Links.{openings_of}
-use Rattle.p2p_log_rules.proofs.Touches.{in_ends, writes, away}
+use Rattle.p2p_log_rules.proofs.Touches.{in_ends, away}
+use Rattle.p2p_log_laws.proofs.Reaching.{writes}
 use Rattle.p2p_log_laws.specs.OneAnswer.{exchanges, asks_for, is_asked}
 use Rattle.p2p_log_laws.proofs.Answering.{Silent, Asks, ask_silent, dialer_silent, attempt_silent, listener_asks}
 use Rattle.p2p_log_laws.proofs.HandshakeAnswers.{row_silent}
 use Rattle.p2p_log_laws.proofs.Plain.{and_false}
 use Rattle.p2p_log_laws.proofs.Shape.{Shape}
 use Rattle.p2p_log_laws.proofs.Shapes.{row_shape}
-use Rattle.p2p_log_laws.proofs.Starting.{each_sent}
+use Rattle.p2p_log_laws.proofs.HalfSteps.{each_step, send_is, receive_is}
 use Rattle.p2p_log_laws.proofs.TrackerPuts.{EachKind, each_unblocked, each_asked, each_connected}
 use Rattle.p2p_log_laws.proofs.Heeded.{Each-heeded}
 
@@ -149,10 +149,14 @@ module _ (n name : ℕ) where
     each_unasked (act.Ask what m) other = all_unasked (rows.ask_row configs log m what).puts (ask_silent exchanges n name configs log at seed what m)
     each_unasked (act.Tracker m) other = tracker_at m (m == n) refl
     each_unasked (act.Dialer m) other = all_unasked (dialer_row configs log m at seed).puts (dialer_silent exchanges n name configs log at seed m)
-    each_unasked (act.Attempt e m) other = all_unasked (attempt_row configs log e m at seed).puts (attempt_silent exchanges n name configs log at seed e m)
+    each_unasked (act.Attempt e m) other = all_unasked (attempt_step_row configs log e m at seed).puts (attempt_silent exchanges n name configs log at seed e m)
     each_unasked (act.Listener m) other = listens_unasked m (listener_row configs log m at).puts (listener_asks exchanges n name configs log at seed m)
-    each_unasked (act.Handshake k m) other = all_unasked (handshake_row configs log k m at).puts (row_silent exchanges n name configs log at seed k m other)
+    each_unasked (act.Handshake k m) other = all_unasked (handshake_step_row configs log k m at).puts (row_silent exchanges n name configs log at seed k m other)
     each_unasked (act.Finish link ok) other = out_of_reach (act.Finish link ok) (row configs log at seed (act.Finish link ok)) (row_shape configs log at seed (act.Finish link ok)) (ends_aside (openings_of log link))
     each_unasked (act.SendStep conn m) other =
-        each_sent configs log conn m at Unasked (λ key. unasked_item (queue.Tracker m) (item.Connect conn key) refl) (λ key. refl) link_unasked
+        each_step Unasked log m conn (send_step_row configs log conn m at) (λ key. (refl, (unasked_item (queue.Tracker m) (item.Release key) refl, tt)))
+        (send_is configs log conn m at Unasked (λ key. unasked_item (queue.Tracker m) (item.Connect conn key) refl) (λ key. refl) link_unasked)
+    each_unasked (act.RecvStep conn m) other =
+        each_step Unasked log m conn (recv_step_row configs log conn m at) (λ key. (refl, (unasked_item (queue.Tracker m) (item.Release key) refl, tt)))
+        (receive_is configs log conn m at Unasked (λ i. refl) (λ c i. refl))
     each_unasked a other = out_of_reach a (row configs log at seed a) (row_shape configs log at seed a) refl

@@ -1,5 +1,6 @@
--- The shapes of what attempts are told, and of their steps: none moves a copy.
-use Rattle.std.proofs.Common.{◌≡◌, ℕ, Bool, true, false, cond, List, [], ◌∷◌, ◌++◌, map, length, Option, Some, None, refl, ap, ◌∙◌}
+-- The shapes of what attempts are told, and of their steps: none moves a copy, but those end that are in flight towards an end of a link
+-- that an attempt drops.
+use Rattle.std.proofs.Common.{◌≡◌, ℕ, Bool, true, false, cond, List, [], ◌∷◌, ◌++◌, map, length, Option, Some, None, inl, inr, refl, ap, ◌∙◌}
 use Rattle.std.specs.Prelude.{◌||◌, nat_le, is_some}
 use Rattle.p2p_base.specs.declared.key.Key.{Key}
 use Rattle.p2p_address.specs.declared.ip.SocketAddr.{SocketAddr}
@@ -21,11 +22,14 @@ use Rattle.p2p_log.specs.Lines.{name_of, line}
 use Rattle.p2p_log.specs.Sending.{keys_sent, sending_of}
 use Rattle.p2p_log.proofs.Queues.{same_queue-refl}
 use Rattle.p2p_log_rules.specs.declared.row.Row.{Row}
-use Rattle.p2p_log_rules.specs.Facts.{is_up, key_at}
+use Rattle.p2p_log_rules.specs.Dropping.{LinkEnd, other_side, gave_up, dialing_end, acted_drops, dropping, attempt_step_row}
+use Rattle.p2p_log_rules.specs.Effect.{entry_of}
+use Rattle.p2p_log_rules.specs.Facts.{is_up, key_at, taken}
 use Rattle.p2p_log_rules.specs.Rows.{only, is_spawner_full}
 use Rattle.p2p_log_rules.specs.Attempting.{Attempt, dial_rules_at, attempts_of, resolved, given_up_row, gone_on_row, resolved_row, ready_row, link_of, took_row, attempt_turn, attempt_by, attempt_row, told_row, resolve_by, resolve_row, link_item, answered_row, refuse_row, connected_row, connect_row}
-use Rattle.p2p_log_rules.proofs.Touches.{writes}
-use Rattle.p2p_log_laws.proofs.LineShape.{ended_shape, gone_on_shape}
+use Rattle.p2p_log_laws.proofs.Reaching.{in_flight, writes, ends_in}
+use Rattle.p2p_log_laws.proofs.DropShape.{attempt_aside, dropping_shape}
+use Rattle.p2p_log_laws.proofs.LineShape.{Within, still_within, ended_within, asking_within}
 use Rattle.p2p_log_laws.proofs.Shape.{Shape, IsQuiet, quiet_laws, still, no_moves}
 
 or_true : (b : Bool) → (b || true) ≡ true
@@ -41,10 +45,8 @@ module _ (configs : List Config) (log : List Entry) (e n : ℕ) where
   abbrev q : Queue
   q = queue.Attempt n e
 
-  written : writes configs log a q ≡ true
-  written =
-      ap (λ b. same_queue (queue.Tracker n) q || (same_queue (queue.Spawner n) q || b)) (same_queue-refl q)
-      ∙ (ap (λ b. same_queue (queue.Tracker n) q || b) (or_true (same_queue (queue.Spawner n) q)) ∙ or_true (same_queue (queue.Tracker n) q))
+  written : ends_in configs log a q ≡ true
+  written = ap (λ b. b || in_flight (dialing_end (attempts_of configs log n e)) q) (same_queue-refl q)
 
   asks : writes configs log a (queue.Tracker n) ≡ true
   asks = ap (λ b. b || (same_queue (queue.Spawner n) (queue.Tracker n) || same_queue q (queue.Tracker n))) (same_queue-refl (queue.Tracker n))
@@ -53,45 +55,75 @@ module _ (configs : List Config) (log : List Entry) (e n : ℕ) where
   spawns = ap (λ b. same_queue (queue.Tracker n) (queue.Spawner n) || (b || same_queue q (queue.Spawner n))) (same_queue-refl (queue.Spawner n))
 
   -- it takes these, of which it is left these, and ends
-  given_up_shape : (took left : List Envelope) → line log q ≡ took ++ left → (key : Key) → Shape configs log a (given_up_row n key (map name_of took) left)
-  given_up_shape took left first key = ended_shape configs log a q (same_queue-refl q) refl (λ r. refl) written took left first ((queue.Tracker n, item.Release key) ∷ []) ((refl, refl), tt) (asks, tt)
+  given_up_within : (took left : List Envelope) → line log q ≡ took ++ left → (key : Key) → Within configs log a q (given_up_row n key (map name_of took) left)
+  given_up_within took left first key = ended_within configs log a q (same_queue-refl q) refl (λ r. refl) written took left first ((queue.Tracker n, item.Release key) ∷ []) ((refl, refl), tt) (asks, tt)
 
   -- it takes this, and goes on
-  taken_shape : (x : Envelope) (rest : List Envelope) → line log q ≡ x ∷ rest → Shape configs log a (gone_on_row (name_of x))
-  taken_shape x rest first = gone_on_shape configs log a q (same_queue-refl q) refl (λ r. refl) x rest first
+  taken_within : (x : Envelope) (rest : List Envelope) → line log q ≡ x ∷ rest → Within configs log a q (gone_on_row (name_of x))
+  taken_within x rest first = asking_within configs log a q (same_queue-refl q) refl (λ r. refl) x rest first [] tt tt
 
   -- its keys were exchanged
-  ready_shape : (full : Bool) (key : Key) (link : ℕ) (x : Envelope) (rest : List Envelope) → line log q ≡ x ∷ rest → Shape configs log a (ready_row n full key link (name_of x) rest)
-  ready_shape true key link x rest first = given_up_shape (x ∷ []) rest first key
-  ready_shape false key link x rest first =
-      ended_shape configs log a q (same_queue-refl q) refl (λ r. refl) written (x ∷ []) rest first ((queue.Spawner n, item.Spawn key link) ∷ []) ((refl, refl), tt) (spawns, tt)
+  ready_within : (full : Bool) (key : Key) (link : ℕ) (x : Envelope) (rest : List Envelope) → line log q ≡ x ∷ rest → Within configs log a q (ready_row n full key link (name_of x) rest)
+  ready_within true key link x rest first = given_up_within (x ∷ []) rest first key
+  ready_within false key link x rest first =
+      ended_within configs log a q (same_queue-refl q) refl (λ r. refl) written (x ∷ []) rest first ((queue.Spawner n, item.Spawn key link) ∷ []) ((refl, refl), tt) (spawns, tt)
 
-  resolved_shape : (o : Option Attempt) (key : Key) (x : Envelope) (rest : List Envelope) → line log q ≡ x ∷ rest → Shape configs log a (resolved_row o n key (name_of x) rest)
-  resolved_shape None key x rest first = given_up_shape (x ∷ []) rest first key
-  resolved_shape (Some b) key x rest first = taken_shape x rest first
+  resolved_within : (o : Option Attempt) (key : Key) (x : Envelope) (rest : List Envelope) → line log q ≡ x ∷ rest → Within configs log a q (resolved_row o n key (name_of x) rest)
+  resolved_within None key x rest first = given_up_within (x ∷ []) rest first key
+  resolved_within (Some b) key x rest first = taken_within x rest first
 
-  took_shape : (full private : Bool) (seed : ℕ) (b : Attempt) (x : Envelope) (rest : List Envelope) → line log q ≡ x ∷ rest → (i : Item)
-      → Shape configs log a (took_row n full private seed b (name_of x) i rest)
-  took_shape full private seed b x rest first (item.Resolved addresses) = resolved_shape (resolved b.address private addresses seed b) b.key x rest first
-  took_shape full private seed b x rest first item.Linked = taken_shape x rest first
-  took_shape full private seed b x rest first (item.Finished true) = ready_shape full b.key (link_of b.answer) x rest first
-  took_shape full private seed b x rest first (item.Finished false) = given_up_shape (x ∷ []) rest first b.key
-  took_shape full private seed b x rest first _ = given_up_shape (x ∷ []) rest first b.key
+  took_within : (full private : Bool) (seed : ℕ) (b : Attempt) (x : Envelope) (rest : List Envelope) → line log q ≡ x ∷ rest → (i : Item)
+      → Within configs log a q (took_row n full private seed b (name_of x) i rest)
+  took_within full private seed b x rest first (item.Resolved addresses) = resolved_within (resolved b.address private addresses seed b) b.key x rest first
+  took_within full private seed b x rest first item.Linked = taken_within x rest first
+  took_within full private seed b x rest first (item.Finished true) = ready_within full b.key (link_of b.answer) x rest first
+  took_within full private seed b x rest first (item.Finished false) = given_up_within (x ∷ []) rest first b.key
+  took_within full private seed b x rest first _ = given_up_within (x ∷ []) rest first b.key
 
-  turn_shape : (at seed : ℕ) (full private : Bool) (b : Attempt) (xs : List Envelope) → line log q ≡ xs → Shape configs log a (attempt_turn n at seed full private b xs)
-  turn_shape at seed full private b [] none = by_due (nat_le b.deadline at)
+  turn_within : (at seed : ℕ) (full private : Bool) (b : Attempt) (xs : List Envelope) → line log q ≡ xs → Within configs log a q (attempt_turn n at seed full private b xs)
+  turn_within at seed full private b [] none = by_due (nat_le b.deadline at)
     where
-      by_due : (c : Bool) → Shape configs log a (cond c (given_up_row n b.key [] []) (only reply.Idle))
-      by_due true = given_up_shape [] [] none b.key
-      by_due false = still configs log a reply.Idle refl refl
-  turn_shape at seed full private b (x ∷ rest) first = took_shape full private seed b x rest first x.item
+      by_due : (c : Bool) → Within configs log a q (cond c (given_up_row n b.key [] []) (only reply.Idle))
+      by_due true = given_up_within [] [] none b.key
+      by_due false = still_within configs log a q reply.Idle refl refl
+  turn_within at seed full private b (x ∷ rest) first = took_within full private seed b x rest first x.item
 
-  pub attempt_shape : (at seed : ℕ) → Shape configs log a (attempt_row configs log e n at seed)
-  attempt_shape at seed = by_attempt (attempts_of configs log n e)
+  attempt_within : (at seed : ℕ) → Within configs log a q (attempt_row configs log e n at seed)
+  attempt_within at seed = by_attempt (attempts_of configs log n e)
     where
-      by_attempt : (o : Option Attempt) → Shape configs log a (attempt_by o n at seed (is_spawner_full configs log n) (dial_rules_at configs n).private (line log q))
-      by_attempt None = still configs log a reply.Gone refl refl
-      by_attempt (Some b) = turn_shape at seed (is_spawner_full configs log n) (dial_rules_at configs n).private b (line log q) refl
+      by_attempt : (o : Option Attempt) → Within configs log a q (attempt_by o n at seed (is_spawner_full configs log n) (dial_rules_at configs n).private (line log q))
+      by_attempt None = still_within configs log a q reply.Gone refl refl
+      by_attempt (Some b) = turn_within at seed (is_spawner_full configs log n) (dial_rules_at configs n).private b (line log q) refl
+
+  -- where it gives up, it drops its end of a link
+  pub attempt_shape : (at seed : ℕ) → Shape configs log a (attempt_step_row configs log e n at seed)
+  attempt_shape at seed =
+      dropping_shape configs log a q r (attempt_within at seed) (cond (gave_up r.puts) o None)
+      (λ cut is. attempt_aside cut.0 (other_side cut.1) n e) (λ cut is. towards cut (gave cut (gave_up r.puts) is))
+      (λ cut is ev acts x place stands copy bears. inr (inl (record {
+        steps = (e, n, inl acts);
+        cut = cut;
+        drops = ap (λ b. acted_drops configs log r.reply (taken log (entry_of ev (dropping log (Some cut) r))) r.puts b) acts ∙ is;
+        place = place;
+        left = x;
+        stood = stands;
+        carried = bears;
+      })))
+    where
+      r : Row
+      r = attempt_row configs log e n at seed
+
+      o : Option LinkEnd
+      o = dialing_end (attempts_of configs log n e)
+
+      gave : (cut : LinkEnd) (b : Bool) → cond b o None ≡ Some cut → o ≡ Some cut
+      gave cut true is = is
+      gave cut false is = absurd (cc)
+
+      towards : (cut : LinkEnd) → o ≡ Some cut → ends_in configs log a (queue.Link cut.0 (other_side cut.1)) ≡ true
+      towards cut is =
+          let link : Queue = queue.Link cut.0 (other_side cut.1) in
+          ap (λ b. same_queue q link || b) (ap (λ p. in_flight p link) is ∙ same_queue-refl link) ∙ or_true (same_queue q link)
 
 -- ---- what it is told
 

@@ -1,6 +1,6 @@
 -- What an entry tells the trackers of connections that begin: of each that it begins it tells once, and of no other.
 use Rattle.std.proofs.Common.{◌≡◌, ℕ, ◌+◌, ◌≤◌, Bool, true, false, cond, List, [], ◌∷◌, map, Option, Some, None, inl, inr, refl, ap, sym, subst, ◌∙◌, arith, eqb-true}
-use Rattle.std.specs.Prelude.{◌==◌, ◌&&◌, ◌||◌, count_by}
+use Rattle.std.specs.Prelude.{◌==◌, ◌&&◌, ◌||◌, nat_lt, count_by}
 use Rattle.std.specs.List.{AllByRecursion as Each}
 use Rattle.std.proofs.lemmas.Bool.{and_parts}
 use Rattle.std.proofs.lemmas.List.Sums.{sum_by-cons}
@@ -11,6 +11,10 @@ use Rattle.p2p_log.specs.declared.queue.Queue.TheVariants as queue
 use Rattle.p2p_log.specs.declared.item.Item.{Item}
 use Rattle.p2p_log.specs.declared.item.Item.TheVariants as item
 use Rattle.p2p_log.specs.declared.item.Envelope.{Envelope}
+use Rattle.p2p_log.specs.declared.end.Cause.{Cause}
+use Rattle.p2p_log.specs.declared.end.Cause.TheVariants as cause
+use Rattle.p2p_log.specs.declared.entry.Ended.{Ended}
+use Rattle.p2p_log.specs.declared.entry.Ended.TheVariants as ended
 use Rattle.p2p_log.specs.declared.entry.Entry.{Entry}
 use Rattle.p2p_log.specs.declared.entry.Reply.{Reply}
 use Rattle.p2p_log.specs.declared.entry.Reply.TheVariants as reply
@@ -21,7 +25,9 @@ use Rattle.p2p_log.proofs.Each.{Each-weaker, count_by-none}
 use Rattle.p2p_log_rules.specs.declared.row.Half.{Half}
 use Rattle.p2p_log_rules.specs.declared.row.Row.{Row}
 use Rattle.p2p_log_rules.specs.Connections.{live_half, steps_sender, is_done, is_begun, is_running}
-use Rattle.p2p_log_rules.specs.Effect.{row, only, takes_oldest, write_row, batch_size_at, beside_ping, batch, running_row, begin_row, half_row, sender_row, send_step_row}
+use Rattle.p2p_log_rules.specs.Effect.{row, only, takes_oldest, write_row, batch_size_at, beside_ping, batch, written_row, told_row, running_row, begin_row, half_row, sender_row, send_step_row}
+use Rattle.p2p_log_rules.specs.Dropping.{other_side, is_dropped}
+use Rattle.p2p_log_rules.specs.Ending.{end_row}
 use Rattle.p2p_log_rules.specs.Pings.{ping_frame, ping_is_due}
 use Rattle.p2p_log_rules.specs.Facts.{is_up}
 use Rattle.p2p_log_laws.specs.Grants.{one}
@@ -124,9 +130,30 @@ module _ (n conn : ℕ) (log : List Entry) where
       counted false true all rest none sum zero = omega (arith, sum, zero)
       counted false false all rest none sum zero = omega (arith, sum, zero)
 
+  -- its end tells of no beginning
+  last_begins : (a : Act) (half : Half) (why : Ended) (c : Cause) (taken : List Envelope) → BeginsOnce a (end_row log n conn half why c taken)
+  last_begins a half why c taken =
+      silent_begins a (end_row log n conn half why c taken) (count_by-none (tells_begun n conn) (end_row log n conn half why c taken).puts (refl, (and_false (n == n), tt)))
+
+  goes_on : (a : Act) (half : Half) (dropped due : Bool) (ys : List Envelope) → BeginsOnce a (written_row log n conn half dropped due ys)
+  goes_on a half true false [] = silent_begins a (only reply.Idle) refl
+  goes_on a half false false [] = silent_begins a (only reply.Idle) refl
+  goes_on a half true false (y ∷ ys) = last_begins a half ended.SendFailed cause.ConnectionEnded (y ∷ ys)
+  goes_on a half true true ys = last_begins a half ended.SendFailed cause.ConnectionEnded ys
+  goes_on a half false false (y ∷ ys) = written_silent a (queue.Link half.link half.writes) false (y ∷ ys) refl
+  goes_on a half false true ys = written_silent a (queue.Link half.link half.writes) true ys refl
+
+  told_begins : (a : Act) (half : Half) (xs : List Envelope) (room : Bool) (r : Row) → BeginsOnce a r → BeginsOnce a (told_row log n conn half xs room r)
+  told_begins a half [] room r h = h
+  told_begins a half (x ∷ xs) true r h = last_begins a half ended.Killed cause.ConnectionEnded (x ∷ [])
+  told_begins a half (x ∷ xs) false r h = h
+
   running_begins : (configs : List Config) (half : Half) (due : Bool) → BeginsOnce (act.SendStep conn n) (running_row configs log n conn half due)
   running_begins configs half due =
-      written_silent (act.SendStep conn n) (queue.Link half.link half.writes) due (batch log n conn (beside_ping due (batch_size_at configs n))) refl
+      let most : ℕ = beside_ping due (batch_size_at configs n) in
+      let dropped : Bool = is_dropped configs log half.link (other_side half.writes) in
+      told_begins (act.SendStep conn n) half (line log (queue.Control n conn)) (nat_lt 0 most) (written_row log n conn half dropped due (batch log n conn most))
+      (goes_on (act.SendStep conn n) half dropped due (batch log n conn most))
 
   half_begins : (configs : List Config) (at : ℕ) (half : Half) (begun running : Bool) → is_begun log n conn ≡ begun → (n == n) ≡ true → (conn == conn) ≡ true
       → BeginsOnce (act.SendStep conn n) (half_row configs log n conn at half begun running)

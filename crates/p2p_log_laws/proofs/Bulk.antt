@@ -1,5 +1,5 @@
 -- What ends together: items one after another, each with its copies.
-use Rattle.p2p_log_rules.proofs.Touches.{reads, writes}
+use Rattle.p2p_log_laws.proofs.Reaching.{reads, writes, ends_in}
 use Rattle.p2p_log.proofs.Taken.{Has-taken}
 use Rattle.p2p_log.specs.Taken.{AreTaken}
 use Rattle.p2p_log_rules.specs.Reading.{is_read}
@@ -50,7 +50,7 @@ one_more : (b : Bool) → 0 + cond b 1 0 ≡ one b
 one_more b = omega arith
 
 -- the copies that an item carries, as ends
-item_counted : (copy : ℕ × ℕ) (o : Outcome) (i : Item) → count_by (ends_copy copy) (map (λ c. end.Copy c.0 c.1 o) (copies_of i)) ≡ one (carries_copy copy i)
+pub item_counted : (copy : ℕ × ℕ) (o : Outcome) (i : Item) → count_by (ends_copy copy) (map (λ c. end.Copy c.0 c.1 o) (copies_of i)) ≡ one (carries_copy copy i)
 item_counted copy o (item.Content c frame priority send to) =
     ap (λ (l : List End). count_by (ends_copy copy) l) (ends_from o send 0 to)
     ∙ (count_by-copies_end copy send 0 to o ∙ from_first copy.0 copy.1 send (length to))
@@ -83,7 +83,7 @@ from_carried send p n (k ∷ ks) long = (here send p n (length ks) (length (k �
     next p n l m e h = omega arith
 
 -- an item carries its copies
-copies_carried : (i : Item) → Each (λ c. carries_copy c i ≡ true) (copies_of i)
+pub copies_carried : (i : Item) → Each (λ c. carries_copy c i ≡ true) (copies_of i)
 copies_carried (item.Content c frame priority send to) = from_carried send 0 (length to) to (none (length to))
   where
     none : (n : ℕ) → 0 + n ≡ n
@@ -142,7 +142,7 @@ module _ (configs : List Config) (log : List Entry) (a : Act) (said : Reply) (no
     (taken : List Envelope) (read : Each (λ x. reads configs log a x.queue ≡ true) taken)
     (first : List End) (no_items : flat_map ended_item first ≡ []) (counted : (copy : ℕ × ℕ) → count_by (carries copy) taken ≡ count_by (ends_copy copy) first)
     (puts : List (Queue × Item)) (quiet : Each IsQuiet puts) (put : Each (λ x. writes configs log a x.0 ≡ true) puts)
-    (qs : List Queue) (near : (q : Queue) → Has qs q → writes configs log a q ≡ true) (c : Cause)
+    (qs : List Queue) (near : (q : Queue) → Has qs q → ends_in configs log a q ≡ true) (c : Cause)
     (rest : List Envelope) (stood : AreTaken (live log) (taken ++ rest)) (within : Each (λ x. Has qs x.queue) rest) where
   abbrev pub emptied : Row
   emptied = record { reply = said; takes = map name_of taken; puts = puts; ends = first ++ all_end c rest }
@@ -165,7 +165,7 @@ module _ (configs : List Config) (log : List Entry) (a : Act) (said : Reply) (no
     moves = m;
     reach = record {
       taken = read;
-      ended = Each-weaker (λ x. Has qs x.queue) (λ x. writes configs log a x.queue ≡ true) (λ x has. near x.queue has) rest within;
+      ended = Each-weaker (λ x. Has qs x.queue) (λ x. ends_in configs log a x.queue ≡ true) (λ x has. near x.queue has) rest within;
       puts = put;
     };
     laws = λ fitting.

@@ -28,7 +28,7 @@ use Rattle.p2p_log.proofs.Each.{Each-always, Each-map}
 use Rattle.p2p_log_rules.specs.Moves.{Moves}
 use Rattle.p2p_log_rules.proofs.Moves.{one_taken}
 use Rattle.p2p_log.proofs.Queues.{same_queue-refl}
-use Rattle.p2p_log_rules.proofs.Touches.{reads, writes}
+use Rattle.p2p_log_laws.proofs.Reaching.{reads, writes}
 use Rattle.p2p_log_laws.proofs.Shape.{Shape, IsQuiet, still, no_moves, quiet_laws}
 
 pub register_shape : (configs : List Config) (log : List Entry) (c n : ℕ) (rate : Rate)

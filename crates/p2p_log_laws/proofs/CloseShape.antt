@@ -25,7 +25,7 @@ use Rattle.p2p_log.proofs.Taken.{Has-taken}
 use Rattle.p2p_log_rules.specs.declared.row.Row.{Row}
 use Rattle.p2p_log_rules.specs.Closing.{has_reader, close_row}
 use Rattle.p2p_log_rules.specs.Effect.{only, entry_of}
-use Rattle.p2p_log_rules.proofs.Touches.{writes}
+use Rattle.p2p_log_laws.proofs.Reaching.{ends_in}
 use Rattle.p2p_log_laws.specs.Causes.{Shows}
 use Rattle.p2p_log_laws.proofs.Bulk.{emptied_shape}
 use Rattle.p2p_log_laws.proofs.Fitting.{StandsFit, fits}
@@ -89,8 +89,8 @@ module _ (configs : List Config) (log : List Entry) (c n : ℕ) where
       is_q p (inl is) = is
       is_q p (inr none) = absurd none
 
-      near : (p : Queue) → Has (q ∷ []) p → writes configs log a p ≡ true
-      near p has = subst (λ p. writes configs log a p ≡ true) (is_q p has) (same_queue-refl q)
+      near : (p : Queue) → Has (q ∷ []) p → ends_in configs log a p ≡ true
+      near p has = subst (λ p. ends_in configs log a p ≡ true) (is_q p has) (same_queue-refl q)
 
       within : Each (λ x. Has (q ∷ []) x.queue) (line log q)
       within = Each-weaker (λ x. x.queue ≡ q) (λ x. Has (q ∷ []) x.queue) (λ x is. inl (sym is)) (line log q) (in_line log q)

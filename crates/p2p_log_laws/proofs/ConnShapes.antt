@@ -1,8 +1,7 @@
 -- The shapes of the steps of a sending half of a connection.
 use Rattle.std.proofs.Common.{◌≡◌, ℕ, ◌+◌, Bool, true, false, cond, List, [], ◌∷◌, ◌++◌, map, take, Option, Some, None, inl, inr, refl, ap, sym, subst, ◌∙◌, arith, append-nil, eq-eqb}
-use Rattle.std.specs.Prelude.{◌==◌, ◌&&◌, count_by, ◌||◌}
+use Rattle.std.specs.Prelude.{◌==◌, ◌&&◌, nat_lt, count_by, ◌||◌}
 use Rattle.std.specs.List.{AllByRecursion as Each}
-use Rattle.std.proofs.lemmas.Bool.Decides.{nat_tests}
 use Rattle.std.proofs.lemmas.List.Sums.{sum_by-cons}
 use Rattle.p2p_log.specs.declared.config.Config.{Config}
 use Rattle.p2p_log.specs.declared.queue.Queue.{Queue}
@@ -11,6 +10,9 @@ use Rattle.p2p_log.specs.declared.queue.Side.{Side}
 use Rattle.p2p_log.specs.declared.item.Item.{Item}
 use Rattle.p2p_log.specs.declared.item.Item.TheVariants as item
 use Rattle.p2p_log.specs.declared.item.Envelope.{Envelope}
+use Rattle.p2p_log.specs.declared.end.Cause.TheVariants as cause
+use Rattle.p2p_log.specs.declared.entry.Ended.{Ended}
+use Rattle.p2p_log.specs.declared.entry.Ended.TheVariants as ended
 use Rattle.p2p_log.specs.declared.entry.Entry.{Entry}
 use Rattle.p2p_log.specs.declared.entry.Reply.{Reply}
 use Rattle.p2p_log.specs.declared.entry.Reply.TheVariants as reply
@@ -20,17 +22,21 @@ use Rattle.p2p_log_rules.specs.declared.row.Half.{Half}
 use Rattle.p2p_log_rules.specs.declared.row.Row.{Row}
 use Rattle.p2p_log.specs.Lines.{name_of, live, line}
 use Rattle.p2p_log_rules.specs.Connections.{half_at, is_begun, is_running, live_half}
+use Rattle.p2p_log_rules.specs.Dropping.{is_dropped}
+use Rattle.p2p_log_rules.specs.Ending.{queues_with, end_row}
 use Rattle.p2p_log_rules.specs.Facts.{is_up}
 use Rattle.p2p_log.specs.Copies.{carries, carries_copy}
 use Rattle.p2p_log_rules.specs.Effect
 use Rattle.p2p_log_rules.specs.Pings.{ping_frame, ping_is_due}
 use Rattle.p2p_log_rules.specs.Moves.{Moves}
-use Rattle.p2p_log.proofs.Each.{Each-has, Each-from_has, Each-always, Each-append, Each-map, Each-take, Each-weaker}
-use Rattle.p2p_log_rules.proofs.Moves.{batch_stood, one_taken, first_has}
+use Rattle.p2p_log.proofs.Each.{Has, Each-has, Each-from_has, Each-always, Each-append, Each-map, Each-take, Each-weaker}
+use Rattle.p2p_log_rules.proofs.Moves.{batch_stood, one_taken, stands_first, first_has}
 use Rattle.p2p_log.proofs.QueueNames.{Each-in_queue}
 use Rattle.p2p_log.proofs.Taken.{Each-taken}
 use Rattle.p2p_log.specs.Taken.{AreTaken}
-use Rattle.p2p_log_rules.proofs.Touches.{reads, writes, in_half}
+use Rattle.p2p_log_rules.proofs.Touches.{in_half}
+use Rattle.p2p_log_laws.proofs.Reaching.{reads, writes}
+use Rattle.p2p_log_laws.proofs.EndShape.{both, with_in, ended_shape}
 use Rattle.p2p_log_laws.proofs.Fitting.{StandsFit, Fits, fits, is_bare}
 use Rattle.p2p_log_laws.proofs.Shape.{Shape, Moved, Moved-nothing, Moved-put, Moved-idle, accepts, still, no_moves, one_move, first_in, bare_laws, quiet_laws, no_delivery, accepts-none}
 use Rattle.p2p_log_laws.proofs.Spreading.{one}
@@ -81,13 +87,10 @@ written_moved configs log conn n half (y ∷ ys) at relayed =
 pub or_left : (b c : Bool) → b ≡ true → (b || c) ≡ true
 or_left b c h = ap (λ t. t || c) h
 
-pub both : (n conn : ℕ) → ((n == n) && (conn == conn)) ≡ true
-both n conn = grind (arith, nat_tests)
-
--- what a half has yet to write is its own
-relay_in_half : (o : Option Half) (priority : Bool) (n conn : ℕ) → in_half o n conn (Effect.relay_queue priority n conn) ≡ true
-relay_in_half o true n conn = both n conn
-relay_in_half o false n conn = both n conn
+-- it reads what it has yet to write
+relay_read : (configs : List Config) (log : List Entry) (priority : Bool) (n conn : ℕ) → reads configs log (act.SendStep conn n) (Effect.relay_queue priority n conn) ≡ true
+relay_read configs log true n conn = both n conn
+relay_read configs log false n conn = both n conn
 
 -- as is its link, in either direction
 pub link_in_half : (o : Option Half) (half : Half) (n conn : ℕ) (s : Side) → o ≡ Some half → in_half o n conn (queue.Link half.link s) ≡ true
@@ -131,7 +134,7 @@ written_shape configs log conn n half due ys at stood relayed =
     record {
       moves = record { taken = ys; ended = []; names = refl; gone = refl; stood = subst (AreTaken (live log)) (sym (append-nil ys)) stood };
       reach = record {
-        taken = Each-weaker (IsRelayed n conn) (λ x. reads configs log a x.queue ≡ true) (λ x r. ap (in_half own n conn) r.1 ∙ relay_in_half own r.0 n conn) ys relayed;
+        taken = Each-weaker (IsRelayed n conn) (λ x. reads configs log a x.queue ≡ true) (λ x r. ap (reads configs log a) r.1 ∙ relay_read configs log r.0 n conn) ys relayed;
         ended = tt;
         puts = with_ping (λ x. writes configs log a x.0 ≡ true) due q (map put ys) near
             (Each-map (λ (x : Queue × Item). writes configs log a x.0 ≡ true) put ys (Each-always (λ z. writes configs log a (put z).0 ≡ true) (λ z. near) ys));
@@ -173,7 +176,7 @@ begin_shape configs log conn n (x ∷ rest) e =
     let r : Row = Effect.takes_oldest (x ∷ rest) in
     record {
       moves = one_move log (queue.Ready n conn) x rest e r refl refl;
-      reach = record { taken = (first_in (in_half (half_at log n conn) n conn) log (queue.Ready n conn) x rest e (both n conn), tt); ended = tt; puts = tt };
+      reach = record { taken = (first_in (reads configs log (act.SendStep conn n)) log (queue.Ready n conn) x rest e (both n conn), tt); ended = tt; puts = tt };
       laws = λ fitting.
           let fit : fits x.queue x.item ≡ true = first_has StandsFit log (queue.Ready n conn) x rest fitting e in
           let light : is_bare x.item ≡ true = answer_bare n conn x.item (subst (λ q. fits q x.item ≡ true) (one_taken log (queue.Ready n conn) x rest e) fit) in
@@ -193,25 +196,73 @@ start_shape configs log conn n half at =
       reach = record { taken = tt; ended = tt; puts = (or_left (n == n) _ (eq-eqb n n refl), (or_left (n == n) _ (eq-eqb n n refl), tt)) };
       laws = λ fitting.
           bare_laws configs log a r m refl refl tt tt tt (refl, (refl, tt))
-          (inr (conn, half.peer, told, refl, refl), (inr (inl (conn, half.peer, told, refl)), tt)) (refl, (refl, tt));
+          (inr (conn, half.peer, told, refl, refl), (inr (inl (conn, half.peer, told, refl, refl)), tt)) (refl, (refl, tt));
     }
 
-running_shape : (configs : List Config) (log : List Entry) (conn n : ℕ) (half : Half) (due : Bool) → half_at log n conn ≡ Some half
-    → Shape configs log (act.SendStep conn n) (Effect.running_row configs log n conn half due)
-running_shape configs log conn n half due at =
-    let most : ℕ = Effect.beside_ping due (Effect.batch_size_at configs n) in
-    write_shape configs log conn n half due (Effect.batch log n conn most) at (batch_moved log n conn most) (batch_relayed log n conn most)
+-- ---- it ends its connection
 
-half_shape : (configs : List Config) (log : List Entry) (conn n moment : ℕ) (half : Half) (begun running : Bool) → half_at log n conn ≡ Some half
-    → Shape configs log (act.SendStep conn n) (Effect.half_row configs log n conn moment half begun running)
-half_shape configs log conn n moment half false running at = start_shape configs log conn n half at
-half_shape configs log conn n moment half true false at = begin_shape configs log conn n (line log (queue.Ready n conn)) refl
-half_shape configs log conn n moment half true true at = running_shape configs log conn n half (ping_is_due configs log n conn moment) at
+module _ (configs : List Config) (log : List Entry) (conn n : ℕ) (half : Half) (lived : live_half log n conn ≡ Some half) where
+  abbrev a : Act
+  a = act.SendStep conn n
+
+  at : half_at log n conn ≡ Some half
+  at = (is_live log n conn half lived).at
+
+  sender_ends : (why : Ended) (taken : List Envelope) → AreTaken (live log) taken → Each (λ x. reads configs log a x.queue ≡ true) taken
+      → Each (λ x. Has (queues_with n conn half) x.queue) taken → Shape configs log a (end_row log n conn half why cause.ConnectionEnded taken)
+  sender_ends why taken stood read own =
+      ended_shape configs log a n conn half lived (or_left ((n == n) && (conn == conn)) false (both n conn)) (λ r. refl) (with_in log n conn half at)
+      (or_left (n == n) _ (eq-eqb n n refl)) (or_left (n == n) _ (eq-eqb n n refl)) why taken stood read own
+
+  relayed_with : (priority : Bool) → Has (queues_with n conn half) (Effect.relay_queue priority n conn)
+  relayed_with true = inl refl
+  relayed_with false = inr (inl refl)
+
+  -- what it has to write, where the other end of its link was dropped
+  send_failed : (ys : List Envelope) → AreTaken (live log) ys → Each (IsRelayed n conn) ys → Shape configs log a (end_row log n conn half ended.SendFailed cause.ConnectionEnded ys)
+  send_failed ys stood relayed =
+      sender_ends ended.SendFailed ys stood
+      (Each-weaker (IsRelayed n conn) (λ x. reads configs log a x.queue ≡ true) (λ x r. ap (reads configs log a) r.1 ∙ relay_read configs log r.0 n conn) ys relayed)
+      (Each-weaker (IsRelayed n conn) (λ x. Has (queues_with n conn half) x.queue) (λ x r. subst (Has (queues_with n conn half)) (sym r.1) (relayed_with r.0)) ys relayed)
+
+  -- it is told to
+  killed : (x : Envelope) (rest : List Envelope) → line log (queue.Control n conn) ≡ x ∷ rest → Shape configs log a (end_row log n conn half ended.Killed cause.ConnectionEnded (x ∷ []))
+  killed x rest first =
+      sender_ends ended.Killed (x ∷ []) (stands_first log (queue.Control n conn) x rest first)
+      (first_in (reads configs log a) log (queue.Control n conn) x rest first (or_left ((n == n) && (conn == conn)) false (both n conn)), tt)
+      (subst (Has (queues_with n conn half)) (sym (one_taken log (queue.Control n conn) x rest first)) (inr (inr (inr (inl refl)))), tt)
+
+  told_shape : (xs : List Envelope) (room : Bool) (r : Row) → line log (queue.Control n conn) ≡ xs → Shape configs log a r → Shape configs log a (Effect.told_row log n conn half xs room r)
+  told_shape [] room r first s = s
+  told_shape (x ∷ rest) true r first s = killed x rest first
+  told_shape (x ∷ rest) false r first s = s
+
+  written_row_shape : (dropped due : Bool) (ys : List Envelope) → AreTaken (live log) ys → Each (IsRelayed n conn) ys → Shape configs log a (Effect.written_row log n conn half dropped due ys)
+  written_row_shape true false [] stood relayed = still configs log a reply.Idle refl refl
+  written_row_shape false false [] stood relayed = still configs log a reply.Idle refl refl
+  written_row_shape true true ys stood relayed = send_failed ys stood relayed
+  written_row_shape true false (y ∷ ys) stood relayed = send_failed (y ∷ ys) stood relayed
+  written_row_shape false true ys stood relayed = write_shape configs log conn n half true ys at stood relayed
+  written_row_shape false false (y ∷ ys) stood relayed = write_shape configs log conn n half false (y ∷ ys) at stood relayed
+
+  running_shape : (due : Bool) → Shape configs log a (Effect.running_row configs log n conn half due)
+  running_shape due =
+      let most : ℕ = Effect.beside_ping due (Effect.batch_size_at configs n) in
+      let dropped : Bool = is_dropped configs log half.link (Effect.other_side half.writes) in
+      told_shape (line log (queue.Control n conn)) (nat_lt 0 most) (Effect.written_row log n conn half dropped due (Effect.batch log n conn most)) refl
+      (written_row_shape dropped due (Effect.batch log n conn most) (batch_moved log n conn most) (batch_relayed log n conn most))
+
+  half_shape : (moment : ℕ) (begun running : Bool) → Shape configs log a (Effect.half_row configs log n conn moment half begun running)
+  half_shape moment false running = start_shape configs log conn n half at
+  half_shape moment true false = begin_shape configs log conn n (line log (queue.Ready n conn)) refl
+  half_shape moment true true = running_shape (ping_is_due configs log n conn moment)
+
+-- ---- the step
 
 sender_shape : (configs : List Config) (log : List Entry) (conn n moment : ℕ) (o : Option Half) → live_half log n conn ≡ o
     → Shape configs log (act.SendStep conn n) (Effect.sender_row configs log n conn moment o)
-sender_shape configs log conn n moment None at = still configs log (act.SendStep conn n) reply.Gone refl refl
-sender_shape configs log conn n moment (Some half) at = half_shape configs log conn n moment half (is_begun log n conn) (is_running log n conn) (is_live log n conn half at).at
+sender_shape configs log conn n moment None lived = still configs log (act.SendStep conn n) reply.Gone refl refl
+sender_shape configs log conn n moment (Some half) lived = half_shape configs log conn n half lived moment (is_begun log n conn) (is_running log n conn)
 
 pub send_step_shape : (configs : List Config) (log : List Entry) (conn n moment : ℕ)
     → Shape configs log (act.SendStep conn n) (Effect.send_step_row configs log conn n moment)

@@ -27,7 +27,7 @@ use Rattle.p2p_log_rules.specs.Links.{openings_of}
 use Rattle.p2p_log_rules.specs.Spawning.{Spawned, steps_spawner, spawned_of, connections_of}
 use Rattle.p2p_log_rules.proofs.Moves.{taken_stood}
 use Rattle.p2p_log_rules.proofs.Spawning.{connections_of-acted}
-use Rattle.p2p_log_rules.proofs.Touches.{reads}
+use Rattle.p2p_log_laws.proofs.Reaching.{reads}
 use Rattle.p2p_log_laws.specs.Leading.{LeadsTo, ConnectionsLead}
 use Rattle.p2p_log_laws.proofs.Admitting.{peers_come}
 use Rattle.p2p_log_laws.proofs.EachSays.{each_says}

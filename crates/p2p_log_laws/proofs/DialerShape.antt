@@ -18,7 +18,7 @@ use Rattle.p2p_log_rules.specs.Facts.{is_up}
 use Rattle.p2p_log_rules.specs.Rows.{only}
 use Rattle.p2p_log_rules.specs.Dialing.{Dials, dials_of, in_drawn_order, last_key, dial_puts, dials_row, answered_row, due_row, dialer_turn, dialer_row}
 use Rattle.p2p_log.proofs.Queues.{same_queue-refl}
-use Rattle.p2p_log_rules.proofs.Touches.{writes}
+use Rattle.p2p_log_laws.proofs.Reaching.{writes}
 use Rattle.p2p_log_laws.proofs.LineShape as shapes
 use Rattle.p2p_log_laws.proofs.Shape.{Shape, IsQuiet, quiet_laws, still, no_moves}
 

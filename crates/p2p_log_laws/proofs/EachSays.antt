@@ -1,5 +1,5 @@
 -- What each act puts says of links what is true.
-use Rattle.std.proofs.Common.{◌≡◌, ℕ, Bool, true, false, cond, List, [], ◌∷◌, ◌++◌, Option, Some, None, ◌⊎◌, inl, inr, refl, ap, sym, subst, ◌∙◌, eq-eqb}
+use Rattle.std.proofs.Common.{◌≡◌, ℕ, Bool, true, false, cond, List, [], ◌∷◌, ◌++◌, map, take, Option, Some, None, ◌⊎◌, inl, inr, refl, ap, sym, subst, ◌∙◌, eq-eqb}
 use Rattle.std.specs.Prelude.{◌==◌, ◌&&◌, ◌||◌, nat_le, is_some}
 use Rattle.std.specs.List.{AllByRecursion as Each}
 use Rattle.std.specs.Option.{option_map}
@@ -18,6 +18,7 @@ use Rattle.p2p_tracker_calls.specs.Rules.{Rules}
 use Rattle.p2p_log.specs.declared.config.Config.{Config}
 use Rattle.p2p_log.specs.declared.queue.Queue.{Queue}
 use Rattle.p2p_log.specs.declared.queue.Queue.TheVariants as queue
+use Rattle.p2p_log.specs.declared.queue.Side.TheVariants as side
 use Rattle.p2p_log.specs.declared.item.Item.{Item}
 use Rattle.p2p_log.specs.declared.item.Item.TheVariants as item
 use Rattle.p2p_log.specs.declared.item.Envelope.{Envelope}
@@ -36,6 +37,7 @@ use Rattle.p2p_log_rules.specs.declared.row.ListeningEnd.{ListeningEnd}
 use Rattle.p2p_log_rules.specs.declared.row.ListeningEnd.TheVariants as listening
 use Rattle.p2p_log_rules.specs.declared.row.Row.{Row}
 use Rattle.p2p_log_rules.specs.Attempting.{Attempt, dial_rules_at, attempts_of, resolved, given_up_row, resolved_row, ready_row, link_of, took_row, attempt_turn, attempt_by, attempt_row, resolve_by, resolve_row, refuse_row, connect_row}
+use Rattle.p2p_log_rules.specs.Dropping.{gave_up, broke_off, dialing_end, attempt_step_row, handshake_step_row}
 use Rattle.p2p_log_rules.specs.Effect.{effect, row}
 use Rattle.p2p_log_rules.specs.Facts.{is_up, key_at}
 use Rattle.p2p_log_rules.specs.Handshakes.{is_handshaking, is_finished, source_at, peer_at}
@@ -46,10 +48,11 @@ use Rattle.p2p_log_rules.specs.Tracking.{key_cmp, rules_at, asked_by, calls_of, 
 use Rattle.p2p_log_rules.specs.TrackerPuts as puts
 use Rattle.p2p_log_rules.specs.TrackerRows as rows
 use Rattle.p2p_log_rules.proofs.Handshakes.{handshaking_early}
-use Rattle.p2p_log_rules.proofs.Touches.{writes}
+use Rattle.p2p_log_laws.proofs.Reaching.{writes}
 use Rattle.p2p_log_laws.specs.Leading.{Links, LeadsTo}
 use Rattle.p2p_log_laws.specs.OneAnswer.{exchanges, is_for}
-use Rattle.p2p_log_laws.proofs.Answering.{Silent, silent_out_of_reach, sender_silent, ask_silent, dialer_silent, Asks, listener_asks}
+use Rattle.p2p_log_laws.proofs.Answering.{Silent, silent_out_of_reach, sender_silent, receiver_silent, ask_silent, dialer_silent, Asks, listener_asks}
+use Rattle.p2p_log_laws.proofs.DropShape.{each_dropping}
 use Rattle.p2p_log_laws.proofs.HeldCalls.{key_from}
 use Rattle.p2p_log_laws.proofs.Linking.{IsUnanswered, IsRefused, refuse_is, IsAnswer, connect_is, links_now}
 use Rattle.p2p_log_laws.proofs.Saying.{IsPeer, IsLinkedTo, IsDialed, Says, PutSays, StandSays, first_says, PeersCome, IsOpened, AreOpened, says_still}
@@ -193,8 +196,10 @@ module _ (configs : List Config) (log : List Entry) where
       turn_says full false [] first = tt
       turn_says full due (x ∷ rest) first = heard_says full (name_of x) x.item rest (first_says configs log (queue.Handshake n h) x rest say first)
 
-    handshake_says : PeersCome configs log → (h n : ℕ) → Each P (handshake_row configs log h n at).puts
-    handshake_says come h n = by (is_handshaking log n h) refl
+    handshake_says : PeersCome configs log → (h n : ℕ) → Each P (handshake_step_row configs log h n at).puts
+    handshake_says come h n =
+        let r : Row = handshake_row configs log h n at in
+        each_dropping P log (cond (broke_off r.reply (map (λ x. x.item) (take 1 (line log (queue.Handshake n h)))) r.puts) (Some ((peer_at log h).link, side.In)) None) r (by (is_handshaking log n h) refl)
       where
         by : (b : Bool) → is_handshaking log n h ≡ b → Each P
             (cond b (handshake_turn n (is_spawner_full configs log n) (is_due (handshake_deadline configs log h n) at (is_finished log n h)) h (peer_at log h) (line log (queue.Handshake n h))) (only reply.Gone)).puts
@@ -228,8 +233,10 @@ module _ (configs : List Config) (log : List Entry) where
           by false = tt
       trying_says full private (x ∷ rest) first = tried_says full private (name_of x) x.item rest (first_says configs log (queue.Attempt n e) x rest say first)
 
-    attempt_says : (e n : ℕ) → Each P (attempt_row configs log e n at seed).puts
-    attempt_says e n = by (attempts_of configs log n e) refl
+    attempt_says : (e n : ℕ) → Each P (attempt_step_row configs log e n at seed).puts
+    attempt_says e n =
+        let r : Row = attempt_row configs log e n at seed in
+        each_dropping P log (cond (gave_up r.puts) (dialing_end (attempts_of configs log n e)) None) r (by (attempts_of configs log n e) refl)
       where
         by : (o : Option Attempt) → attempts_of configs log n e ≡ o
             → Each P (attempt_by o n at seed (is_spawner_full configs log n) (dial_rules_at configs n).private (line log (queue.Attempt n e))).puts
@@ -339,6 +346,8 @@ module _ (configs : List Config) (log : List Entry) (at seed : ℕ) (say : Each 
   unfolding row
   each_says (act.SendStep conn n) =
       silent (act.SendStep conn n) (record { arrivals = λ m. refl; attempts = λ m e. refl; spawners = λ m. refl }) (λ m h. sender_silent exchanges m h configs log at seed conn n)
+  each_says (act.RecvStep conn n) =
+      silent (act.RecvStep conn n) (record { arrivals = λ m. refl; attempts = λ m e. refl; spawners = λ m. refl }) (λ m h. receiver_silent exchanges m h configs log at seed conn n)
   each_says (act.Ask what n) =
       silent (act.Ask what n) (record { arrivals = λ m. refl; attempts = λ m e. refl; spawners = λ m. refl }) (λ m h. ask_silent exchanges m h configs log at seed what n)
   each_says (act.Tracker n) = later (act.Tracker n) (tracker_says configs log say at seed n)

@@ -54,7 +54,7 @@ line_gone xs q = filter-swap (stands_in q) (stays (map name_of (filter (stands_i
 still_none : (gone : List (ℕ × ℕ)) (xs : List Envelope) (q : Queue) → filter (stands_in q) xs ≡ [] → filter (stands_in q) (filter (stays gone) xs) ≡ []
 still_none gone xs q e = filter-swap (stands_in q) (stays gone) xs ∙ ap (filter (stays gone)) e
 
-drained_none : (xs : List Envelope) (qs : List Queue) → Each (λ q. filter (stands_in q) (filter (stays (map name_of (drained xs qs))) xs) ≡ []) qs
+pub drained_none : (xs : List Envelope) (qs : List Queue) → Each (λ q. filter (stands_in q) (filter (stays (map name_of (drained xs qs))) xs) ≡ []) qs
 drained_none xs [] = tt
 drained_none xs (q ∷ qs) =
     let l = filter (stands_in q) xs in

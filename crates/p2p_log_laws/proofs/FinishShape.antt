@@ -23,7 +23,8 @@ use Rattle.p2p_log_rules.specs.declared.row.ListeningEnd.TheVariants as listenin
 use Rattle.p2p_log_rules.specs.Attempting.{Attempt, attempts_of}
 use Rattle.p2p_log_rules.specs.Links.{openings_of, listening_ends_of, dialing_puts, listening_puts, finished_row, verdict, finish_by, finish_row}
 use Rattle.p2p_log_rules.specs.Rows.{only}
-use Rattle.p2p_log_rules.proofs.Touches.{in_handshakes, in_ends, writes}
+use Rattle.p2p_log_rules.proofs.Touches.{in_handshakes, in_ends}
+use Rattle.p2p_log_laws.proofs.Reaching.{writes}
 use Rattle.p2p_log_laws.proofs.Plain.{Plain, plain_item}
 use Rattle.p2p_log_laws.proofs.Shape.{Shape, IsQuiet, quiet_laws, still, no_moves}
 

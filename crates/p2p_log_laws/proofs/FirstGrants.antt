@@ -1,5 +1,5 @@
 -- Of what waits for a handshake only the first may grant a key.
-use Rattle.std.proofs.Common.{◌≡◌, ℕ, ◌+◌, ◌≤◌, Bool, true, false, cond, List, [], ◌∷◌, ◌++◌, refl, ap, sym, subst, ◌∙◌, arith}
+use Rattle.std.proofs.Common.{◌≡◌, ℕ, ◌+◌, ◌≤◌, Bool, true, false, cond, List, [], ◌∷◌, ◌++◌, length, Option, Some, None, refl, ap, sym, subst, ◌∙◌, arith, length-append}
 use Rattle.std.specs.Prelude.{◌&&◌, ◌||◌}
 use Rattle.std.specs.List.{AllByRecursion as Each}
 use Rattle.std.proofs.lemmas.List.Sums.{sum_by-cons}
@@ -15,7 +15,11 @@ use Rattle.p2p_log.specs.declared.event.Event.{Event}
 use Rattle.p2p_log.specs.QueueCode.{same_queue}
 use Rattle.p2p_log.specs.Lines.{live, line}
 use Rattle.p2p_log.proofs.Queues.{same_queue-refl}
-use Rattle.p2p_log_rules.specs.Effect.{effect, row}
+use Rattle.p2p_log_rules.specs.Connections.{ends_connection, is_ended}
+use Rattle.p2p_log_rules.specs.Effect.{effect, entry_of, row}
+use Rattle.p2p_log_rules.specs.Spawning.{Spawned, connections_of}
+use Rattle.p2p_log_rules.proofs.Connections.{is_ended-append, is_ended-none, half_parts, is_live}
+use Rattle.p2p_log_rules.proofs.Spawning.{connections_of-late}
 use Rattle.p2p_log_rules.proofs.Moves.{one_taken, first_has}
 use Rattle.p2p_log_laws.specs.Grants.{one}
 use Rattle.p2p_log_laws.specs.NodeGrants.{put_of, holds_grants, grants_key, releases_key}
@@ -25,6 +29,7 @@ use Rattle.p2p_log_laws.proofs.Fitting.{StandsFit, fits}
 use Rattle.p2p_log_laws.proofs.HandshakeGrants.{GrantsFirst}
 use Rattle.p2p_log_laws.proofs.HandshakeLaws.{AreHandshakes, handshakes_first, handshakes_more}
 use Rattle.p2p_log_laws.proofs.LineShape.{in_line}
+use Rattle.p2p_log_laws.proofs.Living.{end_row_is}
 use Rattle.p2p_log_laws.proofs.OneAsked.{splits, left}
 use Rattle.p2p_log_laws.proofs.Plain.{StandsPlain}
 use Rattle.p2p_log_laws.proofs.Shape.{Shape}
@@ -97,17 +102,39 @@ module _ (n : ℕ) (key : Key) (log : List Entry) (h : ℕ) where
 pub record Stand (configs : List Config) (n : ℕ) (log : List Entry) : Type 0 where
   pub fitting : Each StandsFit (live log)
   pub handshakes : AreHandshakes configs n log
+  -- none has ended that an entry not made yet names
+  pub unended : (k : ℕ) → length log ≤ k → is_ended log n k ≡ false
 
 module _ (configs : List Config) (n : ℕ) where
   pub stand_first : Stand configs n []
-  stand_first = record { fitting = subst (Each StandsFit) (sym live-none) tt; handshakes = handshakes_first configs n }
+  stand_first = record { fitting = subst (Each StandsFit) (sym live-none) tt; handshakes = handshakes_first configs n; unended = λ k past. is_ended-none n k }
+
+  -- what ends was made
+  ends_early : (log : List Entry) (ev : Event) → Each StandsFit (live log) → (k : ℕ) → length log ≤ k → ends_connection n k (effect configs log ev) ≡ false
+  ends_early log ev fitting k past = by (ends_connection n k (effect configs log ev)) refl
+    where
+      by : (b : Bool) → ends_connection n k (effect configs log ev) ≡ b → b ≡ false
+      by false is = refl
+      by true is =
+          let over = end_row_is configs log ev n k fitting is in
+          let parts = half_parts log n k over.half (is_live log n k over.half over.lived).at in
+          let none : connections_of log n k ≡ None = connections_of-late log n k past in
+          let clash : ◌≡◌ {A = Option Spawned} None (Some parts.connection) = sym none ∙ parts.made in
+          absurd (cc)
 
   pub stand_more : (log : List Entry) (ev : Event) → Stand configs n log → Stand configs n (log ++ effect configs log ev ∷ [])
   unfolding effect
   stand_more log ev stand =
       let r = row configs log ev.at ev.seed ev.act in
       let shape : Shape configs log ev.act r = row_shape configs log ev.at ev.seed ev.act in
-      record { fitting = fitting_kept log ev r shape.moves (shape.laws stand.fitting).fitting stand.fitting; handshakes = handshakes_more configs n log ev stand.handshakes }
+      record {
+        fitting = fitting_kept log ev r shape.moves (shape.laws stand.fitting).fitting stand.fitting;
+        handshakes = handshakes_more configs n log ev stand.handshakes;
+        unended = λ k past.
+            let longer : length (log ++ entry_of ev r ∷ []) ≡ length log + 1 = length-append log (entry_of ev r ∷ []) in
+            let early : length log ≤ k = omega (arith, past, longer) in
+            is_ended-append log (entry_of ev r) n k ∙ (ap (λ b. b || ends_connection n k (entry_of ev r)) (stand.unended k early) ∙ ends_early log ev stand.fitting k early);
+      }
 
   pub first_grants : (key : Key) (log : List Entry) → Stand configs n log → (h : ℕ) → GrantsFirst n key log h
   first_grants key log stand h x rest first =

@@ -18,6 +18,7 @@ use Rattle.p2p_log.specs.Copies.{carries_copy, carries, ends_copy}
 abbrev pub fits : Queue → Item → Bool
 fits (queue.Router n) (item.Subscribe c) = true
 fits (queue.Router n) (item.Ready conn key) = true
+fits (queue.Router n) (item.Release key) = true
 fits (queue.Router n) (item.Content c frame priority send to) = true
 fits (queue.Peers n c) (item.Peers keys) = true
 fits (queue.Ready n conn) item.Answer = true

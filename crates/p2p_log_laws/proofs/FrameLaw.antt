@@ -9,7 +9,7 @@ use Rattle.p2p_wire.specs.declared.frame.Message.TheVariants as message
 use Rattle.p2p_wire.specs.Varint.{spelling, varint_at, u64_at, u32_at, with_low, ◌>>=◌}
 use Rattle.p2p_wire.specs.Frame.{frame, decode_frame, message_of}
 use Rattle.p2p_wire.proofs.Spellings.{spelling-small, spelling-large, bound-suc, digit_below, reads_spelling}
-use Rattle.p2p_log_rules.specs.Frames.{data_in}
+use Rattle.p2p_log_rules.specs.Frames.{data_in, is_ping, is_ping_in, frame_of}
 use Rattle.p2p_log_laws.proofs.Truth.{FramesGive}
 
 abbrev Fails : {A : Type 0} → Result A CodecError → Type 0
@@ -99,3 +99,27 @@ channel_read limit channel bytes m (Ok c) is h =
 pub frames_give : FramesGive
 unfolding frame decode_frame
 frames_give channel bytes limit m h = channel_read limit channel bytes m (u64_at (spelling channel ++ (spelling (length bytes) ++ bytes))) refl h
+
+-- ---- and a message's frame is no ping
+
+message_no_ping : (limit channel : ℕ) (sized : ℕ × List ℕ) → is_ping (message_of limit channel sized) ≡ false
+message_no_ping limit channel sized = go (nat_lt limit sized.0) (nat_lt (length sized.1) sized.0) (nat_lt sized.0 (length sized.1)) (InvalidLength sized.0) EndOfBuffer (ExtraData _)
+  where
+    go : (t u v : Bool) (a b c : CodecError)
+        → is_ping (if t then Err a else if u then Err b else if v then Err c else Ok (message.Data (record { channel = channel; message = sized.1 }))) ≡ false
+    go true u v a b c = refl
+    go false true v a b c = refl
+    go false false true a b c = refl
+    go false false false a b c = refl
+
+size_no_ping : (limit channel : ℕ) (r : Result (ℕ × List ℕ) CodecError) → is_ping (r >>= message_of limit channel) ≡ false
+size_no_ping limit channel (Err e) = refl
+size_no_ping limit channel (Ok sized) = message_no_ping limit channel sized
+
+channel_no_ping : (limit : ℕ) (r : Result (ℕ × List ℕ) CodecError) → is_ping (r >>= λ c. (u32_at c.1 >>= λ s. message_of limit c.0 s)) ≡ false
+channel_no_ping limit (Err e) = refl
+channel_no_ping limit (Ok c) = size_no_ping limit c.0 (u32_at c.1)
+
+pub frames_no_ping : (channel : ℕ) (bytes : List ℕ) (limit : ℕ) → is_ping_in (frame_of channel bytes) limit ≡ false
+unfolding frame decode_frame
+frames_no_ping channel bytes limit = channel_no_ping limit (u64_at (spelling channel ++ (spelling (length bytes) ++ bytes)))

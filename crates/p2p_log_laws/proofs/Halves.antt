@@ -103,7 +103,7 @@ module _ (configs : List Config) (script : List Event) (log : List Entry) (lawfu
     same_end w =
         let one = same_out (p.dialer == n) (p.dialer == m) (sym near_writes ∙ (w ∙ far_writes)) in
         let nodes : n ≡ m = same_node (p.dialer == m) one refl in
-        (nodes, connections_are_one configs script log lawful m c d p.connection q.connection (subst (λ k. connections_of log k c ≡ Some p.connection) nodes p.made) q.made (inr links))
+        (nodes, (connections_are_one configs script log lawful).over m c d p.connection q.connection (subst (λ k. connections_of log k c ≡ Some p.connection) nodes p.made) q.made links)
 
     two_nodes : a.writes ≡ other_side b.writes → (n == m) ≡ false
     two_nodes w = by (n == m) refl
@@ -122,25 +122,3 @@ module _ (configs : List Config) (script : List Event) (log : List Entry) (lawfu
 
   pub halves_meet : HalvesMeet configs log
   halves_meet = record { same_end = same_end; opposite = opposite }
-
--- ---- two connections of one node
-
--- the link of the half has its other end at this node
-pub record EndsAt (log : List Entry) (half : Half) (node : ℕ) : Type 0 where
-  pub conn : ℕ
-  pub far : Half
-  pub at : half_at log node conn ≡ Some far
-  pub link : half.link ≡ far.link
-  pub writes : half.writes ≡ other_side far.writes
-
-module _ (configs : List Config) (script : List Event) (log : List Entry) (lawful : IsLawful configs script log) (n m : ℕ) where
-  -- to one node: they are one, since a node has one connection with a key
-  pub one_connection : (c d : ℕ) (a b : Half) → half_at log n c ≡ Some a → half_at log n d ≡ Some b → EndsAt log a m → EndsAt log b m → c ≡ d
-  one_connection c d a b at_c at_d first second =
-      let meet = halves_meet configs script log lawful in
-      let p = half_parts log n c a at_c in
-      let q = half_parts log n d b at_d in
-      let one = (meet.opposite n m c first.conn a first.far at_c first.at first.link first.writes).0 in
-      let two = (meet.opposite n m d second.conn b second.far at_d second.at second.link second.writes).0 in
-      let keys : p.connection.key ≡ q.connection.key = sym (ap (λ (k : Half). k.peer) p.is) ∙ (one ∙ (sym two ∙ ap (λ (k : Half). k.peer) q.is)) in
-      connections_are_one configs script log lawful n c d p.connection q.connection p.made q.made (inl keys)

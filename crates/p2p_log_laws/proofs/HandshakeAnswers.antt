@@ -1,5 +1,5 @@
 -- What a handshake's step puts for it: no more than it takes.
-use Rattle.std.proofs.Common.{◌≡◌, ℕ, ◌+◌, ◌≤◌, Bool, true, false, cond, List, [], ◌∷◌, map, Some, None, inl, refl, ap, sym, subst, ◌∙◌, arith, eq-eqb, eqb-true}
+use Rattle.std.proofs.Common.{◌≡◌, ℕ, ◌+◌, ◌≤◌, Bool, true, false, cond, List, [], ◌∷◌, map, take, Some, None, inl, refl, ap, sym, subst, ◌∙◌, arith, eq-eqb, eqb-true}
 use Rattle.std.specs.Prelude.{◌==◌, ◌&&◌, ◌||◌, count_by}
 use Rattle.std.specs.List.{AllByRecursion as Each}
 use Rattle.std.proofs.lemmas.Bool.{and_parts}
@@ -8,6 +8,7 @@ use Rattle.p2p_base.specs.declared.key.Key.{Key}
 use Rattle.p2p_log.specs.declared.config.Config.{Config}
 use Rattle.p2p_log.specs.declared.queue.Queue.{Queue}
 use Rattle.p2p_log.specs.declared.queue.Queue.TheVariants as queue
+use Rattle.p2p_log.specs.declared.queue.Side.TheVariants as side
 use Rattle.p2p_log.specs.declared.item.Item.{Item}
 use Rattle.p2p_log.specs.declared.item.Item.TheVariants as item
 use Rattle.p2p_log.specs.declared.item.Envelope.{Envelope}
@@ -24,6 +25,7 @@ use Rattle.p2p_log.proofs.Each.{count_by-none}
 use Rattle.p2p_log.proofs.Queues.{same_queue-refl}
 use Rattle.p2p_log_rules.specs.declared.row.Row.{Row}
 use Rattle.p2p_log_rules.specs.Attempting.{left_ends, ready_row}
+use Rattle.p2p_log_rules.specs.Dropping.{broke_off, handshake_step_row}
 use Rattle.p2p_log_rules.specs.Effect.{entry_of}
 use Rattle.p2p_log_rules.specs.Facts.{taken}
 use Rattle.p2p_log_rules.specs.Handshakes.{is_handshaking, is_finished, takes_acceptance, Peer, peer_at}
@@ -34,7 +36,8 @@ use Rattle.p2p_log_rules.proofs.Moves.{one_taken}
 use Rattle.p2p_log_laws.specs.Grants.{one}
 use Rattle.p2p_log_laws.specs.NodeGrants.{put_of}
 use Rattle.p2p_log_laws.specs.OneAnswer.{Words, tells, asks_about, is_for}
-use Rattle.p2p_log_laws.proofs.Answering.{Silent, silent_away, silent_item, accepts_now, Answers, quiet, ready_silent}
+use Rattle.p2p_log_laws.proofs.Answering.{Silent, silent_away, silent_item, accepts_now, Answers, quiet, dropped, ready_silent}
+use Rattle.p2p_log_laws.proofs.DropShape.{each_dropping}
 use Rattle.p2p_log_laws.proofs.HandshakeShape.{handshake_shape}
 use Rattle.p2p_log_laws.proofs.LineShape.{left_gone, whole_taken}
 use Rattle.p2p_log_laws.proofs.Plain.{and_false}
@@ -72,17 +75,19 @@ module _ (w : Words) (n name : ℕ) (configs : List Config) (log : List Entry) (
     turn_silent full false peer [] = tt
     turn_silent full due peer (x ∷ xs) = took_silent full peer (name_of x) x.item xs
 
-    pub row_silent : Each (Silent w n name) (handshake_row configs log k m at).puts
-    row_silent = by (is_handshaking log m k)
+    pub row_silent : Each (Silent w n name) (handshake_step_row configs log k m at).puts
+    row_silent =
+        let r : Row = handshake_row configs log k m at in
+        each_dropping (Silent w n name) log (cond (broke_off r.reply (map (λ x. x.item) (take 1 (line log (queue.Handshake m k)))) r.puts) (Some ((peer_at log k).link, side.In)) None) r (by (is_handshaking log m k))
       where
         by : (b : Bool) → Each (Silent w n name)
             (cond b (handshake_turn m (is_spawner_full configs log m) (is_due (handshake_deadline configs log k m) at (is_finished log m k)) k (peer_at log k) (line log (queue.Handshake m k))) (only reply.Gone)).puts
         by true = turn_silent (is_spawner_full configs log m) (is_due (handshake_deadline configs log k m) at (is_finished log m k)) (peer_at log k) (line log (queue.Handshake m k))
         by false = tt
 
-    pub other_answers : Answers w n name log (event (act.Handshake k m)) (handshake_row configs log k m at)
+    pub other_answers : Answers w n name log (event (act.Handshake k m)) (handshake_step_row configs log k m at)
     other_answers =
-        let r : Row = handshake_row configs log k m at in
+        let r : Row = handshake_step_row configs log k m at in
         quiet w n name log (event (act.Handshake k m)) r (handshake_shape configs log k m at).moves row_silent
         (ap (λ b. b && takes_acceptance (taken log (entry_of (event (act.Handshake k m)) r))) other)
 
@@ -185,20 +190,23 @@ module _ (w : Words) (n name : ℕ) (configs : List Config) (log : List Entry) (
   by_line full false peer [] none = idle reply.Idle
   by_line full due peer (x ∷ rest) first = by_item x rest first full peer x.item refl
 
-  own_answers : Answers w n name log ev (handshake_row configs log name n at)
-  own_answers = by (is_handshaking log n name)
+  own_answers : Answers w n name log ev (handshake_step_row configs log name n at)
+  own_answers =
+      let r : Row = handshake_row configs log name n at in
+      dropped w n name log ev r (cond (broke_off r.reply (map (λ x. x.item) (take 1 (line log q))) r.puts) (Some ((peer_at log name).link, side.In)) None) (by (is_handshaking log n name))
+      (handshake_shape configs log name n at).moves
     where
       by : (b : Bool) → Answers w n name log ev
           (cond b (handshake_turn n (is_spawner_full configs log n) (is_due (handshake_deadline configs log name n) at (is_finished log n name)) name (peer_at log name) (line log q)) (only reply.Gone))
       by true = by_line (is_spawner_full configs log n) (is_due (handshake_deadline configs log name n) at (is_finished log n name)) (peer_at log name) (line log q) refl
       by false = idle reply.Gone
 
-  pub handshake_answers : (k m : ℕ) → Answers w n name log (event (act.Handshake k m)) (handshake_row configs log k m at)
+  pub handshake_answers : (k m : ℕ) → Answers w n name log (event (act.Handshake k m)) (handshake_step_row configs log k m at)
   handshake_answers k m = by ((m == n) && (k == name)) refl
     where
-      by : (b : Bool) → ((m == n) && (k == name)) ≡ b → Answers w n name log (event (act.Handshake k m)) (handshake_row configs log k m at)
+      by : (b : Bool) → ((m == n) && (k == name)) ≡ b → Answers w n name log (event (act.Handshake k m)) (handshake_step_row configs log k m at)
       by true same =
           let both = and_parts (m == n) (k == name) same in
-          subst (λ i. Answers w n name log (event (act.Handshake k i)) (handshake_row configs log k i at)) (sym (eqb-true m n both.0))
-          (subst (λ i. Answers w n name log (event (act.Handshake i n)) (handshake_row configs log i n at)) (sym (eqb-true k name both.1)) own_answers)
+          subst (λ i. Answers w n name log (event (act.Handshake k i)) (handshake_step_row configs log k i at)) (sym (eqb-true m n both.0))
+          (subst (λ i. Answers w n name log (event (act.Handshake i n)) (handshake_step_row configs log i n at)) (sym (eqb-true k name both.1)) own_answers)
       by false other = other_answers k m other

@@ -1,28 +1,40 @@
--- The shape of a handshake's step: it moves no copy.
-use Rattle.std.proofs.Common.{◌≡◌, ℕ, Bool, true, false, cond, List, [], ◌∷◌, ◌++◌, map, Some, None, refl, ap, ◌∙◌}
-use Rattle.std.specs.Prelude.{◌||◌}
-use Rattle.std.specs.List.{AllByRecursion as Each}
+-- The shape of a handshake's step: it moves no copy, but those end that are in flight towards the end of a link that it drops.
+use Rattle.std.proofs.Common.{◌≡◌, ℕ, Bool, true, false, cond, List, [], ◌∷◌, map, take, Option, Some, None, inr, inl, refl, ap, sym, ◌∙◌}
+use Rattle.std.specs.Prelude.{◌||◌, ◌&&◌, not}
+use Rattle.std.specs.List.{AllByRecursion as Each, list_any}
 use Rattle.p2p_base.specs.declared.key.Key.{Key}
 use Rattle.p2p_log.specs.declared.config.Config.{Config}
 use Rattle.p2p_log.specs.declared.queue.Queue.{Queue}
 use Rattle.p2p_log.specs.declared.queue.Queue.TheVariants as queue
+use Rattle.p2p_log.specs.declared.queue.Side.TheVariants as side
 use Rattle.p2p_log.specs.declared.item.Item.{Item}
 use Rattle.p2p_log.specs.declared.item.Item.TheVariants as item
 use Rattle.p2p_log.specs.declared.item.Envelope.{Envelope}
 use Rattle.p2p_log.specs.declared.entry.Entry.{Entry}
+use Rattle.p2p_log.specs.declared.entry.Reply.{Reply}
 use Rattle.p2p_log.specs.declared.entry.Reply.TheVariants as reply
+use Rattle.p2p_log.specs.declared.event.Event.{Event}
 use Rattle.p2p_log.specs.declared.event.Act.{Act}
 use Rattle.p2p_log.specs.declared.event.Act.TheVariants as act
 use Rattle.p2p_log.specs.Lines.{name_of, line}
+use Rattle.p2p_log.specs.Sending.{keys_sent, sending_of}
 use Rattle.p2p_log.proofs.Queues.{same_queue-refl}
 use Rattle.p2p_log.specs.QueueCode.{same_queue}
+use Rattle.p2p_log_rules.specs.declared.row.Row.{Row}
+use Rattle.p2p_log_rules.specs.Dropping.{LinkEnd, other_side, is_spawn, broke_off, acted_drops, dropping, handshake_step_row}
+use Rattle.p2p_log_rules.specs.Effect.{entry_of}
+use Rattle.p2p_log_rules.specs.Facts.{taken}
+use Rattle.p2p_log_rules.specs.Moves.{Moves}
+use Rattle.p2p_log_rules.specs.Reading.{is_read}
 use Rattle.p2p_log_rules.specs.Rows.{only, is_spawner_full}
 use Rattle.p2p_log_rules.specs.Attempting.{left_ends, gone_on_row, ready_row}
-use Rattle.p2p_log_rules.specs.Handshakes.{is_handshaking, is_finished, Peer, peer_at}
-use Rattle.p2p_log_rules.specs.Handshaking.{handshake_deadline, exchanged_row, took_row, is_due, handshake_turn, handshake_row}
-use Rattle.p2p_log_rules.proofs.Touches.{writes}
-use Rattle.p2p_log_laws.proofs.LineShape.{ended_shape, asking_shape, gone_on_shape}
-use Rattle.p2p_log_laws.proofs.Shape.{Shape, IsQuiet, still}
+use Rattle.p2p_log_rules.specs.Handshakes.{ends_handshake, is_handshaking, is_finished, Peer, peer_at}
+use Rattle.p2p_log_rules.specs.Handshaking.{handshake_deadline, ended_row, exchanged_row, took_row, is_due, handshake_turn, handshake_row}
+use Rattle.p2p_log_laws.proofs.Reaching.{in_flight, writes, ends_in}
+use Rattle.p2p_log_laws.proofs.DropShape.{moves, handshake_aside, dropping_shape}
+use Rattle.p2p_log_laws.proofs.LineShape.{Within, still_within, still_took, ended_within, ended_took, asking_within, asking_took}
+use Rattle.p2p_log_laws.proofs.Shape.{Shape, IsQuiet}
+use Rattle.p2p_log_laws.proofs.Weighing.{taken_items}
 
 or_true : (b : Bool) → (b || true) ≡ true
 or_true true = refl
@@ -35,10 +47,11 @@ module _ (configs : List Config) (log : List Entry) (e n : ℕ) where
   abbrev q : Queue
   q = queue.Handshake n e
 
-  written : writes configs log a q ≡ true
-  written =
-      ap (λ b. same_queue (queue.Tracker n) q || (same_queue (queue.Spawner n) q || b)) (same_queue-refl q)
-      ∙ (ap (λ b. same_queue (queue.Tracker n) q || b) (or_true (same_queue (queue.Spawner n) q)) ∙ or_true (same_queue (queue.Tracker n) q))
+  abbrev over : LinkEnd
+  over = ((peer_at log e).link, side.In)
+
+  written : ends_in configs log a q ≡ true
+  written = ap (λ b. b || in_flight (Some over) q) (same_queue-refl q)
 
   asks : writes configs log a (queue.Tracker n) ≡ true
   asks = ap (λ b. b || (same_queue (queue.Spawner n) (queue.Tracker n) || same_queue q (queue.Tracker n))) (same_queue-refl (queue.Tracker n))
@@ -46,43 +59,111 @@ module _ (configs : List Config) (log : List Entry) (e n : ℕ) where
   spawns : writes configs log a (queue.Spawner n) ≡ true
   spawns = ap (λ b. same_queue (queue.Tracker n) (queue.Spawner n) || (b || same_queue q (queue.Spawner n))) (same_queue-refl (queue.Spawner n))
 
-  -- it takes these, of which it is left these, puts these, and ends
-  left_shape : (took left : List Envelope) → line log q ≡ took ++ left → (puts : List (Queue × Item)) → Each IsQuiet puts → Each (λ x. writes configs log a x.0 ≡ true) puts
-      → Shape configs log a (record { reply = reply.Ok; takes = map name_of took; puts = puts; ends = left_ends left })
-  left_shape took left first puts quiet near = ended_shape configs log a q (same_queue-refl q) refl (λ r. refl) written took left first puts quiet near
+  -- a row whose items are all of the handshake's line, of which it takes the first where it takes any
+  record Stepped (waiting : List Envelope) (r : Row) : Type 0 where
+    within : Within configs log a q r
+    first : ends_handshake r.reply (map (λ x. x.item) within.shape.moves.taken) ≡ ends_handshake r.reply (map (λ x. x.item) (take 1 waiting))
 
-  -- it takes this, and goes on
-  taken_shape : (x : Envelope) (rest : List Envelope) → line log q ≡ x ∷ rest → Shape configs log a (gone_on_row (name_of x))
-  taken_shape x rest first = gone_on_shape configs log a q (same_queue-refl q) refl (λ r. refl) x rest first
+  -- it takes this, puts these, and ends, and with it what is left
+  left_step : (x : Envelope) (rest : List Envelope) → line log q ≡ x ∷ rest → (puts : List (Queue × Item)) → Each IsQuiet puts → Each (λ x. writes configs log a x.0 ≡ true) puts
+      → Stepped (x ∷ rest) (record { reply = reply.Ok; takes = name_of x ∷ []; puts = puts; ends = left_ends rest })
+  left_step x rest first puts quiet near = record {
+    within = ended_within configs log a q (same_queue-refl q) refl (λ r. refl) written (x ∷ []) rest first puts quiet near;
+    first = ap (λ xs. ends_handshake reply.Ok (map (λ y. y.item) xs)) (ended_took configs log a q (same_queue-refl q) refl (λ r. refl) written (x ∷ []) rest first puts quiet near);
+  }
 
-  -- and asks for its peer
-  exchanged_shape : (x : Envelope) (rest : List Envelope) → line log q ≡ x ∷ rest → (key : Key) → Shape configs log a (exchanged_row n e key (name_of x))
-  exchanged_shape x rest first key =
-      asking_shape configs log a q (same_queue-refl q) refl (λ r. refl) x rest first ((queue.Tracker n, item.AskListen e key) ∷ []) ((refl, refl), tt) (asks, tt)
+  none_left : line log q ≡ [] → Stepped [] (ended_row [] [])
+  none_left none = record {
+    within = ended_within configs log a q (same_queue-refl q) refl (λ r. refl) written [] [] none [] tt tt;
+    first = ap (λ xs. ends_handshake reply.Ok (map (λ y. y.item) xs)) (ended_took configs log a q (same_queue-refl q) refl (λ r. refl) written [] [] none [] tt tt);
+  }
+
+  -- it takes this, puts these, and goes on
+  asking_step : (x : Envelope) (rest : List Envelope) → line log q ≡ x ∷ rest → (puts : List (Queue × Item)) → Each IsQuiet puts → Each (λ x. writes configs log a x.0 ≡ true) puts
+      → Stepped (x ∷ rest) (record { reply = reply.Ok; takes = name_of x ∷ []; puts = puts; ends = [] })
+  asking_step x rest first puts quiet near = record {
+    within = asking_within configs log a q (same_queue-refl q) refl (λ r. refl) x rest first puts quiet near;
+    first = ap (λ xs. ends_handshake reply.Ok (map (λ y. y.item) xs)) (asking_took configs log a q (same_queue-refl q) refl (λ r. refl) x rest first puts quiet near);
+  }
+
+  taken_step : (x : Envelope) (rest : List Envelope) → line log q ≡ x ∷ rest → Stepped (x ∷ rest) (gone_on_row (name_of x))
+  taken_step x rest first = asking_step x rest first [] tt tt
+
+  -- as where it asks for its peer
+  exchanged_step : (x : Envelope) (rest : List Envelope) → line log q ≡ x ∷ rest → (key : Key) → Stepped (x ∷ rest) (exchanged_row n e key (name_of x))
+  exchanged_step x rest first key = asking_step x rest first ((queue.Tracker n, item.AskListen e key) ∷ []) ((refl, refl), tt) (asks, tt)
 
   -- its peer is reserved
-  ready_shape : (full : Bool) (key : Key) (link : ℕ) (x : Envelope) (rest : List Envelope) → line log q ≡ x ∷ rest → Shape configs log a (ready_row n full key link (name_of x) rest)
-  ready_shape true key link x rest first = left_shape (x ∷ []) rest first ((queue.Tracker n, item.Release key) ∷ []) ((refl, refl), tt) (asks, tt)
-  ready_shape false key link x rest first = left_shape (x ∷ []) rest first ((queue.Spawner n, item.Spawn key link) ∷ []) ((refl, refl), tt) (spawns, tt)
+  ready_step : (full : Bool) (key : Key) (link : ℕ) (x : Envelope) (rest : List Envelope) → line log q ≡ x ∷ rest → Stepped (x ∷ rest) (ready_row n full key link (name_of x) rest)
+  ready_step true key link x rest first = left_step x rest first ((queue.Tracker n, item.Release key) ∷ []) ((refl, refl), tt) (asks, tt)
+  ready_step false key link x rest first = left_step x rest first ((queue.Spawner n, item.Spawn key link) ∷ []) ((refl, refl), tt) (spawns, tt)
 
-  took_shape : (full : Bool) (peer : Peer) (x : Envelope) (rest : List Envelope) → line log q ≡ x ∷ rest → (i : Item) → Shape configs log a (took_row n full e peer (name_of x) i rest)
-  took_shape full peer x rest first (item.Acceptable true) = taken_shape x rest first
-  took_shape full peer x rest first (item.Acceptable false) = left_shape (x ∷ []) rest first [] tt tt
-  took_shape full peer x rest first (item.Finished true) = exchanged_shape x rest first peer.key
-  took_shape full peer x rest first (item.Finished false) = left_shape (x ∷ []) rest first [] tt tt
-  took_shape full peer x rest first (item.Listen (Some key)) = ready_shape full key peer.link x rest first
-  took_shape full peer x rest first (item.Listen None) = left_shape (x ∷ []) rest first [] tt tt
-  took_shape full peer x rest first _ = left_shape (x ∷ []) rest first [] tt tt
+  took_step : (full : Bool) (peer : Peer) (x : Envelope) (rest : List Envelope) → line log q ≡ x ∷ rest → (i : Item) → Stepped (x ∷ rest) (took_row n full e peer (name_of x) i rest)
+  took_step full peer x rest first (item.Acceptable true) = taken_step x rest first
+  took_step full peer x rest first (item.Acceptable false) = left_step x rest first [] tt tt
+  took_step full peer x rest first (item.Finished true) = exchanged_step x rest first peer.key
+  took_step full peer x rest first (item.Finished false) = left_step x rest first [] tt tt
+  took_step full peer x rest first (item.Listen (Some key)) = ready_step full key peer.link x rest first
+  took_step full peer x rest first (item.Listen None) = left_step x rest first [] tt tt
+  took_step full peer x rest first _ = left_step x rest first [] tt tt
 
-  turn_shape : (full due : Bool) (peer : Peer) (xs : List Envelope) → line log q ≡ xs → Shape configs log a (handshake_turn n full due e peer xs)
-  turn_shape full true peer [] none = left_shape [] [] none [] tt tt
-  turn_shape full false peer [] none = still configs log a reply.Idle refl refl
-  turn_shape full due peer (x ∷ rest) first = took_shape full peer x rest first x.item
+  still_step : (waiting : List Envelope) (said : Reply) → keys_sent (sending_of a said) ≡ [] → is_read said ≡ false
+      → ends_handshake said (map (λ x. x.item) (take 1 waiting)) ≡ ends_handshake said [] → Stepped waiting (only said)
+  still_step waiting said none silent same = record {
+    within = still_within configs log a q said none silent;
+    first = ap (λ xs. ends_handshake said (map (λ x. x.item) xs)) (still_took configs log a q said none silent) ∙ sym same;
+  }
 
-  pub handshake_shape : (at : ℕ) → Shape configs log a (handshake_row configs log e n at)
-  handshake_shape at = by_running (is_handshaking log n e)
+  turn_step : (full due : Bool) (peer : Peer) (xs : List Envelope) → line log q ≡ xs → Stepped xs (handshake_turn n full due e peer xs)
+  turn_step full true peer [] none = none_left none
+  turn_step full false peer [] none = still_step [] reply.Idle refl refl refl
+  turn_step full due peer (x ∷ rest) first = took_step full peer x rest first x.item
+
+  handshake_step : (at : ℕ) → Stepped (line log q) (handshake_row configs log e n at)
+  handshake_step at = by_running (is_handshaking log n e)
     where
-      by_running : (b : Bool) → Shape configs log a
+      by_running : (b : Bool) → Stepped (line log q)
           (cond b (handshake_turn n (is_spawner_full configs log n) (is_due (handshake_deadline configs log e n) at (is_finished log n e)) e (peer_at log e) (line log q)) (only reply.Gone))
-      by_running true = turn_shape (is_spawner_full configs log n) (is_due (handshake_deadline configs log e n) at (is_finished log n e)) (peer_at log e) (line log q) refl
-      by_running false = still configs log a reply.Gone refl refl
+      by_running true = turn_step (is_spawner_full configs log n) (is_due (handshake_deadline configs log e n) at (is_finished log n e)) (peer_at log e) (line log q) refl
+      by_running false = still_step (line log q) reply.Gone refl refl refl
+
+  -- what it moves beside the frames in flight towards the end that it drops
+  pub handshake_moves : (at : ℕ) → Moves log (handshake_row configs log e n at)
+  handshake_moves at = (handshake_step at).within.shape.moves
+
+  -- where it ends without a connection, it drops its end of its link
+  pub handshake_shape : (at : ℕ) → Shape configs log a (handshake_step_row configs log e n at)
+  handshake_shape at =
+      dropping_shape configs log a q r s.within (cond broke (Some over) None)
+      (λ cut is. handshake_aside cut.0 (other_side cut.1) n e) (λ cut is. towards cut (gave cut broke is))
+      (λ cut is ev acts x place stands copy bears. inr (inl (record {
+        steps = (e, n, inr acts);
+        cut = cut;
+        drops = ap (λ b. acted_drops configs log r.reply (taken log (entry_of ev (dropping log (Some cut) r))) r.puts b) acts ∙ (ap (λ b. cond (b && not (list_any is_spawn r.puts)) (Some over) None) (ends ev cut) ∙ is);
+        place = place;
+        left = x;
+        stood = stands;
+        carried = bears;
+      })))
+    where
+      r : Row
+      r = handshake_row configs log e n at
+
+      s : Stepped (line log q) r
+      s = handshake_step at
+
+      broke : Bool
+      broke = broke_off r.reply (map (λ x. x.item) (take 1 (line log q))) r.puts
+
+      gave : (cut : LinkEnd) (b : Bool) → cond b (Some over) None ≡ Some cut → ◌≡◌ {A = Option LinkEnd} (Some over) (Some cut)
+      gave cut true is = is
+      gave cut false is = absurd (cc)
+
+      towards : (cut : LinkEnd) → ◌≡◌ {A = Option LinkEnd} (Some over) (Some cut) → ends_in configs log a (queue.Link cut.0 (other_side cut.1)) ≡ true
+      towards cut is =
+          let link : Queue = queue.Link cut.0 (other_side cut.1) in
+          ap (λ b. same_queue q link || b) (ap (λ p. in_flight p link) is ∙ same_queue-refl link) ∙ or_true (same_queue q link)
+
+      -- by what it took, the first that waited
+      ends : (ev : Event) (cut : LinkEnd) → ends_handshake r.reply (taken log (entry_of ev (dropping log (Some cut) r))) ≡ ends_handshake r.reply (map (λ x. x.item) (take 1 (line log q)))
+      ends ev cut = ap (ends_handshake r.reply) (taken_items log ev (dropping log (Some cut) r) (moves configs log a q r s.within cut (handshake_aside cut.0 (other_side cut.1) n e))) ∙ s.first

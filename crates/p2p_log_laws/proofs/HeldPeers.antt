@@ -1,5 +1,5 @@
 -- A key that a node's tracker holds is not the node's own.
-use Rattle.std.proofs.Common.{◌≡◌, ℕ, Bool, true, false, cond, List, [], ◌∷◌, ◌++◌, refl, ap, sym, ◌∙◌}
+use Rattle.std.proofs.Common.{◌≡◌, ℕ, Bool, true, false, cond, List, [], ◌∷◌, ◌++◌, length, refl, ap, sym, ◌∙◌, arith}
 use Rattle.std.proofs.lemmas.Bool.{false≢true}
 use Rattle.p2p_base.specs.declared.key.Key.{Key}
 use Rattle.p2p_tracker_calls.specs.Blocks.{is_local}
@@ -16,7 +16,8 @@ use Rattle.p2p_log_laws.specs.NodeGrants.{granting}
 use Rattle.p2p_log_laws.proofs.FirstGrants.{Stand, stand_first, stand_more, first_grants}
 use Rattle.p2p_log_laws.proofs.HeldCalls.{held_none}
 use Rattle.p2p_log_rules.proofs.Calls.{calls_of-append}
-use Rattle.p2p_log_laws.proofs.NodeWeighs.{Weighs, each_weighs}
+use Rattle.p2p_log_laws.proofs.NodeWeighs.{each_weighs}
+use Rattle.p2p_log_laws.proofs.Weighs.{Weighs}
 use Rattle.p2p_log_laws.proofs.Prefixes.{at_end}
 
 -- after a turn a key is held by the grant, or it was held before
@@ -43,7 +44,7 @@ module _ (configs : List Config) (n : ℕ) (key : Key) where
     λ h.
         let r : Row = row configs before ev.at ev.seed ev.act in
         let e : Entry = entry_of ev r in
-        let weighs : Weighs configs n key before ev r = each_weighs configs n key before ev.at ev.seed stand.fitting (first_grants configs n key before stand) ev.act in
+        let weighs : Weighs configs n key before ev r = each_weighs configs n key before ev.at ev.seed stand.fitting (first_grants configs n key before stand) (stand.unended (length before) (omega arith)) ev.act in
         others_next (g.grants before e) (g.frees before e) (calls.is_held key_cmp (calls_of configs before n) key) (is_local key_cmp (rules_at configs n) key) weighs.others others
         (sym weighs.turn ∙ (ap (λ l. calls.is_held key_cmp l key) (sym (calls_of-append configs before e n)) ∙ h)),
   )

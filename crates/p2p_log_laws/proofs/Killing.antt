@@ -35,7 +35,8 @@ use Rattle.p2p_log_rules.specs.TrackerPuts as puts
 use Rattle.p2p_log_rules.specs.TrackerPuts.{Put}
 use Rattle.p2p_log_rules.specs.TrackerRows as rows
 use Rattle.p2p_log.proofs.Each.{Each-weaker}
-use Rattle.p2p_log_rules.proofs.Touches.{writes, in_ends}
+use Rattle.p2p_log_rules.proofs.Touches.{in_ends}
+use Rattle.p2p_log_laws.proofs.Reaching.{writes}
 use Rattle.p2p_log_laws.specs.Kills.{IsEndedFor, ShowsKill, EachKillShowsItsCause}
 use Rattle.p2p_log_laws.proofs.Drops.{Each-get}
 use Rattle.p2p_log_laws.proofs.Prefixes.{entry_due}

@@ -35,10 +35,10 @@ use Rattle.p2p_log_laws.proofs.Sublists.{IsSublist-filter, Ordered, Ordered-appe
 
 -- ---- what stands in queues is in the order of the names
 
-abbrev NameBefore : Envelope → Envelope → Type 0
+abbrev pub NameBefore : Envelope → Envelope → Type 0
 NameBefore x y = is_before (name_of x) (name_of y) ≡ true
 
-placed_places : (n p : ℕ) (puts : List (Queue × Item)) → Each (λ x. (x.entry ≡ n) × (p ≤ x.place)) (placed n p puts)
+pub placed_places : (n p : ℕ) (puts : List (Queue × Item)) → Each (λ x. (x.entry ≡ n) × (p ≤ x.place)) (placed n p puts)
 placed_places n p [] = tt
 placed_places n p (x ∷ puts) =
     ((refl, omega arith), Each-weaker (λ (x : Envelope). (x.entry ≡ n) × (p + 1 ≤ x.place)) (λ x. (x.entry ≡ n) × (p ≤ x.place)) (λ x h. (h.0, let a = h.1 in omega (arith, a))) (placed n (p + 1) puts) (placed_places n (p + 1) puts))
@@ -51,7 +51,7 @@ placed_ordered n p (x ∷ puts) = (
   placed_ordered n (p + 1) puts,
 )
 
-abbrev StandInOrder : List Entry → Type 0
+abbrev pub StandInOrder : List Entry → Type 0
 StandInOrder log = Ordered NameBefore (live log) × Each (λ x. x.entry < length log) (live log)
 
 order_more : (log : List Entry) (e : Entry) → StandInOrder log → StandInOrder (log ++ e ∷ [])
@@ -92,18 +92,18 @@ named_any name (n ∷ ns) h = elim h [
     or_true false = refl
 
 -- what is taken does not stay
-taken_goes : (e : Entry) (x : Envelope) → Has e.takes (name_of x) → stays (goes e) x ≡ false
+pub taken_goes : (e : Entry) (x : Envelope) → Has e.takes (name_of x) → stays (goes e) x ≡ false
 taken_goes e x h =
     ap not (list_any-append (same_name (name_of x)) e.takes (flat_map ended_item e.ends) ∙ ap (λ b. b || list_any (same_name (name_of x)) (flat_map ended_item e.ends)) (named_any (name_of x) e.takes h))
 
-passes : {X : Type 0} (p : X → Bool) (xs : List X) (x : X) → Has (filter p xs) x → p x ≡ true
+pub passes : {X : Type 0} (p : X → Bool) (xs : List X) (x : X) → Has (filter p xs) x → p x ≡ true
 passes {X} p xs x h = Each-has (λ (y : X). p y ≡ true) (filter p xs) x (Each-passing (λ (y : X). p y ≡ true) p (λ y k. k) xs) h
 
 module _ (before : List Entry) (ev : Event) (r : Row) (m : Moves before r) (q : Queue) where
   abbrev e : Entry
   e = entry_of ev r
 
-  taken_first : (x y : Envelope) → Has (line before q) x → Has e.takes (name_of x) → Has (line before q) y → stays (goes e) y ≡ true → NameBefore x y
+  pub taken_first : (x y : Envelope) → Has (line before q) x → Has e.takes (name_of x) → Has (line before q) y → stays (goes e) y ≡ true → NameBefore x y
   unfolding line
   taken_first x y has_x takes has_y stay =
       let parts : line before q ≡ filter (stands_in q) (m.taken ++ m.ended) ++ filter (stands_in q) (kept before ev r m) = line-moved before ev r m q in
@@ -216,6 +216,23 @@ module _ (configs : List Config) (script : List Event) (log : List Entry) (lawfu
         let other : NameBefore y x = Each-has (λ (z : Envelope). stands_in q z ≡ true → NameBefore y z) (live (take m log)) x after (in_live q x m has) (in_queue q x m has) in
         absurd (not_both x.entry x.place y.entry y.place h other)
   ]
+
+  -- an item is taken once
+  pub taken_once : (q : Queue) (x y : Envelope) (m n : ℕ) → IsTakenFrom log q x m → IsTakenFrom log q y n → name_of x ≡ name_of y → m ≡ n
+  taken_once q x y m n a b same = elim (cases_lt m n) [
+    | inl less ↦ absurd (no_later x y m n a b same less)
+    | inr le ↦ elim (cases_lt n m) [ inl more ↦ absurd (no_later y x n m b a (sym same) more) | inr other ↦ omega (arith, le, other) ]
+  ]
+    where
+      no_later : (x y : Envelope) (m n : ℕ) → IsTakenFrom log q x m → IsTakenFrom log q y n → name_of x ≡ name_of y → m < n → ⊥
+      no_later x y m n a b same less =
+          let gap = n - suc m in
+          let there : gap + suc m ≡ n = omega (arith, less) in
+          let has : Has (line (take n log) q) y = Has-get (line (take n log) q) b.stood.0 y b.stood.1 in
+          let after = subst (λ i. Each (λ z. stands_in q z ≡ true → NameBefore x z) (live (take i log))) there (after_all q x m a gap).1 in
+          let later : NameBefore x y = Each-has (λ (z : Envelope). stands_in q z ≡ true → NameBefore x z) (live (take n log)) y after (in_live q y n has) (in_queue q y n has) in
+          let twice : is_before (name_of x) (name_of x) ≡ true = subst (λ i. is_before (name_of x) i ≡ true) (sym same) later in
+          not_both x.entry x.place x.entry x.place twice twice
 
   -- ---- what connections put
 

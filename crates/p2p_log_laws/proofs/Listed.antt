@@ -27,7 +27,8 @@ use Rattle.p2p_log_rules.specs.Links.{openings_of}
 use Rattle.p2p_log_rules.proofs.Checking.{newest-last, peers_told-after, peers_told-kept, peers_told-none}
 use Rattle.p2p_log_rules.proofs.Facts.{subscribers-append, routes-append, list_any-last}
 use Rattle.p2p_log_rules.proofs.Recorded.{item_named-first}
-use Rattle.p2p_log_rules.proofs.Touches.{writes, in_ends, away}
+use Rattle.p2p_log_rules.proofs.Touches.{in_ends, away}
+use Rattle.p2p_log_laws.proofs.Reaching.{writes}
 use Rattle.p2p_log_laws.specs.Listed.{ListsAreCurrent}
 use Rattle.p2p_log_laws.proofs.Prefixes.{at_end}
 use Rattle.p2p_log_laws.proofs.Shapes.{row_shape}

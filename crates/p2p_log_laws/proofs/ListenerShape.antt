@@ -25,7 +25,7 @@ use Rattle.p2p_log_rules.specs.Rows.{only}
 use Rattle.p2p_log_rules.specs.Listening.{known_of, gate_rules_at, gates_puts, arrived_row, arrival_turn, listener_turn, has_place, listener_row}
 use Rattle.p2p_log.proofs.Queues.{same_queue-refl}
 use Rattle.p2p_log_rules.proofs.Moves.{one_taken, first_has}
-use Rattle.p2p_log_rules.proofs.Touches.{reads, writes}
+use Rattle.p2p_log_laws.proofs.Reaching.{reads, writes}
 use Rattle.p2p_log_laws.proofs.Fitting.{StandsFit, fits, holds_bare, bare_there}
 use Rattle.p2p_log_laws.proofs.Plain.{IsAside, Plain, IsPlain, plain_item, plain_aside}
 use Rattle.p2p_log_laws.proofs.Shape.{Shape, IsQuiet, quiet_laws, still, no_moves, one_move, first_in}

@@ -1,146 +1,403 @@
--- No act ends a connection yet, so none has ended.
-use Rattle.std.proofs.Common.{◌≡◌, ℕ, Bool, true, false, cond, List, [], ◌∷◌, Option, Some, None, refl, ◌∙◌}
-use Rattle.std.specs.Prelude.{◌&&◌, ◌||◌, nat_le, length}
-use Rattle.p2p_base.specs.declared.key.Key.{Key}
+-- A connection that begins, runs or ends was made, and has not ended before; and it ends for a reason.
+use Rattle.std.proofs.Common.{◌≡◌, ℕ, ◌≤◌, Bool, true, false, cond, List, [], ◌∷◌, ◌++◌, length, Option, Some, None, ◌⊎◌, inl, inr, refl, ap, sym, subst, ◌∙◌, append-nil, append_assoc, eqb-true}
+use Rattle.std.specs.Prelude.{◌==◌, ◌&&◌, ◌||◌, map, nat_le, nat_lt}
+use Rattle.std.specs.List.{list_any, AllByRecursion as Each}
+use Rattle.std.proofs.lemmas.Bool.{and_parts, false≢true}
 use Rattle.p2p_log.specs.declared.config.Config.{Config}
-use Rattle.p2p_log.specs.declared.queue.Queue.{Queue}
 use Rattle.p2p_log.specs.declared.queue.Queue.TheVariants as queue
 use Rattle.p2p_log.specs.declared.item.Item.{Item}
 use Rattle.p2p_log.specs.declared.item.Item.TheVariants as item
 use Rattle.p2p_log.specs.declared.item.Envelope.{Envelope}
 use Rattle.p2p_log.specs.declared.end.Cause.{Cause}
+use Rattle.p2p_log.specs.declared.end.Cause.TheVariants as cause
+use Rattle.p2p_log.specs.declared.entry.Ended.{Ended}
+use Rattle.p2p_log.specs.declared.entry.Ended.TheVariants as ended
 use Rattle.p2p_log.specs.declared.entry.Entry.{Entry}
 use Rattle.p2p_log.specs.declared.entry.Reply.TheVariants as reply
 use Rattle.p2p_log.specs.declared.event.Event.{Event}
 use Rattle.p2p_log.specs.declared.event.Act.{Act}
 use Rattle.p2p_log.specs.declared.event.Act.TheVariants as act
-use Rattle.p2p_log.specs.Lines.{name_of, line}
+use Rattle.p2p_log.specs.Lines.{name_of, live, line}
 use Rattle.p2p_log_rules.specs.declared.row.Half.{Half}
 use Rattle.p2p_log_rules.specs.declared.row.Row.{Row}
 use Rattle.p2p_log_rules.specs.Closing.{is_closed, refused_by}
-use Rattle.p2p_log_rules.specs.Connections.{steps_sender, steps_receiver, is_end, ends_connection, is_begun, is_running, live_half, is_ended}
-use Rattle.p2p_log_rules.proofs.Connections.{is_ended-kept}
+use Rattle.p2p_log_rules.specs.Connections.{steps_sender, steps_receiver, is_done, is_end, is_answer, begins, answers_by, ends_connection, live_half, is_begun, is_running, is_ended}
+use Rattle.p2p_log_rules.specs.Dropping.{other_side, is_dropped}
 use Rattle.p2p_log_rules.specs.Effect
-use Rattle.p2p_log_rules.specs.Effect.{row, effect, limit_at, other_side}
-use Rattle.p2p_log_rules.specs.Facts.{is_up, channels, capacity_in}
+use Rattle.p2p_log_rules.specs.Effect.{row, effect, limit_at}
+use Rattle.p2p_log_rules.specs.Ending.{end_row}
+use Rattle.p2p_log_rules.specs.Facts.{is_up, channels, capacity_in, history_from, taken}
 use Rattle.p2p_log_rules.specs.Frames.{message_in, is_ping_in}
-use Rattle.p2p_log_rules.specs.Metering.{pings, messages, may_pass}
 use Rattle.p2p_log_rules.specs.Lawful.{IsLawful}
+use Rattle.p2p_log_rules.specs.Metering.{pings, messages, may_pass}
 use Rattle.p2p_log_rules.specs.Pings.{ping_is_due}
+use Rattle.p2p_log_rules.specs.Spawning.{Spawned, connections_of}
+use Rattle.p2p_log_rules.proofs.Connections.{is_begun-append, is_running-append, is_ended-append, half_parts, is_live}
+use Rattle.p2p_log_rules.proofs.Moves.{one_taken, first_has}
+use Rattle.p2p_log_rules.proofs.Spawning.{connections_of-late, connections_of-next}
+use Rattle.p2p_log_laws.specs.Endings.{IsNoFrame, IsOnNoChannel, HasReason}
+use Rattle.p2p_log_laws.proofs.Fitting.{fits, StandsFit}
 use Rattle.p2p_log_laws.proofs.Prefixes.{at_end}
 
-abbrev Lives : Row → Type 0
-Lives r = is_end r.reply ≡ false
+-- ---- the row of an end
 
-module _ (configs : List Config) (log : List Entry) (conn n at : ℕ) where
-  -- ---- a step of a sending half
+-- the connection had a half that had not ended and that ran, and the row is that of an end for a reason that is true
+pub record IsEndRow (configs : List Config) (log : List Entry) (n conn : ℕ) (r : Row) : Type 0 where
+  pub half : Half
+  pub lived : live_half log n conn ≡ Some half
+  pub ran : is_running log n conn ≡ true
+  pub why : Ended
+  pub drops : Cause
+  pub taken : List Envelope
+  pub is : r ≡ end_row log n conn half why drops taken
+  pub reason : HasReason configs log n conn half (map name_of taken) why
 
-  written_lives : (q : Queue) (due : Bool) (xs : List Envelope) → Lives (Effect.write_row q due xs)
-  written_lives q false [] = refl
-  written_lives q false (x ∷ xs) = refl
-  written_lives q true xs = refl
+module _ (configs : List Config) (log : List Entry) (n conn at : ℕ) (fitting : Each StandsFit (live log)) where
+  abbrev Ends : Row → Type 0
+  Ends r = is_end r.reply ≡ true → IsEndRow configs log n conn r
 
-  answered_lives : (xs : List Envelope) → Lives (Effect.takes_oldest xs)
-  answered_lives [] = refl
-  answered_lives (x ∷ xs) = refl
+  module _ (half : Half) (lived : live_half log n conn ≡ Some half) (ran : is_running log n conn ≡ true) where
+    -- ---- a step of a sending half that runs
 
-  half_lives : (half : Half) (begun running : Bool) → Lives (Effect.half_row configs log n conn at half begun running)
-  half_lives half false running = refl
-  half_lives half true false = answered_lives (line log (queue.Ready n conn))
-  half_lives half true true =
-      let due : Bool = ping_is_due configs log n conn at in
-      written_lives (queue.Link half.link half.writes) due (Effect.batch log n conn (Effect.beside_ping due (Effect.batch_size_at configs n)))
+    written_ends : (dropped : Bool) → is_dropped configs log half.link (other_side half.writes) ≡ dropped → (due : Bool) (xs : List Envelope)
+        → Ends (Effect.written_row log n conn half dropped due xs)
+    written_ends dropped is false [] h = absurd (false≢true h)
+    written_ends true is false (x ∷ xs) h =
+        record { half = half; lived = lived; ran = ran; why = ended.SendFailed; drops = cause.ConnectionEnded; taken = x ∷ xs; is = refl; reason = is }
+    written_ends true is true xs h =
+        record { half = half; lived = lived; ran = ran; why = ended.SendFailed; drops = cause.ConnectionEnded; taken = xs; is = refl; reason = is }
+    written_ends false is false (x ∷ xs) h = absurd (false≢true h)
+    written_ends false is true xs h = absurd (false≢true h)
 
-  sender_lives : (o : Option Half) → Lives (Effect.sender_row configs log n conn at o)
-  sender_lives None = refl
-  sender_lives (Some half) = half_lives half (is_begun log n conn) (is_running log n conn)
+    -- what it is told is to end
+    is_kill : (i : Item) → fits (queue.Control n conn) i ≡ true → i ≡ item.Kill
+    is_kill item.Kill fit = refl
+    is_kill _ fit = absurd (cc)
 
-  sent_lives : (b : Bool) → Lives (cond b (Effect.sender_row configs log n conn at (live_half log n conn)) (Effect.only reply.Gone))
-  sent_lives true = sender_lives (live_half log n conn)
-  sent_lives false = refl
+    told_kills : (x : Envelope) (xs : List Envelope) → line log (queue.Control n conn) ≡ x ∷ xs → x.item ≡ item.Kill
+    told_kills x xs first =
+        is_kill x.item (subst (λ q. fits q x.item ≡ true) (one_taken log (queue.Control n conn) x xs first) (first_has StandsFit log (queue.Control n conn) x xs fitting first))
 
-  -- ---- a step of a receiving half
+    told_ends : (xs : List Envelope) → line log (queue.Control n conn) ≡ xs → (room : Bool) (r : Row) → Ends r → Ends (Effect.told_row log n conn half xs room r)
+    told_ends (x ∷ xs) is true r rest h =
+        record {
+          half = half;
+          lived = lived;
+          ran = ran;
+          why = ended.Killed;
+          drops = cause.ConnectionEnded;
+          taken = x ∷ [];
+          is = refl;
+          reason = record { oldest = x; later = xs; stood = is; takes = refl; kind = told_kills x xs is };
+        }
+    told_ends [] is room r rest h = rest h
+    told_ends (x ∷ xs) is false r rest h = rest h
 
-  module _ (from : Key) (name : ℕ × ℕ) where
-    delivered_lives : (o : Option Cause) (copy : ℕ × ℕ) (message : ℕ × List ℕ) → Lives (Effect.delivered_row o n name from copy message)
-    delivered_lives None copy message = refl
-    delivered_lives (Some why) copy message = refl
+    running_ends : (due : Bool) → Ends (Effect.running_row configs log n conn half due)
+    running_ends due =
+        let most : ℕ = Effect.beside_ping due (Effect.batch_size_at configs n) in
+        let dropped : Bool = is_dropped configs log half.link (other_side half.writes) in
+        told_ends (line log (queue.Control n conn)) refl (nat_lt 0 most) (Effect.written_row log n conn half dropped due (Effect.batch log n conn most))
+        (written_ends dropped refl due (Effect.batch log n conn most))
 
-    passed_lives : (copy : ℕ × ℕ) (message : ℕ × List ℕ) (capacity : ℕ) (other : Row) → Lives other → (b : Bool) → Lives (cond b (Effect.deliver_row log n name from copy message capacity) other)
-    passed_lives copy message capacity other h true =
-        delivered_lives (refused_by (is_closed log n message.0) (nat_le capacity (length (line log (queue.Channel n message.0))))) copy message
-    passed_lives copy message capacity other h false = h
+    -- ---- a step of a receiving half
 
-    by_capacity : (copy : ℕ × ℕ) (message : ℕ × List ℕ) (other : Row) → Lives other → (o : Option ℕ)
-        → Lives (elim o [
+    never : (r : Row) → is_end r.reply ≡ false → Ends r
+    never r lives h = absurd (false≢true (sym lives ∙ h))
+
+    delivered_ends : (o : Option Cause) (name copy : ℕ × ℕ) (message : ℕ × List ℕ) → Ends (Effect.delivered_row o n name half.peer copy message)
+    delivered_ends None name copy message = never (Effect.delivered_row None n name half.peer copy message) refl
+    delivered_ends (Some why) name copy message = never (Effect.delivered_row (Some why) n name half.peer copy message) refl
+
+    passed_ends : (name copy : ℕ × ℕ) (message : ℕ × List ℕ) (capacity : ℕ) (other : Row) → Ends other → (b : Bool) → Ends (cond b (Effect.deliver_row log n name half.peer copy message capacity) other)
+    passed_ends name copy message capacity other h true =
+        delivered_ends (refused_by (is_closed log n message.0) (nat_le capacity (length (line log (queue.Channel n message.0))))) name copy message
+    passed_ends name copy message capacity other h false = h
+
+    pinged_ends : (name : ℕ × ℕ) (other : Row) → Ends other → (b : Bool) → Ends (cond b (Effect.pass_row name) other)
+    pinged_ends name other h true = never (Effect.pass_row name) refl
+    pinged_ends name other h false = h
+
+    -- the first frame in flight
+    module _ (x : Envelope) (later : List Envelope) (first : line log (queue.Link half.link (other_side half.writes)) ≡ x ∷ later) where
+      refused_ends : (why : Ended) (c : Cause) → HasReason configs log n conn half (name_of x ∷ []) why → Ends (Effect.refused_row configs log n conn at half why c x)
+      refused_ends why c reason h = record { half = half; lived = lived; ran = ran; why = why; drops = c; taken = x ∷ []; is = refl; reason = reason }
+
+      message_ends : (copy : ℕ × ℕ) (frame : List ℕ) → x.item ≡ item.Frame (Some copy) frame → (o : Option (ℕ × List ℕ)) → message_in frame (limit_at configs n) ≡ o
+          → Ends (Effect.message_row configs log n conn at half x copy o)
+      message_ends copy frame is None read =
+          refused_ends ended.DecodeFailed cause.FrameRefused
+          (record { oldest = x; later = later; stood = first; takes = refl; kind = subst (IsNoFrame (limit_at configs n)) (sym is) read })
+      message_ends copy frame is (Some message) read = by (capacity_in (channels configs log n) message.0) refl
+        where
+          by : (o : Option ℕ) → capacity_in (channels configs log n) message.0 ≡ o
+              → Ends (elim o [
+                | None ↦ Effect.refused_row configs log n conn at half ended.InvalidChannel cause.ChannelUnregistered x
+                | Some capacity ↦
+                    cond (may_pass configs log n conn at (messages message.0))
+                    (Effect.deliver_row log n (name_of x) half.peer copy message capacity)
+                    (Effect.hold_row n conn (name_of x) (item.Held message.0 message.1 copy))
+              ])
+          by None none =
+              refused_ends ended.InvalidChannel cause.ChannelUnregistered
+              (record { oldest = x; later = later; stood = first; takes = refl; kind = subst (IsOnNoChannel configs log n) (sym is) (message, read, none) })
+          by (Some capacity) some =
+              passed_ends (name_of x) copy message capacity (Effect.hold_row n conn (name_of x) (item.Held message.0 message.1 copy))
+              (never (Effect.hold_row n conn (name_of x) (item.Held message.0 message.1 copy)) refl) (may_pass configs log n conn at (messages message.0))
+
+      ping_ends : (frame : List ℕ) → x.item ≡ item.Frame None frame → (b : Bool) → is_ping_in frame (limit_at configs n) ≡ b → Ends (Effect.ping_row configs log n conn at half x b)
+      ping_ends frame is false read =
+          refused_ends ended.DecodeFailed cause.FrameRefused
+          (record { oldest = x; later = later; stood = first; takes = refl; kind = subst (IsNoFrame (limit_at configs n)) (sym is) read })
+      ping_ends frame is true read =
+          pinged_ends (name_of x) (Effect.hold_row n conn (name_of x) item.Ping) (never (Effect.hold_row n conn (name_of x) item.Ping) refl) (may_pass configs log n conn at pings)
+
+      frame_ends : (i : Item) → x.item ≡ i → Ends (Effect.frame_row configs log n conn at half x i)
+      frame_ends (item.Frame (Some copy) frame) is = message_ends copy frame is (message_in frame (limit_at configs n)) refl
+      frame_ends (item.Frame None frame) is = ping_ends frame is (is_ping_in frame (limit_at configs n)) refl
+      frame_ends _ is = λ h. absurd (false≢true h)
+
+    receive_ends : (frames : List Envelope) → line log (queue.Link half.link (other_side half.writes)) ≡ frames → Ends (Effect.receive_row configs log n conn at half frames)
+    receive_ends [] first = by (is_dropped configs log half.link (other_side half.writes)) refl
+      where
+        by : (b : Bool) → is_dropped configs log half.link (other_side half.writes) ≡ b
+            → Ends (cond b (end_row log n conn half ended.ReceiveFailed cause.ConnectionEnded []) (Effect.only reply.Idle))
+        by true is h = record { half = half; lived = lived; ran = ran; why = ended.ReceiveFailed; drops = cause.ConnectionEnded; taken = []; is = refl; reason = is }
+        by false is h = absurd (false≢true h)
+    receive_ends (x ∷ xs) first = frame_ends x xs first x.item refl
+
+    by_capacity : (name copy : ℕ × ℕ) (message : ℕ × List ℕ) (o : Option ℕ)
+        → Ends (elim o [
           | None ↦ Effect.only reply.Idle
-          | Some capacity ↦ cond (may_pass configs log n conn at (messages message.0)) (Effect.deliver_row log n name from copy message capacity) other
+          | Some capacity ↦ cond (may_pass configs log n conn at (messages message.0)) (Effect.deliver_row log n name half.peer copy message capacity) (Effect.only reply.Idle)
         ])
-    by_capacity copy message other h None = refl
-    by_capacity copy message other h (Some capacity) = passed_lives copy message capacity other h (may_pass configs log n conn at (messages message.0))
+    by_capacity name copy message None = never (Effect.only reply.Idle) refl
+    by_capacity name copy message (Some capacity) = passed_ends name copy message capacity (Effect.only reply.Idle) (never (Effect.only reply.Idle) refl) (may_pass configs log n conn at (messages message.0))
 
-    message_lives : (copy : ℕ × ℕ) (o : Option (ℕ × List ℕ)) → Lives (Effect.message_row configs log n conn at name from copy o)
-    message_lives copy None = refl
-    message_lives copy (Some message) =
-        by_capacity copy message (Effect.hold_row n conn name (item.Held message.0 message.1 copy)) refl (capacity_in (channels configs log n) message.0)
+    retry_ends : (name : ℕ × ℕ) (i : Item) → Ends (Effect.retry_row configs log n conn at half name i)
+    retry_ends name (item.Held c bytes copy) = by_capacity name copy (c, bytes) (capacity_in (channels configs log n) c)
+    retry_ends name item.Ping = pinged_ends name (Effect.only reply.Idle) (never (Effect.only reply.Idle) refl) (may_pass configs log n conn at pings)
+    retry_ends name _ = λ h. absurd (false≢true h)
 
-    pinged_lives : (i : Row) → Lives i → (b : Bool) → Lives (cond b (Effect.pass_row name) i)
-    pinged_lives i h true = refl
-    pinged_lives i h false = h
+    held_ends : (xs frames : List Envelope) → line log (queue.Link half.link (other_side half.writes)) ≡ frames → Ends (Effect.held_row configs log n conn at half xs frames)
+    held_ends [] frames first = receive_ends frames first
+    held_ends (x ∷ xs) frames first = retry_ends (name_of x) x.item
 
-    ping_lives : (b : Bool) → Lives (Effect.ping_row configs log n conn at name b)
-    ping_lives false = refl
-    ping_lives true = pinged_lives (Effect.hold_row n conn name item.Ping) refl (may_pass configs log n conn at pings)
+  -- ---- by what is known of its half
 
-    frame_lives : (i : Item) → Lives (Effect.frame_row configs log n conn at from name i)
-    frame_lives (item.Frame (Some copy) frame) = message_lives copy (message_in frame (limit_at configs n))
-    frame_lives (item.Frame None frame) = ping_lives (is_ping_in frame (limit_at configs n))
-    frame_lives _ = refl
+  answered_ends : (xs : List Envelope) → Ends (Effect.takes_oldest xs)
+  answered_ends [] h = absurd (false≢true h)
+  answered_ends (x ∷ xs) h = absurd (false≢true h)
 
-    retry_lives : (i : Item) → Lives (Effect.retry_row configs log n conn at from name i)
-    retry_lives (item.Held c bytes copy) = by_capacity copy (c, bytes) (Effect.only reply.Idle) refl (capacity_in (channels configs log n) c)
-    retry_lives item.Ping = pinged_lives (Effect.only reply.Idle) refl (may_pass configs log n conn at pings)
-    retry_lives _ = refl
+  half_ends : (half : Half) → live_half log n conn ≡ Some half → (begun running : Bool) → is_running log n conn ≡ running → Ends (Effect.half_row configs log n conn at half begun running)
+  half_ends half lived false running ran = λ h. absurd (false≢true h)
+  half_ends half lived true false ran = answered_ends (line log (queue.Ready n conn))
+  half_ends half lived true true ran = running_ends half lived ran (ping_is_due configs log n conn at)
 
-  receive_lives : (from : Key) (frames : List Envelope) → Lives (Effect.receive_row configs log n conn at from frames)
-  receive_lives from [] = refl
-  receive_lives from (x ∷ xs) = frame_lives from (name_of x) x.item
+  sender_ends : (o : Option Half) → live_half log n conn ≡ o → Ends (Effect.sender_row configs log n conn at o)
+  sender_ends None lived = λ h. absurd (false≢true h)
+  sender_ends (Some half) lived = half_ends half lived (is_begun log n conn) (is_running log n conn) refl
 
-  held_lives : (from : Key) (xs frames : List Envelope) → Lives (Effect.held_row configs log n conn at from xs frames)
-  held_lives from [] frames = receive_lives from frames
-  held_lives from (x ∷ xs) frames = retry_lives from (name_of x) x.item
+  send_ends : Ends (Effect.send_step_row configs log conn n at)
+  send_ends = by (is_up log n)
+    where
+      by : (b : Bool) → Ends (cond b (Effect.sender_row configs log n conn at (live_half log n conn)) (Effect.only reply.Gone))
+      by true = sender_ends (live_half log n conn) refl
+      by false = λ h. absurd (false≢true h)
 
-  receiver_lives : (half : Half) (b : Bool) → Lives (cond b (Effect.receiver_row configs log n conn at half) (Effect.only reply.Idle))
-  receiver_lives half true = held_lives half.peer (line log (queue.Held n conn)) (line log (queue.Link half.link (other_side half.writes)))
-  receiver_lives half false = refl
+  receiver_ends : (half : Half) → live_half log n conn ≡ Some half → (b : Bool) → is_running log n conn ≡ b → Ends (cond b (Effect.receiver_row configs log n conn at half) (Effect.only reply.Idle))
+  receiver_ends half lived true ran = held_ends half lived ran (line log (queue.Held n conn)) (line log (queue.Link half.link (other_side half.writes))) refl
+  receiver_ends half lived false ran = λ h. absurd (false≢true h)
 
-  received_lives : (o : Option Half)
-      → Lives (elim o [
-        | None ↦ Effect.only reply.Gone
-        | Some half ↦ cond (is_running log n conn) (Effect.receiver_row configs log n conn at half) (Effect.only reply.Idle)
-      ])
-  received_lives None = refl
-  received_lives (Some half) = receiver_lives half (is_running log n conn)
+  receiving_ends : (o : Option Half) → live_half log n conn ≡ o → Ends (Effect.receiving_row configs log n conn at o)
+  receiving_ends None lived = λ h. absurd (false≢true h)
+  receiving_ends (Some half) lived = receiver_ends half lived (is_running log n conn) refl
+
+  receive_step_ends : Ends (Effect.recv_step_row configs log conn n at)
+  receive_step_ends = by (is_up log n)
+    where
+      by : (b : Bool) → Ends (cond b (Effect.receiving_row configs log n conn at (live_half log n conn)) (Effect.only reply.Gone))
+      by true = receiving_ends (live_half log n conn) refl
+      by false = λ h. absurd (false≢true h)
 
 -- ---- all acts
 
-never : (b c : Bool) → c ≡ false → (b && c) ≡ false
-never true c h = h
-never false c h = refl
+-- an entry that ends a connection is a step of one of its halves
+named_here : (m n e conn : ℕ) → ((m == n) && (e == conn)) ≡ true → (m ≡ n) × (e ≡ conn)
+named_here m n e conn h = let both = and_parts (m == n) (e == conn) h in (eqb-true m n both.0, eqb-true e conn both.1)
 
--- no entry ends a connection
-pub ends_none : (configs : List Config) (log : List Entry) (ev : Event) (n conn : ℕ) → ends_connection n conn (effect configs log ev) ≡ false
+either_true : (b : Bool) → (b || false) ≡ b
+either_true true = refl
+either_true false = refl
+
+-- the row of an act that ends a connection
+pub end_row_is : (configs : List Config) (log : List Entry) (ev : Event) (n conn : ℕ) → Each StandsFit (live log) → ends_connection n conn (effect configs log ev) ≡ true
+    → IsEndRow configs log n conn (row configs log ev.at ev.seed ev.act)
 unfolding effect row
-ends_none configs log ev n conn = by ev.act
+end_row_is configs log ev n conn fitting = by ev.act
   where
-    by : (a : Act) → ((steps_sender n conn a || steps_receiver n conn a) && is_end (row configs log ev.at ev.seed a).reply) ≡ false
-    by (act.SendStep c m) = never (steps_sender n conn (act.SendStep c m) || false) _ (sent_lives configs log c m ev.at (is_up log m))
-    by (act.RecvStep c m) = never (false || steps_receiver n conn (act.RecvStep c m)) _ (received_lives configs log c m ev.at (live_half log m c))
-    by _ = refl
+    moved : (m e : ℕ) (f : ℕ → ℕ → Row) → Ends configs log m e ev.at fitting (f m e) → ((m == n) && (e == conn)) ≡ true → is_end (f m e).reply ≡ true → IsEndRow configs log n conn (f m e)
+    moved m e f ends here h =
+        let same = named_here m n e conn here in
+        subst (λ k. IsEndRow configs log k conn (f m e)) same.0 (subst (λ c. IsEndRow configs log m c (f m e)) same.1 (ends h))
 
--- in a lawful log none has ended
-pub none_ended : (configs : List Config) (script : List Event) (log : List Entry) → IsLawful configs script log → (n conn : ℕ) → is_ended log n conn ≡ false
-unfolding is_ended
-none_ended configs script log lawful =
-    at_end configs (λ l. (n conn : ℕ) → is_ended l n conn ≡ false) (λ n conn. refl)
-    (λ before ev none n conn. is_ended-kept before (effect configs before ev) n conn (ends_none configs before ev n conn) ∙ none n conn) script log lawful
+    by : (a : Act) → ((steps_sender n conn a || steps_receiver n conn a) && is_end (row configs log ev.at ev.seed a).reply) ≡ true → IsEndRow configs log n conn (row configs log ev.at ev.seed a)
+    by (act.SendStep c m) h =
+        let both = and_parts (steps_sender n conn (act.SendStep c m) || false) _ h in
+        moved m c (λ k e. Effect.send_step_row configs log e k ev.at) (send_ends configs log m c ev.at fitting) (sym (either_true ((m == n) && (c == conn))) ∙ both.0) both.1
+    by (act.RecvStep c m) h =
+        let both = and_parts (false || steps_receiver n conn (act.RecvStep c m)) _ h in
+        moved m c (λ k e. Effect.recv_step_row configs log e k ev.at) (receive_step_ends configs log m c ev.at fitting) both.0 both.1
+    by _ h = absurd (false≢true h)
+
+-- ---- what begins, runs or ends was made
+
+-- an entry makes it
+abbrev pub IsMade : List Entry → ℕ → ℕ → Type 0
+IsMade log n conn = (c : Spawned) × (connections_of log n conn ≡ Some c)
+
+-- a step of a half is gone, or its connection has not ended
+abbrev pub IsOfLive : List Entry → ℕ → ℕ → Row → Type 0
+IsOfLive log n conn r = (r ≡ Effect.only reply.Gone) ⊎ ((half : Half) × (live_half log n conn ≡ Some half))
+
+module _ (configs : List Config) (log : List Entry) (n conn at : ℕ) where
+  gone_or_live : (f : Option Half → Row) → f None ≡ Effect.only reply.Gone → (o : Option Half) → live_half log n conn ≡ o → IsOfLive log n conn (f o)
+  gone_or_live f gone None is = inl gone
+  gone_or_live f gone (Some half) is = inr (half, is)
+
+  up_or_gone : (r : Row) → IsOfLive log n conn r → (b : Bool) → IsOfLive log n conn (cond b r (Effect.only reply.Gone))
+  up_or_gone r h true = h
+  up_or_gone r h false = inl refl
+
+  sends_live : IsOfLive log n conn (Effect.send_step_row configs log conn n at)
+  sends_live = up_or_gone (Effect.sender_row configs log n conn at (live_half log n conn)) (gone_or_live (Effect.sender_row configs log n conn at) refl (live_half log n conn) refl) (is_up log n)
+
+  receives_live : IsOfLive log n conn (Effect.recv_step_row configs log conn n at)
+  receives_live = up_or_gone (Effect.receiving_row configs log n conn at (live_half log n conn)) (gone_or_live (Effect.receiving_row configs log n conn at) refl (live_half log n conn) refl) (is_up log n)
+
+module _ (configs : List Config) (log : List Entry) (ev : Event) (n conn : ℕ) where
+  abbrev r : Row
+  r = row configs log ev.at ev.seed ev.act
+
+  pub steps_live : (steps_sender n conn ev.act || steps_receiver n conn ev.act) ≡ true → IsOfLive log n conn r
+  unfolding row
+  steps_live = by ev.act
+    where
+      moved : (m e : ℕ) (f : ℕ → ℕ → Row) → IsOfLive log m e (f m e) → ((m == n) && (e == conn)) ≡ true → IsOfLive log n conn (f m e)
+      moved m e f is here =
+          let same = named_here m n e conn here in
+          subst (λ k. IsOfLive log k conn (f m e)) same.0 (subst (λ c. IsOfLive log m c (f m e)) same.1 is)
+
+      by : (a : Act) → (steps_sender n conn a || steps_receiver n conn a) ≡ true → IsOfLive log n conn (row configs log ev.at ev.seed a)
+      by (act.SendStep c m) h = moved m c (λ k e. Effect.send_step_row configs log e k ev.at) (sends_live configs log m c ev.at) (sym (either_true ((m == n) && (c == conn))) ∙ h)
+      by (act.RecvStep c m) h = moved m c (λ k e. Effect.recv_step_row configs log e k ev.at) (receives_live configs log m c ev.at) h
+      by _ h = absurd (false≢true h)
+
+  -- a step that does something is of a connection that was made
+  steps_made : (steps_sender n conn ev.act || steps_receiver n conn ev.act) ≡ true → (r ≡ Effect.only reply.Gone → ⊥) → IsMade log n conn
+  steps_made steps does = elim (steps_live steps) [
+    | inl gone ↦ absurd (does gone)
+    | inr live ↦ let parts = half_parts log n conn live.0 (is_live log n conn live.0 live.1).at in (parts.connection, parts.made)
+  ]
+
+  -- and stays so
+  still_made : IsMade log n conn → IsMade (log ++ effect configs log ev ∷ []) n conn
+  still_made made = (made.0, connections_of-next log (effect configs log ev) n conn made.0 made.1)
+
+  -- what an entry makes true of it, where it was not before, it makes true by a step that does something
+  next_made : (old new : Bool) → (old ≡ true → IsMade log n conn) → (new ≡ true → IsMade log n conn) → (old || new) ≡ true → IsMade (log ++ effect configs log ev ∷ []) n conn
+  next_made true new was now h = still_made (was refl)
+  next_made false new was now h = still_made (now h)
+
+  or_first : (b c : Bool) → b ≡ true → (b || c) ≡ true
+  or_first true c h = refl
+  or_first false c h = absurd (false≢true h)
+
+  ends_made : ends_connection n conn (effect configs log ev) ≡ true → IsMade log n conn
+  unfolding effect
+  ends_made h =
+      let both = and_parts (steps_sender n conn ev.act || steps_receiver n conn ev.act) (is_end r.reply) h in
+      steps_made both.0 (λ gone. false≢true (ap (λ (k : Row). is_end k.reply) (sym gone) ∙ both.1))
+
+  begins_made : begins n conn (effect configs log ev) ≡ true → IsMade log n conn
+  unfolding effect
+  begins_made h =
+      let both = and_parts (steps_sender n conn ev.act) (is_done r.reply) h in
+      steps_made (or_first (steps_sender n conn ev.act) (steps_receiver n conn ev.act) both.0) (λ gone. false≢true (ap (λ (k : Row). is_done k.reply) (sym gone) ∙ both.1))
+
+  answers_made : list_any (λ b. b) (answers_by n conn log (effect configs log ev)) ≡ true → IsMade log n conn
+  unfolding effect taken
+  answers_made = by (steps_sender n conn ev.act) refl
+    where
+      by : (b : Bool) → steps_sender n conn ev.act ≡ b → list_any (λ c. c) (cond b (map is_answer (taken log (Effect.entry_of ev r))) []) ≡ true → IsMade log n conn
+      by false steps h = absurd (false≢true h)
+      by true steps h =
+          steps_made (or_first (steps_sender n conn ev.act) (steps_receiver n conn ev.act) steps)
+          (λ gone. false≢true (ap (λ (k : Row). list_any (λ c. c) (map is_answer (taken log (Effect.entry_of ev k)))) (sym gone) ∙ h))
+
+module _ (configs : List Config) (script : List Event) (log : List Entry) (lawful : IsLawful configs script log) where
+  abbrev Makes : (List Entry → ℕ → ℕ → Bool) → List Entry → Type 0
+  Makes test l = (n conn : ℕ) → test l n conn ≡ true → IsMade l n conn
+
+  none_ended : Makes is_ended []
+  unfolding is_ended
+  none_ended n conn h = absurd (false≢true h)
+
+  none_begun : Makes is_begun []
+  unfolding is_begun
+  none_begun n conn h = absurd (false≢true h)
+
+  none_running : Makes is_running []
+  unfolding is_running history_from
+  none_running n conn h = absurd (false≢true h)
+
+  pub ended_made : (n conn : ℕ) → is_ended log n conn ≡ true → IsMade log n conn
+  ended_made = at_end configs (Makes is_ended) none_ended more script log lawful
+    where
+      more : (before : List Entry) (ev : Event) → Makes is_ended before → Makes is_ended (before ++ effect configs before ev ∷ [])
+      more before ev old n conn h =
+          next_made configs before ev n conn (is_ended before n conn) (ends_connection n conn (effect configs before ev)) (old n conn) (ends_made configs before ev n conn)
+          (sym (is_ended-append before (effect configs before ev) n conn) ∙ h)
+
+  pub begun_made : (n conn : ℕ) → is_begun log n conn ≡ true → IsMade log n conn
+  begun_made = at_end configs (Makes is_begun) none_begun more script log lawful
+    where
+      more : (before : List Entry) (ev : Event) → Makes is_begun before → Makes is_begun (before ++ effect configs before ev ∷ [])
+      more before ev old n conn h =
+          next_made configs before ev n conn (is_begun before n conn) (begins n conn (effect configs before ev)) (old n conn) (begins_made configs before ev n conn)
+          (sym (is_begun-append before (effect configs before ev) n conn) ∙ h)
+
+  pub running_made : (n conn : ℕ) → is_running log n conn ≡ true → IsMade log n conn
+  running_made = at_end configs (Makes is_running) none_running more script log lawful
+    where
+      more : (before : List Entry) (ev : Event) → Makes is_running before → Makes is_running (before ++ effect configs before ev ∷ [])
+      more before ev old n conn h =
+          next_made configs before ev n conn (is_running before n conn) (list_any (λ b. b) (answers_by n conn before (effect configs before ev))) (old n conn) (answers_made configs before ev n conn)
+          (sym (is_running-append before (effect configs before ev) n conn) ∙ h)
+
+  -- none that an entry not made yet names
+  unmade_late : (n conn : ℕ) → length log ≤ conn → IsMade log n conn → ⊥
+  unmade_late n conn late made = let none : connections_of log n conn ≡ None = connections_of-late log n conn late in cc
+
+  pub unended_late : (n conn : ℕ) → length log ≤ conn → is_ended log n conn ≡ false
+  unended_late n conn late = by (is_ended log n conn) refl
+    where
+      by : (b : Bool) → is_ended log n conn ≡ b → b ≡ false
+      by false is = refl
+      by true is = absurd (unmade_late n conn late (ended_made n conn is))
+
+  pub unbegun_late : (n conn : ℕ) → length log ≤ conn → is_begun log n conn ≡ false
+  unbegun_late n conn late = by (is_begun log n conn) refl
+    where
+      by : (b : Bool) → is_begun log n conn ≡ b → b ≡ false
+      by false is = refl
+      by true is = absurd (unmade_late n conn late (begun_made n conn is))
+
+-- ---- once it has ended
+
+-- it stays so
+pub ended_longer : (log more : List Entry) (n conn : ℕ) → is_ended log n conn ≡ true → is_ended (log ++ more) n conn ≡ true
+ended_longer log [] n conn h = ap (λ l. is_ended l n conn) (append-nil log) ∙ h
+ended_longer log (e ∷ es) n conn h =
+    ap (λ l. is_ended l n conn) (sym (append_assoc log (e ∷ []) es))
+    ∙ ended_longer (log ++ e ∷ []) es n conn (is_ended-append log e n conn ∙ ap (λ b. b || ends_connection n conn e) h)

@@ -1,5 +1,5 @@
 -- Each entry of a lawful log is a turn of each key at each node, and by turns a key is held as it is by the calls.
-use Rattle.std.proofs.Common.{◌≡◌, ℕ, ◌+◌, Bool, true, false, cond, List, [], ◌∷◌, ◌++◌, take, inl, refl, ap, sym, subst, ◌∙◌, arith, eq-eqb}
+use Rattle.std.proofs.Common.{◌≡◌, ℕ, ◌+◌, Bool, true, false, cond, List, [], ◌∷◌, ◌++◌, length, take, inl, refl, ap, sym, subst, ◌∙◌, arith, eq-eqb}
 use Rattle.std.specs.Prelude.{◌&&◌, sum_by, filter}
 use Rattle.std.specs.List.{list_any}
 use Rattle.std.proofs.lemmas.Bool.{false≢true}
@@ -27,7 +27,8 @@ use Rattle.p2p_log_laws.specs.NodeGrants.{count_below, put_of, releases_key, put
 use Rattle.p2p_log_laws.proofs.FirstGrants.{Stand, stand_first, stand_more, first_grants}
 use Rattle.p2p_log_laws.proofs.HeldCalls.{held_none}
 use Rattle.p2p_log_rules.proofs.Calls.{calls_of-append}
-use Rattle.p2p_log_laws.proofs.NodeWeighs.{Weighs, each_weighs}
+use Rattle.p2p_log_laws.proofs.NodeWeighs.{each_weighs}
+use Rattle.p2p_log_laws.proofs.Weighs.{Weighs}
 use Rattle.p2p_log_laws.proofs.Prefixes.{at_each, at_end, entry_due}
 use Rattle.p2p_log_laws.proofs.Turns.{held_next, one_holder}
 use Rattle.p2p_log_laws.proofs.Weighing.{weighed}
@@ -50,7 +51,7 @@ module _ (configs : List Config) (n : ℕ) (key : Key) where
   held_more before ev (stand, held) = (
     stand_more configs n before ev stand,
     let r : Row = row configs before ev.at ev.seed ev.act in
-        let weighs : Weighs configs n key before ev r = each_weighs configs n key before ev.at ev.seed stand.fitting (first_grants configs n key before stand) ev.act in
+        let weighs : Weighs configs n key before ev r = each_weighs configs n key before ev.at ev.seed stand.fitting (first_grants configs n key before stand) (stand.unended (length before) (omega arith)) ev.act in
         held_next g before (entry_of ev r)
         ∙ (ap (λ b. held_after b (turn_by g before (entry_of ev r))) held
         ∙ (sym weighs.turn ∙ ap (λ l. calls.is_held key_cmp l key) (sym (calls_of-append configs before (entry_of ev r) n)))),
@@ -70,7 +71,7 @@ module _ (configs : List Config) (n : ℕ) (key : Key) where
   unfolding effect
   turn_due before ev (stand, held) =
       let r : Row = row configs before ev.at ev.seed ev.act in
-      let weighs : Weighs configs n key before ev r = each_weighs configs n key before ev.at ev.seed stand.fitting (first_grants configs n key before stand) ev.act in
+      let weighs : Weighs configs n key before ev r = each_weighs configs n key before ev.at ev.seed stand.fitting (first_grants configs n key before stand) (stand.unended (length before) (omega arith)) ev.act in
       let holding = weighs.holding in
       let waiting = weighs.waiting in
       let grants = weighed before ev r weighs.moves (puts_grant n key) in

@@ -1,16 +1,14 @@
 -- What each act does to the grants of a key at a node: who holds them before and after it, and what it makes of the calls.
-use Rattle.std.proofs.Common.{◌≡◌, ℕ, ◌+◌, Bool, true, false, cond, List, [], ◌∷◌, ◌++◌, map, length, Option, Some, None, refl, ap, sym, subst, ◌∙◌, arith, eq-eqb, eqb-true}
-use Rattle.std.specs.Prelude.{◌==◌, ◌&&◌, ◌||◌, count_by, flat_map, nat_lt}
+use Rattle.std.proofs.Common.{◌≡◌, ℕ, Bool, true, false, cond, List, [], ◌∷◌, map, take, length, Option, Some, None, refl, ap, sym, subst, ◌∙◌, arith, eq-eqb, eqb-true}
+use Rattle.std.specs.Prelude.{◌==◌, ◌&&◌, ◌||◌, flat_map, nat_lt}
 use Rattle.std.specs.List.{AllByRecursion as Each, list_any}
 use Rattle.std.specs.Option.{option_map}
-use Rattle.std.proofs.lemmas.Bool.{false≢true}
-use Rattle.std.proofs.lemmas.Bool.Decides.{nat_tests}
 use Rattle.p2p_base.specs.declared.key.Key.{Key}
 use Rattle.p2p_tracker_calls.specs.declared.call.Call.{Call}
-use Rattle.p2p_tracker_calls.specs.Blocks.{is_local}
 use Rattle.p2p_tracker_calls.specs.Grants.{is_held}
 use Rattle.p2p_tracker_calls.specs.Jitter.{jitter_of}
 use Rattle.p2p_log.specs.declared.config.Config.{Config}
+use Rattle.p2p_log.specs.declared.queue.Queue.{Queue}
 use Rattle.p2p_log.specs.declared.queue.Queue.TheVariants as queue
 use Rattle.p2p_log.specs.declared.queue.Side.{Side}
 use Rattle.p2p_log.specs.declared.queue.Side.TheVariants as side
@@ -34,32 +32,40 @@ use Rattle.p2p_log_rules.specs.Handshakes.{is_handshaking, is_finished, peer_at}
 use Rattle.p2p_log_rules.specs.Handshaking.{handshake_deadline, is_due, handshake_turn, handshake_row}
 use Rattle.p2p_log_rules.specs.Links.{openings_of, listening_ends_of, finished_row, verdict, finish_by, finish_row}
 use Rattle.p2p_log_rules.specs.Listening.{listener_row}
-use Rattle.p2p_log_rules.specs.Effect.{entry_of, row, send_step_row}
+use Rattle.p2p_log_rules.specs.Connections.{ends_connection, half_at, is_ended}
+use Rattle.p2p_log_rules.specs.Dropping.{gave_up, broke_off, dialing_end, attempt_step_row, handshake_step_row}
+use Rattle.p2p_log_rules.specs.Effect.{entry_of, row, send_step_row, recv_step_row}
 use Rattle.p2p_log_rules.specs.Facts.{taken, with_named, with_begun}
 use Rattle.p2p_log_rules.specs.Moves.{Moves}
 use Rattle.p2p_log_rules.specs.Rows.{only, is_spawner_full}
 use Rattle.p2p_log_rules.specs.Spawning.{steps_spawner, spawned_of, spawner_row}
-use Rattle.p2p_log_rules.specs.Tracking.{key_cmp, rules_at, asked_by, steps_tracker, step_calls, grants_peer, calls_by, calls_of}
+use Rattle.p2p_log_rules.specs.Tracking.{key_cmp, rules_at, asked_by, steps_tracker, step_calls, grants_peer, calls_of}
 use Rattle.p2p_log_rules.specs.TrackerRows as rows
-use Rattle.p2p_log_rules.proofs.Touches.{reads, writes, is_told_to}
-use Rattle.p2p_log_laws.specs.Grants.{one, Granting, turn_by, held_after}
-use Rattle.p2p_log_laws.specs.NodeGrants.{releases_key, is_attempt_of, is_connection_of, beginners_of, puts_grant, puts_release, granting}
+use Rattle.p2p_log_rules.proofs.Touches.{is_told_to}
+use Rattle.p2p_log_laws.proofs.Reaching.{in_connection, reads, ends_in}
+use Rattle.p2p_log_laws.specs.Grants.{one, Granting, held_after}
+use Rattle.p2p_log_laws.specs.NodeGrants.{releases_key, is_attempt_of, is_connection_of, puts_grant, granting}
 use Rattle.p2p_log_laws.proofs.AttemptGrants.{Ends, attempt_ends}
-use Rattle.p2p_log_laws.proofs.AttemptHolds.{told_kept, none_kept, addresses_kept, answer_kept, others_kept, held_by_attempts, holds_kept, holds_begun, holds_changed}
+use Rattle.p2p_log_laws.proofs.AttemptHolds.{told_kept, none_kept, addresses_kept, answer_kept, others_kept, holds_kept, holds_begun, holds_changed}
 use Rattle.p2p_log_laws.proofs.ConnectionHolds.{connections_kept, connections_made}
+use Rattle.p2p_log_laws.proofs.AttemptShape.{attempt_shape}
 use Rattle.p2p_log_laws.proofs.ConnShapes.{send_step_shape}
 use Rattle.p2p_log_laws.proofs.DialerGrants.{Hand, dialer_hands}
 use Rattle.p2p_log_laws.proofs.FinishShape.{finish_plain}
 use Rattle.p2p_log_laws.proofs.Fitting.{StandsFit}
 use Rattle.p2p_log_laws.proofs.HandshakeGrants.{GrantsFirst, Hands, nothing, turn_hands}
-use Rattle.p2p_log_laws.proofs.Plain.{IsAside, Away, Plain, StandsPlain, IsPlain, away_aside, plain_aside, plain_item, stand_aside, no_grants, no_releases, no_grants_stand, no_releases_stand, plain_out_of_reach}
+use Rattle.p2p_log_laws.proofs.Plain.{IsAside, Away, Plain, StandsPlain, away_aside, connection_away, plain_aside, plain_item, stand_aside, no_grants, no_releases, no_grants_stand, no_releases_stand}
+use Rattle.p2p_log_laws.proofs.HandshakeShape.{handshake_shape}
+use Rattle.p2p_log_laws.proofs.ReceiverShape.{recv_step_shape}
 use Rattle.p2p_log_laws.proofs.Shape.{Shape, no_moves}
 use Rattle.p2p_log_laws.proofs.ListenerShape.{listener_plain}
 use Rattle.p2p_log_laws.proofs.Shapes.{row_shape}
-use Rattle.p2p_log_laws.proofs.Starting.{none_ended, each_sent, sent_ends}
+use Rattle.p2p_log_laws.proofs.HalfSteps.{send_is, receive_is}
 use Rattle.p2p_log_laws.proofs.SpawnerGrants.{Made, spawner_makes}
 use Rattle.p2p_log_laws.proofs.TrackerGrants.{Step, tracker_steps}
-use Rattle.p2p_log_laws.proofs.Weighing.{weight, taken_items}
+use Rattle.p2p_log_laws.proofs.Weighing.{taken_items}
+use Rattle.p2p_log_laws.proofs.Weighs as weighs
+use Rattle.p2p_log_laws.proofs.Weighs.{other_way}
 
 -- a test that fails for each of these queues as it is written
 nowhere : (n : ℕ) → Away n (λ q. false)
@@ -71,9 +77,6 @@ told_aside (Some (act.Ask ask.Subscribe m)) e n = record { dialer = refl; handsh
 told_aside (Some (act.Ask ask.Blocked m)) e n = record { dialer = refl; handshakes = λ h. refl; spawner = refl; tracker = refl }
 told_aside _ e n = record { dialer = refl; handshakes = λ h. refl; spawner = refl; tracker = refl }
 
-other_way : (m n : ℕ) → (m == n) ≡ false → (n == m) ≡ false
-other_way m n h = grind (arith, nat_tests)
-
 module _ (configs : List Config) (n : ℕ) (key : Key) (log : List Entry) where
   abbrev g : Granting
   g = granting configs n key
@@ -84,113 +87,61 @@ module _ (configs : List Config) (n : ℕ) (key : Key) (log : List Entry) where
   abbrev f : ℕ → Option Attempt
   f = attempts_of configs log n
 
-  -- what a row moves of the grants and releases, and the turn that it makes
-  pub record Weighs (ev : Event) (r : Row) : Type 0 where
-    pub moves : Moves log r
-    pub holding : (beginners_of n key configs log + one (g.grants log (entry_of ev r))) + (weight (puts_grant n key) moves.taken + weight (puts_grant n key) moves.ended)
-        ≡ beginners_of n key configs (log ++ entry_of ev r ∷ []) + (count_by (puts_grant n key) r.puts + count_by (puts_release n key) r.puts)
-    pub waiting : weight (puts_release n key) moves.taken + weight (puts_release n key) moves.ended ≡ one (g.frees log (entry_of ev r))
-    pub turn : is_held key_cmp (calls_by configs n log (entry_of ev r) calls) key ≡ held_after (is_held key_cmp calls key) (turn_by g log (entry_of ev r))
-    -- a key that is granted was not held, is not the node's own, and is not freed as well
-    pub free : g.grants log (entry_of ev r) ≡ true → is_held key_cmp calls key ≡ false
-    pub others : g.grants log (entry_of ev r) ≡ true → is_local key_cmp (rules_at configs n) key ≡ false
-    pub apart : g.grants log (entry_of ev r) ≡ true → g.frees log (entry_of ev r) ≡ false
-
-  -- ---- acts other than a step of the tracker
-
-  module _ (ev : Event) (r : Row) (still : steps_tracker n ev.act ≡ false) where
-    abbrev e : Entry
-    e = entry_of ev r
-
-    no_grant : g.grants log e ≡ false
-    no_grant = ap (λ b. b && list_any (puts_grant n key) r.puts) still
-
-    no_free : g.frees log e ≡ false
-    no_free = ap (λ b. b && list_any (releases_key key) (taken log e)) still
-
-    abbrev stepped : List (Call Key)
-    stepped = step_calls log r.reply (taken log e) ev.at (jitter_of (rules_at configs n).cooldown ev.seed) (list_any grants_peer r.puts) calls
-
-    same_turn : is_held key_cmp (calls_by configs n log e calls) key ≡ held_after (is_held key_cmp calls key) (turn_by g log e)
-    same_turn =
-        ap (λ b. is_held key_cmp (cond b stepped calls) key) still
-        ∙ sym (ap (λ b. held_after (is_held key_cmp calls key) (cond b (true ∷ []) (cond (g.frees log e) (false ∷ []) []))) no_grant
-        ∙ ap (λ b. held_after (is_held key_cmp calls key) (cond b (false ∷ []) [])) no_free)
-
-    -- what such an act moves
-    passed : (m : Moves log r) → (weight (puts_grant n key) m.taken + weight (puts_grant n key) m.ended) + beginners_of n key configs log
-        ≡ beginners_of n key configs (log ++ e ∷ []) + (count_by (puts_grant n key) r.puts + count_by (puts_release n key) r.puts)
-        → weight (puts_release n key) m.taken ≡ 0 → weight (puts_release n key) m.ended ≡ 0 → Weighs ev r
-    passed m held taken ended =
-        let none : one (g.grants log e) ≡ 0 = ap one no_grant in
-        let no_release : one (g.frees log e) ≡ 0 = ap one no_free in
-        record {
-          moves = m;
-          holding = omega (arith, held, none);
-          waiting = omega (arith, taken, ended, no_release);
-          turn = same_turn;
-          free = λ h. absurd (false≢true (sym no_grant ∙ h));
-          others = λ h. absurd (false≢true (sym no_grant ∙ h));
-          apart = λ h. no_free;
-        }
-
-    -- one that makes no connection
-    moved : steps_spawner n ev.act ≡ false → (m : Moves log r) → (weight (puts_grant n key) m.taken + weight (puts_grant n key) m.ended) + held_by_attempts configs n key log
-        ≡ held_by_attempts configs n key (log ++ e ∷ []) + (count_by (puts_grant n key) r.puts + count_by (puts_release n key) r.puts)
-        → weight (puts_release n key) m.taken ≡ 0 → weight (puts_release n key) m.ended ≡ 0 → Weighs ev r
-    moved makes m held taken ended = let kept = connections_kept n key log e makes in passed m (omega (arith, held, kept)) taken ended
-
-    -- and moves none of them
-    plain_weighs : steps_spawner n ev.act ≡ false → (m : Moves log r) → IsPlain n key log r m → ((k : ℕ) → is_attempt_of key (attempts_by configs n log e f k) ≡ is_attempt_of key (f k)) → Weighs ev r
-    plain_weighs makes m plain kept =
-        let held = holds_kept configs n key log e kept in
-        let taken = no_grants_stand n key m.taken plain.taken in
-        let ended = no_grants_stand n key m.ended plain.ended in
-        let granted = no_grants n key r.puts plain.puts in
-        let released = no_releases n key r.puts plain.puts in
-        moved makes m (omega (arith, held, taken, ended, granted, released)) (no_releases_stand n key m.taken plain.taken) (no_releases_stand n key m.ended plain.ended)
+  abbrev Weighs : Event → Row → Type 0
+  Weighs = weighs.Weighs configs n key log
 
   abbrev event : ℕ → ℕ → Act → Event
   event at seed a = record { at = at; seed = seed; act = a }
 
   module _ (at seed : ℕ) where
-    -- one that reaches no queue in which a grant or a release may wait
-    other : (a : Act) (r : Row) → Shape configs log a r → Away n (reads configs log a) → Away n (writes configs log a) → steps_tracker n a ≡ false → steps_spawner n a ≡ false
-        → ((k : ℕ) → is_attempt_of key (attempts_by configs n log (entry_of (event at seed a) r) f k) ≡ is_attempt_of key (f k)) → Weighs (event at seed a) r
-    other a r shape read written still makes kept =
-        plain_weighs (event at seed a) r still makes shape.moves (plain_out_of_reach n key configs a log r shape.moves shape.reach read written) kept
+    -- ---- what a half tells
 
-    -- ---- what a sending half tells
+    half_aside : (a : Act) (m conn : ℕ) (r : Row) (shape : Shape configs log a r) → ((q : Queue) → ends_in configs log a q ≡ true → in_connection (half_at log m conn) m conn q ≡ true)
+        → Each (StandsPlain n key) shape.moves.ended
+    half_aside a m conn r shape with =
+        stand_aside n key shape.moves.ended
+        (Each-weaker (λ x. ends_in configs log a x.queue ≡ true) (λ x. IsAside n x.queue)
+        (λ x k. away_aside n (in_connection (half_at log m conn) m conn) (connection_away n (half_at log m conn) m conn) x.queue (with x.queue k)) shape.moves.ended shape.reach.ended)
+
+    or_false : (b : Bool) → (b || false) ≡ b
+    or_false true = refl
+    or_false false = refl
 
     sender_weighs : (conn m : ℕ) → Weighs (event at seed (act.SendStep conn m)) (send_step_row configs log conn m at)
     sender_weighs conn m =
         let a : Act = act.SendStep conn m in
         let r : Row = send_step_row configs log conn m at in
         let shape : Shape configs log a r = send_step_shape configs log conn m at in
-        plain_weighs (event at seed a) r refl refl shape.moves
-        (record {
-          taken = stand_aside n key shape.moves.taken
-              (Each-weaker (λ x. reads configs log a x.queue ≡ true) (λ x. IsAside n x.queue)
-              (λ x k. away_aside n (reads configs log a) (record { dialer = refl; handshakes = λ h. refl; spawner = refl; tracker = refl }) x.queue k) shape.moves.taken shape.reach.taken);
-          ended = subst (Each (StandsPlain n key)) (sym (none_ended log r shape.moves (sent_ends configs log conn m at))) tt;
-          puts = each_sent configs log conn m at (Plain n key) (λ k. plain_item n key (queue.Tracker m) (item.Connect conn k) refl refl)
-              (λ k. plain_aside n key (queue.Router m) (item.Ready conn k) (refl, refl)) link_plain;
-        }) (λ k. refl)
+        weighs.step_weighs configs n key log at seed a m conn r shape (record { dialer = refl; handshakes = λ h. refl; spawner = refl; tracker = refl })
+        (half_aside a m conn r shape (λ q h. h)) refl refl (λ k. or_false ((m == n) && (conn == k)))
+        (send_is configs log conn m at (Plain n key) (λ k. plain_item n key (queue.Tracker m) (item.Connect conn k) refl refl)
+        (λ k. plain_aside n key (queue.Router m) (item.Ready conn k) (refl, refl)) link_plain) (λ k. refl)
       where
         link_plain : (e : ℕ) (s : Side) (i : Item) → Plain n key (queue.Link e s, i)
         link_plain e side.Out i = plain_aside n key (queue.Link e side.Out) i (refl, refl)
         link_plain e side.In i = plain_aside n key (queue.Link e side.In) i (refl, refl)
 
+    receiver_weighs : (conn m : ℕ) → Weighs (event at seed (act.RecvStep conn m)) (recv_step_row configs log conn m at)
+    receiver_weighs conn m =
+        let a : Act = act.RecvStep conn m in
+        let r : Row = recv_step_row configs log conn m at in
+        let shape : Shape configs log a r = recv_step_shape configs log conn m at in
+        weighs.step_weighs configs n key log at seed a m conn r shape read_away (half_aside a m conn r shape (λ q h. h)) refl refl (λ k. refl)
+        (receive_is configs log conn m at (Plain n key) (λ i. plain_aside n key (queue.Held m conn) i (refl, refl)) (λ c i. plain_aside n key (queue.Channel m c) i (refl, refl))) (λ k. refl)
+      where
+        read_away : Away n (reads configs log (act.RecvStep conn m))
+        read_away = record { dialer = refl; handshakes = λ h. refl; spawner = refl; tracker = refl }
+
     -- ---- questions
 
-    asks : (a : Act) (r : Row) → steps_tracker n a ≡ false → steps_spawner n a ≡ false → r.takes ≡ [] → r.ends ≡ [] → Each (Plain n key) r.puts
+    asks : (a : Act) (r : Row) → steps_tracker n a ≡ false → steps_spawner n a ≡ false → ((k : ℕ) → ends_connection n k (entry_of (event at seed a) r) ≡ false) → r.takes ≡ [] → r.ends ≡ [] → Each (Plain n key) r.puts
         → ((k : ℕ) → is_attempt_of key (attempts_by configs n log (entry_of (event at seed a) r) f k) ≡ is_attempt_of key (f k)) → Weighs (event at seed a) r
-    asks a r still makes takes ends puts kept =
-        plain_weighs (event at seed a) r still makes (no_moves log r takes (ap (flat_map ended_item) ends)) (record { taken = tt; ended = tt; puts = puts }) kept
+    asks a r still makes lives takes ends puts kept =
+        weighs.plain_weighs configs n key log (event at seed a) r still makes lives (no_moves log r takes (ap (flat_map ended_item) ends)) (record { taken = tt; ended = tt; puts = puts }) kept
 
     asked_weighs : (what : Asked) (m : ℕ) → Weighs (event at seed (act.Ask what m)) (rows.asked_row configs log m)
     asked_weighs what m =
-        asks (act.Ask what m) (rows.asked_row configs log m) refl refl refl refl (plain_item n key (queue.Tracker m) (item.Call (length log)) refl refl, tt) (λ k. refl)
+        asks (act.Ask what m) (rows.asked_row configs log m) refl refl (λ k. refl) refl refl (plain_item n key (queue.Tracker m) (item.Call (length log)) refl refl, tt) (λ k. refl)
 
     ask_weighs : (what : Asked) (m : ℕ) → Weighs (event at seed (act.Ask what m)) (rows.ask_row configs log m what)
     ask_weighs (ask.Track index peers) m = by_size (nat_lt (rows.most_peers_at configs m) (rows.size_at configs m peers))
@@ -198,7 +149,7 @@ module _ (configs : List Config) (n : ℕ) (key : Key) (log : List Entry) where
         by_size : (b : Bool) → Weighs (event at seed (act.Ask (ask.Track index peers) m))
             (cond b (only (reply.PeerSetTooLarge (rows.size_at configs m peers) (rows.most_peers_at configs m))) (rows.asked_row configs log m))
         by_size true =
-            asks (act.Ask (ask.Track index peers) m) (only (reply.PeerSetTooLarge (rows.size_at configs m peers) (rows.most_peers_at configs m))) refl refl refl refl tt (λ k. refl)
+            asks (act.Ask (ask.Track index peers) m) (only (reply.PeerSetTooLarge (rows.size_at configs m peers) (rows.most_peers_at configs m))) refl refl (λ k. refl) refl refl tt (λ k. refl)
         by_size false = asked_weighs (ask.Track index peers) m
     ask_weighs what m = asked_weighs what m
 
@@ -218,7 +169,7 @@ module _ (configs : List Config) (n : ℕ) (key : Key) (log : List Entry) where
         let grants : g.grants log e ≡ step.turned.grants = ap (λ b. b && list_any (puts_grant n key) r.puts) here ∙ step.turned.granted in
         let frees : g.frees log e ≡ step.frees = ap (λ b. b && list_any (releases_key key) (taken log e)) here ∙ (ap (list_any (releases_key key)) items ∙ step.freed) in
         let held = holds_kept configs n key log e (λ k. refl) in
-        let connected = connections_kept n key log e refl in
+        let connected = connections_kept n key log e refl (λ k. refl) in
         let granted : one (g.grants log e) ≡ one step.turned.grants = ap one grants in
         let freed : one (g.frees log e) ≡ one step.frees = ap one frees in
         let grants_taken = step.grants_taken in
@@ -259,7 +210,7 @@ module _ (configs : List Config) (n : ℕ) (key : Key) (log : List Entry) where
         let ended = no_grants_stand n key m.ended hand.ended in
         let granted = no_grants n key r.puts hand.puts in
         let released = no_releases n key r.puts hand.puts in
-        moved (event at seed (act.Dialer n)) r refl refl m (omega (arith, held, taken_here, ended, granted, released)) hand.releases_taken (no_releases_stand n key m.ended hand.ended)
+        weighs.moved configs n key log (event at seed (act.Dialer n)) r refl refl (λ k. refl) m (omega (arith, held, taken_here, ended, granted, released)) hand.releases_taken (no_releases_stand n key m.ended hand.ended)
 
     -- ---- an attempt's
 
@@ -281,14 +232,16 @@ module _ (configs : List Config) (n : ℕ) (key : Key) (log : List Entry) where
         let kept = ends.kept in
         let taken_here = no_grants_stand n key m.taken ends.taken in
         let ended = no_grants_stand n key m.ended ends.ended in
-        moved (event at seed (act.Attempt i n)) r refl refl m (omega (arith, held, kept, taken_here, ended)) (no_releases_stand n key m.taken ends.taken) (no_releases_stand n key m.ended ends.ended)
+        weighs.moved configs n key log (event at seed (act.Attempt i n)) r refl refl (λ k. refl) m (omega (arith, held, kept, taken_here, ended)) (no_releases_stand n key m.taken ends.taken) (no_releases_stand n key m.ended ends.ended)
 
-    attempt_weighs : (i : ℕ) → Weighs (event at seed (act.Attempt i n)) (attempt_row configs log i n at seed)
-    attempt_weighs i = by_attempt (f i) refl
+    attempt_weighs : (i : ℕ) → Weighs (event at seed (act.Attempt i n)) (attempt_step_row configs log i n at seed)
+    attempt_weighs i =
+        let r : Row = attempt_row configs log i n at seed in
+        weighs.dropped_weighs configs n key log at seed (event at seed (act.Attempt i n)) r (cond (gave_up r.puts) (dialing_end (f i)) None) (by_attempt (f i) refl) (attempt_shape configs log i n at seed).moves
       where
         by_attempt : (o : Option Attempt) → f i ≡ o → Weighs (event at seed (act.Attempt i n)) (attempt_by o n at seed (is_spawner_full configs log n) (dial_rules_at configs n).private (line log (queue.Attempt n i)))
         by_attempt None none =
-            asks (act.Attempt i n) (only reply.Gone) refl refl refl refl tt
+            asks (act.Attempt i n) (only reply.Gone) refl refl (λ k. refl) refl refl tt
             (λ k. none_kept key (n == n) (stepped_attempt (dial_rules_at configs n) at seed reply.Gone (taken log (entry_of (event at seed (act.Attempt i n)) (only reply.Gone)))) i k f none)
         by_attempt (Some a) stands = stands_weighs i a stands
 
@@ -300,10 +253,14 @@ module _ (configs : List Config) (n : ℕ) (key : Key) (log : List Entry) where
         let held = holds_kept configs n key log (entry_of (event at seed (act.Handshake h n)) r) (λ k. refl) in
         let handed = hands.handed in
         let ended = no_grants_stand n key m.ended hands.ended in
-        moved (event at seed (act.Handshake h n)) r refl refl m (omega (arith, held, handed, ended)) hands.no_release (no_releases_stand n key m.ended hands.ended)
+        weighs.moved configs n key log (event at seed (act.Handshake h n)) r refl refl (λ k. refl) m (omega (arith, held, handed, ended)) hands.no_release (no_releases_stand n key m.ended hands.ended)
 
-    handshake_weighs : (h : ℕ) → GrantsFirst n key log h → Weighs (event at seed (act.Handshake h n)) (handshake_row configs log h n at)
-    handshake_weighs h only_first = by_running (is_handshaking log n h)
+    handshake_weighs : (h : ℕ) → GrantsFirst n key log h → Weighs (event at seed (act.Handshake h n)) (handshake_step_row configs log h n at)
+    handshake_weighs h only_first =
+        let r : Row = handshake_row configs log h n at in
+        weighs.dropped_weighs configs n key log at seed (event at seed (act.Handshake h n)) r
+        (cond (broke_off r.reply (map (λ x. x.item) (take 1 (line log (queue.Handshake n h)))) r.puts) (Some ((peer_at log h).link, side.In)) None) (by_running (is_handshaking log n h))
+        (handshake_shape configs log h n at).moves
       where
         full : Bool
         full = is_spawner_full configs log n
@@ -322,14 +279,14 @@ module _ (configs : List Config) (n : ℕ) (key : Key) (log : List Entry) where
     finish_weighs link ok = by_opening (openings_of log link)
       where
         by_verdict : (o : Opening) (dialing : Option Attempt) (end : Option ListeningEnd) (v : Option Bool) → Weighs (event at seed (act.Finish link ok)) (finished_row o dialing end v)
-        by_verdict o dialing end None = asks (act.Finish link ok) (only reply.Pending) refl refl refl refl tt (λ k. refl)
-        by_verdict o dialing end (Some agree) = asks (act.Finish link ok) (finished_row o dialing end (Some agree)) refl refl refl refl (finish_plain n key o agree dialing end) (λ k. refl)
+        by_verdict o dialing end None = asks (act.Finish link ok) (only reply.Pending) refl refl (λ k. refl) refl refl tt (λ k. refl)
+        by_verdict o dialing end (Some agree) = asks (act.Finish link ok) (finished_row o dialing end (Some agree)) refl refl (λ k. refl) refl refl (finish_plain n key o agree dialing end) (λ k. refl)
 
         by_opening : (p : Option Opening) → Weighs (event at seed (act.Finish link ok)) (elim p [
           | None ↦ only reply.Gone
           | Some o ↦ finish_by configs log ok o (attempts_of configs log o.node o.attempt) (listening_ends_of log o.to link)
         ])
-        by_opening None = asks (act.Finish link ok) (only reply.Gone) refl refl refl refl tt (λ k. refl)
+        by_opening None = asks (act.Finish link ok) (only reply.Gone) refl refl (λ k. refl) refl refl tt (λ k. refl)
         by_opening (Some o) =
             let dialing : Option Attempt = attempts_of configs log o.node o.attempt in
             let end : Option ListeningEnd = listening_ends_of log o.to link in
@@ -337,15 +294,15 @@ module _ (configs : List Config) (n : ℕ) (key : Key) (log : List Entry) where
 
     -- ---- the spawner's
 
-    spawner_weighs : Each StandsFit (live log) → Weighs (event at seed (act.Spawner n)) (spawner_row log n)
-    spawner_weighs fitting =
+    spawner_weighs : Each StandsFit (live log) → is_ended log n (length log) ≡ false → Weighs (event at seed (act.Spawner n)) (spawner_row log n)
+    spawner_weighs fitting unended =
         let r : Row = spawner_row log n in
         let hand : Made n key log r = spawner_makes n key log fitting in
         let m : Moves log r = hand.moves in
         let e : Entry = entry_of (event at seed (act.Spawner n)) r in
         let items : taken log e ≡ map (λ x. x.item) m.taken = taken_items log (event at seed (act.Spawner n)) r m in
         let held = holds_kept configs n key log e (λ k. refl) in
-        let made = connections_made n key log e here in
+        let made = connections_made n key log e here unended in
         let by_items : one (is_connection_of key (spawned_of (taken log e))) ≡ one (is_connection_of key (spawned_of (map (λ x. x.item) m.taken))) =
         ap (λ l. one (is_connection_of key (spawned_of l))) items
         in
@@ -353,7 +310,7 @@ module _ (configs : List Config) (n : ℕ) (key : Key) (log : List Entry) where
         let ended = no_grants_stand n key m.ended hand.ended in
         let granted = no_grants n key r.puts hand.puts in
         let released = no_releases n key r.puts hand.puts in
-        passed (event at seed (act.Spawner n)) r refl m (omega (arith, held, made, by_items, taken_here, ended, granted, released)) hand.releases_taken (no_releases_stand n key m.ended hand.ended)
+        weighs.passed configs n key log (event at seed (act.Spawner n)) r refl m (omega (arith, held, made, by_items, taken_here, ended, granted, released)) hand.releases_taken (no_releases_stand n key m.ended hand.ended)
 
     -- ---- each act, at this node or at another
 
@@ -361,82 +318,83 @@ module _ (configs : List Config) (n : ℕ) (key : Key) (log : List Entry) where
     unfolding row
     tracker_at m true same = subst (λ i. Weighs (event at seed (act.Tracker i)) (rows.tracker_row configs log i at)) (sym (eqb-true m n same)) tracker_weighs
     tracker_at m false differ =
-        other (act.Tracker m) (rows.tracker_row configs log m at) (row_shape configs log at seed (act.Tracker m))
+        weighs.other configs n key log at seed (act.Tracker m) (rows.tracker_row configs log m at) (row_shape configs log at seed (act.Tracker m))
         (record { dialer = refl; handshakes = λ h. refl; spawner = refl; tracker = ap (λ b. b && true) differ })
-        (record { dialer = other_way m n differ; handshakes = λ h. other_way m n differ; spawner = refl; tracker = other_way m n differ }) differ refl (λ k. refl)
+        (record { dialer = other_way m n differ; handshakes = λ h. other_way m n differ; spawner = refl; tracker = other_way m n differ }) differ refl (λ k. refl) (λ k. refl)
 
     dialer_at : (m : ℕ) (b : Bool) → (m == n) ≡ b → Weighs (event at seed (act.Dialer m)) (row configs log at seed (act.Dialer m))
     unfolding row
     dialer_at m true same = subst (λ i. Weighs (event at seed (act.Dialer i)) (dialer_row configs log i at seed)) (sym (eqb-true m n same)) dialer_weighs
     dialer_at m false differ =
         let r : Row = dialer_row configs log m at seed in
-        other (act.Dialer m) r (row_shape configs log at seed (act.Dialer m)) (record { dialer = ap (λ b. b && true) differ; handshakes = λ h. refl; spawner = refl; tracker = refl })
-        (record { dialer = refl; handshakes = λ h. refl; spawner = refl; tracker = ap (λ b. b && true) differ }) refl refl
+        weighs.other configs n key log at seed (act.Dialer m) r (row_shape configs log at seed (act.Dialer m)) (record { dialer = ap (λ b. b && true) differ; handshakes = λ h. refl; spawner = refl; tracker = refl })
+        (record { dialer = refl; handshakes = λ h. refl; spawner = refl; tracker = ap (λ b. b && true) differ }) refl refl (λ k. refl)
         (λ k. others_kept key (m == n) (with_begun (begun_of (dial_rules_at configs n).timeout at (taken log (entry_of (event at seed (act.Dialer m)) r))) (length log) f k) (f k) differ)
 
     attempt_at : (i m : ℕ) (b : Bool) → (m == n) ≡ b → Weighs (event at seed (act.Attempt i m)) (row configs log at seed (act.Attempt i m))
     unfolding row
-    attempt_at i m true same = subst (λ j. Weighs (event at seed (act.Attempt i j)) (attempt_row configs log i j at seed)) (sym (eqb-true m n same)) (attempt_weighs i)
+    attempt_at i m true same = subst (λ j. Weighs (event at seed (act.Attempt i j)) (attempt_step_row configs log i j at seed)) (sym (eqb-true m n same)) (attempt_weighs i)
     attempt_at i m false differ =
-        let r : Row = attempt_row configs log i m at seed in
-        other (act.Attempt i m) r (row_shape configs log at seed (act.Attempt i m)) (record { dialer = refl; handshakes = λ h. refl; spawner = refl; tracker = refl })
-        (record { dialer = refl; handshakes = λ h. refl; spawner = ap (λ b. (b && true) || false) differ; tracker = ap (λ b. (b && true) || false) differ }) refl refl
+        let r : Row = attempt_step_row configs log i m at seed in
+        weighs.other configs n key log at seed (act.Attempt i m) r (row_shape configs log at seed (act.Attempt i m)) (record { dialer = refl; handshakes = λ h. refl; spawner = refl; tracker = refl })
+        (record { dialer = refl; handshakes = λ h. refl; spawner = ap (λ b. (b && true) || false) differ; tracker = ap (λ b. (b && true) || false) differ }) refl refl (λ k. refl)
         (λ k. others_kept key (m == n) (with_named i (and_then (stepped_attempt (dial_rules_at configs n) at seed r.reply (taken log (entry_of (event at seed (act.Attempt i m)) r))) (f i)) f k) (f k) differ)
 
     handshake_at : (i m : ℕ) (b : Bool) → (m == n) ≡ b → GrantsFirst n key log i → Weighs (event at seed (act.Handshake i m)) (row configs log at seed (act.Handshake i m))
     unfolding row
     handshake_at i m true same only_first =
-        subst (λ j. Weighs (event at seed (act.Handshake i j)) (handshake_row configs log i j at)) (sym (eqb-true m n same)) (handshake_weighs i only_first)
+        subst (λ j. Weighs (event at seed (act.Handshake i j)) (handshake_step_row configs log i j at)) (sym (eqb-true m n same)) (handshake_weighs i only_first)
     handshake_at i m false differ only_first =
-        other (act.Handshake i m) (handshake_row configs log i m at) (row_shape configs log at seed (act.Handshake i m))
+        weighs.other configs n key log at seed (act.Handshake i m) (handshake_step_row configs log i m at) (row_shape configs log at seed (act.Handshake i m))
         (record { dialer = refl; handshakes = λ h. ap (λ b. b && (i == h)) differ; spawner = refl; tracker = refl })
         (record {
           dialer = refl;
           handshakes = λ h. ap (λ b. b && (i == h)) differ;
           spawner = ap (λ b. (b && true) || false) differ;
           tracker = ap (λ b. (b && true) || false) differ;
-        }) refl refl (λ k. refl)
+        }) refl refl (λ k. refl) (λ k. refl)
 
-    spawner_at : (m : ℕ) (b : Bool) → (m == n) ≡ b → Each StandsFit (live log) → Weighs (event at seed (act.Spawner m)) (row configs log at seed (act.Spawner m))
+    spawner_at : (m : ℕ) (b : Bool) → (m == n) ≡ b → Each StandsFit (live log) → is_ended log n (length log) ≡ false → Weighs (event at seed (act.Spawner m)) (row configs log at seed (act.Spawner m))
     unfolding row
-    spawner_at m true same fitting = subst (λ j. Weighs (event at seed (act.Spawner j)) (spawner_row log j)) (sym (eqb-true m n same)) (spawner_weighs fitting)
-    spawner_at m false differ fitting =
-        other (act.Spawner m) (spawner_row log m) (row_shape configs log at seed (act.Spawner m))
+    spawner_at m true same fitting unended = subst (λ j. Weighs (event at seed (act.Spawner j)) (spawner_row log j)) (sym (eqb-true m n same)) (spawner_weighs fitting unended)
+    spawner_at m false differ fitting unended =
+        weighs.other configs n key log at seed (act.Spawner m) (spawner_row log m) (row_shape configs log at seed (act.Spawner m))
         (record { dialer = refl; handshakes = λ h. refl; spawner = ap (λ b. b && true) differ; tracker = refl })
-        (record { dialer = refl; handshakes = λ h. refl; spawner = refl; tracker = refl }) refl differ (λ k. refl)
+        (record { dialer = refl; handshakes = λ h. refl; spawner = refl; tracker = refl }) refl differ (λ k. refl) (λ k. refl)
 
-    pub each_weighs : Each StandsFit (live log) → ((h : ℕ) → GrantsFirst n key log h) → (a : Act) → Weighs (event at seed a) (row configs log at seed a)
+    pub each_weighs : Each StandsFit (live log) → ((h : ℕ) → GrantsFirst n key log h) → is_ended log n (length log) ≡ false → (a : Act) → Weighs (event at seed a) (row configs log at seed a)
     unfolding row
-    each_weighs fitting first (act.SendStep conn m) = sender_weighs conn m
-    each_weighs fitting first (act.Ask what m) = ask_weighs what m
-    each_weighs fitting first (act.Answer e) =
-        other (act.Answer e) (rows.answer_row log e) (row_shape configs log at seed (act.Answer e)) (told_aside (asked_by log e) e n) (nowhere n) refl refl (λ k. refl)
-    each_weighs fitting first (act.Next e) =
-        other (act.Next e) (rows.next_row log e) (row_shape configs log at seed (act.Next e)) (told_aside (asked_by log e) e n) (nowhere n) refl refl (λ k. refl)
-    each_weighs fitting first (act.Tracker m) = tracker_at m (m == n) refl
-    each_weighs fitting first (act.Dialer m) = dialer_at m (m == n) refl
-    each_weighs fitting first (act.Spawner m) = spawner_at m (m == n) refl fitting
-    each_weighs fitting first (act.Attempt i m) = attempt_at i m (m == n) refl
-    each_weighs fitting first (act.Handshake i m) = handshake_at i m (m == n) refl (first i)
-    each_weighs fitting first (act.Finish link ok) = finish_weighs link ok
-    each_weighs fitting first (act.Listener m) =
+    each_weighs fitting first unended (act.SendStep conn m) = sender_weighs conn m
+    each_weighs fitting first unended (act.RecvStep conn m) = receiver_weighs conn m
+    each_weighs fitting first unended (act.Ask what m) = ask_weighs what m
+    each_weighs fitting first unended (act.Answer e) =
+        weighs.other configs n key log at seed (act.Answer e) (rows.answer_row log e) (row_shape configs log at seed (act.Answer e)) (told_aside (asked_by log e) e n) (nowhere n) refl refl (λ k. refl) (λ k. refl)
+    each_weighs fitting first unended (act.Next e) =
+        weighs.other configs n key log at seed (act.Next e) (rows.next_row log e) (row_shape configs log at seed (act.Next e)) (told_aside (asked_by log e) e n) (nowhere n) refl refl (λ k. refl) (λ k. refl)
+    each_weighs fitting first unended (act.Tracker m) = tracker_at m (m == n) refl
+    each_weighs fitting first unended (act.Dialer m) = dialer_at m (m == n) refl
+    each_weighs fitting first unended (act.Spawner m) = spawner_at m (m == n) refl fitting unended
+    each_weighs fitting first unended (act.Attempt i m) = attempt_at i m (m == n) refl
+    each_weighs fitting first unended (act.Handshake i m) = handshake_at i m (m == n) refl (first i)
+    each_weighs fitting first unended (act.Finish link ok) = finish_weighs link ok
+    each_weighs fitting first unended (act.Listener m) =
         let aside = listener_plain configs log m at n key in
-        plain_weighs (event at seed (act.Listener m)) (listener_row configs log m at) refl refl aside.0 aside.1 (λ k. refl)
-    each_weighs fitting first (act.Resolve addresses i m) =
+        weighs.plain_weighs configs n key log (event at seed (act.Listener m)) (listener_row configs log m at) refl refl (λ k. refl) aside.0 aside.1 (λ k. refl)
+    each_weighs fitting first unended (act.Resolve addresses i m) =
         let r : Row = resolve_row configs log addresses i m in
-        other (act.Resolve addresses i m) r (row_shape configs log at seed (act.Resolve addresses i m)) (record { dialer = refl; handshakes = λ h. refl; spawner = refl; tracker = refl })
-        (record { dialer = refl; handshakes = λ h. refl; spawner = refl; tracker = refl }) refl refl
-        (λ k. told_kept key (m == n) (told_addresses r.reply) i k f (addresses_kept key r.reply))
-    each_weighs fitting first (act.Connect i from m to) =
-        let r : Row = connect_row configs log i from m to in
-        other (act.Connect i from m to) r (row_shape configs log at seed (act.Connect i from m to)) (record { dialer = refl; handshakes = λ h. refl; spawner = refl; tracker = refl })
-        (record { dialer = refl; handshakes = λ h. refl; spawner = refl; tracker = refl }) refl refl
-        (λ k. told_kept key (m == n) (told_answer (length log) r.reply) i k f (answer_kept key (length log) r.reply))
-    each_weighs fitting first (act.Refuse i m) =
-        let r : Row = refuse_row configs log i m in
-        other (act.Refuse i m) r (row_shape configs log at seed (act.Refuse i m)) (record { dialer = refl; handshakes = λ h. refl; spawner = refl; tracker = refl })
-        (record { dialer = refl; handshakes = λ h. refl; spawner = refl; tracker = refl }) refl refl
-        (λ k. told_kept key (m == n) (told_answer (length log) r.reply) i k f (answer_kept key (length log) r.reply))
-    each_weighs fitting first a =
-        other a (row configs log at seed a) (row_shape configs log at seed a) (record { dialer = refl; handshakes = λ h. refl; spawner = refl; tracker = refl })
+        weighs.other configs n key log at seed (act.Resolve addresses i m) r (row_shape configs log at seed (act.Resolve addresses i m)) (record { dialer = refl; handshakes = λ h. refl; spawner = refl; tracker = refl })
         (record { dialer = refl; handshakes = λ h. refl; spawner = refl; tracker = refl }) refl refl (λ k. refl)
+        (λ k. told_kept key (m == n) (told_addresses r.reply) i k f (addresses_kept key r.reply))
+    each_weighs fitting first unended (act.Connect i from m to) =
+        let r : Row = connect_row configs log i from m to in
+        weighs.other configs n key log at seed (act.Connect i from m to) r (row_shape configs log at seed (act.Connect i from m to)) (record { dialer = refl; handshakes = λ h. refl; spawner = refl; tracker = refl })
+        (record { dialer = refl; handshakes = λ h. refl; spawner = refl; tracker = refl }) refl refl (λ k. refl)
+        (λ k. told_kept key (m == n) (told_answer (length log) r.reply) i k f (answer_kept key (length log) r.reply))
+    each_weighs fitting first unended (act.Refuse i m) =
+        let r : Row = refuse_row configs log i m in
+        weighs.other configs n key log at seed (act.Refuse i m) r (row_shape configs log at seed (act.Refuse i m)) (record { dialer = refl; handshakes = λ h. refl; spawner = refl; tracker = refl })
+        (record { dialer = refl; handshakes = λ h. refl; spawner = refl; tracker = refl }) refl refl (λ k. refl)
+        (λ k. told_kept key (m == n) (told_answer (length log) r.reply) i k f (answer_kept key (length log) r.reply))
+    each_weighs fitting first unended a =
+        weighs.other configs n key log at seed a (row configs log at seed a) (row_shape configs log at seed a) (record { dialer = refl; handshakes = λ h. refl; spawner = refl; tracker = refl })
+        (record { dialer = refl; handshakes = λ h. refl; spawner = refl; tracker = refl }) refl refl (λ k. refl) (λ k. refl)

@@ -1,5 +1,5 @@
 -- The peer of a handshake is asked for once, while the handshake runs, and after keys were exchanged.
-use Rattle.std.proofs.Common.{◌≡◌, ℕ, zero, suc, ◌+◌, ◌≤◌, Bool, true, false, cond, List, [], ◌∷◌, ◌++◌, map, length, Some, None, refl, ap, sym, subst, ◌∙◌, arith, eq-eqb, eqb-true}
+use Rattle.std.proofs.Common.{◌≡◌, ℕ, zero, suc, ◌+◌, ◌≤◌, Bool, true, false, cond, List, [], ◌∷◌, ◌++◌, map, take, length, Option, Some, None, refl, ap, sym, subst, ◌∙◌, arith, eq-eqb, eqb-true}
 use Rattle.std.specs.Prelude.{◌==◌, ◌&&◌, ◌||◌, not, count_by, filter}
 use Rattle.std.specs.List.{AllByRecursion as Each, list_any}
 use Rattle.std.proofs.lemmas.Bool.{and_parts}
@@ -11,6 +11,7 @@ use Rattle.p2p_base.specs.declared.key.Key.{Key}
 use Rattle.p2p_log.specs.declared.config.Config.{Config}
 use Rattle.p2p_log.specs.declared.queue.Queue.{Queue}
 use Rattle.p2p_log.specs.declared.queue.Queue.TheVariants as queue
+use Rattle.p2p_log.specs.declared.queue.Side.TheVariants as side
 use Rattle.p2p_log.specs.declared.item.Item.{Item}
 use Rattle.p2p_log.specs.declared.item.Item.TheVariants as item
 use Rattle.p2p_log.specs.declared.item.Envelope.{Envelope}
@@ -27,6 +28,7 @@ use Rattle.p2p_log.proofs.Names.{AreApart-live_from}
 use Rattle.p2p_log.proofs.Queues.{same_queue-refl}
 use Rattle.p2p_log.proofs.Taken.{sum_by-taken}
 use Rattle.p2p_log_rules.specs.declared.row.Row.{Row}
+use Rattle.p2p_log_rules.specs.Dropping.{LinkEnd, broke_off, dropping}
 use Rattle.p2p_log_rules.specs.Effect.{effect, entry_of, row}
 use Rattle.p2p_log_rules.specs.Facts.{taken}
 use Rattle.p2p_log_rules.specs.Handshakes.{with_admitted, ends_handshake, unless_ended, acted_handshakes, handshakes_of, is_handshaking, steps_handshake, takes_exchange, is_finished, Peer, peer_at}
@@ -39,7 +41,8 @@ use Rattle.p2p_log_laws.specs.Grants.{one}
 use Rattle.p2p_log_laws.specs.NodeGrants.{put_of}
 use Rattle.p2p_log_laws.specs.OneAnswer.{Words, answers, exchanges, tells, asks_about, is_for, waiting_for, asks_for, is_asked, waiting_asked, HasOne, is_open}
 use Rattle.p2p_log_laws.proofs.Asking.{each_unasked}
-use Rattle.p2p_log_laws.proofs.HandshakeShape.{handshake_shape}
+use Rattle.p2p_log_laws.proofs.Dropped.{flying, taken_same, ended_more, taken-dropping}
+use Rattle.p2p_log_laws.proofs.HandshakeShape.{handshake_moves, handshake_shape}
 use Rattle.p2p_log_laws.proofs.LineShape.{whole_taken, in_line}
 use Rattle.p2p_log_laws.proofs.Plain.{and_false}
 use Rattle.p2p_log_laws.proofs.Shape.{no_moves, one_move}
@@ -344,7 +347,7 @@ module _ (configs : List Config) (n name : ℕ) where
               subst (λ s. Asked (log ++ entry_of ev s ∷ [])) (sym is) (unasked (only reply.Gone) (no_moves log (only reply.Gone) refl refl) no_one refl)
           by_running true runs =
               let is : own_row ≡ turn due true (line log own) = ap (λ b. turn due b (line log own)) runs in
-              subst (λ s. Asked (log ++ entry_of ev s ∷ [])) (sym is) (by_line (line log own) refl due runs (subst (Moves log) is (handshake_shape configs log name n at).moves))
+              subst (λ s. Asked (log ++ entry_of ev s ∷ [])) (sym is) (by_line (line log own) refl due runs (subst (Moves log) is (handshake_moves configs log name n at)))
 
       pub own_asked : Asked (log ++ entry_of ev own_row ∷ [])
       own_asked = by (waiting_asked n name log) refl
@@ -360,10 +363,43 @@ module _ (configs : List Config) (n name : ℕ) where
 
   -- ---- any entry
 
+  -- the same where it drops an end too
+  dropped_asked : (log : List Entry) (ev : Event) (r : Row) (o : Option LinkEnd) → Moves log r → Moves log (dropping log o r) → Asked (log ++ entry_of ev r ∷ []) → Asked (log ++ entry_of ev (dropping log o r) ∷ [])
+  dropped_asked log ev r None m d h = h
+  dropped_asked log ev r (Some cut) m d h =
+      let s : Row = dropping log (Some cut) r in
+      fewer (waiting_asked n name (log ++ entry_of ev s ∷ [])) (waiting_asked n name (log ++ entry_of ev r ∷ [])) (weight (is_asked n name) d.taken) (weight (is_asked n name) m.taken) (weight (is_asked n name) d.ended)
+      (weight (is_asked n name) m.ended) (weight (is_asked n name) (flying log (Some cut))) (waiting_asked n name log + count_by (is_asked n name) r.puts) (one (not (goes_on (log ++ entry_of ev s ∷ []))))
+      (one (not (goes_on (log ++ entry_of ev r ∷ [])))) (weighed log ev s d (is_asked n name)) (weighed log ev r m (is_asked n name)) (taken_same log r (Some cut) m d (is_asked n name))
+      (ended_more log r (Some cut) m d (is_asked n name)) (ap (λ b. one (not b)) same) h
+    where
+      fewer : (now then t u e f more all a b : ℕ) → now + (t + e) ≡ all → then + (u + f) ≡ all → t ≡ u → e ≡ f + more → a ≡ b → then + b ≤ 1 → now + a ≤ 1
+      fewer now then t u e f more all a b moved before is also same le = omega (arith, moved, before, is, also, same, le)
+
+      took : taken log (entry_of ev (dropping log (Some cut) r)) ≡ taken log (entry_of ev r)
+      took = taken-dropping log ev (Some cut) r
+
+      running : is_handshaking (log ++ entry_of ev (dropping log (Some cut) r) ∷ []) n name ≡ is_handshaking (log ++ entry_of ev r ∷ []) n name
+      running =
+          ap (is_among name) (handshakes_of-append log (entry_of ev (dropping log (Some cut) r)) n ∙ ap (λ items. acted_handshakes n (length log) r.reply items ev.act (handshakes_of log n)) took)
+          ∙ sym (ap (is_among name) (handshakes_of-append log (entry_of ev r) n))
+
+      finished : is_finished (log ++ entry_of ev (dropping log (Some cut) r) ∷ []) n name ≡ is_finished (log ++ entry_of ev r ∷ []) n name
+      finished =
+          has_taken-append takes_exchange log (entry_of ev (dropping log (Some cut) r)) n name
+          ∙ (ap (λ items. (steps_handshake n name ev.act && takes_exchange items) || is_finished log n name) took ∙ sym (has_taken-append takes_exchange log (entry_of ev r) n name))
+
+      same : goes_on (log ++ entry_of ev (dropping log (Some cut) r) ∷ []) ≡ goes_on (log ++ entry_of ev r ∷ [])
+      same = ap (λ b. b && is_finished (log ++ entry_of ev (dropping log (Some cut) r) ∷ []) n name) running ∙ ap (λ b. is_handshaking (log ++ entry_of ev r ∷ []) n name && b) finished
+
   own_effect : (log : List Entry) (at seed : ℕ) → HasOne n name answers log → HasOne n name exchanges log → Asked log
       → Asked (log ++ entry_of (record { at = at; seed = seed; act = act.Handshake name n }) (row configs log at seed (act.Handshake name n)) ∷ [])
   unfolding row
-  own_effect log at seed answered exchanged h = own_asked log at seed answered exchanged h
+  own_effect log at seed answered exchanged h =
+      let r : Row = handshake_row configs log name n at in
+      dropped_asked log (record { at = at; seed = seed; act = act.Handshake name n }) r
+      (cond (broke_off r.reply (map (λ x. x.item) (take 1 (line log (queue.Handshake n name)))) r.puts) (Some ((peer_at log name).link, side.In)) None)
+      (handshake_moves configs log name n at) (handshake_shape configs log name n at).moves (own_asked log at seed answered exchanged h)
 
   pub asked_more : (log : List Entry) (ev : Event) → HasOne n name answers log → HasOne n name exchanges log → Asked log → Asked (log ++ effect configs log ev ∷ [])
   unfolding effect

@@ -16,7 +16,7 @@ use Rattle.p2p_log.specs.Copies.{carries, carries_copy, copies_of}
 use Rattle.p2p_log_rules.specs.Reading.{is_read}
 use Rattle.p2p_log.specs.Sending.{keys_sent, sending_of}
 use Rattle.p2p_log_rules.specs.Effect.{entry_of}
-use Rattle.p2p_log_rules.proofs.Touches.{reads, writes}
+use Rattle.p2p_log_laws.proofs.Reaching.{reads, writes}
 use Rattle.p2p_log_laws.proofs.Fitting.{fits}
 use Rattle.p2p_log_laws.proofs.Shape.{Shape, OfItem, Moved-nothing, Moved-put, Moved-taken, Delivery, accepts-none, count_by-single, first_in, no_delivery, one_move}
 use Rattle.p2p_log_laws.proofs.Showing.{Standing, EndShows}

@@ -1,5 +1,5 @@
 -- What neither grants a key at a node nor releases it.
-use Rattle.std.proofs.Common.{◌≡◌, ℕ, Bool, true, false, List, [], ◌∷◌, refl, ap, sym, ◌∙◌, eqb-true}
+use Rattle.std.proofs.Common.{◌≡◌, ℕ, Bool, true, false, List, [], ◌∷◌, Option, Some, refl, ap, sym, ◌∙◌, eqb-true}
 use Rattle.std.specs.Prelude.{◌==◌, ◌&&◌, ◌||◌, count_by}
 use Rattle.std.proofs.lemmas.Bool.{false≢true}
 use Rattle.std.specs.List.{AllByRecursion as Each, list_any}
@@ -7,15 +7,23 @@ use Rattle.p2p_base.specs.declared.key.Key.{Key}
 use Rattle.p2p_log.specs.declared.config.Config.{Config}
 use Rattle.p2p_log.specs.declared.queue.Queue.{Queue}
 use Rattle.p2p_log.specs.declared.queue.Queue.TheVariants as queue
+use Rattle.p2p_log.specs.declared.queue.Side.TheVariants as side
 use Rattle.p2p_log.specs.declared.item.Item.{Item}
 use Rattle.p2p_log.specs.declared.item.Envelope.{Envelope}
 use Rattle.p2p_log.specs.declared.entry.Entry.{Entry}
 use Rattle.p2p_log.specs.declared.event.Act.{Act}
+use Rattle.p2p_log.specs.declared.event.Act.TheVariants as act
 use Rattle.p2p_log.specs.QueueCode.{same_queue}
 use Rattle.p2p_log.proofs.Each.{Each-weaker, count_by-none}
 use Rattle.p2p_log_rules.specs.declared.row.Row.{Row}
+use Rattle.p2p_log_rules.specs.declared.row.Half.{Half}
+use Rattle.p2p_log_rules.specs.Attempting.{attempts_of}
+use Rattle.p2p_log_rules.specs.Connections.{half_at}
+use Rattle.p2p_log_rules.specs.Dropping.{LinkEnd, dialing_end, half_end}
+use Rattle.p2p_log_rules.specs.Handshakes.{peer_at}
 use Rattle.p2p_log_rules.specs.Moves.{Moves}
-use Rattle.p2p_log_rules.proofs.Touches.{Reach, reads, writes, away}
+use Rattle.p2p_log_rules.proofs.Touches.{away}
+use Rattle.p2p_log_laws.proofs.Reaching.{in_flight, in_connection, in_flight-node, in_flight-handshake, Reach, reads, writes, ends_in}
 use Rattle.p2p_log_laws.specs.NodeGrants.{put_of, holds_grants, grants_key, releases_key, puts_grant, puts_release}
 use Rattle.p2p_log_laws.proofs.Weighing.{weight}
 
@@ -50,6 +58,31 @@ away_aside n p h x is = (grants x is, away p (queue.Tracker n) x h.tracker is)
     grants (queue.Handshake m k) some = at_node (λ i. queue.Handshake i k) m (h.handshakes k) some
     grants (queue.Spawner m) some = at_node queue.Spawner m h.spawner some
     grants _ some = refl
+
+-- what is in flight is in none of them
+flying_away : (n : ℕ) (o : Option LinkEnd) → Away n (in_flight o)
+flying_away n o = let each = in_flight-node o n in record { dialer = each.1.0; handshakes = λ h. in_flight-handshake o n h; spawner = each.1.1.0; tracker = each.1.1.1.0 }
+
+-- nor is what ends with a connection
+pub connection_away : (n : ℕ) (o : Option Half) (m conn : ℕ) → Away n (in_connection o m conn)
+connection_away n o m conn = let far = flying_away n (half_end o) in record { dialer = far.dialer; handshakes = far.handshakes; spawner = far.spawner; tracker = far.tracker }
+
+-- what an act puts in none of them, and takes from none, it ends in none
+pub ends_away : (configs : List Config) (log : List Entry) (n : ℕ) (a : Act) → Away n (writes configs log a) → Away n (ends_in configs log a)
+ends_away configs log n (act.SendStep conn m) written = connection_away n (half_at log m conn) m conn
+ends_away configs log n (act.RecvStep conn m) written = connection_away n (half_at log m conn) m conn
+ends_away configs log n (act.Attempt e m) written =
+    let far = flying_away n (dialing_end (attempts_of configs log m e)) in record { dialer = far.dialer; handshakes = far.handshakes; spawner = far.spawner; tracker = far.tracker }
+ends_away configs log n (act.Handshake e m) written =
+    let over : Option LinkEnd = Some ((peer_at log e).link, side.In) in
+    let far = flying_away n over in
+    record {
+      dialer = far.dialer;
+      handshakes = λ h. ap (λ b. b || in_flight over (queue.Handshake n h)) (written.handshakes h) ∙ far.handshakes h;
+      spawner = far.spawner;
+      tracker = far.tracker;
+    }
+ends_away configs log n a written = written
 
 module _ (n : ℕ) (key : Key) where
   abbrev pub Plain : Queue × Item → Type 0
@@ -99,6 +132,6 @@ module _ (n : ℕ) (key : Key) where
       → Away n (reads configs log a) → Away n (writes configs log a) → IsPlain log r m
   plain_out_of_reach configs a log r m reach read written = record {
     taken = stand_aside m.taken (Each-weaker (λ x. reads configs log a x.queue ≡ true) (λ x. IsAside n x.queue) (λ x k. away_aside n (reads configs log a) read x.queue k) m.taken reach.taken);
-    ended = stand_aside m.ended (Each-weaker (λ x. writes configs log a x.queue ≡ true) (λ x. IsAside n x.queue) (λ x k. away_aside n (writes configs log a) written x.queue k) m.ended reach.ended);
+    ended = stand_aside m.ended (Each-weaker (λ x. ends_in configs log a x.queue ≡ true) (λ x. IsAside n x.queue) (λ x k. away_aside n (ends_in configs log a) (ends_away configs log n a written) x.queue k) m.ended reach.ended);
     puts = Each-weaker (λ x. writes configs log a x.0 ≡ true) Plain (λ x k. plain_aside x.0 x.1 (away_aside n (writes configs log a) written x.0 k)) r.puts reach.puts;
   }

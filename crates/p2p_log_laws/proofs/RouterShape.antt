@@ -29,7 +29,8 @@ use Rattle.p2p_log_rules.proofs.Moves.{one_taken, stands_first, first_has, rings
 use Rattle.p2p_log.proofs.Names.{AreApart-filter, AreApart-live_from, filter_stays-first}
 use Rattle.p2p_log.proofs.Queues.{same_queue-refl}
 use Rattle.p2p_log.proofs.Taken.{AreTaken-append}
-use Rattle.p2p_log_rules.proofs.Touches.{reads, in_router}
+use Rattle.p2p_log_rules.proofs.Touches.{in_router}
+use Rattle.p2p_log_laws.proofs.Reaching.{reads}
 use Rattle.p2p_log_laws.specs.Causes.{IsRouted, enters_before}
 use Rattle.p2p_log_laws.proofs.Carried.{IsSublist-frames}
 use Rattle.p2p_log_laws.proofs.Fitting.{Fits, StandsFit, fits, is_bare, holds_bare, is_item_end, ended_item-none}
@@ -153,7 +154,7 @@ module _ (configs : List Config) (log : List Entry) (n : ℕ) (x : Envelope) (re
         } in
         spread_drops (EndShows configs log e) size left n priority (is_ended log n) (routes log n) send frame to s.puts
         (λ p k here route. record { node = n; priority = priority; key = k; routed = routed p k here; not_connected = route })
-        (λ p k conn here route is_late. record { node = n; priority = priority; key = k; routed = routed p k here; conn = conn; connected = route; ended = is_late })
+        (λ p k conn here route is_late. inr (inr (record { node = n; priority = priority; key = k; routed = routed p k here; conn = conn; connected = route; ended = is_late })))
         (λ p k conn here route full. record {
           node = n;
           priority = priority;

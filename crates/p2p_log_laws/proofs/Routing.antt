@@ -30,7 +30,7 @@ use Rattle.p2p_log.proofs.Each.{Each-has, Each-from_has, Each-map, Each-weaker}
 use Rattle.p2p_log_rules.specs.Moves.{Moves}
 use Rattle.p2p_log_rules.proofs.Moves.{taken_stood}
 use Rattle.p2p_log.proofs.QueueNames.{queue_from_same}
-use Rattle.p2p_log_rules.proofs.Touches.{Reach, reads}
+use Rattle.p2p_log_laws.proofs.Reaching.{Reach, reads}
 use Rattle.p2p_log_rules.proofs.Connections.{half_at-longer}
 use Rattle.p2p_log_laws.proofs.Telling.{Tells, StandTells}
 use Rattle.p2p_log.proofs.Taken.{Each-taken}

@@ -39,7 +39,7 @@ use Rattle.p2p_log_rules.specs.Effect.{entry_of}
 use Rattle.p2p_log_rules.specs.Moves.{Moves}
 use Rattle.p2p_log_rules.specs.Reading.{is_read}
 use Rattle.p2p_log_rules.proofs.Moves.{one_taken, stands_first, first_has}
-use Rattle.p2p_log_rules.proofs.Touches.{reads, writes}
+use Rattle.p2p_log_laws.proofs.Reaching.{reads, writes}
 use Rattle.p2p_log_laws.proofs.Carried.{IsSublist-put}
 use Rattle.p2p_log_laws.proofs.Fitting.{StandsFit, is_bare, fits, bare_there, bare_carries_none}
 use Rattle.p2p_log_laws.proofs.Shape.{Shape, Moved-nothing, Moved-own, accepts, still, quiet_laws, no_delivery, accepts-sent, first_in}

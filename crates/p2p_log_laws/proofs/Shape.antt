@@ -34,7 +34,7 @@ use Rattle.p2p_log_rules.specs.Frames.{frame_of, message_in}
 use Rattle.p2p_log.proofs.Each.{Has, Each-append, Each-weaker, count_by-none}
 use Rattle.p2p_log_rules.specs.Moves.{Moves}
 use Rattle.p2p_log_rules.proofs.Moves.{one_taken, stands_first}
-use Rattle.p2p_log_rules.proofs.Touches.{Reach}
+use Rattle.p2p_log_laws.proofs.Reaching.{Reach}
 use Rattle.p2p_log_laws.proofs.Carried.{IsSublist-bare, IsSublist-beside, IsSublist-put}
 use Rattle.p2p_log_laws.proofs.Fitting.{Fits, StandsFit, is_idle, is_bare, is_item_end, bare_carries_none, ends_copy-none}
 use Rattle.p2p_log_laws.proofs.Showing.{Standing, EndShows, item_shows}
@@ -49,11 +49,11 @@ accepts log a r copy = one ((length log == copy.0) && nat_lt copy.1 (length (key
 
 -- ---- where what is put comes from, by the queue that it enters
 
--- one of the node's connections begins, and its router is told of it
-abbrev pub IsReady : List Entry → ℕ → Item → Type 0
-IsReady log n i = (conn : ℕ) × (key : Key) × IsConnection log n conn key × (i ≡ item.Ready conn key)
+-- one of the node's connections begins, and its router is told of it, by a step of its sending half
+abbrev pub IsReady : List Entry → Act → ℕ → Item → Type 0
+IsReady log a n i = (conn : ℕ) × (key : Key) × IsConnection log n conn key × (i ≡ item.Ready conn key) × (a ≡ act.SendStep conn n)
 
--- and so is its tracker, by a step of its sending half
+-- and so is its tracker
 abbrev pub IsConnect : List Entry → Act → ℕ → Item → Type 0
 IsConnect log a n i = (conn : ℕ) × (key : Key) × IsConnection log n conn key × (i ≡ item.Connect conn key) × (a ≡ act.SendStep conn n)
 
@@ -143,7 +143,7 @@ pub record IsRetried (log : List Entry) (y : Envelope) (n c : ℕ) (i : Item) : 
 
 -- what an act puts there of itself
 abbrev pub OfAct : List Config → List Entry → Act → Reply → Queue → Item → Type 0
-OfAct configs log a r (queue.Router n) i = IsReady log n i ⊎ IsSent configs log a r n i
+OfAct configs log a r (queue.Router n) i = IsReady log a n i ⊎ IsSent configs log a r n i
 OfAct configs log a r (queue.Tracker n) i = IsConnect log a n i
 OfAct configs log a r (queue.Link link s) i = IsRaw configs log a r link s i
 OfAct configs log a r _ i = ⊥

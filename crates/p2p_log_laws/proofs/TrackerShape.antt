@@ -37,7 +37,8 @@ use Rattle.p2p_log.proofs.Each.{Each-append, Each-filter, Each-weaker}
 use Rattle.p2p_log.proofs.Queues.{same_queue-refl}
 use Rattle.p2p_log_rules.specs.Moves.{Moves}
 use Rattle.p2p_log_rules.proofs.Moves.{one_taken, first_has, rings, rings_in}
-use Rattle.p2p_log_rules.proofs.Touches.{reads, writes, in_tracker, is_told_to}
+use Rattle.p2p_log_rules.proofs.Touches.{in_tracker, is_told_to}
+use Rattle.p2p_log_laws.proofs.Reaching.{reads, writes}
 use Rattle.p2p_log_laws.proofs.Fitting.{StandsFit, fits, is_bare, holds_bare, bare_there}
 use Rattle.p2p_log_laws.proofs.Overwriting.{rings_bare, ring_ends_items}
 use Rattle.p2p_log_laws.proofs.Shape.{Shape, IsQuiet, still, no_moves, one_move, first_in, quiet_laws}

@@ -5,6 +5,7 @@ use Rattle.std.proofs.lemmas.Bool.{and_parts}
 use Rattle.p2p_log.specs.declared.config.Config.{Config}
 use Rattle.p2p_log.specs.declared.queue.Queue.TheVariants as queue
 use Rattle.p2p_log.specs.declared.item.Item.{Item}
+use Rattle.p2p_log.specs.declared.item.Envelope.{Envelope}
 use Rattle.p2p_log.specs.declared.entry.Entry.{Entry}
 use Rattle.p2p_log.specs.declared.entry.Reply.TheVariants as reply
 use Rattle.p2p_log.specs.declared.event.Act.{Act}
@@ -12,10 +13,11 @@ use Rattle.p2p_log.specs.declared.event.Act.TheVariants as act
 use Rattle.p2p_log.specs.declared.event.Event.{Event}
 use Rattle.p2p_log.specs.Lines.{line}
 use Rattle.p2p_log_rules.specs.declared.row.Row.{Row}
+use Rattle.p2p_log_rules.specs.Dropping.{handshake_drops, handshake_step_row}
 use Rattle.p2p_log_rules.specs.Effect.{effect, entry_of, row}
 use Rattle.p2p_log_rules.specs.Facts.{taken, state_from}
 use Rattle.p2p_log_rules.specs.Handshakes.{is_handshaking, is_finished, peer_at, steps_handshake, has_taken}
-use Rattle.p2p_log_rules.specs.Handshaking.{handshake_deadline, is_due, handshake_turn, handshake_row}
+use Rattle.p2p_log_rules.specs.Handshaking.{handshake_deadline, is_due, handshake_turn}
 use Rattle.p2p_log_rules.specs.Lawful.{IsLawful}
 use Rattle.p2p_log_rules.specs.Rows.{only, is_spawner_full}
 use Rattle.p2p_log_rules.proofs.Handshakes.{none_later, has_taken-append}
@@ -32,9 +34,11 @@ module _ (test : List Item → Bool) (none : test [] ≡ false) (configs : List 
   unfolding has_taken state_from
   untold_first past = refl
 
-  gone_row : (log : List Entry) (at : ℕ) → is_handshaking log n name ≡ false → handshake_row configs log name n at ≡ only reply.Gone
+  gone_row : (log : List Entry) (at : ℕ) → is_handshaking log n name ≡ false → handshake_step_row configs log name n at ≡ only reply.Gone
   gone_row log at ended =
-      ap (λ b. cond b (handshake_turn n (is_spawner_full configs log n) (is_due (handshake_deadline configs log name n) at (is_finished log n name)) name (peer_at log name) (line log (queue.Handshake n name))) (only reply.Gone)) ended
+      let waiting : List Envelope = line log (queue.Handshake n name) in
+      let due : Bool = is_due (handshake_deadline configs log name n) at (is_finished log n name) in
+      ap (λ b. handshake_drops log (peer_at log name).link waiting (cond b (handshake_turn n (is_spawner_full configs log n) due name (peer_at log name) waiting) (only reply.Gone))) ended
 
   took_none : (log : List Entry) (ev : Event) (r : Row) → r ≡ only reply.Gone → test (taken log (entry_of ev r)) ≡ false
   took_none log ev r is =
@@ -46,16 +50,16 @@ module _ (test : List Item → Bool) (none : test [] ≡ false) (configs : List 
   now_none log at seed (act.Handshake k m) past = by ((m == n) && (k == name)) refl
     where
       took : Bool
-      took = test (taken log (entry_of (record { at = at; seed = seed; act = act.Handshake k m }) (handshake_row configs log k m at)))
+      took = test (taken log (entry_of (record { at = at; seed = seed; act = act.Handshake k m }) (handshake_step_row configs log k m at)))
 
       by : (b : Bool) → ((m == n) && (k == name)) ≡ b → (((m == n) && (k == name)) && took) ≡ false
       by false other = ap (λ b. b && took) other
       by true same =
           let both = and_parts (m == n) (k == name) same in
-          let row_is : handshake_row configs log k m at ≡ only reply.Gone =
-          ap (λ i. handshake_row configs log k i at) (eqb-true m n both.0) ∙ (ap (λ i. handshake_row configs log i n at) (eqb-true k name both.1) ∙ gone_row log at (none_later log n name past))
+          let row_is : handshake_step_row configs log k m at ≡ only reply.Gone =
+          ap (λ i. handshake_step_row configs log k i at) (eqb-true m n both.0) ∙ (ap (λ i. handshake_step_row configs log i n at) (eqb-true k name both.1) ∙ gone_row log at (none_later log n name past))
           in
-          ap (λ b. ((m == n) && (k == name)) && b) (took_none log (record { at = at; seed = seed; act = act.Handshake k m }) (handshake_row configs log k m at) row_is) ∙ and_false ((m == n) && (k == name))
+          ap (λ b. ((m == n) && (k == name)) && b) (took_none log (record { at = at; seed = seed; act = act.Handshake k m }) (handshake_step_row configs log k m at) row_is) ∙ and_false ((m == n) && (k == name))
   now_none log at seed _ past = refl
 
   pub untold_more : (log : List Entry) (ev : Event) → Untold log → Untold (log ++ effect configs log ev ∷ [])

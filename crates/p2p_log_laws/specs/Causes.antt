@@ -1,6 +1,6 @@
 -- What the log shows of the cause for which a copy was dropped.
 use Rattle.p2p_log.specs.Sending.{Sender, Sending, sending_of}
-use Rattle.p2p_log.specs.Copies.{accepted}
+use Rattle.p2p_log.specs.Copies.{accepted, carries}
 use Rattle.p2p_log.specs.Sending.Sender.{Node}
 use Rattle.std.specs.Prelude.{◌≡◌, ◌⊎◌, ℕ, ◌+◌, ◌<◌, ◌≤◌, Bool, true, false, ◌==◌, ◌&&◌, nat_lt, List, [], ◌∷◌, length, take, count_by, Some, None, slice_get}
 use Rattle.p2p_base.specs.declared.key.Key.{Key}
@@ -16,14 +16,19 @@ use Rattle.p2p_log.specs.declared.end.Cause.{Cause}
 use Rattle.p2p_log.specs.declared.end.Cause.TheVariants as cause
 use Rattle.p2p_log.specs.declared.entry.Entry.{Entry}
 use Rattle.p2p_log.specs.declared.entry.Reply.TheVariants as reply
+use Rattle.p2p_log.specs.declared.event.Act.{Act}
 use Rattle.p2p_log.specs.declared.event.Act.TheVariants as act
 use Rattle.p2p_log_rules.specs.declared.row.Half.{Half}
 use Rattle.p2p_log.specs.Lines.{name_of, line}
 use Rattle.p2p_log_rules.specs.Closing.{is_closed}
-use Rattle.p2p_log_rules.specs.Connections.{half_at, is_ended}
-use Rattle.p2p_log_rules.specs.Facts.{is_up, channels, capacity_in, key_at, routes, route_to}
-use Rattle.p2p_log_rules.specs.Effect.{goes_to, relay_queue, mailbox_size_at, other_side}
+use Rattle.p2p_log_rules.specs.Connections.{half_at, live_half, ends_connection, is_ended}
+use Rattle.p2p_log_rules.specs.Dropping.{LinkEnd, acted_drops, frames_towards}
+use Rattle.p2p_log_rules.specs.Ending.{queues_with}
+use Rattle.p2p_log_rules.specs.Facts.{is_up, channels, capacity_in, key_at, taken, routes, route_to}
+use Rattle.p2p_log_rules.specs.Frames.{message_in, is_ping_in}
+use Rattle.p2p_log_rules.specs.Effect.{goes_to, relay_queue, mailbox_size_at, limit_at, other_side}
 use Rattle.p2p_log_laws.specs.Delivered.{IsCopyOf}
+use Rattle.p2p_log_laws.specs.Grants.{IsAmong}
 
 -- ---- unbound
 
@@ -64,6 +69,34 @@ pub record HasNoConnection (configs : List Config) (before : List Entry) (e : En
 
 -- ---- connection ended
 
+-- the entry ends the connection with which the copy stood: its item waited there, or was taken from there
+pub record IsEndedWith (before : List Entry) (e : Entry) (copy : ℕ × ℕ) : Type 0 where
+  pub node : ℕ
+  pub conn : ℕ
+  pub half : Half
+  pub lived : live_half before node conn ≡ Some half
+  pub ends : ends_connection node conn e ≡ true
+  pub from : Queue
+  pub with : IsAmong (queues_with node conn half) from
+  pub place : ℕ
+  pub left : Envelope
+  pub stood : slice_get (line before from) place ≡ Some left
+  pub carried : carries copy left ≡ true
+
+-- an act is a step of an attempt or of a handshake
+abbrev pub StepsBeginner : Act → Type 0
+StepsBeginner a = (name : ℕ) × (node : ℕ) × ((a ≡ act.Attempt name node) ⊎ (a ≡ act.Handshake name node))
+
+-- the entry is such a step, which drops an end of a link: the copy's frame was in flight towards it
+pub record IsCutOff (configs : List Config) (before : List Entry) (e : Entry) (copy : ℕ × ℕ) : Type 0 where
+  pub steps : StepsBeginner e.event.act
+  pub cut : LinkEnd
+  pub drops : acted_drops configs before e.reply (taken before e) e.puts e.event.act ≡ Some cut
+  pub place : ℕ
+  pub left : Envelope
+  pub stood : slice_get (frames_towards before cut) place ≡ Some left
+  pub carried : carries copy left ≡ true
+
 -- the router's connection to the copy's key has ended
 pub record HasEndedConnection (configs : List Config) (before : List Entry) (e : Entry) (copy : ℕ × ℕ) : Type 0 where
   pub node : ℕ
@@ -73,6 +106,43 @@ pub record HasEndedConnection (configs : List Config) (before : List Entry) (e :
   pub conn : ℕ
   pub connected : route_to (routes before node) key ≡ Some conn
   pub ended : is_ended before node conn ≡ true
+
+-- its connection ends here, or the end that it was to come to is dropped here, or its connection had ended
+abbrev pub ConnectionIsEnded : List Config → List Entry → Entry → ℕ × ℕ → Type 0
+ConnectionIsEnded configs before e copy = IsEndedWith before e copy ⊎ (IsCutOff configs before e copy ⊎ HasEndedConnection configs before e copy)
+
+-- ---- frame refused, and channel unregistered
+
+-- the entry is a step of a receiving half of this node, which takes this frame, the oldest in its link; it is the copy's
+pub record TakesFrame (before : List Entry) (e : Entry) (copy : ℕ × ℕ) (node : ℕ) (frame : List ℕ) : Type 0 where
+  pub conn : ℕ
+  pub steps : e.event.act ≡ act.RecvStep conn node
+  pub half : Half
+  pub lived : live_half before node conn ≡ Some half
+  pub oldest : Envelope
+  pub later : List Envelope
+  pub stood : line before (queue.Link half.link (other_side half.writes)) ≡ oldest ∷ later
+  pub takes : e.takes ≡ name_of oldest ∷ []
+  pub is : oldest.item ≡ item.Frame (Some copy) frame
+
+-- it is neither a message nor a ping within the node's limit
+pub record FrameIsRefused (configs : List Config) (before : List Entry) (e : Entry) (copy : ℕ × ℕ) : Type 0 where
+  pub node : ℕ
+  pub frame : List ℕ
+  pub taken : TakesFrame before e copy node frame
+  pub no_message : message_in frame (limit_at configs node) ≡ None
+  pub no_ping : is_ping_in frame (limit_at configs node) ≡ false
+
+-- the copy, sent on this channel, is for a node at which the channel is not registered
+pub record ChannelIsUnregistered (configs : List Config) (before : List Entry) (e : Entry) (copy : ℕ × ℕ) : Type 0 where
+  pub node : ℕ
+  pub frame : List ℕ
+  pub taken : TakesFrame before e copy node frame
+  pub sender : Sender
+  pub channel : ℕ
+  pub bytes : List ℕ
+  pub sent : IsCopyOf before copy sender channel bytes (key_at configs node)
+  pub unregistered : capacity_in (channels configs before node) channel ≡ None
 
 -- ---- relay full
 
@@ -170,9 +240,9 @@ abbrev pub Shows : List Config → List Entry → Entry → ℕ × ℕ → Cause
 Shows configs before e copy cause.Unbound = IsUnbound configs before e copy
 Shows configs before e copy cause.NoConnection = HasNoConnection configs before e copy
 Shows configs before e copy cause.RelayFull = RelayIsFull configs before e copy
-Shows configs before e copy cause.ConnectionEnded = HasEndedConnection configs before e copy
-Shows configs before e copy cause.FrameRefused = ⊥
-Shows configs before e copy cause.ChannelUnregistered = ⊥
+Shows configs before e copy cause.ConnectionEnded = ConnectionIsEnded configs before e copy
+Shows configs before e copy cause.FrameRefused = FrameIsRefused configs before e copy
+Shows configs before e copy cause.ChannelUnregistered = ChannelIsUnregistered configs before e copy
 Shows configs before e copy cause.MailboxFull = MailboxIsFull configs before e copy
 Shows configs before e copy cause.ReceiverClosed = ReceiverIsClosed configs before e copy
 

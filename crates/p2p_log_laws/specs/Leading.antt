@@ -1,5 +1,5 @@
 -- That a connection leads to the peer that is reserved for it: over a link that joins the two nodes.
-use Rattle.std.specs.Prelude.{ℕ, false, ◌==◌, ◌⊎◌, ◌≡◌, List, Some, slice_get}
+use Rattle.std.specs.Prelude.{ℕ, ◌<◌, true, false, ◌==◌, ◌⊎◌, ◌≡◌, List, take, Some, slice_get}
 use Rattle.p2p_base.specs.declared.key.Key.{Key}
 use Rattle.p2p_address.specs.declared.ip.SocketAddr.{SocketAddr}
 use Rattle.p2p_log.specs.declared.config.Config.{Config}
@@ -8,6 +8,7 @@ use Rattle.p2p_log.specs.declared.item.Item.TheVariants as item
 use Rattle.p2p_log.specs.declared.entry.Entry.{Entry}
 use Rattle.p2p_log.specs.declared.entry.Reply.TheVariants as reply
 use Rattle.p2p_log.specs.declared.event.Act.TheVariants as act
+use Rattle.p2p_log_rules.specs.Connections.{is_ended, live_connection}
 use Rattle.p2p_log_rules.specs.Facts.{key_at}
 use Rattle.p2p_log_rules.specs.Spawning.{Spawned, connections_of}
 
@@ -31,10 +32,14 @@ LeadsTo configs log n key link = (m : ℕ) × (Links log link n m ⊎ Links log 
 abbrev pub ConnectionsLead : List Config → List Entry → Type 0
 ConnectionsLead configs log = (n conn : ℕ) (c : Spawned) → connections_of log n conn ≡ Some c → LeadsTo configs log n c.key c.link
 
--- a node has one connection with a key, and one over a link
-abbrev pub ConnectionsAreOne : List Entry → Type 0
-ConnectionsAreOne log =
-    (n c d : ℕ) (a b : Spawned) → connections_of log n c ≡ Some a → connections_of log n d ≡ Some b → (a.key ≡ b.key) ⊎ (a.link ≡ b.link) → c ≡ d
+-- the connections of a node are one
+pub record ConnectionsAreOne (log : List Entry) : Type 0 where
+  -- over a link, ever
+  pub over : (n c d : ℕ) (a b : Spawned) → connections_of log n c ≡ Some a → connections_of log n d ≡ Some b → a.link ≡ b.link → c ≡ d
+  -- of two with one key the older has ended before the newer is made; each is named by the entry that made it
+  pub older : (n c d : ℕ) (a b : Spawned) → connections_of log n c ≡ Some a → connections_of log n d ≡ Some b → a.key ≡ b.key → c < d → is_ended (take d log) n c ≡ true
+  -- so two that have not ended with one key are one
+  pub alive : (n c d : ℕ) (a b : Spawned) → live_connection log n c ≡ Some a → live_connection log n d ≡ Some b → a.key ≡ b.key → c ≡ d
 
 -- of two connections over one link at two nodes each is with the key of the other's node
 abbrev pub EndsMeet : List Config → List Entry → Type 0

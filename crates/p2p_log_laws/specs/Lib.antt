@@ -4,6 +4,7 @@ pub mod BulkEnds
 pub mod Causes
 pub mod ClosedPath
 pub mod Delivered
+pub mod Endings
 pub mod Fates
 pub mod Flow
 pub mod Grants

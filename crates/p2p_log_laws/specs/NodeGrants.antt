@@ -13,7 +13,8 @@ use Rattle.p2p_log.specs.QueueCode.{same_queue}
 use Rattle.p2p_log.specs.Lines.{live}
 use Rattle.p2p_log_rules.specs.Facts.{taken}
 use Rattle.p2p_log_rules.specs.Attempting.{Attempt, attempts_of}
-use Rattle.p2p_log_rules.specs.Spawning.{Spawned, connections_of}
+use Rattle.p2p_log_rules.specs.Connections.{live_connection}
+use Rattle.p2p_log_rules.specs.Spawning.{Spawned}
 use Rattle.p2p_log_rules.specs.Tracking.{steps_tracker}
 use Rattle.p2p_log_laws.specs.Grants.{one, Granting}
 
@@ -63,13 +64,13 @@ module _ (n : ℕ) (key : Key) where
   abbrev pub puts_release : Queue × Item → Bool
   puts_release x = same_queue (queue.Tracker n) x.0 && releases_key key x.1
 
-  -- the attempts by a grant, and the connections
+  -- the attempts by a grant, and the connections that have not ended
   abbrev pub beginners_of : List Config → List Entry → ℕ
   beginners_of configs log =
-      count_below (length log) (λ e. is_attempt_of key (attempts_of configs log n e)) + count_below (length log) (λ e. is_connection_of key (connections_of log n e))
+      count_below (length log) (λ e. is_attempt_of key (attempts_of configs log n e)) + count_below (length log) (λ e. is_connection_of key (live_connection log n e))
 
   -- a grant is held by the answer that waits for the dialer, and then by the attempt that it begins, or by the answer that waits for a
-  -- handshake; then by the message that waits for the spawner, and then by the connection that this makes
+  -- handshake; then by the message that waits for the spawner, and then by the connection that this makes, until it ends
   abbrev pub holders_of : List Config → List Entry → ℕ
   holders_of configs log = count_by (λ x. puts_grant (put_of x)) (live log) + beginners_of configs log
 

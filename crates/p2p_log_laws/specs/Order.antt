@@ -61,15 +61,8 @@ pub record CameBy (configs : List Config) (log : List Entry) (copy : ℕ × ℕ)
   pub at : half_at log (owner_of q) conn ≡ Some half
   pub over : WentOver log copy half.link (other_side half.writes)
 
--- of two copies of one sender, on one channel with one priority, that were read from one queue, the one accepted first is
--- delivered first
-abbrev pub AreDeliveredInOrder : List Config → List Entry → Type 0
-AreDeliveredInOrder configs log =
-    (sender : Sender) (channel : ℕ) (priority : Bool) (q : Queue) (first second : ℕ × ℕ) (m n : ℕ)
-    → IsDelivered configs log first sender channel priority q m → IsDelivered configs log second sender channel priority q n
-    → is_before first second ≡ true → m < n
-
--- the same of two that went over one link in one direction
+-- of two copies of one sender, on one channel with one priority, that went over one link in one direction and were read from one
+-- queue, the one accepted first is delivered first
 abbrev pub AreDeliveredInOrderOverOne : List Config → List Entry → Type 0
 AreDeliveredInOrderOverOne configs log =
     (sender : Sender) (channel : ℕ) (priority : Bool) (link : ℕ) (side : Side) (q : Queue) (first second : ℕ × ℕ) (m n : ℕ)

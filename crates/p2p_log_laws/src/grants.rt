@@ -23,8 +23,8 @@ pub fn grants_take_turns()
 
 /// States of the grants of a key at a node of the network, where the node's tracker grants it to the node's dialer or to a
 /// handshake: they and the releases that the tracker takes go by turns; a key that is held is held by one thing, an answer that
-/// waits for the dialer or for a handshake, an attempt, a message that waits for the spawner or a connection that this made, or
-/// one release of it waits for the tracker, and nothing holds another; and each grant is held or was released. It does nothing.
+/// waits for the dialer or for a handshake, an attempt, a message that waits for the spawner or a connection that this made and
+/// that has not ended, or one release of it waits for the tracker, and nothing holds another; and each grant is held or was released. It does nothing.
 pub fn node_grants()
     ensures alternate { (configs : List Config) (script : List Event) (log : List Entry) (n : ℕ) (key : Key) → IsLawful configs script log → GrantsAlternate (granting configs n key) log }
     ensures holder { (configs : List Config) (script : List Event) (log : List Entry) (n : ℕ) (key : Key) → IsLawful configs script log → HasOneHolder (granting configs n key) log }

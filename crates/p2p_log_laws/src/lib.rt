@@ -5,6 +5,7 @@
 pub mod beginning;
 pub mod causes;
 pub mod delivery;
+pub mod endings;
 pub mod ends;
 pub mod fates;
 pub mod grants;
@@ -20,6 +21,7 @@ pub mod worked;
 pub use beginning::connections_begin_reserved;
 pub use causes::each_drop_shows_its_cause;
 pub use delivery::only_sent_is_delivered;
+pub use endings::{connections_end_by_cause, releases_are_timely};
 pub use ends::one_end;
 pub use fates::fates_are_true;
 pub use grants::{grants_take_turns, node_grants, queues_keep_order};

@@ -1,0 +1,319 @@
+-- Who hands a link to a spawner: an attempt that the link answered, or a handshake whose peer came over it, and either ends by that.
+use Rattle.std.proofs.Common.{◌≡◌, ℕ, suc, zero, Bool, true, false, cond, List, [], ◌∷◌, ◌++◌, length, Option, Some, None, ◌⊎◌, inl, inr, refl, ap, sym, subst, ◌∙◌, append-nil, eq-eqb}
+use Rattle.std.specs.Prelude.{◌==◌, ◌&&◌, not, flat_map, map, nat_le, slice_get, take}
+use Rattle.std.proofs.lemmas.Bool.{false≢true}
+use Rattle.std.proofs.lemmas.Option.{same_Some}
+use Rattle.p2p_base.specs.declared.key.Key.{Key}
+use Rattle.p2p_log.specs.declared.config.Config.{Config}
+use Rattle.p2p_log.specs.declared.queue.Queue.{Queue}
+use Rattle.p2p_log.specs.declared.queue.Queue.TheVariants as queue
+use Rattle.p2p_log.specs.declared.queue.Side.TheVariants as side
+use Rattle.p2p_log.specs.declared.item.Item.{Item}
+use Rattle.p2p_log.specs.declared.item.Item.TheVariants as item
+use Rattle.p2p_log.specs.declared.item.Envelope.{Envelope}
+use Rattle.p2p_log.specs.declared.entry.Entry.{Entry}
+use Rattle.p2p_log.specs.declared.entry.Reply.{Reply}
+use Rattle.p2p_log.specs.declared.entry.Reply.TheVariants as reply
+use Rattle.p2p_log.specs.declared.event.Event.{Event}
+use Rattle.p2p_log.specs.declared.event.Act.{Act}
+use Rattle.p2p_log.specs.declared.event.Act.TheVariants as act
+use Rattle.p2p_log.specs.Lines.{name_of, line}
+use Rattle.p2p_log.proofs.Each.{Each-has, Has-get}
+use Rattle.p2p_log_rules.specs.declared.row.Opening.{Opening}
+use Rattle.p2p_log_rules.specs.declared.row.Row.{Row}
+use Rattle.p2p_log_rules.specs.Attempting.{Attempt, DialRules, dial_rules_at, resolved, stepped_attempt, and_then, acted_attempts, attempts_of, given_up_row, resolved_row, ready_row, link_of, took_row, attempt_turn, attempt_by, attempt_row}
+use Rattle.p2p_log_rules.specs.Dropping.{LinkEnd, dropping, gave_up, dialing_end, broke_off, attempt_step_row, handshake_step_row}
+use Rattle.p2p_log_rules.specs.Effect.{effect, row, entry_of}
+use Rattle.p2p_log_rules.specs.Facts.{item_named, taken}
+use Rattle.p2p_log_rules.specs.Handshakes.{acted_handshakes, handshakes_of, is_handshaking, is_finished, ends_handshake, unless_ended, Peer, peer_at}
+use Rattle.p2p_log_rules.specs.Handshaking as shaking
+use Rattle.p2p_log_rules.specs.Links.{openings_of}
+use Rattle.p2p_log_rules.specs.Rows.{only, is_spawner_full}
+use Rattle.p2p_log_rules.proofs.Attempts.{attempts_of-append}
+use Rattle.p2p_log_rules.proofs.Handshakes.{is_among, among-without, handshakes_of-append}
+use Rattle.p2p_log_rules.proofs.Recorded.{item_named-first}
+use Rattle.p2p_log_rules.proofs.Touches.{in_ends}
+use Rattle.p2p_log_laws.proofs.Reaching.{writes}
+use Rattle.p2p_log_laws.proofs.Shapes.{row_shape}
+
+-- ---- what one row hands on
+
+module _ (log : List Entry) (n : ℕ) where
+  abbrev items_of : List (ℕ × ℕ) → List Item
+  items_of names = flat_map (item_named log) names
+
+  -- a row of the node m that did so, when it took such a word, puts at this place that a connection is to be made over this link
+  record IsHanding (W : Item → Type 0) (m link : ℕ) (p : ℕ) (i : Item) (r : Row) : Type 0 where
+    pub place : p ≡ 0
+    pub node : m ≡ n
+    pub key : Key
+    pub is : i ≡ item.Spawn key link
+    pub ok : r.reply ≡ reply.Ok
+    pub word : Item
+    pub items : items_of r.takes ≡ word ∷ []
+    pub such : W word
+
+  -- it does so in each put for the spawner of the node
+  abbrev Hands : (Item → Type 0) → ℕ → ℕ → Row → Type 0
+  Hands W m link r = (p : ℕ) (i : Item) → slice_get r.puts p ≡ Some (queue.Spawner n, i) → IsHanding W m link p i r
+
+  through : (W : Item → Type 0) (m link : ℕ) (o : Option LinkEnd) (r : Row) → Hands W m link r → Hands W m link (dropping log o r)
+  through W m link None r h p i at = h p i at
+  through W m link (Some e) r h p i at =
+      let k = h p i at in
+      record { place = k.place; node = k.node; key = k.key; is = k.is; ok = k.ok; word = k.word; items = k.items; such = k.such }
+
+  -- none is among these
+  no_put : (p : ℕ) (i : Item) → slice_get {X = Queue × Item} [] p ≡ Some (queue.Spawner n, i) → ⊥
+  no_put p i at = cc
+
+  other_put : (q : Queue) (j : Item) → (q ≡ queue.Spawner n → ⊥) → (p : ℕ) (i : Item) → slice_get {X = Queue × Item} ((q, j) ∷ []) p ≡ Some (queue.Spawner n, i) → ⊥
+  other_put q j other zero i at = other (ap (λ (x : Queue × Item). x.0) (same_Some {A = Queue × Item} (q, j) (queue.Spawner n, i) at))
+  other_put q j other (suc p) i at = no_put p i at
+
+  -- ---- an attempt, and a handshake
+
+  module _ (W : Item → Type 0) (m link : ℕ) where
+    given_up_hands : (key : Key) (names : List (ℕ × ℕ)) (left : List Envelope) → Hands W m link (given_up_row m key names left)
+    given_up_hands key names left p i at = absurd (other_put (queue.Tracker m) (item.Release key) (λ e. cc) p i at)
+
+    ready_hands : (full : Bool) (key : Key) (name : ℕ × ℕ) (left : List Envelope) (word : Item) → item_named log name ≡ word ∷ [] → W word → Hands W m link (ready_row m full key link name left)
+    ready_hands true key name left word named such p i at = given_up_hands key (name ∷ []) left p i at
+    ready_hands false key name left word named such zero i at =
+        let same : ◌≡◌ {A = Queue × Item} (queue.Spawner m, item.Spawn key link) (queue.Spawner n, i) =
+        same_Some {A = Queue × Item} (queue.Spawner m, item.Spawn key link) (queue.Spawner n, i) at
+        in
+        let queues : queue.Spawner m ≡ queue.Spawner n = ap (λ (x : Queue × Item). x.0) same in
+        record {
+          place = refl;
+          node = cc;
+          key = key;
+          is = sym (ap (λ (x : Queue × Item). x.1) same);
+          ok = refl;
+          word = word;
+          items = append-nil (item_named log name) ∙ named;
+          such = such;
+        }
+    ready_hands false key name left word named such (suc p) i at = absurd (no_put p i at)
+
+  abbrev IsFinish : Item → Type 0
+  IsFinish i = i ≡ item.Finished true
+
+  abbrev IsListen : Item → Type 0
+  IsListen i = (key : Key) × (i ≡ item.Listen (Some key))
+
+  module _ (configs : List Config) (k m at seed : ℕ) where
+    module _ (a : Attempt) where
+      abbrev AttemptHands : Row → Type 0
+      AttemptHands = Hands IsFinish m (link_of a.answer)
+
+      resolved_hands : (o : Option Attempt) (name : ℕ × ℕ) (left : List Envelope) → AttemptHands (resolved_row o m a.key name left)
+      resolved_hands None name left = given_up_hands IsFinish m (link_of a.answer) a.key (name ∷ []) left
+      resolved_hands (Some b) name left = λ p i put. absurd (no_put p i put)
+
+      took_hands : (full private : Bool) (name : ℕ × ℕ) (i : Item) (left : List Envelope) → item_named log name ≡ i ∷ [] → AttemptHands (took_row m full private seed a name i left)
+      took_hands full private name (item.Resolved addresses) left named = resolved_hands (resolved a.address private addresses seed a) name left
+      took_hands full private name item.Linked left named = λ p i put. absurd (no_put p i put)
+      took_hands full private name (item.Finished true) left named = ready_hands IsFinish m (link_of a.answer) full a.key name left (item.Finished true) named refl
+      took_hands full private name _ left named = given_up_hands IsFinish m (link_of a.answer) a.key (name ∷ []) left
+
+      turn_hands : (full private : Bool) (xs : List Envelope) → line log (queue.Attempt m k) ≡ xs → AttemptHands (attempt_turn m at seed full private a xs)
+      turn_hands full private [] first = by (nat_le a.deadline at)
+        where
+          by : (b : Bool) → AttemptHands (cond b (given_up_row m a.key [] []) (only reply.Idle))
+          by true = given_up_hands IsFinish m (link_of a.answer) a.key [] []
+          by false = λ p i put. absurd (no_put p i put)
+      turn_hands full private (x ∷ rest) first = took_hands full private (name_of x) x.item rest (item_named-first log (queue.Attempt m k) x rest first)
+
+    -- whose attempt stood, which this link answered
+    record AttemptHanding (p : ℕ) (i : Item) (r : Row) : Type 0 where
+      pub attempt : Attempt
+      pub stood : attempts_of configs log m k ≡ Some attempt
+      pub handing : IsHanding IsFinish m (link_of attempt.answer) p i r
+
+    tried_hands : (full private : Bool) (o : Option Attempt) → attempts_of configs log m k ≡ o → (p : ℕ) (i : Item)
+        → slice_get (attempt_by o m at seed full private (line log (queue.Attempt m k))).puts p ≡ Some (queue.Spawner n, i)
+        → AttemptHanding p i (attempt_by o m at seed full private (line log (queue.Attempt m k)))
+    tried_hands full private None stood p i put = absurd (no_put p i put)
+    tried_hands full private (Some a) stood p i put =
+        record { attempt = a; stood = stood; handing = turn_hands a full private (line log (queue.Attempt m k)) refl p i put }
+
+    attempt_hands : (p : ℕ) (i : Item) → slice_get (attempt_step_row configs log k m at seed).puts p ≡ Some (queue.Spawner n, i) → AttemptHanding p i (attempt_step_row configs log k m at seed)
+    attempt_hands p i =
+        by (cond (gave_up (attempt_row configs log k m at seed).puts) (dialing_end (attempts_of configs log m k)) None) (attempt_row configs log k m at seed)
+        (tried_hands (is_spawner_full configs log m) (dial_rules_at configs m).private (attempts_of configs log m k) refl p i)
+      where
+        by : (o : Option LinkEnd) (r : Row) → (slice_get r.puts p ≡ Some (queue.Spawner n, i) → AttemptHanding p i r) → slice_get (dropping log o r).puts p ≡ Some (queue.Spawner n, i)
+            → AttemptHanding p i (dropping log o r)
+        by None r h put = h put
+        by (Some e) r h put =
+            let k = h put in
+            let g = k.handing in
+            record {
+              attempt = k.attempt;
+              stood = k.stood;
+              handing = record { place = g.place; node = g.node; key = g.key; is = g.is; ok = g.ok; word = g.word; items = g.items; such = g.such };
+            }
+
+    abbrev peer : Peer
+    peer = peer_at log k
+
+    heard_hands : (full : Bool) (name : ℕ × ℕ) (i : Item) (left : List Envelope) → item_named log name ≡ i ∷ [] → Hands IsListen m peer.link (shaking.took_row m full k peer name i left)
+    heard_hands full name (item.Acceptable true) left named = λ p i put. absurd (no_put p i put)
+    heard_hands full name (item.Acceptable false) left named = λ p i put. absurd (no_put p i put)
+    heard_hands full name (item.Finished true) left named = λ p i put. absurd (other_put (queue.Tracker m) (item.AskListen k peer.key) (λ e. cc) p i put)
+    heard_hands full name (item.Finished false) left named = λ p i put. absurd (no_put p i put)
+    heard_hands full name (item.Listen (Some key)) left named = ready_hands IsListen m peer.link full key name left (item.Listen (Some key)) named (key, refl)
+    heard_hands full name (item.Listen None) left named = λ p i put. absurd (no_put p i put)
+    heard_hands full name _ left named = λ p i put. absurd (no_put p i put)
+
+    shaken_hands : (full due : Bool) (xs : List Envelope) → line log (queue.Handshake m k) ≡ xs → Hands IsListen m peer.link (shaking.handshake_turn m full due k peer xs)
+    shaken_hands full true [] first = λ p i put. absurd (no_put p i put)
+    shaken_hands full false [] first = λ p i put. absurd (no_put p i put)
+    shaken_hands full due (x ∷ rest) first = heard_hands full (name_of x) x.item rest (item_named-first log (queue.Handshake m k) x rest first)
+
+    -- a handshake that runs, over the link of its peer
+    record HandshakeHanding (p : ℕ) (i : Item) (r : Row) : Type 0 where
+      pub runs : is_handshaking log m k ≡ true
+      pub handing : IsHanding IsListen m peer.link p i r
+
+    exchange_hands : (full due runs : Bool) → is_handshaking log m k ≡ runs → (p : ℕ) (i : Item)
+        → slice_get (cond runs (shaking.handshake_turn m full due k peer (line log (queue.Handshake m k))) (only reply.Gone)).puts p ≡ Some (queue.Spawner n, i)
+        → HandshakeHanding p i (cond runs (shaking.handshake_turn m full due k peer (line log (queue.Handshake m k))) (only reply.Gone))
+    exchange_hands full due true runs p i put = record { runs = runs; handing = shaken_hands full due (line log (queue.Handshake m k)) refl p i put }
+    exchange_hands full due false runs p i put = absurd (no_put p i put)
+
+    handshake_hands : (p : ℕ) (i : Item) → slice_get (handshake_step_row configs log k m at).puts p ≡ Some (queue.Spawner n, i) → HandshakeHanding p i (handshake_step_row configs log k m at)
+    handshake_hands p i =
+        let r = shaking.handshake_row configs log k m at in
+        by (cond (broke_off r.reply (map (λ x. x.item) (take 1 (line log (queue.Handshake m k)))) r.puts) (Some (peer.link, side.In)) None) r
+        (exchange_hands (is_spawner_full configs log m) (shaking.is_due (shaking.handshake_deadline configs log k m) at (is_finished log m k)) (is_handshaking log m k) refl p i)
+      where
+        by : (o : Option LinkEnd) (r : Row) → (slice_get r.puts p ≡ Some (queue.Spawner n, i) → HandshakeHanding p i r) → slice_get (dropping log o r).puts p ≡ Some (queue.Spawner n, i)
+            → HandshakeHanding p i (dropping log o r)
+        by None r h put = h put
+        by (Some e) r h put =
+            let k = h put in
+            let g = k.handing in
+            record { runs = k.runs; handing = record { place = g.place; node = g.node; key = g.key; is = g.is; ok = g.ok; word = g.word; items = g.items; such = g.such } }
+
+-- ---- so it ends
+
+attempt_ends : (rules : DialRules) (n m at seed k : ℕ) (r : Reply) (items : List Item) (f : ℕ → Option Attempt) → r ≡ reply.Ok → items ≡ item.Finished true ∷ []
+    → acted_attempts rules n m at seed r items (act.Attempt k n) f k ≡ None
+attempt_ends rules n m at seed k r items f ok word =
+    ap (λ b. cond b (cond (k == k) (and_then (stepped_attempt rules at seed r items) (f k)) (f k)) (f k)) (eq-eqb n n refl)
+    ∙ (ap (λ b. cond b (and_then (stepped_attempt rules at seed r items) (f k)) (f k)) (eq-eqb k k refl)
+    ∙ (ap (λ x. and_then (stepped_attempt rules at seed x items) (f k)) ok ∙ (ap (λ is. and_then (stepped_attempt rules at seed reply.Ok is) (f k)) word ∙ by (f k))))
+  where
+    by : (o : Option Attempt) → and_then (stepped_attempt rules at seed reply.Ok (item.Finished true ∷ [])) o ≡ None
+    by None = refl
+    by (Some a) = refl
+
+handshake_ends : (n m h : ℕ) (r : Reply) (items : List Item) (key : Key) (names : List ℕ) → r ≡ reply.Ok → items ≡ item.Listen (Some key) ∷ []
+    → is_among h (acted_handshakes n m r items (act.Handshake h n) names) ≡ false
+handshake_ends n m h r items key names ok word =
+    ap (λ b. is_among h (cond b (unless_ended (ends_handshake r items) h names) names)) (eq-eqb n n refl)
+    ∙ (ap (λ x. is_among h (unless_ended (ends_handshake x items) h names)) ok
+    ∙ (ap (λ is. is_among h (unless_ended (ends_handshake reply.Ok is) h names)) word
+    ∙ (among-without h h names ∙ ap (λ b. not b && is_among h names) (eq-eqb h h refl))))
+
+-- an attempt of the node that this link answered hands it over, and ends
+pub record IsDialedOn (configs : List Config) (log : List Entry) (n link : ℕ) (e : Entry) : Type 0 where
+  pub attempt : ℕ
+  pub acts : e.event.act ≡ act.Attempt attempt n
+  pub a : Attempt
+  pub stood : attempts_of configs log n attempt ≡ Some a
+  pub answered : link_of a.answer ≡ link
+  pub gone : attempts_of configs (log ++ e ∷ []) n attempt ≡ None
+
+-- a handshake does whose peer came over it
+pub record IsHeardOn (log : List Entry) (n link : ℕ) (e : Entry) : Type 0 where
+  pub handshake : ℕ
+  pub acts : e.event.act ≡ act.Handshake handshake n
+  pub runs : is_handshaking log n handshake ≡ true
+  pub came : (peer_at log handshake).link ≡ link
+  pub gone : is_handshaking (log ++ e ∷ []) n handshake ≡ false
+
+-- the entry puts this for the spawner of the node: that a connection is to be made over a link
+pub record HandsOn (configs : List Config) (log : List Entry) (n p : ℕ) (i : Item) (e : Entry) : Type 0 where
+  pub place : p ≡ 0
+  pub key : Key
+  pub link : ℕ
+  pub is : i ≡ item.Spawn key link
+  pub by : IsDialedOn configs log n link e ⊎ IsHeardOn log n link e
+
+module _ (configs : List Config) (log : List Entry) (ev : Event) (n : ℕ) where
+  abbrev e : Entry
+  e = effect configs log ev
+
+  abbrev Given : Act → Type 0
+  Given a = (p : ℕ) (i : Item) → slice_get (row configs log ev.at ev.seed a).puts p ≡ Some (queue.Spawner n, i) → HandsOn configs log n p i e
+
+  tried : (k m : ℕ) → ev.act ≡ act.Attempt k m → (p : ℕ) (i : Item) → AttemptHanding log n configs k m ev.at ev.seed p i (row configs log ev.at ev.seed ev.act) → HandsOn configs log n p i e
+  unfolding effect taken
+  tried k m acts p i h =
+      let g = h.handing in
+      let r : Row = row configs log ev.at ev.seed ev.act in
+      let here : ev.act ≡ act.Attempt k n = acts ∙ ap (act.Attempt k) g.node in
+      record {
+        place = g.place;
+        key = g.key;
+        link = link_of h.attempt.answer;
+        is = g.is;
+        by = inl (record {
+          attempt = k;
+          acts = here;
+          a = h.attempt;
+          stood = subst (λ j. attempts_of configs log j k ≡ Some h.attempt) g.node h.stood;
+          answered = refl;
+          gone =
+              attempts_of-append configs log (entry_of ev r) n k
+              ∙ (ap (λ a. acted_attempts (dial_rules_at configs n) n (length log) ev.at ev.seed r.reply (taken log (entry_of ev r)) a (attempts_of configs log n) k) here
+              ∙ attempt_ends (dial_rules_at configs n) n (length log) ev.at ev.seed k r.reply (taken log (entry_of ev r)) (attempts_of configs log n) g.ok (g.items ∙ ap (λ w. w ∷ []) g.such));
+        });
+      }
+
+  heard : (k m : ℕ) → ev.act ≡ act.Handshake k m → (p : ℕ) (i : Item) → HandshakeHanding log n configs k m ev.at ev.seed p i (row configs log ev.at ev.seed ev.act) → HandsOn configs log n p i e
+  unfolding effect taken
+  heard k m acts p i h =
+      let g = h.handing in
+      let r : Row = row configs log ev.at ev.seed ev.act in
+      let here : ev.act ≡ act.Handshake k n = acts ∙ ap (act.Handshake k) g.node in
+      record {
+        place = g.place;
+        key = g.key;
+        link = (peer_at log k).link;
+        is = g.is;
+        by = inr (record {
+          handshake = k;
+          acts = here;
+          runs = subst (λ j. is_handshaking log j k ≡ true) g.node h.runs;
+          came = refl;
+          gone =
+              ap (is_among k) (handshakes_of-append log (entry_of ev r) n)
+              ∙ (ap (λ a. is_among k (acted_handshakes n (length log) r.reply (taken log (entry_of ev r)) a (handshakes_of log n))) here
+              ∙ handshake_ends n (length log) k r.reply (taken log (entry_of ev r)) g.such.0 (handshakes_of log n) g.ok (g.items ∙ ap (λ w. w ∷ []) g.such.1));
+        });
+      }
+
+  -- what an act does not reach
+  aside : (a : Act) → writes configs log a (queue.Spawner n) ≡ false → Given a
+  aside a other p i put =
+      absurd (false≢true (sym other ∙ Each-has (λ (x : Queue × Item). writes configs log a x.0 ≡ true) (row configs log ev.at ev.seed a).puts (queue.Spawner n, i) (row_shape configs log ev.at ev.seed a).reach.puts
+      (Has-get (row configs log ev.at ev.seed a).puts p (queue.Spawner n, i) put)))
+
+  ends_aside : (o : Option Opening) → in_ends o (queue.Spawner n) ≡ false
+  ends_aside None = refl
+  ends_aside (Some o) = refl
+
+  given : (a : Act) → ev.act ≡ a → Given a
+  unfolding row
+  given (act.Attempt k m) acts p i put = tried k m acts p i (subst (λ a. AttemptHanding log n configs k m ev.at ev.seed p i (row configs log ev.at ev.seed a)) (sym acts) (attempt_hands log n configs k m ev.at ev.seed p i put))
+  given (act.Handshake k m) acts p i put = heard k m acts p i (subst (λ a. HandshakeHanding log n configs k m ev.at ev.seed p i (row configs log ev.at ev.seed a)) (sym acts) (handshake_hands log n configs k m ev.at ev.seed p i put))
+  given (act.Finish link ok) acts p i put = aside (act.Finish link ok) (ends_aside (openings_of log link)) p i put
+  given a acts p i put = aside a refl p i put
+
+  pub hands_on : (p : ℕ) (i : Item) → slice_get (effect configs log ev).puts p ≡ Some (queue.Spawner n, i) → HandsOn configs log n p i (effect configs log ev)
+  unfolding effect
+  hands_on = given ev.act refl

@@ -1,0 +1,278 @@
+-- What each act does to the grants of a key at a node: what a row has to show, and rows that move none, that end a connection, and that drop the end of a link.
+use Rattle.std.proofs.Common.{◌≡◌, ℕ, ◌+◌, Bool, true, false, cond, List, [], ◌∷◌, ◌++◌, length, Option, Some, None, refl, ap, sym, subst, ◌∙◌, arith, eqb-true, length-append, inl, inr}
+use Rattle.std.specs.Prelude.{◌==◌, ◌&&◌, ◌||◌, count_by}
+use Rattle.std.specs.List.{AllByRecursion as Each, list_any}
+use Rattle.std.proofs.lemmas.Bool.{false≢true}
+use Rattle.std.proofs.lemmas.Bool.Decides.{nat_tests}
+use Rattle.std.proofs.lemmas.List.Sums.{sum_by-cons}
+use Rattle.p2p_base.specs.declared.key.Key.{Key}
+use Rattle.p2p_tracker_calls.specs.declared.call.Call.{Call}
+use Rattle.p2p_tracker_calls.specs.Blocks.{is_local}
+use Rattle.p2p_tracker_calls.specs.Grants.{is_held}
+use Rattle.p2p_tracker_calls.specs.Jitter.{jitter_of}
+use Rattle.p2p_log.specs.declared.config.Config.{Config}
+use Rattle.p2p_log.specs.declared.queue.Queue.TheVariants as queue
+use Rattle.p2p_log.specs.declared.queue.Side.{Side}
+use Rattle.p2p_log.specs.declared.queue.Side.TheVariants as side
+use Rattle.p2p_log.specs.declared.item.Item.{Item}
+use Rattle.p2p_log.specs.declared.item.Item.TheVariants as item
+use Rattle.p2p_log.specs.declared.entry.Entry.{Entry}
+use Rattle.p2p_log.specs.declared.event.Act.{Act}
+use Rattle.p2p_log.specs.declared.event.Event.{Event}
+use Rattle.p2p_log.proofs.Each.{Each-weaker, count_by-none}
+use Rattle.p2p_log.proofs.Queues.{same_queue-refl}
+use Rattle.p2p_log_rules.specs.declared.row.Row.{Row}
+use Rattle.p2p_log_rules.specs.Attempting.{Attempt, dial_rules_at, acted_attempts, attempts_by, attempts_of}
+use Rattle.p2p_log_rules.specs.Connections.{steps_sender, steps_receiver, is_end, ends_connection, is_ended, live_connection}
+use Rattle.p2p_log_rules.specs.Dropping.{LinkEnd, other_side, dropping}
+use Rattle.p2p_log_rules.specs.Effect.{entry_of}
+use Rattle.p2p_log_rules.proofs.Attempts.{attempts_of-append}
+use Rattle.p2p_log_rules.proofs.Connections.{ends_none-reply, is_ended-append}
+use Rattle.p2p_log_rules.proofs.Spawning.{connections_of-acted}
+use Rattle.p2p_log_rules.specs.Facts.{taken, with_begun}
+use Rattle.p2p_log_rules.specs.Moves.{Moves}
+use Rattle.p2p_log_rules.specs.Spawning.{steps_spawner, spawned_of, connections_of}
+use Rattle.p2p_log_rules.specs.Tracking.{key_cmp, rules_at, steps_tracker, step_calls, grants_peer, calls_by, calls_of}
+use Rattle.p2p_log_laws.proofs.Reaching.{reads, writes}
+use Rattle.p2p_log_laws.specs.Grants.{one, Granting, turn_by, held_after}
+use Rattle.p2p_log_laws.specs.NodeGrants.{count_below, releases_key, is_attempt_of, is_connection_of, beginners_of, puts_grant, puts_release, granting}
+use Rattle.p2p_log_laws.proofs.AttemptHolds.{held_by_attempts, holds_kept}
+use Rattle.p2p_log_laws.proofs.ConnectionHolds.{held_by_connections, live_early, live_holds, connections_kept, connections_ended}
+use Rattle.p2p_log_laws.proofs.CountBelow.{count_below-same}
+use Rattle.p2p_log_laws.proofs.Plain.{IsAside, Away, Plain, StandsPlain, IsPlain, away_aside, plain_aside, stand_aside, no_grants, no_releases, no_grants_stand, no_releases_stand, plain_out_of_reach}
+use Rattle.p2p_log_laws.proofs.Shape.{Shape}
+use Rattle.p2p_log_laws.proofs.Dropped.{taken_same, ended_more, flying_none, taken-dropping}
+use Rattle.p2p_log_laws.proofs.HalfSteps.{released, IsLast, IsStep}
+use Rattle.p2p_log_laws.proofs.Weighing.{weight, count_by-one}
+
+pub other_way : (m n : ℕ) → (m == n) ≡ false → (n == m) ≡ false
+other_way m n h = grind (arith, nat_tests)
+
+module _ (configs : List Config) (n : ℕ) (key : Key) (log : List Entry) where
+  abbrev g : Granting
+  g = granting configs n key
+
+  abbrev calls : List (Call Key)
+  calls = calls_of configs log n
+
+  abbrev f : ℕ → Option Attempt
+  f = attempts_of configs log n
+
+  -- what a row moves of the grants and releases, and the turn that it makes
+  pub record Weighs (ev : Event) (r : Row) : Type 0 where
+    pub moves : Moves log r
+    pub holding : (beginners_of n key configs log + one (g.grants log (entry_of ev r))) + (weight (puts_grant n key) moves.taken + weight (puts_grant n key) moves.ended)
+        ≡ beginners_of n key configs (log ++ entry_of ev r ∷ []) + (count_by (puts_grant n key) r.puts + count_by (puts_release n key) r.puts)
+    pub waiting : weight (puts_release n key) moves.taken + weight (puts_release n key) moves.ended ≡ one (g.frees log (entry_of ev r))
+    pub turn : is_held key_cmp (calls_by configs n log (entry_of ev r) calls) key ≡ held_after (is_held key_cmp calls key) (turn_by g log (entry_of ev r))
+    -- a key that is granted was not held, is not the node's own, and is not freed as well
+    pub free : g.grants log (entry_of ev r) ≡ true → is_held key_cmp calls key ≡ false
+    pub others : g.grants log (entry_of ev r) ≡ true → is_local key_cmp (rules_at configs n) key ≡ false
+    pub apart : g.grants log (entry_of ev r) ≡ true → g.frees log (entry_of ev r) ≡ false
+
+  -- ---- acts other than a step of the tracker
+
+  module _ (ev : Event) (r : Row) (still : steps_tracker n ev.act ≡ false) where
+    abbrev e : Entry
+    e = entry_of ev r
+
+    no_grant : g.grants log e ≡ false
+    no_grant = ap (λ b. b && list_any (puts_grant n key) r.puts) still
+
+    no_free : g.frees log e ≡ false
+    no_free = ap (λ b. b && list_any (releases_key key) (taken log e)) still
+
+    abbrev stepped : List (Call Key)
+    stepped = step_calls log r.reply (taken log e) ev.at (jitter_of (rules_at configs n).cooldown ev.seed) (list_any grants_peer r.puts) calls
+
+    same_turn : is_held key_cmp (calls_by configs n log e calls) key ≡ held_after (is_held key_cmp calls key) (turn_by g log e)
+    same_turn =
+        ap (λ b. is_held key_cmp (cond b stepped calls) key) still
+        ∙ sym (ap (λ b. held_after (is_held key_cmp calls key) (cond b (true ∷ []) (cond (g.frees log e) (false ∷ []) []))) no_grant
+        ∙ ap (λ b. held_after (is_held key_cmp calls key) (cond b (false ∷ []) [])) no_free)
+
+    -- what such an act moves
+    pub passed : (m : Moves log r) → (weight (puts_grant n key) m.taken + weight (puts_grant n key) m.ended) + beginners_of n key configs log
+        ≡ beginners_of n key configs (log ++ e ∷ []) + (count_by (puts_grant n key) r.puts + count_by (puts_release n key) r.puts)
+        → weight (puts_release n key) m.taken ≡ 0 → weight (puts_release n key) m.ended ≡ 0 → Weighs ev r
+    passed m held taken ended =
+        let none : one (g.grants log e) ≡ 0 = ap one no_grant in
+        let no_release : one (g.frees log e) ≡ 0 = ap one no_free in
+        record {
+          moves = m;
+          holding = omega (arith, held, none);
+          waiting = omega (arith, taken, ended, no_release);
+          turn = same_turn;
+          free = λ h. absurd (false≢true (sym no_grant ∙ h));
+          others = λ h. absurd (false≢true (sym no_grant ∙ h));
+          apart = λ h. no_free;
+        }
+
+    -- one that makes and ends no connection
+    pub moved : steps_spawner n ev.act ≡ false → ((k : ℕ) → ends_connection n k e ≡ false) → (m : Moves log r) → (weight (puts_grant n key) m.taken + weight (puts_grant n key) m.ended) + held_by_attempts configs n key log
+        ≡ held_by_attempts configs n key (log ++ e ∷ []) + (count_by (puts_grant n key) r.puts + count_by (puts_release n key) r.puts)
+        → weight (puts_release n key) m.taken ≡ 0 → weight (puts_release n key) m.ended ≡ 0 → Weighs ev r
+    moved makes lives m held taken ended = let kept = connections_kept n key log e makes lives in passed m (omega (arith, held, kept)) taken ended
+
+    -- and moves none of them
+    pub plain_weighs : steps_spawner n ev.act ≡ false → ((k : ℕ) → ends_connection n k e ≡ false) → (m : Moves log r) → IsPlain n key log r m → ((k : ℕ) → is_attempt_of key (attempts_by configs n log e f k) ≡ is_attempt_of key (f k)) → Weighs ev r
+    plain_weighs makes lives m plain kept =
+        let held = holds_kept configs n key log e kept in
+        let taken = no_grants_stand n key m.taken plain.taken in
+        let ended = no_grants_stand n key m.ended plain.ended in
+        let granted = no_grants n key r.puts plain.puts in
+        let released = no_releases n key r.puts plain.puts in
+        moved makes lives m (omega (arith, held, taken, ended, granted, released)) (no_releases_stand n key m.taken plain.taken) (no_releases_stand n key m.ended plain.ended)
+
+  abbrev pub event : ℕ → ℕ → Act → Event
+  event at seed a = record { at = at; seed = seed; act = a }
+
+  module _ (at seed : ℕ) where
+    -- one that reaches no queue in which a grant or a release may wait
+    pub other : (a : Act) (r : Row) → Shape configs log a r → Away n (reads configs log a) → Away n (writes configs log a) → steps_tracker n a ≡ false → steps_spawner n a ≡ false
+        → ((k : ℕ) → ends_connection n k (entry_of (event at seed a) r) ≡ false)
+        → ((k : ℕ) → is_attempt_of key (attempts_by configs n log (entry_of (event at seed a) r) f k) ≡ is_attempt_of key (f k)) → Weighs (event at seed a) r
+    other a r shape read written still makes lives kept =
+        plain_weighs (event at seed a) r still makes lives shape.moves (plain_out_of_reach n key configs a log r shape.moves shape.reach read written) kept
+
+    -- ---- a step of a half
+
+    -- it ends a connection of this node, whose grant its release gives back
+    last_weighs : (a : Act) (conn : ℕ) (r : Row) (shape : Shape configs log a r) → Away n (reads configs log a) → Each (StandsPlain n key) shape.moves.ended → steps_tracker n a ≡ false → steps_spawner n a ≡ false
+        → ((k : ℕ) → (steps_sender n k a || steps_receiver n k a) ≡ (conn == k)) → IsLast log n conn r
+        → ((k : ℕ) → is_attempt_of key (attempts_by configs n log (entry_of (event at seed a) r) f k) ≡ is_attempt_of key (f k)) → Weighs (event at seed a) r
+    last_weighs a conn r shape read aside still makes steps last kept =
+        let m : Moves log r = shape.moves in
+        let e : Entry = entry_of (event at seed a) r in
+        let peer : Key = last.half.peer in
+        let taken_plain : Each (StandsPlain n key) m.taken =
+        stand_aside n key m.taken (Each-weaker (λ x. reads configs log a x.queue ≡ true) (λ x. IsAside n x.queue) (λ x h. away_aside n (reads configs log a) read x.queue h) m.taken shape.reach.taken)
+        in
+        let held = holds_kept configs n key log e kept in
+        let ended : held_by_connections n key (log ++ e ∷ []) + one (is_connection_of key (live_connection log n conn)) ≡ held_by_connections n key log =
+        connections_ended n key log e makes conn (live_early log n conn last.half last.lived) (λ k. ap (λ b. b && is_end r.reply) (steps k) ∙ (ap (λ b. (conn == k) && b) last.ends ∙ and_true (conn == k)))
+        in
+        let holder : one (is_connection_of key (live_connection log n conn)) ≡ one (peer.0 == key.0) = ap one (live_holds n key log conn last.half last.lived) in
+        let taken_grants = no_grants_stand n key m.taken taken_plain in
+        let ended_grants = no_grants_stand n key m.ended aside in
+        let granted : count_by (puts_grant n key) r.puts ≡ 0 = ap (λ xs. count_by (puts_grant n key) xs) last.puts ∙ no_grants_released peer in
+        let given_back : count_by (puts_release n key) r.puts ≡ one (peer.0 == key.0) = ap (λ xs. count_by (puts_release n key) xs) last.puts ∙ releases_released peer in
+        passed (event at seed a) r still m (omega (arith, held, ended, holder, taken_grants, ended_grants, granted, given_back))
+        (no_releases_stand n key m.taken taken_plain) (no_releases_stand n key m.ended aside)
+      where
+        and_true : (b : Bool) → (b && true) ≡ b
+        and_true true = refl
+        and_true false = refl
+
+        no_grants_released : (k : Key) → count_by (puts_grant n key) (released n k) ≡ 0
+        no_grants_released k = count_by-none (puts_grant n key) (released n k) (refl, (refl, tt))
+
+        releases_released : (k : Key) → count_by (puts_release n key) (released n k) ≡ one (k.0 == key.0)
+        releases_released k =
+            sum_by-cons (λ x. cond (puts_release n key x) 1 0) (queue.Router n, item.Release k) ((queue.Tracker n, item.Release k) ∷ [])
+            ∙ (zero_more (count_by (puts_release n key) ((queue.Tracker n, item.Release k) ∷ []))
+            ∙ (count_by-one (puts_release n key) (queue.Tracker n, item.Release k) ∙ ap one (ap (λ b. b && (k.0 == key.0)) (same_queue-refl (queue.Tracker n)))))
+          where
+            zero_more : (c : ℕ) → 0 + c ≡ c
+            zero_more c = omega arith
+
+    -- it goes on, or ends
+    pub step_weighs : (a : Act) (m conn : ℕ) (r : Row) (shape : Shape configs log a r) → Away n (reads configs log a) → Each (StandsPlain n key) shape.moves.ended → steps_tracker n a ≡ false → steps_spawner n a ≡ false
+        → ((k : ℕ) → (steps_sender n k a || steps_receiver n k a) ≡ ((m == n) && (conn == k))) → IsStep (Plain n key) log m conn r
+        → ((k : ℕ) → is_attempt_of key (attempts_by configs n log (entry_of (event at seed a) r) f k) ≡ is_attempt_of key (f k)) → Weighs (event at seed a) r
+    step_weighs a m conn r shape read aside still makes steps step kept = by step
+      where
+        plain : ((k : ℕ) → ends_connection n k (entry_of (event at seed a) r) ≡ false) → Each (Plain n key) r.puts → Weighs (event at seed a) r
+        plain lives puts =
+            plain_weighs (event at seed a) r still makes lives shape.moves
+            (record {
+              taken = stand_aside n key shape.moves.taken
+                  (Each-weaker (λ x. reads configs log a x.queue ≡ true) (λ x. IsAside n x.queue) (λ x h. away_aside n (reads configs log a) read x.queue h) shape.moves.taken shape.reach.taken);
+              ended = aside;
+              puts = puts;
+            }) kept
+
+        by_node : (b : Bool) → (m == n) ≡ b → IsLast log m conn r → Weighs (event at seed a) r
+        by_node true same last =
+            last_weighs a conn r shape read aside still makes (λ k. steps k ∙ ap (λ b. b && (conn == k)) same) (subst (λ i. IsLast log i conn r) (eqb-true m n same) last) kept
+        by_node false differ last =
+            plain (λ k. ap (λ b. b && is_end r.reply) (steps k ∙ ap (λ b. b && (conn == k)) differ))
+            (subst (Each (Plain n key)) (sym last.puts)
+            (plain_aside n key (queue.Router m) (item.Release last.half.peer) (refl, refl), (plain_aside n key (queue.Tracker m) (item.Release last.half.peer) (refl, ap (λ b. b && true) (other_way m n differ)), tt)))
+
+        by : IsStep (Plain n key) log m conn r → Weighs (event at seed a) r
+        by (inl goes) = plain (λ k. ends_none-reply (entry_of (event at seed a) r) n k goes.0) goes.1
+        by (inr last) = by_node (m == n) refl last
+
+    -- ---- a row that drops the end of a link too
+
+    beginners_same : (ev : Event) (r : Row) (cut : LinkEnd) → beginners_of n key configs (log ++ entry_of ev (dropping log (Some cut) r) ∷ []) ≡ beginners_of n key configs (log ++ entry_of ev r ∷ [])
+    beginners_same ev r cut = sums attempts_now connections_now
+      where
+        s : Row
+        s = dropping log (Some cut) r
+
+        long : length (log ++ entry_of ev s ∷ []) ≡ length (log ++ entry_of ev r ∷ [])
+        long = length-append log (entry_of ev s ∷ []) ∙ sym (length-append log (entry_of ev r ∷ []))
+
+        took : taken log (entry_of ev s) ≡ taken log (entry_of ev r)
+        took = taken-dropping log ev (Some cut) r
+
+        counted : (p q : ℕ → Bool) → ((k : ℕ) → p k ≡ q k) → count_below (length (log ++ entry_of ev s ∷ [])) p ≡ count_below (length (log ++ entry_of ev r ∷ [])) q
+        counted p q same = ap (λ m. count_below m p) long ∙ count_below-same q p (length (log ++ entry_of ev r ∷ [])) same
+
+        attempts_now : held_by_attempts configs n key (log ++ entry_of ev s ∷ []) ≡ held_by_attempts configs n key (log ++ entry_of ev r ∷ [])
+        attempts_now =
+            counted (λ k. is_attempt_of key (attempts_of configs (log ++ entry_of ev s ∷ []) n k)) (λ k. is_attempt_of key (attempts_of configs (log ++ entry_of ev r ∷ []) n k))
+            (λ k. ap (is_attempt_of key)
+            (attempts_of-append configs log (entry_of ev s) n k
+            ∙ (ap (λ items. acted_attempts (dial_rules_at configs n) n (length log) ev.at ev.seed r.reply items ev.act f k) took ∙ sym (attempts_of-append configs log (entry_of ev r) n k))))
+
+        connections_now : held_by_connections n key (log ++ entry_of ev s ∷ []) ≡ held_by_connections n key (log ++ entry_of ev r ∷ [])
+        connections_now =
+            counted (λ k. is_connection_of key (live_connection (log ++ entry_of ev s ∷ []) n k)) (λ k. is_connection_of key (live_connection (log ++ entry_of ev r ∷ []) n k))
+            (λ k.
+            let over : is_ended (log ++ entry_of ev s ∷ []) n k ≡ is_ended (log ++ entry_of ev r ∷ []) n k = is_ended-append log (entry_of ev s) n k ∙ sym (is_ended-append log (entry_of ev r) n k) in
+            let made : connections_of (log ++ entry_of ev s ∷ []) n k ≡ connections_of (log ++ entry_of ev r ∷ []) n k =
+            connections_of-acted log (entry_of ev s) n (steps_spawner n ev.act) refl k
+            ∙ (ap (λ items. cond (steps_spawner n ev.act) (with_begun (spawned_of items) (length log) (connections_of log n) k) (connections_of log n k)) took
+            ∙ sym (connections_of-acted log (entry_of ev r) n (steps_spawner n ev.act) refl k))
+            in
+            ap (λ b. is_connection_of key (cond b None (connections_of (log ++ entry_of ev s ∷ []) n k))) over
+            ∙ ap (λ o. is_connection_of key (cond (is_ended (log ++ entry_of ev r ∷ []) n k) None o)) made)
+
+        sums : {a b c d : ℕ} → a ≡ b → c ≡ d → a + c ≡ b + d
+        sums is also = omega (arith, is, also)
+
+    pub dropped_weighs : (ev : Event) (r : Row) (o : Option LinkEnd) → Weighs ev r → Moves log (dropping log o r) → Weighs ev (dropping log o r)
+    dropped_weighs ev r None h d = h
+    dropped_weighs ev r (Some cut) h d =
+        let s : Row = dropping log (Some cut) r in
+        let took : taken log (entry_of ev s) ≡ taken log (entry_of ev r) = taken-dropping log ev (Some cut) r in
+        let same = beginners_same ev r cut in
+        let holding = h.holding in
+        let waiting = h.waiting in
+        let grants_taken = taken_same log r (Some cut) h.moves d (puts_grant n key) in
+        let releases_taken = taken_same log r (Some cut) h.moves d (puts_release n key) in
+        let grants_ended = ended_more log r (Some cut) h.moves d (puts_grant n key) in
+        let releases_ended = ended_more log r (Some cut) h.moves d (puts_release n key) in
+        let no_grant = flying_none log (Some cut) (puts_grant n key) (λ e i. refl) in
+        let no_release = flying_none log (Some cut) (puts_release n key) (λ e i. no_link e.0 (other_side e.1) i) in
+        let frees : g.frees log (entry_of ev s) ≡ g.frees log (entry_of ev r) = ap (λ items. steps_tracker n ev.act && list_any (releases_key key) items) took in
+        let freed : one (g.frees log (entry_of ev s)) ≡ one (g.frees log (entry_of ev r)) = ap one frees in
+        record {
+          moves = d;
+          holding = omega (arith, holding, same, grants_taken, grants_ended, no_grant);
+          waiting = omega (arith, waiting, releases_taken, releases_ended, no_release, freed);
+          turn =
+              ap (λ items. is_held key_cmp
+              (cond (steps_tracker n ev.act) (step_calls log r.reply items ev.at (jitter_of (rules_at configs n).cooldown ev.seed) (list_any grants_peer r.puts) calls) calls) key) took
+              ∙ (h.turn ∙ ap (λ b. held_after (is_held key_cmp calls key) (cond (g.grants log (entry_of ev r)) (true ∷ []) (cond b (false ∷ []) []))) (sym frees));
+          free = h.free;
+          others = h.others;
+          apart = λ granted. frees ∙ h.apart granted;
+        }
+      where
+        no_link : (link : ℕ) (side : Side) (i : Item) → puts_release n key (queue.Link link side, i) ≡ false
+        no_link link side.Out i = refl
+        no_link link side.In i = refl
