@@ -1,2 +1,3 @@
 pub mod Attempting
 pub mod Changes
+pub mod Dropping

@@ -47,6 +47,11 @@ abbrev pub dialed_key : Option RunningAttempt → Option Key
 dialed_key None = None
 dialed_key (Some a) = option_map peer_of a.actor.reserved
 
+-- the event that answered the dial of an attempt that stands, where one did
+abbrev pub answer_of : Option RunningAttempt → Option ℕ
+answer_of None = None
+answer_of (Some a) = a.answer
+
 -- ---- what it is told
 
 -- it was told this under this name

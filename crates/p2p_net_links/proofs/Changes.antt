@@ -1,10 +1,11 @@
 -- The links after one more entry.
 use Rattle.std.proofs.Common.{◌≡◌, ℕ, ◌+◌, Bool, true, false, cond, List, [], ◌∷◌, ◌++◌, length, drop, refl, ap, sym, ◌∙◌, arith, append_assoc, append-nil, subst, Option, Some, None}
-use Rattle.std.specs.Prelude.{◌==◌, filter, map, ◌&&◌}
+use Rattle.std.specs.Prelude.{◌==◌, filter, map, ◌&&◌, is_some}
 use Rattle.std.specs.BTreeMap.{is_at, insert_entry}
 use Rattle.std.specs.Ordering.{nat_cmp}
 use Rattle.std.proofs.lemmas.Bool.Decides.{nat_tests}
 use Rattle.std.proofs.lemmas.Option.{same_Some}
+use Rattle.p2p_log.specs.declared.config.Config.{Config}
 use Rattle.p2p_log.specs.declared.queue.Queue.{Queue}
 use Rattle.p2p_log.specs.declared.queue.Queue.TheVariants as queue
 use Rattle.p2p_log.specs.declared.queue.Side.{Side}
@@ -21,6 +22,7 @@ use Rattle.p2p_log.specs.QueueCode.{same_queue}
 use Rattle.p2p_log.specs.Lines.{line, stands_in, placed}
 use Rattle.p2p_log.proofs.Queues.{same_queue-sym}
 use Rattle.p2p_log_rules.specs.declared.row.Opening.{Opening}
+use Rattle.p2p_log_rules.specs.Dropping.{is_dropped}
 use Rattle.p2p_log_rules.specs.Effect.{ping_puts}
 use Rattle.p2p_log_rules.specs.Facts.{state_from, with_named}
 use Rattle.p2p_log_rules.specs.Links.{dialed_by, dialer_of, with_opened, without_finished, acted_openings, openings_by, openings_of}
@@ -30,9 +32,11 @@ use Rattle.p2p_log_rules.proofs.Links.{openings_of-append}
 use Rattle.p2p_net_queues.specs.Tables.{at, waiting, pushed_at, popped_at}
 use Rattle.p2p_net_queues.proofs.Holding.{longer}
 use Rattle.p2p_net_queues.proofs.Tables.{waiting-pushed_at, waiting-popped_at, at-inserted}
+use Rattle.p2p_net_links.specs.Dropping.{dropped_of, is_dropped_at}
 use Rattle.p2p_net_links.specs.Links.{no_links, way_of, with_way, written_way, batch_way, opened_with}
 use Rattle.p2p_net_links.specs.Stands.{LinksStand}
 use Rattle.p2p_net_links.specs.declared.links.Links.{Links}
+use Rattle.p2p_net_links.proofs.Drops.{DropsNone, is_dropped-none, is_dropped-kept}
 
 -- whether two sides are the same
 abbrev pub same_side : Side → Side → Bool
@@ -40,7 +44,7 @@ same_side side.Out side.Out = true
 same_side side.In side.In = true
 same_side _ _ = false
 
-ways : (l : Links) (s t : Side) (w : List (ℕ × List Envelope)) → way_of (with_way l s w) t ≡ cond (same_side s t) w (way_of l t)
+pub ways : (l : Links) (s t : Side) (w : List (ℕ × List Envelope)) → way_of (with_way l s w) t ≡ cond (same_side s t) w (way_of l t)
 ways l side.Out side.Out w = refl
 ways l side.Out side.In w = refl
 ways l side.In side.Out w = refl
@@ -52,7 +56,7 @@ same_way l side.In side.In h = refl
 same_way l side.Out side.In h = cc
 same_way l side.In side.Out h = cc
 
-same_link : (s t : Side) (k j : ℕ) → same_queue (queue.Link k s) (queue.Link j t) ≡ (same_side s t && is_at (nat_cmp j) k)
+pub same_link : (s t : Side) (k j : ℕ) → same_queue (queue.Link k s) (queue.Link j t) ≡ (same_side s t && is_at (nat_cmp j) k)
 same_link side.Out side.Out k j = grind (arith, nat_tests)
 same_link side.Out side.In k j = grind (arith, nat_tests)
 same_link side.In side.Out k j = grind (arith, nat_tests)
@@ -81,7 +85,7 @@ dialers_new k = refl
 abbrev pub DialsNone : Entry → Type 0
 DialsNone e = dialed_by e.event.act e.reply e.puts ≡ None
 
-dialers_kept : (log : List Entry) (e : Entry) (dialers : List (ℕ × ℕ)) → ((k : ℕ) → at dialers k ≡ dialer_of log k) → DialsNone e → (k : ℕ) → at dialers k ≡ dialer_of (log ++ e ∷ []) k
+pub dialers_kept : (log : List Entry) (e : Entry) (dialers : List (ℕ × ℕ)) → ((k : ℕ) → at dialers k ≡ dialer_of log k) → DialsNone e → (k : ℕ) → at dialers k ≡ dialer_of (log ++ e ∷ []) k
 dialers_kept log e dialers is none k = is k ∙ sym (dialer_of-unmade log e none k)
 
 -- ---- between whom keys are exchanged, by the log
@@ -202,7 +206,7 @@ openings_finished log e link ok is answered = (
 -- ---- and by the links
 
 -- an entry that leaves these alone
-openings_kept : (log : List Entry) (e : Entry) (openings : List (ℕ × Opening)) → ((k : ℕ) → at openings k ≡ openings_of log k)
+pub openings_kept : (log : List Entry) (e : Entry) (openings : List (ℕ × Opening)) → ((k : ℕ) → at openings k ≡ openings_of log k)
     → ((k : ℕ) → openings_by log e (openings_of log) k ≡ openings_of log k) → (k : ℕ) → at openings k ≡ openings_of (log ++ e ∷ []) k
 openings_kept log e openings is same k = is k ∙ (sym (same k) ∙ sym (openings_of-append log e k))
 
@@ -211,15 +215,23 @@ named : (name k : ℕ) (o : Option Opening) (openings : List (ℕ × Opening)) (
     → cond (k == name) o (at openings k) ≡ with_named name o before k
 named name k o openings before is = ap (λ v. cond (k == name) o v) (is k)
 
+-- ---- which ends were dropped
+
+-- no links stand for no log
+pub dropped_new : (configs : List Config) (link : ℕ) (s : Side) → is_dropped_at no_links s link ≡ is_dropped configs [] link s
+dropped_new configs link side.Out = sym (is_dropped-none configs link side.Out)
+dropped_new configs link side.In = sym (is_dropped-none configs link side.In)
+
 -- ---- the links
 
 -- an entry that leaves them alone
-pub links_frame : (log : List Entry) (e : Entry) (l : Links) → LinksStand log l → ((s : Side) (link : ℕ) → line (log ++ e ∷ []) (queue.Link link s) ≡ line log (queue.Link link s))
-    → OpensNone log e → LinksStand (log ++ e ∷ []) l
-links_frame log e l st lines same = record {
+pub links_frame : (configs : List Config) (log : List Entry) (e : Entry) (l : Links) → LinksStand configs log l → ((s : Side) (link : ℕ) → line (log ++ e ∷ []) (queue.Link link s) ≡ line log (queue.Link link s))
+    → OpensNone log e → DropsNone configs log e → LinksStand configs (log ++ e ∷ []) l
+links_frame configs log e l st lines same none = record {
   waits = λ s link. st.waits s link ∙ sym (lines s link);
   dialers = dialers_kept log e l.dialers st.dialers same.0;
   openings = openings_kept log e l.openings st.openings same.1;
+  dropped = λ link s. st.dropped link s ∙ sym (is_dropped-kept configs log e none link s);
 }
 
 same_ways : (l : Links) (s : Side) (ds : List (ℕ × ℕ)) (os : List (ℕ × Opening)) → way_of (record l { dialers = ds; openings = os }) s ≡ way_of l s
@@ -234,43 +246,57 @@ same_openings : (l : Links) (s : Side) (w : List (ℕ × List Envelope)) → (wi
 same_openings l side.Out w = refl
 same_openings l side.In w = refl
 
--- an entry that changes one direction, and not who dialed nor between whom keys are exchanged
-with_way_kept : (log : List Entry) (e : Entry) (l : Links) (s : Side) (w : List (ℕ × List Envelope)) → LinksStand log l → OpensNone log e
-    → ((k : ℕ) → at (with_way l s w).dialers k ≡ dialer_of (log ++ e ∷ []) k) × ((k : ℕ) → at (with_way l s w).openings k ≡ openings_of (log ++ e ∷ []) k)
-with_way_kept log e l s w st same = (
-  λ k. ap (λ (m : List (ℕ × ℕ)). at m k) (same_dialers l s w) ∙ dialers_kept log e l.dialers st.dialers same.0 k,
-  λ k. ap (λ (m : List (ℕ × Opening)). at m k) (same_openings l s w) ∙ openings_kept log e l.openings st.openings same.1 k,
-)
+same_dropped : (l : Links) (s t : Side) (w : List (ℕ × List Envelope)) → dropped_of (with_way l s w) t ≡ dropped_of l t
+same_dropped l side.Out side.Out w = refl
+same_dropped l side.Out side.In w = refl
+same_dropped l side.In side.Out w = refl
+same_dropped l side.In side.In w = refl
 
--- an entry that changes no direction, where these are who dialed and between whom keys are exchanged after it
-with_openings : (log : List Entry) (e : Entry) (l : Links) (ds : List (ℕ × ℕ)) (os : List (ℕ × Opening)) → LinksStand log l
+-- an entry that changes one direction, which is this one after it, and not who dialed, between whom keys are exchanged, and which ends were dropped
+pub with_way_kept : (configs : List Config) (log : List Entry) (e : Entry) (l : Links) (s : Side) (w : List (ℕ × List Envelope)) → LinksStand configs log l → OpensNone log e → DropsNone configs log e
+    → ((t : Side) (j : ℕ) → waiting (way_of (with_way l s w) t) j ≡ line (log ++ e ∷ []) (queue.Link j t)) → LinksStand configs (log ++ e ∷ []) (with_way l s w)
+with_way_kept configs log e l s w st same none now = record {
+  waits = now;
+  dialers = λ k. ap (λ (m : List (ℕ × ℕ)). at m k) (same_dialers l s w) ∙ dialers_kept log e l.dialers st.dialers same.0 k;
+  openings = λ k. ap (λ (m : List (ℕ × Opening)). at m k) (same_openings l s w) ∙ openings_kept log e l.openings st.openings same.1 k;
+  dropped = λ link t. ap (λ (m : List (ℕ × Unit {0})). is_some (at m link)) (same_dropped l s t w) ∙ (st.dropped link t ∙ sym (is_dropped-kept configs log e none link t));
+}
+
+same_drops : (l : Links) (s : Side) (ds : List (ℕ × ℕ)) (os : List (ℕ × Opening)) → dropped_of (record l { dialers = ds; openings = os }) s ≡ dropped_of l s
+same_drops l side.Out ds os = refl
+same_drops l side.In ds os = refl
+
+-- an entry that changes no direction and drops no end, where these are who dialed and between whom keys are exchanged after it
+with_openings : (configs : List Config) (log : List Entry) (e : Entry) (l : Links) (ds : List (ℕ × ℕ)) (os : List (ℕ × Opening)) → LinksStand configs log l
     → ((s : Side) (link : ℕ) → line (log ++ e ∷ []) (queue.Link link s) ≡ line log (queue.Link link s))
-    → ((k : ℕ) → at ds k ≡ dialer_of (log ++ e ∷ []) k) → ((k : ℕ) → at os k ≡ openings_of (log ++ e ∷ []) k) → LinksStand (log ++ e ∷ []) (record l { dialers = ds; openings = os })
-with_openings log e l ds os st lines dials is = record {
+    → ((k : ℕ) → at ds k ≡ dialer_of (log ++ e ∷ []) k) → ((k : ℕ) → at os k ≡ openings_of (log ++ e ∷ []) k) → DropsNone configs log e → LinksStand configs (log ++ e ∷ []) (record l { dialers = ds; openings = os })
+with_openings configs log e l ds os st lines dials is none = record {
   waits = λ s link. ap (λ w. waiting w link) (same_ways l s ds os) ∙ (st.waits s link ∙ sym (lines s link));
   dialers = dials;
   openings = is;
+  dropped = λ link s. ap (λ (m : List (ℕ × Unit {0})). is_some (at m link)) (same_drops l s ds os) ∙ (st.dropped link s ∙ sym (is_dropped-kept configs log e none link s));
 }
 
 -- the link of the entry's name is made, and keys are exchanged over it from then on
-pub links_opened : (log : List Entry) (e : Entry) (l : Links) (o : Opening) → LinksStand log l
+pub links_opened : (configs : List Config) (log : List Entry) (e : Entry) (l : Links) (o : Opening) → LinksStand configs log l
     → ((s : Side) (link : ℕ) → line (log ++ e ∷ []) (queue.Link link s) ≡ line log (queue.Link link s))
-    → Opens log e o → LinksStand (log ++ e ∷ []) (opened_with (length log) o l)
-links_opened log e l o st lines opened =
-    with_openings log e l (insert_entry nat_cmp l.dialers (length log) o.node) (insert_entry nat_cmp l.openings (length log) o) st lines
+    → Opens log e o → DropsNone configs log e → LinksStand configs (log ++ e ∷ []) (opened_with (length log) o l)
+links_opened configs log e l o st lines opened none =
+    with_openings configs log e l (insert_entry nat_cmp l.dialers (length log) o.node) (insert_entry nat_cmp l.openings (length log) o) st lines
     (λ k. at-inserted (length log) k o.node l.dialers ∙ (ap (λ v. cond (k == length log) (Some o.node) v) (st.dialers k) ∙ sym (dialer_of-append log e o.node opened.dialer k)))
     (λ k. at-inserted (length log) k o l.openings ∙ (named (length log) k (Some o) l.openings (openings_of log) st.openings ∙ sym (opened.openings k)))
+    none
 
 -- an exchange of keys has ended
-pub links_finished : (log : List Entry) (e : Entry) (l ls : Links) (link : ℕ) → LinksStand log l
+pub links_finished : (configs : List Config) (log : List Entry) (e : Entry) (l ls : Links) (link : ℕ) → LinksStand configs log l
     → ((s : Side) (j : ℕ) → line (log ++ e ∷ []) (queue.Link j s) ≡ line log (queue.Link j s))
     → DialsNone e × ((k : ℕ) → openings_of (log ++ e ∷ []) k ≡ with_named link None (openings_of log) k)
     → ((k : ℕ) → at ls.openings k ≡ cond (k == link) None (at l.openings k)) → ls ≡ record l { openings = ls.openings }
-    → LinksStand (log ++ e ∷ []) ls
-links_finished log e l ls link st lines finished out rest =
-    subst (LinksStand (log ++ e ∷ [])) (sym rest)
-    (with_openings log e l l.dialers ls.openings st lines (dialers_kept log e l.dialers st.dialers finished.0)
-    (λ k. out k ∙ (named link k None l.openings (openings_of log) st.openings ∙ sym (finished.1 k))))
+    → DropsNone configs log e → LinksStand configs (log ++ e ∷ []) ls
+links_finished configs log e l ls link st lines finished out rest none =
+    subst (LinksStand configs (log ++ e ∷ [])) (sym rest)
+    (with_openings configs log e l l.dialers ls.openings st lines (dialers_kept log e l.dialers st.dialers finished.0)
+    (λ k. out k ∙ (named link k None l.openings (openings_of log) st.openings ∙ sym (finished.1 k))) none)
 
 -- a line without its first, by its code
 first_gone : (log : List Entry) (p q : Queue) (x : Envelope) (rest : List Envelope) (b : Bool) → same_queue p q ≡ b → (b ≡ true → line log q ≡ line log p) → line log p ≡ x ∷ rest → cond b (drop 1 (line log q)) (line log q) ≡ cond b rest (line log q)
@@ -284,17 +310,15 @@ same_end side.Out side.In k j log h = cc
 same_end side.In side.Out k j log h = cc
 
 -- the oldest frame of one direction is taken
-pub links_taken : (log : List Entry) (e : Entry) (l : Links) (s : Side) (k : ℕ) (x : Envelope) (rest : List Envelope) → LinksStand log l → line log (queue.Link k s) ≡ x ∷ rest
+pub links_taken : (configs : List Config) (log : List Entry) (e : Entry) (l : Links) (s : Side) (k : ℕ) (x : Envelope) (rest : List Envelope) → LinksStand configs log l → line log (queue.Link k s) ≡ x ∷ rest
     → ((t : Side) (j : ℕ) → line (log ++ e ∷ []) (queue.Link j t) ≡ cond (same_queue (queue.Link k s) (queue.Link j t)) rest (line log (queue.Link j t)))
-    → OpensNone log e → LinksStand (log ++ e ∷ []) (with_way l s (popped_at (way_of l s) k))
-links_taken log e l s k x rest st first lines kept = record {
-  waits = λ t j.
-      changed l s t k j (popped_at (way_of l s) k) (drop 1) (λ i. waiting-popped_at k i (way_of l s))
-      ∙ (ap (λ v. cond (same_queue (queue.Link k s) (queue.Link j t)) (drop 1 v) v) (st.waits t j)
-      ∙ (first_gone log (queue.Link k s) (queue.Link j t) x rest (same_queue (queue.Link k s) (queue.Link j t)) refl (same_end s t k j log) first ∙ sym (lines t j)));
-  dialers = (with_way_kept log e l s (popped_at (way_of l s) k) st kept).0;
-  openings = (with_way_kept log e l s (popped_at (way_of l s) k) st kept).1;
-}
+    → OpensNone log e → DropsNone configs log e → LinksStand configs (log ++ e ∷ []) (with_way l s (popped_at (way_of l s) k))
+links_taken configs log e l s k x rest st first lines kept none =
+    with_way_kept configs log e l s (popped_at (way_of l s) k) st kept none
+    (λ t j.
+    changed l s t k j (popped_at (way_of l s) k) (drop 1) (λ i. waiting-popped_at k i (way_of l s))
+    ∙ (ap (λ v. cond (same_queue (queue.Link k s) (queue.Link j t)) (drop 1 v) v) (st.waits t j)
+    ∙ (first_gone log (queue.Link k s) (queue.Link j t) x rest (same_queue (queue.Link k s) (queue.Link j t)) refl (same_end s t k j log) first ∙ sym (lines t j))))
 
 -- ---- a batch
 
@@ -331,28 +355,26 @@ placed_in entry p k j s t (f ∷ fs) b e =
     ∙ (elim b as (λ c. cond c (x ∷ cond c rest []) (cond c rest []) ≡ cond c (x ∷ rest) []) [ true ↦ refl | false ↦ refl ]))
 
 -- these frames are written to one direction
-frames_written : (log : List Entry) (e : Entry) (l : Links) (s : Side) (k entry : ℕ) (fs : List ((ℕ × ℕ) × Item)) → LinksStand log l
+frames_written : (configs : List Config) (log : List Entry) (e : Entry) (l : Links) (s : Side) (k entry : ℕ) (fs : List ((ℕ × ℕ) × Item)) → LinksStand configs log l
     → ((t : Side) (j : ℕ) → line (log ++ e ∷ []) (queue.Link j t) ≡ line log (queue.Link j t) ++ filter (stands_in (queue.Link j t)) (placed entry 0 (frames_put k s fs)))
-    → OpensNone log e → LinksStand (log ++ e ∷ []) (with_way l s (written_way entry k s 0 fs (way_of l s)))
-frames_written log e l s k entry fs st lines kept = record {
-  waits = λ t j.
-      let put = placed entry 0 (frames_put k s fs) in
-      let same = same_queue (queue.Link k s) (queue.Link j t) in
-      changed l s t k j (written_way entry k s 0 fs (way_of l s)) (λ v. v ++ put) (λ i. waiting-written entry k s 0 fs (way_of l s) i)
-      ∙ (ap (λ v. cond same (v ++ put) v) (st.waits t j)
-      ∙ (longer same (line log (queue.Link j t)) put
-      ∙ (ap (λ v. line log (queue.Link j t) ++ v) (sym (placed_in entry 0 k j s t fs same (same_queue-sym (queue.Link j t) (queue.Link k s)))) ∙ sym (lines t j))));
-  dialers = (with_way_kept log e l s (written_way entry k s 0 fs (way_of l s)) st kept).0;
-  openings = (with_way_kept log e l s (written_way entry k s 0 fs (way_of l s)) st kept).1;
-}
+    → OpensNone log e → DropsNone configs log e → LinksStand configs (log ++ e ∷ []) (with_way l s (written_way entry k s 0 fs (way_of l s)))
+frames_written configs log e l s k entry fs st lines kept none =
+    with_way_kept configs log e l s (written_way entry k s 0 fs (way_of l s)) st kept none
+    (λ t j.
+    let put = placed entry 0 (frames_put k s fs) in
+    let same = same_queue (queue.Link k s) (queue.Link j t) in
+    changed l s t k j (written_way entry k s 0 fs (way_of l s)) (λ v. v ++ put) (λ i. waiting-written entry k s 0 fs (way_of l s) i)
+    ∙ (ap (λ v. cond same (v ++ put) v) (st.waits t j)
+    ∙ (longer same (line log (queue.Link j t)) put
+    ∙ (ap (λ v. line log (queue.Link j t) ++ v) (sym (placed_in entry 0 k j s t fs same (same_queue-sym (queue.Link j t) (queue.Link k s)))) ∙ sym (lines t j)))))
 
 -- a ping, as the first of the frames of a batch
 abbrev ping_before : List ((ℕ × ℕ) × Item) → List ((ℕ × ℕ) × Item)
 ping_before fs = ((0, 0), item.Frame None ping_frame) ∷ fs
 
 -- a batch is written to one direction, with a ping before it where one is due
-pub links_written : (log : List Entry) (e : Entry) (l : Links) (s : Side) (k entry : ℕ) (due : Bool) (fs : List ((ℕ × ℕ) × Item)) → LinksStand log l
+pub links_written : (configs : List Config) (log : List Entry) (e : Entry) (l : Links) (s : Side) (k entry : ℕ) (due : Bool) (fs : List ((ℕ × ℕ) × Item)) → LinksStand configs log l
     → ((t : Side) (j : ℕ) → line (log ++ e ∷ []) (queue.Link j t) ≡ line log (queue.Link j t) ++ filter (stands_in (queue.Link j t)) (placed entry 0 (ping_puts due (queue.Link k s) ++ frames_put k s fs)))
-    → OpensNone log e → LinksStand (log ++ e ∷ []) (with_way l s (batch_way due entry k s fs (way_of l s)))
-links_written log e l s k entry true fs st lines kept = frames_written log e l s k entry (ping_before fs) st lines kept
-links_written log e l s k entry false fs st lines kept = frames_written log e l s k entry fs st lines kept
+    → OpensNone log e → DropsNone configs log e → LinksStand configs (log ++ e ∷ []) (with_way l s (batch_way due entry k s fs (way_of l s)))
+links_written configs log e l s k entry true fs st lines kept none = frames_written configs log e l s k entry (ping_before fs) st lines kept none
+links_written configs log e l s k entry false fs st lines kept none = frames_written configs log e l s k entry fs st lines kept none

@@ -1,2 +1,3 @@
+pub mod Dropping
 pub mod Links
 pub mod Stands

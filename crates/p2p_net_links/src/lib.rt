@@ -1,7 +1,8 @@
-//! The links of a world: the frames that are in flight over each, in both directions, who dialed it, and between whom keys
-//! are exchanged over it.
+//! The links of a world: the frames that are in flight over each, in both directions, who dialed it, between whom keys are
+//! exchanged over it, and which of its ends were dropped.
 #![tactic(auto)]
 
+mod dropping;
 pub mod links;
 mod openings;
 

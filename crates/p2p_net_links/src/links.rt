@@ -1,4 +1,4 @@
-//! `Links`, the frames in flight, who dialed, and between whom keys are exchanged.
+//! `Links`, the frames in flight, who dialed, between whom keys are exchanged, and which ends were dropped.
 ghost use Rattle.std.specs.Prelude.{◌≡◌, ℕ, ◌++◌, ◌∷◌, [], length, map, slice_get, IfOk, OnOk};
 ghost use Rattle.std.specs.Option.{option_copied};
 ghost use Rattle.p2p_log_rules.specs.Effect.{only as only_reply, ping_puts};
@@ -12,8 +12,8 @@ use p2p_net_queues::{Deque, Table, Turn, only};
 use p2p_wire::Message;
 use std::alloc::{AllocError, Global};
 
-/// The frames in flight over each link, the oldest first, by the direction in which they go, who dialed it, and between whom
-/// keys are exchanged over it.
+/// The frames in flight over each link, the oldest first, by the direction in which they go, who dialed it, between whom keys
+/// are exchanged over it, and which of its ends were dropped.
 #[derive(Drop)]
 pub struct Links {
     /// From the end that dialed.
@@ -24,6 +24,10 @@ pub struct Links {
     pub dialers: Table<u64>,
     /// Between whom keys are exchanged, by the events that made the links.
     pub openings: Table<Opening>,
+    /// The links whose end that dialed was dropped.
+    pub dropped_outward: Table<()>,
+    /// The links whose end that listened was dropped.
+    pub dropped_inward: Table<()>,
 }
 
 /// Writes these frames, which have these names, to one direction of a link, in order, and adds to the row what was moved.
@@ -95,6 +99,8 @@ impl Links {
             inward: Table::new(alloc),
             dialers: Table::new(alloc),
             openings: Table::new(alloc),
+            dropped_outward: Table::new(alloc),
+            dropped_inward: Table::new(alloc),
         }
     }
 

@@ -2,3 +2,4 @@ pub mod Changes
 pub mod Ends
 pub mod Finishing
 pub mod Handshakes
+pub mod Peers

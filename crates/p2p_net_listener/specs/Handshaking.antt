@@ -69,6 +69,10 @@ abbrev pub is_accepting : Option (Handshaking Key) → Bool
 is_accepting None = false
 is_accepting (Some h) = h.is_accepted
 
+-- the link over which the peer of a handshake came
+abbrev pub link_over : Handshaking Key → ℕ
+link_over h = h.arrival.link
+
 -- the mailbox once a handshake that is kept was told whether its keys were exchanged
 abbrev pub finished_in : Option (Handshaking Key) → Bool → Mailbox Key → Mailbox Key
 finished_in None ok way = way

@@ -1,10 +1,11 @@
 //! The steps of the handshakes of a node's listener, and what they are told of their keys.
 ghost use Rattle.std.specs.Prelude.{◌≡◌, ◌<◌, ℕ, true, is_some, IfOk, OnOk};
+ghost use Rattle.std.specs.Option.{option_map};
 ghost use Rattle.p2p_log_rules.specs.Links.{unless_dropped};
 ghost use Rattle.p2p_net_queues.specs.Tables as table;
 ghost use Rattle.p2p_net_queues.specs.Tables.{kept_with};
 ghost use Rattle.p2p_net_listener.specs.Listening.{EndsAre};
-ghost use Rattle.p2p_net_listener.specs.Handshaking.{ready_over, served_by, freed_if, is_accepting, finished_in, StepsHandshake};
+ghost use Rattle.p2p_net_listener.specs.Handshaking.{ready_over, served_by, freed_if, is_accepting, link_over, finished_in, StepsHandshake};
 
 use crate::listening::{Listening, asked};
 use p2p_base::Key;
@@ -122,6 +123,23 @@ impl Listening {
         match self.handshakes.find(handshake) {
             Some(found) => found.is_accepted(),
             None => false,
+        }
+    }
+
+    /// Whether the handshake of this name has not ended.
+    pub fn stands(&self, handshake: u64) -> bool
+        ensures { result ≡ is_some (table.at self.now.handshakes handshake) }
+    {
+        self.handshakes.has(handshake)
+    }
+
+    /// The link over which the peer of the handshake of this name came, where that has not ended.
+    pub fn link_of(&self, handshake: u64) -> Option<u64>
+        ensures { result ≡ option_map link_over (table.at self.now.handshakes handshake) }
+    {
+        match self.handshakes.find(handshake) {
+            Some(found) => Some(found.arrival().link),
+            None => None,
         }
     }
 

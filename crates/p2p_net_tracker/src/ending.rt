@@ -1,5 +1,5 @@
 //! What a connection that ends takes with it of what it was told, and that its peer is free.
-ghost use Rattle.std.specs.Prelude.{◌≡◌, [], ◌∷◌, ◌++◌, drop, length, slice_get, IfOk, OnOk, if◌then◌else◌};
+ghost use Rattle.std.specs.Prelude.{◌≡◌, [], ◌∷◌, ◌++◌, drop, length, slice_get, is_some, IfOk, OnOk, if◌then◌else◌};
 ghost use Rattle.p2p_log.specs.declared.queue.Queue.{Queue as Name};
 ghost use Rattle.p2p_log.specs.declared.queue.Queue.TheVariants as queue;
 ghost use Rattle.p2p_log.specs.QueueCode.{same_queue};
@@ -53,6 +53,13 @@ fn give_back(mailbox: &mut Mailbox<Key>, reserved: Reservation<Key>) -> Result<K
 }
 
 impl Tracker {
+    /// Whether anything waits of what a connection of this node was told, which is that it is to end.
+    pub fn kills_wait(&self, node: u64, conn: u64) -> bool
+        ensures { result ≡ is_some (slice_get (held self.now.told (queue.Control node conn)) 0) }
+    {
+        self.told.front(Queue::Control { node, conn }).is_some()
+    }
+
     /// Takes the oldest of what a connection was told, which is that it is to end. `None` exactly where nothing waits for it.
     pub fn take_kill(&mut self, turn: Turn, conn: u64) -> Option<Envelope>
         ensures oldest { result ≡ slice_get (held self.old.told (queue.Control turn.node conn)) 0 }
