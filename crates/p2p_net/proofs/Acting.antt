@@ -11,12 +11,16 @@ use Rattle.p2p_log.specs.declared.event.Event.{Event}
 use Rattle.p2p_log.specs.declared.event.Act.{Act}
 use Rattle.p2p_log.specs.declared.event.Act.TheVariants as act
 use Rattle.p2p_log_rules.specs.declared.row.Row.{Row}
+use Rattle.p2p_log_rules.specs.Connections.{is_begun}
 use Rattle.p2p_log_rules.specs.Facts.{events_of, latest_moment}
 use Rattle.p2p_log_rules.specs.Effect.{effect}
 use Rattle.p2p_log_rules.specs.Lawful.{IsLawful}
 use Rattle.p2p_log_rules.specs.Valid.{may_act}
+use Rattle.p2p_log_laws.proofs.EndHeard.{running_heard}
 use Rattle.p2p_log_laws.proofs.HandshakeLaws.{each_handshake, asker_runs}
+use Rattle.p2p_log_laws.proofs.Ledger.{Told-end}
 use Rattle.p2p_log_laws.proofs.Listed.{lists_are_current}
+use Rattle.p2p_log_laws.proofs.Living.{unended_late, unbegun_late}
 use Rattle.p2p_log_laws.proofs.OneConnection.{connections_are_one}
 use Rattle.p2p_net_links.specs.Stands.{LinksStand}
 use Rattle.p2p_net_links.specs.declared.links.Links.{Links}
@@ -49,7 +53,6 @@ use Rattle.p2p_net.proofs.Trying.{attempt_performs}
 use Rattle.p2p_net.proofs.Tracking.{ask_performs, answer_performs, next_performs, tracker_performs}
 use Rattle.p2p_net.proofs.Sending.{send_step_performs}
 use Rattle.p2p_net.proofs.RecvStep.{recv_step_performs}
-use Rattle.p2p_log_laws.proofs.Living.{none_ended}
 
 -- ---- acts that name one node
 
@@ -57,8 +60,11 @@ use Rattle.p2p_log_laws.proofs.Living.{none_ended}
 asks_run : (configs : List Config) (log : List Entry) (n : ℕ) → IsLawful configs (events_of log) log → AsksRun log n
 asks_run configs log n lawful = λ name key x rest first is. asker_runs configs n log (each_handshake configs n (events_of log) log lawful) name key x rest first is
 
+no_more : (k : ℕ) → k ≤ k
+no_more k = grind arith
+
 -- each of them, a line each
-node_performs : (configs : List Config) (log : List Entry) (moment seed : ℕ) (a : Act) (x y : Node) (l links : Links) (r : Row) → NodeStands configs log (node_of log a) x → LinksStand log l
+node_performs : (configs : List Config) (log : List Entry) (moment seed : ℕ) (a : Act) (x y : Node) (l links : Links) (r : Row) → NodeStands configs log (node_of log a) x → LinksStand configs log l
     → IsLawful configs (events_of log) log → may_act configs (events_of log) a ≡ true → latest_moment (events_of log) ≤ moment → meeting_of a ≡ None → NodeDoes (length log) (node_of log a) moment seed a x y l links r
     → Performs configs log (asked moment seed a) (node_of log a) y links r
 node_performs configs log moment seed (act.Register c n rate) x y l links r s t lawful valid late one d = register_performs configs log moment seed n c rate x y l links r s t valid d.0 d.1
@@ -69,19 +75,20 @@ node_performs configs log moment seed (act.Check c n to) x y l links r s t lawfu
     check_performs configs log moment seed n c to x y l links r s t (lists_are_current configs (events_of log) log lawful) late d.1 d.0
 node_performs configs log moment seed (act.SendChecked bytes check priority) x y l links r s t lawful valid late one d = send_checked_performs configs log moment seed check bytes priority x y l links r s t d.1 d.0
 node_performs configs log moment seed (act.Router n) x y l links r s t lawful valid late one d = route_performs configs log moment seed n x y l links r s t d.0 d.1
-node_performs configs log moment seed (act.SendStep conn n) x y l links r s t lawful valid late one d = send_step_performs configs log moment seed conn n x y l links r s t (connections_are_one configs (events_of log) log lawful) d
-node_performs configs log moment seed (act.RecvStep conn n) x y l links r s t lawful valid late one d = recv_step_performs configs log moment seed conn n x y l links r s t late d
+node_performs configs log moment seed (act.SendStep conn n) x y l links r s t lawful valid late one d = send_step_performs configs log moment seed conn n x y l links r s t (connections_are_one configs (events_of log) log lawful) (running_heard configs (events_of log) log lawful n conn) d
+node_performs configs log moment seed (act.RecvStep conn n) x y l links r s t lawful valid late one d = recv_step_performs configs log moment seed conn n x y l links r s t late (running_heard configs (events_of log) log lawful n conn) (Told-end configs (events_of log) log lawful).standing.fitting d
 node_performs configs log moment seed (act.Recv c n) x y l links r s t lawful valid late one d = read_performs configs log moment seed n c x y l links r s t d.0 d.1
 node_performs configs log moment seed (act.Close c n) x y l links r s t lawful valid late one d = close_performs configs log moment seed n c x y l links r s t d.0 d.1
 node_performs configs log moment seed (act.Ask what n) x y l links r s t lawful valid late one d = ask_performs configs log moment seed n what x y l links r s t d.0.0 d.0.1 d.1
 node_performs configs log moment seed (act.Answer e) x y l links r s t lawful valid late one d = answer_performs configs log moment seed e x y l links r s t valid d.0.0 d.0.1 d.1
 node_performs configs log moment seed (act.Next e) x y l links r s t lawful valid late one d = next_performs configs log moment seed e x y l links r s t valid d.0.0 d.0.1 d.1
 node_performs configs log moment seed (act.Tracker n) x y l links r s t lawful valid late one d = tracker_performs configs log moment seed n x y l links r s t (asks_run configs log n lawful) d.0 d.1
-node_performs configs log moment seed (act.Spawner n) x y l links r s t lawful valid late one d = spawner_performs configs log moment seed n x y l links r s t (none_ended configs (events_of log) log lawful n (length log)) d.0 d.1
+node_performs configs log moment seed (act.Spawner n) x y l links r s t lawful valid late one d = spawner_performs configs log moment seed n x y l links r s t (unended_late configs (events_of log) log lawful n (length log) (no_more (length log)))
+    (unbegun_late configs (events_of log) log lawful n (length log) (no_more (length log))) d.0 d.1
 node_performs configs log moment seed (act.Dialer n) x y l links r s t lawful valid late one d = dialer_performs configs log moment seed n x y l links r s t d.0 d.1
 node_performs configs log moment seed (act.Listener n) x y l links r s t lawful valid late one d = listener_performs configs log moment seed n x y l links r s t d.0 d.1
-node_performs configs log moment seed (act.Handshake e n) x y l links r s t lawful valid late one d = handshake_performs configs log moment seed e n x y l links r s t d.0 d.1
-node_performs configs log moment seed (act.Attempt e n) x y l links r s t lawful valid late one d = attempt_performs configs log moment seed e n x y l links r s t d.0 d.1
+node_performs configs log moment seed (act.Handshake e n) x y l links r s t lawful valid late one d = handshake_performs configs log moment seed e n x y l links r s t d
+node_performs configs log moment seed (act.Attempt e n) x y l links r s t lawful valid late one d = attempt_performs configs log moment seed e n x y l links r s t d
 node_performs configs log moment seed (act.Resolve addresses e n) x y l links r s t lawful valid late one d = resolve_performs configs log moment seed addresses e n x y l links r s t d.0.0 d.0.1 d.1
 node_performs configs log moment seed (act.Refuse e n) x y l links r s t lawful valid late one d = refuse_performs configs log moment seed e n x y l links r s t d.0.0 d.0.1 d.1
 node_performs configs log moment seed (act.Connect e from n m) x y l links r s t lawful valid late one d = cc
@@ -109,19 +116,20 @@ others_unnamed log (act.Finish link ok) p m one ne = cc
 others_unnamed log a p m one ne = unnamed_at (names_links a) (parts_named a) p (node_of log a) m ne
 
 -- a node that an act does not name
-node_frame : (configs : List Config) (log : List Entry) (ev : Event) (m : ℕ) (z : Node) → NodeStands configs log m z → ((p : Part) → names log ev.act (at p m) ≡ false) → NodeStands configs (log ++ effect configs log ev ∷ []) m z
-node_frame configs log ev m z s away = record { own = s.own; each = λ p. part_frame p configs log ev m z (s.each p) (away p) }
+node_frame : (configs : List Config) (log : List Entry) (ev : Event) (m : ℕ) (z : Node) → NodeStands configs log m z → ((p : Part) → names log ev.act (at p m) ≡ false) → is_begun log m (length log) ≡ false
+    → NodeStands configs (log ++ effect configs log ev ∷ []) m z
+node_frame configs log ev m z s away fresh = record { own = s.own; each = λ p. part_frame p configs log ev m z (s.each p) (away p) (λ makes. fresh) }
 
 one_each :
     (configs : List Config) (log : List Entry) (ev : Event) (nodes : List Node) (n : ℕ) (y : Node) (l links : Links) (r : Row) → WorldStands configs log nodes l → Performs configs log ev n y links r
-    → ((p : Part) (m : ℕ) → (n == m) ≡ false → names log ev.act (at p m) ≡ false)
+    → ((p : Part) (m : ℕ) → (n == m) ≡ false → names log ev.act (at p m) ≡ false) → ((m : ℕ) → is_begun log m (length log) ≡ false)
     → (m : ℕ) (z : Node) (b : Bool) → (n == m) ≡ b → cond b (Some y) (slice_get nodes m) ≡ Some z → NodeStands configs (log ++ effect configs log ev ∷ []) m z
-one_each configs log ev nodes n y l links r s h away m z true same g =
+one_each configs log ev nodes n y l links r s h away fresh m z true same g =
     let here : n ≡ m = grind (arith, nat_tests) in
     let it : y ≡ z = cc in
     subst (λ (x : Node). NodeStands configs (log ++ effect configs log ev ∷ []) m x) it
     (subst (λ i. NodeStands configs (log ++ effect configs log ev ∷ []) i y) here h.node)
-one_each configs log ev nodes n y l links r s h away m z false ne g = node_frame configs log ev m z (s.each m z g) (λ p. away p m ne)
+one_each configs log ev nodes n y l links r s h away fresh m z false ne g = node_frame configs log ev m z (s.each m z g) (λ p. away p m ne) (fresh m)
 
 -- one node changed, as its act says
 one_simulates : (configs : List Config) (log : List Entry) (ev : Event) (nodes new : List Node) (l links : Links) (r : Row) → WorldStands configs log nodes l → IsLawful configs (events_of log) log
@@ -132,6 +140,7 @@ one_simulates configs log ev nodes new l links r s lawful valid late one d =
     let n = node_of log ev.act in
     let there : slice_get nodes n ≡ Some x = d.1.1.0 in
     let lt : n < length nodes = below nodes n x there in
+    let fresh : (m : ℕ) → is_begun log m (length log) ≡ false = λ m. unbegun_late configs (events_of log) log lawful m (length log) (no_more (length log)) in
     let h : Performs configs log ev n y links r = node_performs configs log ev.at ev.seed ev.act x y l links r (s.each n x there) s.linked lawful valid late one d.1.1.1.1 in
     record {
       row_is = h.row_is;
@@ -140,7 +149,7 @@ one_simulates configs log ev nodes new l links r s lawful valid late one d =
             valid = s.valid;
             long = length-set nodes n y ∙ s.long;
             each = λ m z g.
-                one_each configs log ev nodes n y l links r s h (λ p k ne. others_unnamed log ev.act p k one ne) m z (n == m) refl (sym (slice_get-set nodes n m y lt) ∙ g);
+                one_each configs log ev nodes n y l links r s h (λ p k ne. others_unnamed log ev.act p k one ne) fresh m z (n == m) refl (sym (slice_get-set nodes n m y lt) ∙ g);
             linked = h.linked;
           });
     }

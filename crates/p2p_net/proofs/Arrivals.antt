@@ -42,6 +42,7 @@ use Rattle.p2p_net_listener.proofs.Changes.{listener_frame, listener_arrived}
 use Rattle.p2p_net_listener.proofs.Handshakes.{other_tells}
 use Rattle.p2p_net_links.specs.declared.links.Links.{Links}
 use Rattle.p2p_net_links.specs.Stands.{LinksStand}
+use Rattle.p2p_net_links.proofs.Drops.{DropsNone}
 use Rattle.p2p_net_links.proofs.Changes.{links_frame, links_opened, is_ok_reply, OpensNone, Opens, openings_unanswered, openings_linkless, openings_opened}
 use Rattle.p2p_net.specs.Linking.{arrives, with_arrival, Arrives, opened, IsLinked}
 use Rattle.p2p_net.specs.Places.{Part, dialer, listener, same_part, at, names}
@@ -52,7 +53,7 @@ use Rattle.p2p_net.proofs.Attempting.{DoesTo, does_itself, other_attempt}
 use Rattle.p2p_net.proofs.Between.{IsBetween, dialer_told}
 use Rattle.p2p_net.proofs.DialAnswers.{answer_row, answer_row_is, dial_answered, acted_answer}
 use Rattle.p2p_net.proofs.EachPart.{is_in, each_part}
-use Rattle.p2p_net.proofs.Frames.{part_frame}
+use Rattle.p2p_net.proofs.Frames.{makes_none, part_frame}
 use Rattle.p2p_net.proofs.Nodes.{slice_get-set, below}
 use Rattle.p2p_net.proofs.Performing.{asked, Simulates, line-still}
 use Rattle.p2p_net.proofs.Readying.{started_is, key_is}
@@ -275,8 +276,8 @@ module _ (configs : List Config) (log : List Entry) (moment seed name n m : ℕ)
   opening = record { node = n; attempt = name; to = m }
 
   link_lines : (t : Side) (link : ℕ) → line (log ++ e ∷ []) (queue.Link link t) ≡ line log (queue.Link link t)
-  link_lines side.Out link = line-untouched configs log ev (queue.Link link side.Out) refl refl
-  link_lines side.In link = line-untouched configs log ev (queue.Link link side.In) refl refl
+  link_lines side.Out link = line-untouched configs log ev (queue.Link link side.Out) refl refl refl
+  link_lines side.In link = line-untouched configs log ev (queue.Link link side.In) refl refl refl
 
   nothing_opened : Told up name n c.told → comes ≡ false → OpensNone log e
   nothing_opened (nothing rep silent same none) no_one =
@@ -295,11 +296,15 @@ module _ (configs : List Config) (log : List Entry) (moment seed name n m : ℕ)
       subst (λ (z : Entry). Opens log z opening) is_effect
       (openings_opened log (entry_of ev due) opening (queue.Attempt n name, item.Linked) (queue.Arrivals m, arrival) [] refl (ap (λ (d : Row). d.reply) due_two) (ap (λ (d : Row). d.puts) due_two))
 
-  links_now : (b : Bool) → comes ≡ b → links ≡ opened b k opening l → LinksStand (log ++ e ∷ []) links
-  links_now false none same = subst (LinksStand (log ++ e ∷ [])) (sym same) (links_frame log e l s.linked link_lines (nothing_opened kind none))
-  links_now true some same = subst (LinksStand (log ++ e ∷ [])) (sym same) (links_opened log e l opening s.linked link_lines (one_opened kind some))
+  none_dropped : DropsNone configs log e
+  unfolding effect
+  none_dropped = refl
 
-  pub linked_stands : LinksStand (log ++ e ∷ []) links
+  links_now : (b : Bool) → comes ≡ b → links ≡ opened b k opening l → LinksStand configs (log ++ e ∷ []) links
+  links_now false none same = subst (LinksStand configs (log ++ e ∷ [])) (sym same) (links_frame configs log e l s.linked link_lines (nothing_opened kind none) none_dropped)
+  links_now true some same = subst (LinksStand configs (log ++ e ∷ [])) (sym same) (links_opened configs log e l opening s.linked link_lines (one_opened kind some) none_dropped)
+
+  pub linked_stands : LinksStand configs (log ++ e ∷ []) links
   linked_stands = links_now comes refl (subst (λ b. links ≡ opened (arrives b c.told.reply) k opening l) runs c.links_are)
 
   -- ---- the nodes
@@ -307,13 +312,13 @@ module _ (configs : List Config) (log : List Entry) (moment seed name n m : ℕ)
   -- a node whose parts are those of another, but for its dialer and its listener
   node_now : (j : ℕ) (w z : Node) → NodeStands configs log j w → z ≡ record w { dialing = z.dialing; listening = z.listening } → DialerStands configs (log ++ e ∷ []) j z.dialing
       → ListenerStands configs (log ++ e ∷ []) j z.listening → NodeStands configs (log ++ e ∷ []) j z
-  node_now j w z stood same dials listens = each_part configs log ev j w z (dialer ∷ listener ∷ []) stood same (unnamed log name n m j from) (dials, (listens, tt))
+  node_now j w z stood same dials listens = each_part configs log ev j w z (dialer ∷ listener ∷ []) stood same (unnamed log name n m j from) refl (dials, (listens, tt))
 
   dialer_frame : (j : ℕ) (w : Node) → NodeStands configs log j w → (n == j) ≡ false → DialerStands configs (log ++ e ∷ []) j w.dialing
-  dialer_frame j w stood other = part_frame dialer configs log ev j w (stood.each dialer) (ap (λ b. b || false) other)
+  dialer_frame j w stood other = part_frame dialer configs log ev j w (stood.each dialer) (ap (λ b. b || false) other) (makes_none log j ev.act refl)
 
   listener_frame_at : (j : ℕ) (w : Node) → NodeStands configs log j w → (m == j) ≡ false → ListenerStands configs (log ++ e ∷ []) j w.listening
-  listener_frame_at j w stood other = part_frame listener configs log ev j w (stood.each listener) (ap (λ b. b || false) other)
+  listener_frame_at j w stood other = part_frame listener configs log ev j w (stood.each listener) (ap (λ b. b || false) other) (makes_none log j ev.act refl)
 
   abbrev mid : List Node
   mid = slice_set nodes n c.after

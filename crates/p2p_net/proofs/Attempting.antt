@@ -1,6 +1,6 @@
 -- What attempts are told.
-use Rattle.std.proofs.Common.{◌≡◌, ℕ, false, cond, List, [], ◌∷◌, ◌++◌, map, length, refl, ap, sym, subst, ◌∙◌, arith, Option}
-use Rattle.std.specs.Prelude.{filter, flat_map, ◌==◌}
+use Rattle.std.proofs.Common.{◌≡◌, ℕ, Bool, true, false, cond, List, [], ◌∷◌, ◌++◌, map, length, refl, ap, sym, subst, ◌∙◌, arith, Option, Some, None}
+use Rattle.std.specs.Prelude.{filter, flat_map, ◌==◌, ◌||◌}
 use Rattle.std.specs.List.{list_any}
 use Rattle.std.specs.Option.{option_map}
 use Rattle.std.proofs.lemmas.Bool.Decides.{nat_tests}
@@ -11,6 +11,8 @@ use Rattle.p2p_gates.specs.declared.config.Config.{Config as Gates}
 use Rattle.p2p_log.specs.declared.config.Config.{Config}
 use Rattle.p2p_log.specs.declared.queue.Queue.{Queue}
 use Rattle.p2p_log.specs.declared.queue.Queue.TheVariants as queue
+use Rattle.p2p_log.specs.declared.queue.Side.{Side}
+use Rattle.p2p_log.specs.declared.queue.Side.TheVariants as side
 use Rattle.p2p_log.specs.declared.item.Item.{Item}
 use Rattle.p2p_log.specs.declared.item.Envelope.{Envelope}
 use Rattle.p2p_log.specs.declared.entry.Entry.{Entry}
@@ -18,6 +20,7 @@ use Rattle.p2p_log.specs.declared.entry.Reply.{Reply}
 use Rattle.p2p_log.specs.declared.entry.Reply.TheVariants as reply
 use Rattle.p2p_log.specs.declared.event.Event.{Event}
 use Rattle.p2p_log.specs.declared.event.Act.{Act}
+use Rattle.p2p_log.specs.declared.event.Act.TheVariants as act
 use Rattle.p2p_log.specs.QueueCode.{same_queue}
 use Rattle.p2p_log.specs.Lines.{name_of, placed, ended_item, stays, live, stands_in, line}
 use Rattle.p2p_log.proofs.Queues.{same_queue-refl}
@@ -25,8 +28,13 @@ use Rattle.p2p_log_rules.specs.declared.row.Row.{Row}
 use Rattle.p2p_log_rules.specs.Attempting.{Attempt, dial_rules_at, acted_attempts, attempts_of, told_row}
 use Rattle.p2p_log_rules.specs.Dialing.{Pace, pace_at, Dials, acted_dials, dials_of}
 use Rattle.p2p_log_rules.specs.Effect.{only, row, effect, entry_of}
+use Rattle.p2p_log_rules.specs.Connections.{half_at}
+use Rattle.p2p_log_rules.specs.Dropping.{LinkEnd, other_side, dialing_end, half_end}
 use Rattle.p2p_log_rules.specs.Facts.{starts, taken}
+use Rattle.p2p_log_rules.specs.Handshakes.{peer_at}
+use Rattle.p2p_log_rules.specs.Spawning.{steps_spawner}
 use Rattle.p2p_log_rules.proofs.Touches.{reads, writes}
+use Rattle.p2p_log_laws.proofs.Reaching as reaching
 use Rattle.p2p_log_laws.proofs.Untouched.{line-untouched}
 use Rattle.p2p_net_queues.specs.Tables as table
 use Rattle.p2p_net_queues.proofs.Going.{line-append, line-kept}
@@ -50,6 +58,38 @@ use Rattle.p2p_net.proofs.Performing.{asked, Performs, line-still}
 -- the queue of another attempt is another queue
 pub other_attempt : (n name k : ℕ) → (k == name) ≡ false → same_queue (queue.Attempt n name) (queue.Attempt n k) ≡ false
 other_attempt n name k other = grind (arith, nat_tests)
+
+-- no act takes, puts or ends more of what waits for an attempt
+reads_of : (configs : List Config) (log : List Entry) (n k : ℕ) (a : Act) → reads configs log a (queue.Attempt n k) ≡ false → reaching.reads configs log a (queue.Attempt n k) ≡ false
+reads_of configs log n k (act.SendStep conn m) h = h
+reads_of configs log n k _ h = h
+
+writes_of : (configs : List Config) (log : List Entry) (n k : ℕ) (a : Act) → writes configs log a (queue.Attempt n k) ≡ false → reaching.writes configs log a (queue.Attempt n k) ≡ false
+writes_of configs log n k (act.RecvStep conn m) h = h
+writes_of configs log n k _ h = h
+
+-- what waits for it is not in flight
+unflown : (o : Option LinkEnd) (n k : ℕ) → reaching.in_flight o (queue.Attempt n k) ≡ false
+unflown None n k = refl
+unflown (Some one) n k = by (other_side one.1)
+  where
+    by : (s : Side) → same_queue (queue.Link one.0 s) (queue.Attempt n k) ≡ false
+    by side.Out = refl
+    by side.In = refl
+
+-- and ends with no connection
+ends_of : (configs : List Config) (log : List Entry) (n k : ℕ) (a : Act) → writes configs log a (queue.Attempt n k) ≡ false → reaching.ends_in configs log a (queue.Attempt n k) ≡ false
+ends_of configs log n k (act.SendStep conn m) h = unflown (half_end (half_at log m conn)) n k
+ends_of configs log n k (act.RecvStep conn m) h = unflown (half_end (half_at log m conn)) n k
+ends_of configs log n k (act.Attempt e m) h =
+    ap (λ b. same_queue (queue.Attempt m e) (queue.Attempt n k) || b) (unflown (dialing_end (attempts_of configs log m e)) n k)
+    ∙ (or_none (same_queue (queue.Attempt m e) (queue.Attempt n k)) ∙ h)
+  where
+    or_none : (b : Bool) → (b || false) ≡ b
+    or_none true = refl
+    or_none false = refl
+ends_of configs log n k (act.Handshake e m) h = unflown (Some ((peer_at log e).link, side.In)) n k
+ends_of configs log n k _ h = h
 
 -- an attempt that is told one thing more
 pub told_is : (g : Gates) (name k n : ℕ) (m : Metadata Key) (b : Attempt) (waiting : List Envelope) (i : Item)
@@ -113,7 +153,8 @@ module _ (configs : List Config) (log : List Entry) (moment seed n name : ℕ) (
   others_stay : (j : ℕ) → (j == name) ≡ false → line (log ++ e ∷ []) (queue.Attempt n j) ≡ line log (queue.Attempt n j)
   others_stay j other =
       let away = others j other in
-      subst (λ (z : Entry). line (log ++ z ∷ []) (queue.Attempt n j) ≡ line log (queue.Attempt n j)) (sym is_effect) (line-untouched configs log ev (queue.Attempt n j) away.0 away.1)
+      subst (λ (z : Entry). line (log ++ z ∷ []) (queue.Attempt n j) ≡ line log (queue.Attempt n j)) (sym is_effect)
+      (line-untouched configs log ev (queue.Attempt n j) (reads_of configs log n j a away.0) (writes_of configs log n j a away.1) (ends_of configs log n j a away.1))
 
   changed : (now : Option RunningAttempt) (told : Row) → DoesTo q k due told → AreBut name now d.attempts u.attempts
       → AttemptStands g name now (option_map (f told.reply) (attempts name)) (line (log ++ entry_of ev told ∷ []) q) → DialerStands configs (log ++ effect configs log ev ∷ []) n u
@@ -152,15 +193,20 @@ module _ (configs : List Config) (log : List Entry) (moment seed n name : ℕ) (
 
 -- ---- an act that tells an attempt something, and nobody else
 
+-- an act that names no connections is no step of a spawner
+no_spawn : (log : List Entry) (n : ℕ) (a : Act) → names log a (at place.connections n) ≡ false → steps_spawner n a ≡ false
+no_spawn log n (act.Spawner m) h = grind (arith, nat_tests)
+no_spawn log n _ h = refl
+
 -- such an act names the dialer alone
 pub unnamed_by : (log : List Entry) (n : ℕ) (p : Part) → is_in p (place.dialer ∷ []) ≡ false → list_any (λ q. same_place q (at p n)) (parts_of n (place.dialer ∷ [])) ≡ false
 unnamed_by log n p out = not_among (place.dialer ∷ []) p n n out
 
-module _ (configs : List Config) (log : List Entry) (moment seed n : ℕ) (a : Act) (x y : Node) (l ls : Links) (r : Row) (s : NodeStands configs log n x) (t : LinksStand log l)
+module _ (configs : List Config) (log : List Entry) (moment seed n : ℕ) (a : Act) (x y : Node) (l ls : Links) (r : Row) (s : NodeStands configs log n x) (t : LinksStand configs log l)
     (unnamed : (p : Part) → is_in p (place.dialer ∷ []) ≡ false → names log a (at p n) ≡ false) (no_links : names log a links ≡ false) (tells : TellsAttempt x y) (kept : ls ≡ l) where
   pub tells_performs : row configs log moment seed a ≡ r → DialerStands configs (log ++ effect configs log (asked moment seed a) ∷ []) n y.dialing → Performs configs log (asked moment seed a) n y ls r
   tells_performs is stands = record {
     row_is = sym is;
-    node = each_part configs log (asked moment seed a) n x y (place.dialer ∷ []) s tells.1 unnamed (stands, tt);
-    linked = subst (LinksStand (log ++ effect configs log (asked moment seed a) ∷ [])) (sym kept) (links_kept configs log (asked moment seed a) l t no_links);
+    node = each_part configs log (asked moment seed a) n x y (place.dialer ∷ []) s tells.1 unnamed (no_spawn log n a (unnamed place.connections refl)) (stands, tt);
+    linked = subst (LinksStand configs (log ++ effect configs log (asked moment seed a) ∷ [])) (sym kept) (links_kept configs log (asked moment seed a) l t no_links);
   }

@@ -1,5 +1,5 @@
 -- A connection begins: its node's tracker and router are told whom it is with.
-use Rattle.std.proofs.Common.{◌≡◌, ℕ, Bool, true, false, cond, List, [], ◌∷◌, ◌++◌, length, refl, ap, sym, subst, ◌∙◌, append-nil, eq-eqb, Option, Some, None}
+use Rattle.std.proofs.Common.{◌≡◌, ℕ, Bool, true, false, cond, List, [], ◌∷◌, ◌++◌, length, refl, ap, sym, subst, ◌∙◌, append-nil, Option, Some, None}
 use Rattle.std.specs.Prelude.{map, ◌==◌, is_some}
 use Rattle.std.specs.BTreeMap as tree
 use Rattle.std.specs.Ordering.{nat_cmp, is_eq}
@@ -19,10 +19,11 @@ use Rattle.p2p_log.specs.Lines.{line}
 use Rattle.p2p_log.proofs.Queues.{same_queue-sym}
 use Rattle.p2p_log_rules.specs.declared.row.Half.{Half}
 use Rattle.p2p_log_rules.specs.declared.row.Row.{Row}
-use Rattle.p2p_log_rules.specs.Connections.{live_half, is_begun, is_answer, is_running, is_ended}
+use Rattle.p2p_log_rules.specs.Connections.{live_connection, live_half, is_begun, is_answer, is_running, is_ended}
 use Rattle.p2p_log_rules.specs.Effect.{row, effect, entry_of, begin_row, mailbox_size_at}
 use Rattle.p2p_log_rules.specs.Facts.{is_up, taken}
 use Rattle.p2p_log_rules.proofs.Connections.{HalfParts, half_parts, is_live, live_connection-kept, ends_none-reply}
+use Rattle.p2p_log_rules.specs.Spawning.{connections_of}
 use Rattle.p2p_log_rules.proofs.Spawning.{connections_of-unmade}
 use Rattle.p2p_log_laws.specs.Leading.{ConnectionsAreOne}
 use Rattle.p2p_net_queues.specs.Tables as table
@@ -48,14 +49,14 @@ use Rattle.p2p_net.proofs.EachPart.{with_parts, each_part, not_among-links}
 use Rattle.p2p_net.proofs.Receivers.{receives_nothing}
 use Rattle.p2p_net.proofs.Performing.{asked, Performs, taken-none}
 use Rattle.p2p_net.proofs.Routers.{HearsOfBegun-told, IsStranger-unbegun}
-use Rattle.p2p_net.proofs.RouterAnswers.{half_steps, step_begins, step_answers, step_beside, named_parts}
+use Rattle.p2p_net.proofs.RouterAnswers.{half_steps, step_begins, step_answers, step_beside, step_drops, named_parts}
 
 -- one that has not begun does not run
 idle_stage : (o : Option Stage) → is_some o ≡ false → runs_on o ≡ false
 idle_stage None h = refl
 idle_stage (Some s) h = absurd (cc)
 
-module _ (configs : List Config) (log : List Entry) (at seed conn n : ℕ) (half : Half) (x y : Node) (l links : Links) (r : Row) (s : NodeStands configs log n x) (t : LinksStand log l) (one : ConnectionsAreOne log)
+module _ (configs : List Config) (log : List Entry) (at seed conn n : ℕ) (half : Half) (x y : Node) (l links : Links) (r : Row) (s : NodeStands configs log n x) (t : LinksStand configs log l) (one : ConnectionsAreOne log)
     (up : is_up log n ≡ true) (has : live_half log n conn ≡ Some half) (idle : is_begun log n conn ≡ false) (d : Begins (length log) n conn half.peer x y r) (kept : links ≡ l) where
   abbrev ev : Event
   ev = asked at seed (act.SendStep conn n)
@@ -68,6 +69,9 @@ module _ (configs : List Config) (log : List Entry) (at seed conn n : ℕ) (half
 
   parts : HalfParts log n conn half
   parts = half_parts log n conn half (is_live log n conn half has).at
+
+  alive : live_connection log n conn ≡ Some parts.connection
+  alive = ap (λ b. cond b None (connections_of log n conn)) (is_live log n conn half has).lives ∙ parts.made
 
   key_is : parts.connection.key ≡ half.peer
   key_is = sym (ap (λ (h : Half). h.peer) parts.is)
@@ -143,9 +147,10 @@ module _ (configs : List Config) (log : List Entry) (at seed conn n : ℕ) (half
         number = ap (λ (z : Router). z.number) calls.rest ∙ routes.number;
         stands = calls.stands configs log e routes.stands refl size_is
             (ap (λ k. is_ended log k conn) routes.number ∙ (is_live log n conn half has).lives)
-            (subst (IsStranger x.router conn) key_is (IsStranger-unbegun log n conn parts.connection x.router routes.hears one parts.made idle))
+            (subst (IsStranger x.router conn) key_is (IsStranger-unbegun log n conn parts.connection x.router routes.hears one alive idle))
             (step_beside configs log e x.router.number conn n refl refl) (subst (λ k. IsReadied e k 1 conn half.peer) (sym routes.number) readied);
-        hears = HearsOfBegun-told log e n conn parts.connection x.router.peers y.router.peers routes.hears (λ k. subst (λ p. tree.get nat_cmp y.router.peers k ≡ cond (is_eq (nat_cmp conn k)) (Some p) (tree.get nat_cmp x.router.peers k)) (sym key_is) (calls.peers k)) parts.made (step_begins n conn conn e refl refl ∙ eq-eqb conn conn refl);
+        hears = HearsOfBegun-told log e n conn parts.connection x.router.peers y.router.peers routes.hears (λ k. subst (λ p. tree.get nat_cmp y.router.peers k ≡ cond (is_eq (nat_cmp conn k)) (Some p) (tree.get nat_cmp x.router.peers k)) (sym key_is) (calls.peers k)) alive
+            (λ c. step_begins n conn c e refl refl) (λ c. ends_none-reply e n c refl) (λ c. connections_of-unmade log e n refl c);
       }
 
   pub begin_performs : Performs configs log ev n y links r
@@ -153,7 +158,7 @@ module _ (configs : List Config) (log : List Entry) (at seed conn n : ℕ) (half
     row_is = d.0 ∙ sym row_is;
     node =
         each_part configs log ev n x y named_parts s (subst (λ z. z ≡ with_parts named_parts x z) (sym d.1.0) refl)
-        (λ p out. not_among-links named_parts p n out) (
+        (λ p out. not_among-links named_parts p n out) refl (
           subst (λ (z : Entry). ConnectionsStand configs (log ++ z ∷ []) n y.connections) effect_is (subst (ConnectionsStand configs (log ++ e ∷ []) n) (sym (ap (λ (z : Node). z.connections) d.1.0)) connections_now),
           (
             subst (λ (z : Entry). RouterStands configs (log ++ z ∷ []) n y.router) effect_is router_now,
@@ -164,6 +169,6 @@ module _ (configs : List Config) (log : List Entry) (at seed conn n : ℕ) (half
             ),
           ),
         );
-    linked = subst (LinksStand (log ++ effect configs log ev ∷ [])) (sym kept)
-        (subst (λ (z : Entry). LinksStand (log ++ z ∷ []) l) effect_is (links_frame log e l t (λ u link. beside (queue.Link link u) (off_tracker u link) (off_router u link)) (openings_unmoved log e refl)));
+    linked = subst (LinksStand configs (log ++ effect configs log ev ∷ [])) (sym kept)
+        (subst (λ (z : Entry). LinksStand configs (log ++ z ∷ []) l) effect_is (links_frame configs log e l t (λ u link. beside (queue.Link link u) (off_tracker u link) (off_router u link)) (openings_unmoved log e refl) (step_drops configs log e n conn refl refl)));
   }

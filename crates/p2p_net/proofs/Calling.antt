@@ -44,7 +44,7 @@ use Rattle.p2p_net.specs.declared.node.Node.{Node}
 use Rattle.p2p_net.proofs.EachPart.{with_parts, each_part, not_among}
 use Rattle.p2p_net.proofs.Frames.{links_kept}
 use Rattle.p2p_net.proofs.Receivers.{admits_apart, sends_apart, closes_apart}
-use Rattle.p2p_net.proofs.Routers.{RouterStands-moved, is_unbound-before}
+use Rattle.p2p_net.proofs.Routers.{hears_aside, RouterStands-moved, is_unbound-before}
 use Rattle.p2p_net.proofs.Performing.{asked, Performs, stays_performs, line-still}
 
 -- ---- register
@@ -58,7 +58,7 @@ quota_is rate h =
     some : (k : ℕ) → nat_lt 0 k ≡ true → 0 < k
     some k is = grind (arith, nat_tests)
 
-pub register_performs : (configs : List Config) (log : List Entry) (at seed n c : ℕ) (rate : Rate) (x y : Node) (l links : Links) (r : Row) → NodeStands configs log n x → LinksStand log l
+pub register_performs : (configs : List Config) (log : List Entry) (at seed n c : ℕ) (rate : Rate) (x y : Node) (l links : Links) (r : Row) → NodeStands configs log n x → LinksStand configs log l
     → may_act configs (events_of log) (act.Register c n rate) ≡ true → Registers c rate x y r → links ≡ l → Performs configs log (asked at seed (act.Register c n rate)) n y links r
 unfolding effect row
 register_performs configs log at seed n c rate x y l links r s t valid d kept =
@@ -89,11 +89,11 @@ register_performs configs log at seed n c rate x y l links r s t valid d kept =
       row_is = d.0 ∙ ap (λ j. only (reply.Capacity j)) amount;
       node =
           each_part configs log ev n x y (place.channels ∷ place.router ∷ []) s (subst (λ z. z ≡ with_parts (place.channels ∷ place.router ∷ []) x z) (sym parts) refl)
-          (λ p out. not_among (place.channels ∷ place.router ∷ []) p n n out) (
+          (λ p out. not_among (place.channels ∷ place.router ∷ []) p n n out) refl (
             subst (ChannelsStand configs (log ++ e ∷ []) n) (sym chan_is)
                 (channels_registered configs log e n c k rate x.channels chan refl amount (chan.capacities c ∙ absent) room (λ f. line-kept_all log e (queue.Channel n f) refl refl refl) (quota_is rate named.1) (admits_apart configs log e n (act.Register c n rate) refl (λ d. refl)) (sends_apart log e n (act.Register c n rate) refl refl)),
             (
-              RouterStands-moved configs log e n x.router y.router rout
+              RouterStands-moved configs log e n x.router y.router rout (hears_aside log e n (act.Register c n rate) refl refl)
                   (sub.stands configs log e rout.stands (is_unbound-before configs log n x.router rout early)
                   (record { rate = rate; is = ap (λ j. act.Register c j rate) (sym at_number); takes = refl; puts = refl; ends = refl })
                   (ap (λ j. capacity_in (channels configs log j) c) at_number ∙ absent))
@@ -101,7 +101,7 @@ register_performs configs log at seed n c rate x y l links r s t valid d kept =
               tt,
             ),
           );
-      linked = subst (LinksStand (log ++ e ∷ [])) (sym kept) (links_kept configs log ev l t refl);
+      linked = subst (LinksStand configs (log ++ e ∷ [])) (sym kept) (links_kept configs log ev l t refl);
     }
   where
     none_in : (o : Option ℕ) → is_some o ≡ false → o ≡ None
@@ -116,7 +116,7 @@ register_performs configs log at seed n c rate x y l links r s t valid d kept =
 
 -- ---- start
 
-pub start_performs : (configs : List Config) (log : List Entry) (at seed n : ℕ) (x y : Node) (l links : Links) (r : Row) → NodeStands configs log n x → LinksStand log l
+pub start_performs : (configs : List Config) (log : List Entry) (at seed n : ℕ) (x y : Node) (l links : Links) (r : Row) → NodeStands configs log n x → LinksStand configs log l
     → Starts (length log) at x y r → links ≡ l → Performs configs log (asked at seed (act.Start n)) n y links r
 unfolding effect row
 start_performs configs log at seed n x y l links r s t d kept =
@@ -137,16 +137,16 @@ start_performs configs log at seed n x y l links r s t d kept =
       row_is = row_is;
       node =
           each_part configs log ev n x y (place.router ∷ place.dialer ∷ []) s (subst (λ z. z ≡ with_parts (place.router ∷ place.dialer ∷ []) x z) (sym parts) refl)
-          (λ p out. not_among (place.router ∷ place.dialer ∷ []) p n n out) (
-            RouterStands-moved configs log e n x.router y.router rout
+          (λ p out. not_among (place.router ∷ place.dialer ∷ []) p n n out) refl (
+            RouterStands-moved configs log e n x.router y.router rout (hears_aside log e n (act.Start n) refl refl)
                 (subst (λ (z : Row). StandsFor configs (log ++ entry_of ev z ∷ []) y.router) row_is (calls.stands configs log ev rout.stands refl (ap act.Start (sym at_number)) places))
                 (ap (λ (z : Router). z.number) calls.rest) (ap (λ (z : Router). z.peers) calls.rest),
             (
-              subst (DialerStands configs (log ++ e ∷ []) n) (sym (ap (λ (z : Node). z.dialing) parts)) (dialer_starts configs log e n x.config x.dialing (s.each place.dialer) s.own.config refl (λ k. line-untouched configs log ev (queue.Attempt n k) refl refl)),
+              subst (DialerStands configs (log ++ e ∷ []) n) (sym (ap (λ (z : Node). z.dialing) parts)) (dialer_starts configs log e n x.config x.dialing (s.each place.dialer) s.own.config refl (λ k. line-untouched configs log ev (queue.Attempt n k) refl refl refl)),
               tt,
             ),
           );
-      linked = subst (LinksStand (log ++ e ∷ [])) (sym kept) (links_kept configs log ev l t refl);
+      linked = subst (LinksStand configs (log ++ e ∷ [])) (sym kept) (links_kept configs log ev l t refl);
     }
 
 -- ---- recv
@@ -179,7 +179,7 @@ read_stands configs log e n c ch (y ∷ ys) s is acts takes puts ends = read_fir
         (λ f. ap (λ p. filter (stands_in (queue.Channel n f)) (placed (length log) 0 p)) puts))
     read_first configs log e n c ch y ys s is acts _ it takes puts ends = still configs log e n c ch s acts takes puts ends
 
-read_on_performs : (configs : List Config) (log : List Entry) (at seed n c : ℕ) (b : Bool) (x y : Node) (l links : Links) (r : Row) → NodeStands configs log n x → LinksStand log l
+read_on_performs : (configs : List Config) (log : List Entry) (at seed n c : ℕ) (b : Bool) (x y : Node) (l links : Links) (r : Row) → NodeStands configs log n x → LinksStand configs log l
     → has_reader x.channels c ≡ b → ReadsOn b c x y r → links ≡ l → Performs configs log (asked at seed (act.Recv c n)) n y links r
 unfolding effect row
 read_on_performs configs log at seed n c false x y l links r s t has d kept =
@@ -196,14 +196,14 @@ read_on_performs configs log at seed n c true x y l links r s t has d kept =
       row_is = d.0 ∙ is;
       node =
           each_part configs log ev n x y (place.channels ∷ []) s (subst (λ z. z ≡ with_parts (place.channels ∷ []) x z) (sym parts) refl)
-          (λ p out. not_among (place.channels ∷ []) p n n out) (
+          (λ p out. not_among (place.channels ∷ []) p n n out) refl (
             subst (ChannelsStand configs (log ++ e ∷ []) n) (sym (ap (λ (z : Node). z.channels) parts))
                 (read_stands configs log e n c x.channels (waiting x.channels.waiting c) chan refl refl (ap (λ (z : Row). z.takes) (sym is)) (ap (λ (z : Row). z.puts) (sym is)) (ap (λ (z : Row). z.ends) (sym is))),
             tt,
           );
-      linked = subst (LinksStand (log ++ e ∷ [])) (sym kept) (links_kept configs log ev l t refl);
+      linked = subst (LinksStand configs (log ++ e ∷ [])) (sym kept) (links_kept configs log ev l t refl);
     }
 
-pub read_performs : (configs : List Config) (log : List Entry) (at seed n c : ℕ) (x y : Node) (l links : Links) (r : Row) → NodeStands configs log n x → LinksStand log l
+pub read_performs : (configs : List Config) (log : List Entry) (at seed n c : ℕ) (x y : Node) (l links : Links) (r : Row) → NodeStands configs log n x → LinksStand configs log l
     → Reads c x y r → links ≡ l → Performs configs log (asked at seed (act.Recv c n)) n y links r
 read_performs configs log at seed n c x y l links r s t d kept = read_on_performs configs log at seed n c (has_reader x.channels c) x y l links r s t refl d kept

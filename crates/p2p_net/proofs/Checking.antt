@@ -51,14 +51,14 @@ use Rattle.p2p_net.proofs.EachPart.{not_among}
 use Rattle.p2p_net.proofs.Messages.{asks_here, channels_unasked, IsOffered, is_offered, named, built}
 use Rattle.p2p_net.proofs.Performing.{asked, Performs, effect-still}
 use Rattle.p2p_net.proofs.Receivers.{admits_apart}
-use Rattle.p2p_net.proofs.Routers.{RouterStands-moved, RouterStands-idle}
+use Rattle.p2p_net.proofs.Routers.{hears_aside, RouterStands-moved, RouterStands-idle}
 
 same_number : (n : ℕ) → (n == n) ≡ true
 same_number n = grind (arith, nat_tests)
 
 -- ---- a check
 
-module _ (configs : List Config) (log : List Entry) (at seed n c : ℕ) (to : Recipients) (x y : Node) (l links : Links) (r : Row) (s : NodeStands configs log n x) (t : LinksStand log l)
+module _ (configs : List Config) (log : List Entry) (at seed n c : ℕ) (to : Recipients) (x y : Node) (l links : Links) (r : Row) (s : NodeStands configs log n x) (t : LinksStand configs log l)
     (current : ListsAreCurrent log) (late : latest_moment (events_of log) ≤ at) (kept : links ≡ l) where
   abbrev a : Act
   a = act.Check c n to
@@ -92,7 +92,7 @@ module _ (configs : List Config) (log : List Entry) (at seed n c : ℕ) (to : Re
   routes = s.each place.router
 
   done : (ch : Channels) (router : Router) → r ≡ row configs log at seed a → y ≡ record x { channels = ch; router = router } → ChannelsStand configs (log ++ e ∷ []) n ch → RouterStands configs (log ++ e ∷ []) n router → Done
-  done ch router = built configs log ev n x y l links r ch router s t kept (λ p out. not_among named p n n out) refl
+  done ch router = built configs log ev n x y l links r ch router s t kept (λ p out. not_among named p n n out) refl refl
 
   -- what its reply makes of the checks that wait
   checks_by_reply : (rep : Reply) → (row configs log at seed a).reply ≡ rep → (name : ℕ) → acted_checks n log a e.reply (checked_at log n) name ≡ with_begun (keys_checked c rep) (length log) (checked_at log n) name
@@ -107,15 +107,15 @@ module _ (configs : List Config) (log : List Entry) (at seed n c : ℕ) (to : Re
   gone has is told same =
       let still = effect-still configs log ev reply.Gone is in
       done x.channels x.router (told ∙ sym is) same
-      (channels_unasked configs log e n c to x.channels chan refl (λ d. asks_here n c d to) (admits_apart configs log e n a refl (λ d. refl)) (λ d. line-untouched configs log ev (queue.Channel n d) refl refl)
+      (channels_unasked configs log e n c to x.channels chan refl (λ d. asks_here n c d to) (admits_apart configs log e n a refl (λ d. refl)) (λ d. line-untouched configs log ev (queue.Channel n d) refl refl refl)
       (checks_by_reply reply.Gone (ap (λ (z : Row). z.reply) is)) (λ d. refl) has)
-      (RouterStands-idle configs log e n x.router (record { no_step = refl; no_channel = refl; no_start = refl; no_end = λ conn. refl }) still.takes still.puts still.ends routes)
+      (RouterStands-idle configs log e n x.router (record { no_step = refl; no_channel = refl; no_start = refl; no_end = λ conn. refl }) (hears_aside log e n a refl refl) still.takes still.puts still.ends routes)
 
   -- the channels, whose quota was asked, with these checks
   channels_now : (m : List (ℕ × Checked)) → ((name : ℕ) → table.at m name ≡ checked_at (log ++ e ∷ []) n name) → ChannelsStand configs (log ++ e ∷ []) n (record (keys_metered c keys at x.channels) { checks = m })
   unfolding effect
   channels_now m checks =
-      channels_asked configs log e n x.channels m chan refl (admits_apart configs log e n a refl (λ d. refl)) (λ d. line-untouched configs log ev (queue.Channel n d) refl refl)
+      channels_asked configs log e n x.channels m chan refl (admits_apart configs log e n a refl (λ d. refl)) (λ d. line-untouched configs log ev (queue.Channel n d) refl refl refl)
       checks (λ d. refl) c at to (λ d. asks_here n c d to) refl late
 
   -- the router, of which at most a list was taken
@@ -123,7 +123,7 @@ module _ (configs : List Config) (log : List Entry) (at seed n c : ℕ) (to : Re
       → new.number ≡ x.router.number → new.peers ≡ x.router.peers → RouterStands configs (log ++ e ∷ []) n new
   unfolding effect
   router_now rep new is over number peers =
-      RouterStands-moved configs log e n x.router new routes
+      RouterStands-moved configs log e n x.router new routes (hears_aside log e n a refl refl)
       (subst (λ (z : Row). StandsFor configs (log ++ entry_of ev z ∷ []) new) (sym is)
       (over_gone configs log (entry_of ev (taking names (only rep))) new names over (record { no_step = refl; no_channel = refl; no_start = refl; no_end = λ conn. refl }) (append-nil names) refl))
       number peers
@@ -178,7 +178,7 @@ module _ (configs : List Config) (log : List Entry) (at seed n c : ℕ) (to : Re
 
 -- ---- a message to those whom a check admitted
 
-module _ (configs : List Config) (log : List Entry) (at seed check : ℕ) (bytes : List ℕ) (priority : Bool) (x y : Node) (l links : Links) (r : Row) (s : NodeStands configs log (checking_node log check) x) (t : LinksStand log l)
+module _ (configs : List Config) (log : List Entry) (at seed check : ℕ) (bytes : List ℕ) (priority : Bool) (x y : Node) (l links : Links) (r : Row) (s : NodeStands configs log (checking_node log check) x) (t : LinksStand configs log l)
     (kept : links ≡ l) where
   abbrev spends : Act
   spends = act.SendChecked bytes check priority
@@ -203,7 +203,7 @@ module _ (configs : List Config) (log : List Entry) (at seed check : ℕ) (bytes
 
   done_with : (ch : Channels) (router : Router) → r ≡ row configs log at seed spends → y ≡ record x { channels = ch; router = router } → ChannelsStand configs (log ++ entry ∷ []) n ch → RouterStands configs (log ++ entry ∷ []) n router
       → Performs configs log spent n y links r
-  done_with ch router = built configs log spent n x y l links r ch router s t kept (λ p out. not_among named p n n out) refl
+  done_with ch router = built configs log spent n x y l links r ch router s t kept (λ p out. not_among named p n n out) refl refl
 
   module _ (left : List (ℕ × Checked)) (gone : table.AreBut check None x.channels.checks left) where
     abbrev mid : Node
@@ -218,7 +218,7 @@ module _ (configs : List Config) (log : List Entry) (at seed check : ℕ) (bytes
     channels_then : ChannelsStand configs (log ++ entry ∷ []) n (record x.channels { checks = left })
     unfolding effect
     channels_then =
-        channels_spent configs log entry n x.channels left chan_then refl (admits_apart configs log entry n spends refl (λ d. refl)) (λ d. line-untouched configs log spent (queue.Channel n d) refl refl)
+        channels_spent configs log entry n x.channels left chan_then refl (admits_apart configs log entry n spends refl (λ d. refl)) (λ d. line-untouched configs log spent (queue.Channel n d) refl refl refl)
         checks_then (λ d. refl) (λ d. refl)
 
     -- nothing is handed to the router
@@ -227,7 +227,7 @@ module _ (configs : List Config) (log : List Entry) (at seed check : ℕ) (bytes
     unsent rep due told same =
         let still = effect-still configs log spent rep due in
         done_with (record x.channels { checks = left }) x.router (told ∙ sym due) same channels_then
-        (RouterStands-idle configs log entry n x.router (record { no_step = refl; no_channel = refl; no_start = refl; no_end = λ conn. refl }) still.takes still.puts still.ends routes_then)
+        (RouterStands-idle configs log entry n x.router (record { no_step = refl; no_channel = refl; no_start = refl; no_end = λ conn. refl }) (hears_aside log entry n spends refl refl) still.takes still.puts still.ends routes_then)
 
     module _ (c : Checked) where
       abbrev accepted : Reply
@@ -268,7 +268,7 @@ module _ (configs : List Config) (log : List Entry) (at seed check : ℕ) (bytes
           in
           let same_row : taking [] handed ≡ handed = ap (λ (z : List (ℕ × ℕ)). record handed { takes = z }) (sym takes) in
           done_with (record x.channels { checks = left }) y.router (row_is ∙ sym due_now) d.0 channels_then
-          (RouterStands-moved configs log entry n x.router y.router routes_then
+          (RouterStands-moved configs log entry n x.router y.router routes_then (hears_aside log entry n spends refl refl)
           (subst (λ (z : Row). StandsFor configs (log ++ entry_of spent z ∷ []) y.router) (same_row ∙ sym due_now)
           (over_taking configs log spent y.router [] handed over_now (record { no_step = refl; no_channel = refl; no_start = refl; no_end = λ conn. refl }) takes))
           (ap (λ (z : Router). z.number) calls.rest) (ap (λ (z : Router). z.peers) calls.rest))

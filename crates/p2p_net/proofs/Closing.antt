@@ -70,7 +70,7 @@ module _ (configs : List Config) (log : List Entry) (at seed n c : ℕ) where
   row_is : (ch : Channels) → ChannelsStand configs log n ch → (b : Bool) → has_reader ch c ≡ b → close_row configs log c n ≡ cond b due (only reply.Gone)
   row_is ch s b has = ap (λ r. cond r due (only reply.Gone)) (sym (reader_is configs log n c ch s) ∙ has)
 
-close_on_performs : (configs : List Config) (log : List Entry) (at seed n c : ℕ) (b : Bool) (x y : Node) (l links : Links) (r : Row) → NodeStands configs log n x → LinksStand log l
+close_on_performs : (configs : List Config) (log : List Entry) (at seed n c : ℕ) (b : Bool) (x y : Node) (l links : Links) (r : Row) → NodeStands configs log n x → LinksStand configs log l
     → has_reader x.channels c ≡ b → ClosesOn b c x y r → links ≡ l → Performs configs log (asked at seed (act.Close c n)) n y links r
 unfolding effect row
 close_on_performs configs log at seed n c false x y l links r s t has d kept =
@@ -84,14 +84,14 @@ close_on_performs configs log at seed n c true x y l links r s t has d kept =
       row_is = d.0 ∙ (ap closed_row (chan.waits c) ∙ sym is);
       node =
           each_part configs log ev n x y (place.channels ∷ []) s (subst (λ z. z ≡ with_parts (place.channels ∷ []) x z) (sym d.1) refl)
-          (λ p out. not_among (place.channels ∷ []) p n n out) (
+          (λ p out. not_among (place.channels ∷ []) p n n out) refl (
             subst (λ (z : Row). ChannelsStand configs (log ++ entry_of ev z ∷ []) n y.channels) (sym is)
                 (subst (ChannelsStand configs (log ++ entry_of ev due ∷ []) n) (sym (ap (λ (z : Node). z.channels) d.1)) (now_stand configs log at seed n c x.channels chan)),
             tt,
           );
-      linked = subst (LinksStand (log ++ effect configs log ev ∷ [])) (sym kept) (links_kept configs log ev l t refl);
+      linked = subst (LinksStand configs (log ++ effect configs log ev ∷ [])) (sym kept) (links_kept configs log ev l t refl);
     }
 
-pub close_performs : (configs : List Config) (log : List Entry) (at seed n c : ℕ) (x y : Node) (l links : Links) (r : Row) → NodeStands configs log n x → LinksStand log l
+pub close_performs : (configs : List Config) (log : List Entry) (at seed n c : ℕ) (x y : Node) (l links : Links) (r : Row) → NodeStands configs log n x → LinksStand configs log l
     → Closes c x y r → links ≡ l → Performs configs log (asked at seed (act.Close c n)) n y links r
 close_performs configs log at seed n c x y l links r s t d kept = close_on_performs configs log at seed n c (has_reader x.channels c) x y l links r s t refl d kept

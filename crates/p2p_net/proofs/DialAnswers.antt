@@ -129,7 +129,7 @@ refuse_row_is : (configs : List Config) (log : List Entry) (moment seed name n :
 unfolding row
 refuse_row_is configs log moment seed name n = refl
 
-pub refuse_performs : (configs : List Config) (log : List Entry) (moment seed name n : ℕ) (x y : Node) (l ls : Links) (r : Row) → NodeStands configs log n x → LinksStand log l
+pub refuse_performs : (configs : List Config) (log : List Entry) (moment seed name n : ℕ) (x y : Node) (l ls : Links) (r : Row) → NodeStands configs log n x → LinksStand configs log l
     → AnswersDial (table.at x.dialing.attempts name) (length log) n name false x.dialing.attempts y.dialing.attempts r → TellsAttempt x y → ls ≡ l
     → Performs configs log (asked moment seed (act.Refuse name n)) n y ls r
 refuse_performs configs log moment seed name n x y l ls r s t h tells kept =

@@ -123,7 +123,7 @@ last_there k ks none = let it = some_at (k ∷ ks) (length (k ∷ ks) - 1) (belo
     below : (m : ℕ) → suc m - 1 < suc m
     below m = omega arith
 
-module _ (configs : List Config) (log : List Entry) (moment seed n : ℕ) (x y : Node) (l ls : Links) (r : Row) (s : NodeStands configs log n x) (t : LinksStand log l) (up : is_up log n ≡ true)
+module _ (configs : List Config) (log : List Entry) (moment seed n : ℕ) (x y : Node) (l ls : Links) (r : Row) (s : NodeStands configs log n x) (t : LinksStand configs log l) (up : is_up log n ≡ true)
     (rest : y ≡ record x { tracker = y.tracker; dialing = y.dialing }) (kept : ls ≡ l) where
   abbrev ev : Event
   ev = asked moment seed (act.Dialer n)
@@ -260,16 +260,16 @@ module _ (configs : List Config) (log : List Entry) (moment seed n : ℕ) (x y :
         ∙ (ap (λ p. Some (actor_of g (stepped_dials p moment seed reply.Ok items (asked_puts n (item_in o)) ds))) (sym (pace_is configs n))
         ∙ ap (λ i. Some (actor_of g (stepped_dials (pace_at configs n) moment seed reply.Ok i (asked_puts n (item_in o)) ds))) (sym items_is)))
         (subst (λ i. IsBegun g k begun (begun_of rules.timeout moment i)) (sym items_is) new) attempts
-        (λ j. subst (λ (d : Entry). line (log ++ d ∷ []) (queue.Attempt n j) ≡ line log (queue.Attempt n j)) (sym same) (line-untouched configs log ev (queue.Attempt n j) refl refl))
+        (λ j. subst (λ (d : Entry). line (log ++ d ∷ []) (queue.Attempt n j) ≡ line log (queue.Attempt n j)) (sym same) (line-untouched configs log ev (queue.Attempt n j) refl refl refl))
         in
         record {
           row_is = tracks.0 ∙ (ap (λ h. dialed_row h n took (item_in o)) (tracked.told (queue.Dialer n) (eq-eqb n n refl)) ∙ sym row_is);
           node =
-              each_part configs log ev n x y (place.tracker ∷ place.dialer ∷ []) s rest (λ p out. not_among (place.tracker ∷ place.dialer ∷ []) p n n out) (
+              each_part configs log ev n x y (place.tracker ∷ place.dialer ∷ []) s rest (λ p out. not_among (place.tracker ∷ place.dialer ∷ []) p n n out) refl (
                 subst (λ (d : Entry). TrackerStands configs (log ++ d ∷ []) n y.tracker) same tracker_is,
                 (subst (λ (d : Entry). DialerStands configs (log ++ d ∷ []) n y.dialing) same dialer_is, tt),
               );
-          linked = subst (LinksStand (log ++ effect configs log ev ∷ [])) (sym kept) (links_kept configs log ev l t refl);
+          linked = subst (LinksStand configs (log ++ effect configs log ev ∷ [])) (sym kept) (links_kept configs log ev l t refl);
         }
 
   -- ---- by the turn of the actor
@@ -436,7 +436,7 @@ module _ (configs : List Config) (log : List Entry) (moment seed n : ℕ) (x y :
   steps_performs what steps tracks =
       by_line answers m.dialer what refl refl tracked.dialer (subst (λ o. dialing.Steps o k moment seed x.dialing y.dialing m y.tracker.mailbox what) actor_is steps) tracks
 
-pub dialer_performs : (configs : List Config) (log : List Entry) (moment seed n : ℕ) (x y : Node) (l ls : Links) (r : Row) → NodeStands configs log n x → LinksStand log l
+pub dialer_performs : (configs : List Config) (log : List Entry) (moment seed n : ℕ) (x y : Node) (l ls : Links) (r : Row) → NodeStands configs log n x → LinksStand configs log l
     → DialerStepsBy (is_started x) (length log) n moment seed x y r → ls ≡ l → Performs configs log (asked moment seed (act.Dialer n)) n y ls r
 unfolding row
 dialer_performs configs log moment seed n x y l ls r s t steps kept = by (is_started x) (sym (started_is configs log n x s)) steps

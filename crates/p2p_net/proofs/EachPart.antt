@@ -7,6 +7,7 @@ use Rattle.p2p_log.specs.declared.config.Config.{Config}
 use Rattle.p2p_log.specs.declared.entry.Entry.{Entry}
 use Rattle.p2p_log.specs.declared.event.Event.{Event}
 use Rattle.p2p_log_rules.specs.Effect.{effect}
+use Rattle.p2p_log_rules.specs.Spawning.{steps_spawner}
 use Rattle.p2p_net_channels.specs.Stands.{ChannelsStand}
 use Rattle.p2p_net_connections.specs.Stands.{ConnectionsStand}
 use Rattle.p2p_net_tracker.specs.Stands.{TrackerStands}
@@ -17,7 +18,7 @@ use Rattle.p2p_net.specs.Places.{Part, router, channels, connections, tracker, d
 use Rattle.p2p_net.specs.Stands.{RouterStands, PartStands, OwnStands, NodeStands}
 use Rattle.p2p_net.specs.declared.node.Node.{Node}
 use Rattle.p2p_net.proofs.Touching.{first_false, second_false}
-use Rattle.p2p_net.proofs.Frames.{part_frame}
+use Rattle.p2p_net.proofs.Frames.{MakesUnbegun, makes_none, part_frame}
 
 abbrev pub is_in : Part → List Part → Bool
 is_in p [] = false
@@ -97,12 +98,12 @@ links_apart p n = refl
 pub not_among-links : (ps : List Part) (p : Part) (n : ℕ) → is_in p ps ≡ false → list_any (λ q. same_place q (at p n)) (and_links (parts_of n ps)) ≡ false
 not_among-links ps p n out = ap (λ b. b || list_any (λ r. same_place r (at p n)) (parts_of n ps)) (links_apart p n) ∙ not_among ps p n n out
 
--- a node of which an act changed these parts
-pub each_part :
+-- a node of which an act changed these parts, of whose connections it makes none that has begun
+pub each_part-made :
     (configs : List Config) (log : List Entry) (ev : Event) (n : ℕ) (x y : Node) (ps : List Part) → NodeStands configs log n x → y ≡ with_parts ps x y
-    → ((p : Part) → is_in p ps ≡ false → names log ev.act (at p n) ≡ false) → AllOf (λ p. PartStands p configs (log ++ effect configs log ev ∷ []) n y) ps
-    → NodeStands configs (log ++ effect configs log ev ∷ []) n y
-each_part configs log ev n x y ps s same unnamed all = record {
+    → ((p : Part) → is_in p ps ≡ false → names log ev.act (at p n) ≡ false) → MakesUnbegun log n ev.act
+    → AllOf (λ p. PartStands p configs (log ++ effect configs log ev ∷ []) n y) ps → NodeStands configs (log ++ effect configs log ev ∷ []) n y
+each_part-made configs log ev n x y ps s same unnamed late all = record {
   own = subst (OwnStands configs n) (sym same) (record { config = s.own.config; retained = s.own.retained; works = s.own.works });
   each = λ p. by p (is_in p ps) refl;
 }
@@ -111,4 +112,11 @@ each_part configs log ev n x y ps s same unnamed all = record {
     by p true h = picked (λ q. PartStands q configs (log ++ effect configs log ev ∷ []) n y) p ps h all
     by p false h =
         subst (λ (z : Node). PartStands p configs (log ++ effect configs log ev ∷ []) n z) (sym same)
-        (kept_part p ps configs (log ++ effect configs log ev ∷ []) n x y h (part_frame p configs log ev n x (s.each p) (unnamed p h)))
+        (kept_part p ps configs (log ++ effect configs log ev ∷ []) n x y h (part_frame p configs log ev n x (s.each p) (unnamed p h) late))
+
+-- and by an act that is no step of its spawner
+pub each_part :
+    (configs : List Config) (log : List Entry) (ev : Event) (n : ℕ) (x y : Node) (ps : List Part) → NodeStands configs log n x → y ≡ with_parts ps x y
+    → ((p : Part) → is_in p ps ≡ false → names log ev.act (at p n) ≡ false) → steps_spawner n ev.act ≡ false
+    → AllOf (λ p. PartStands p configs (log ++ effect configs log ev ∷ []) n y) ps → NodeStands configs (log ++ effect configs log ev ∷ []) n y
+each_part configs log ev n x y ps s same unnamed none all = each_part-made configs log ev n x y ps s same unnamed (makes_none log n ev.act none) all

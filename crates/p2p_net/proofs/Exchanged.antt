@@ -60,7 +60,7 @@ use Rattle.p2p_net.specs.declared.node.Node.{Node}
 use Rattle.p2p_net.proofs.Attempting.{other_attempt}
 use Rattle.p2p_net.proofs.Between.{IsBetween, dialer_told}
 use Rattle.p2p_net.proofs.EachPart.{is_in, each_part}
-use Rattle.p2p_net.proofs.Frames.{part_frame}
+use Rattle.p2p_net.proofs.Frames.{makes_none, part_frame}
 use Rattle.p2p_net.proofs.Nodes.{slice_get-set, below}
 use Rattle.p2p_net.proofs.Performing.{asked, is_quiet, Simulates, part_still, links_still, effect-still}
 use Rattle.p2p_net.proofs.Readying.{key_is}
@@ -116,7 +116,7 @@ still_simulates configs log moment seed link ok nodes new l links r s rep is qui
             valid = s.valid;
             long = s.long;
             each = λ m z g. let h = s.each m z g in record { own = h.own; each = λ p. part_still p configs log e m z a rep (h.each p) (refl) quiet still };
-            linked = links_still log e a rep l s.linked (refl) quiet still;
+            linked = links_still configs log e a rep l s.linked (refl) quiet still;
           }));
     }
 
@@ -218,7 +218,7 @@ module _ (configs : List Config) (log : List Entry) (moment seed link : ℕ) (ok
 
   -- a queue that none of this reaches
   unreached : (q : Queue) → in_ends (Some o) q ≡ false → line (log ++ e ∷ []) q ≡ line log q
-  unreached q away = line-untouched configs log ev q refl (ap (λ p. in_ends p q) is ∙ away)
+  unreached q away = line-untouched configs log ev q refl (ap (λ p. in_ends p q) is ∙ away) (ap (λ p. in_ends p q) is ∙ away)
 
   other_line : (j : ℕ) → (j == o.attempt) ≡ false → line (log ++ e ∷ []) (queue.Attempt n j) ≡ line log (queue.Attempt n j)
   other_line j other = unreached (queue.Attempt n j) (ap (λ t. t || false) (other_attempt n o.attempt j other))
@@ -300,11 +300,11 @@ module _ (configs : List Config) (log : List Entry) (moment seed link : ℕ) (ok
 
   dialer_frame : (j : ℕ) (w : Node) → NodeStands configs log j w → (n == j) ≡ false → DialerStands configs (log ++ e ∷ []) j w.dialing
   dialer_frame j w stood other =
-      part_frame dialer configs log ev j w (stood.each dialer) (ap (λ q. list_any (λ r. same_place r (at dialer j)) (ends_named q)) is ∙ ap (λ t. t || false) other)
+      part_frame dialer configs log ev j w (stood.each dialer) (ap (λ q. list_any (λ r. same_place r (at dialer j)) (ends_named q)) is ∙ ap (λ t. t || false) other) (makes_none log j (act.Finish link ok) refl)
 
   tracker_frame_at : (j : ℕ) (w : Node) → NodeStands configs log j w → (m == j) ≡ false → TrackerStands configs (log ++ e ∷ []) j w.tracker
   tracker_frame_at j w stood other =
-      part_frame tracker configs log ev j w (stood.each tracker) (ap (λ q. list_any (λ r. same_place r (at tracker j)) (ends_named q)) is ∙ ap (λ t. t || false) other)
+      part_frame tracker configs log ev j w (stood.each tracker) (ap (λ q. list_any (λ r. same_place r (at tracker j)) (ends_named q)) is ∙ ap (λ t. t || false) other) (makes_none log j (act.Finish link ok) refl)
 
   abbrev mid : List Node
   mid = slice_set nodes n c.after
@@ -324,7 +324,7 @@ module _ (configs : List Config) (log : List Entry) (moment seed link : ℕ) (ok
       → NodeStands configs (log ++ e ∷ []) j (record w { tracker = u; listening = x })
   node_now j w u x t tracks listens =
       each_part configs log ev j t.before (record w { tracker = u; listening = x }) (dialer ∷ tracker ∷ listener ∷ []) t.stood
-      (ap (λ (z : Node). record z { tracker = u; listening = x }) t.same) (unnamed j) (t.dials, (tracks, (listens, tt)))
+      (ap (λ (z : Node). record z { tracker = u; listening = x }) t.same) (unnamed j) refl (t.dials, (tracks, (listens, tt)))
 
   untold_node : listening_puts m agree end ≡ [] → (w : Node) → IsBetween configs log e m w → NodeStands configs (log ++ e ∷ []) m w
   untold_node none w t =
@@ -359,9 +359,9 @@ module _ (configs : List Config) (log : List Entry) (moment seed link : ℕ) (ok
   link_lines side.Out j = unreached (queue.Link j side.Out) refl
   link_lines side.In j = unreached (queue.Link j side.In) refl
 
-  links_now : AreBut link None l.openings links.openings × (links ≡ record l { openings = links.openings }) → LinksStand (log ++ e ∷ []) links
+  links_now : AreBut link None l.openings links.openings × (links ≡ record l { openings = links.openings }) → LinksStand configs (log ++ e ∷ []) links
   unfolding effect
-  links_now h = links_finished log e l links link s.linked link_lines (openings_finished log e link ok refl (ap (λ (d : Row). d.reply) due_is)) h.0 h.1
+  links_now h = links_finished configs log e l links link s.linked link_lines (openings_finished log e link ok refl (ap (λ (d : Row). d.reply) due_is)) h.0 h.1 refl
 
   pub both_told : AreBut link None l.openings links.openings × (links ≡ record l { openings = links.openings }) → Simulates configs log ev new links r
   both_told h = record {

@@ -14,7 +14,7 @@ use Rattle.p2p_log.specs.declared.event.Rate.{Rate}
 use Rattle.p2p_log.specs.declared.event.Act.{Act}
 use Rattle.p2p_log.specs.declared.event.Act.TheVariants as act
 use Rattle.p2p_log.specs.Lines.{live, line, stands_in}
-use Rattle.p2p_log_rules.specs.Connections.{steps_sender, is_done, is_answer, ends_connection}
+use Rattle.p2p_log_rules.specs.Connections.{steps_sender, is_done, is_answer, steps_receiver, begins, is_begun, ends_connection}
 use Rattle.p2p_log_rules.specs.Facts.{starts, registers_at, capacity_for, taken, steps_router}
 use Rattle.p2p_log_rules.specs.Spawning.{steps_spawner}
 use Rattle.p2p_log_rules.proofs.Spawning.{connections_of-unmade}
@@ -40,21 +40,43 @@ use Rattle.p2p_net_connections.proofs.Changes.{connections_frame}
 use Rattle.p2p_net_links.specs.Stands.{LinksStand}
 use Rattle.p2p_net_links.specs.declared.links.Links.{Links}
 use Rattle.p2p_net_links.proofs.Changes.{opens_none, openings_unmoved, links_frame}
+use Rattle.p2p_net_links.proofs.Drops.{drops_none, drops_none-act}
 use Rattle.p2p_net_spawner.proofs.Changes.{spawner_kept}
 use Rattle.p2p_net.specs.Places.{Part, router, channels, connections, tracker, dialer, listener, spawner, same_part, links, home, names, at, asked_node, or_first, node_asked}
 use Rattle.p2p_net.specs.Stands.{RouterStands, PartStands}
 use Rattle.p2p_net.specs.declared.node.Node.{Node}
 use Rattle.p2p_net.proofs.ActKinds.{registers_unless, starts_unless, routes_unless, sends_unless}
 use Rattle.p2p_net.proofs.Receivers.{receives_unnamed, admits_unnamed, sends_unnamed, closes_unnamed}
-use Rattle.p2p_net.proofs.Routers.{RouterStands-moved}
+use Rattle.p2p_net.proofs.Routers.{HearsTheSame, hears_kept, hears_late, RouterStands-moved}
 use Rattle.p2p_net.proofs.Touching.{line-unnamed}
-use Rattle.p2p_log_rules.proofs.Connections.{live_connection-kept}
-use Rattle.p2p_log_laws.proofs.Living.{ends_none}
+use Rattle.p2p_log_rules.proofs.Connections.{live_connection-kept, ends_none-act}
 
 -- the event of an effect, and its act
 pub effect-act : (configs : List Config) (log : List Entry) (ev : Event) → (effect configs log ev).event.act ≡ ev.act
 unfolding effect
 effect-act configs log ev = refl
+
+-- ---- what ends
+
+-- a step of a half names the connections, the router and the tracker of its node, so an act that names one of these not ends none of
+-- its connections
+abbrev steps_half : ℕ → ℕ → Act → Bool
+steps_half n conn a = steps_sender n conn a || steps_receiver n conn a
+
+connections_apart : (log : List Entry) (n conn : ℕ) (a : Act) → names log a (at connections n) ≡ false → steps_half n conn a ≡ false
+connections_apart log n conn (act.SendStep d m) h = grind (arith, nat_tests)
+connections_apart log n conn (act.RecvStep d m) h = grind (arith, nat_tests)
+connections_apart log n conn _ h = refl
+
+router_apart : (log : List Entry) (n conn : ℕ) (a : Act) → names log a (at router n) ≡ false → steps_half n conn a ≡ false
+router_apart log n conn (act.SendStep d m) h = grind (arith, nat_tests)
+router_apart log n conn (act.RecvStep d m) h = grind (arith, nat_tests)
+router_apart log n conn _ h = refl
+
+tracker_apart : (log : List Entry) (n conn : ℕ) (a : Act) → names log a (at tracker n) ≡ false → steps_half n conn a ≡ false
+tracker_apart log n conn (act.SendStep d m) h = grind (arith, nat_tests)
+tracker_apart log n conn (act.RecvStep d m) h = grind (arith, nat_tests)
+tracker_apart log n conn _ h = refl
 
 -- ---- channels
 
@@ -115,12 +137,44 @@ line_of : (log : List Entry) (q : Queue) → filter (stands_in q) (live log) ≡
 unfolding line
 line_of log q = refl
 
+-- a connection that an act makes has not begun before
+abbrev pub MakesUnbegun : List Entry → ℕ → Act → Type 0
+MakesUnbegun log n a = steps_spawner n a ≡ true → is_begun log n (length log) ≡ false
+
+pub makes_none : (log : List Entry) (n : ℕ) (a : Act) → steps_spawner n a ≡ false → MakesUnbegun log n a
+makes_none log n a none makes = absurd (false≢true (sym none ∙ makes))
+
+first_half : (b c : Bool) → (b || c) ≡ false → b ≡ false
+first_half false c h = refl
+first_half true c h = h
+
+-- the router of a node that an act does not name is to know of the same connections
+hears_unnamed : (configs : List Config) (log : List Entry) (ev : Event) (n : ℕ) → names log ev.act (at router n) ≡ false → MakesUnbegun log n ev.act → HearsTheSame log (effect configs log ev) n
+hears_unnamed configs log ev n h late = by (steps_spawner n ev.act) refl
+  where
+    e : Entry
+    e = effect configs log ev
+
+    idle : (conn : ℕ) → begins n conn e ≡ false
+    idle conn =
+        ap (λ a. steps_sender n conn a && is_done e.reply) (effect-act configs log ev)
+        ∙ ap (λ b. b && is_done e.reply) (first_half (steps_sender n conn ev.act) (steps_receiver n conn ev.act) (router_apart log n conn ev.act h))
+
+    lives : (conn : ℕ) → ends_connection n conn e ≡ false
+    lives conn = ends_none-act e n conn ev.act (effect-act configs log ev) (router_apart log n conn ev.act h)
+
+    by : (b : Bool) → steps_spawner n ev.act ≡ b → HearsTheSame log e n
+    by true makes = hears_late log e n idle lives (late makes)
+    by false none = hears_kept log e n idle lives (λ conn. connections_of-unmade log e n (ap (steps_spawner n) (effect-act configs log ev) ∙ none) conn)
+
 -- the router of a node that an act does not name
-pub router_frame : (configs : List Config) (log : List Entry) (ev : Event) (n : ℕ) (r : Router) → RouterStands configs log n r → names log ev.act (at router n) ≡ false → RouterStands configs (log ++ effect configs log ev ∷ []) n r
-router_frame configs log ev n r s h =
+pub router_frame : (configs : List Config) (log : List Entry) (ev : Event) (n : ℕ) (r : Router) → RouterStands configs log n r → names log ev.act (at router n) ≡ false → MakesUnbegun log n ev.act
+    → RouterStands configs (log ++ effect configs log ev ∷ []) n r
+router_frame configs log ev n r s h late =
     let e = effect configs log ev in
-    RouterStands-moved configs log e n r r s
-    (stands_beside configs log e r s.stands (subst (IsBeside configs log e) (sym s.number) (beside_by configs log e n ev.act (effect-act configs log ev) h (ends_none configs log ev n)))
+    let lives : (conn : ℕ) → ends_connection n conn e ≡ false = λ conn. ends_none-act e n conn ev.act (effect-act configs log ev) (router_apart log n conn ev.act h) in
+    RouterStands-moved configs log e n r r s (hears_unnamed configs log ev n h late)
+    (stands_beside configs log e r s.stands (subst (IsBeside configs log e) (sym s.number) (beside_by configs log e n ev.act (effect-act configs log ev) h lives))
     (λ q own.
     line_of (log ++ e ∷ []) q
     ∙ (line-unnamed configs log ev q (ap (names log ev.act) (router_home n q (subst (λ k. is_routers k q ≡ true) s.number own)) ∙ h) ∙ sym (line_of log q))))
@@ -233,9 +287,10 @@ admits_none log n _ h = refl
 
 -- ---- all parts
 
-pub part_frame : (p : Part) (configs : List Config) (log : List Entry) (ev : Event) (n : ℕ) (x : Node) → PartStands p configs log n x → names log ev.act (at p n) ≡ false → PartStands p configs (log ++ effect configs log ev ∷ []) n x
-part_frame router configs log ev n x s h = router_frame configs log ev n x.router s h
-part_frame channels configs log ev n x s h =
+pub part_frame : (p : Part) (configs : List Config) (log : List Entry) (ev : Event) (n : ℕ) (x : Node) → PartStands p configs log n x → names log ev.act (at p n) ≡ false → MakesUnbegun log n ev.act
+    → PartStands p configs (log ++ effect configs log ev ∷ []) n x
+part_frame router configs log ev n x s h late = router_frame configs log ev n x.router s h late
+part_frame channels configs log ev n x s h late =
     channels_frame configs log (effect configs log ev) n x.channels s
     (record {
       registers = ap (registers_at configs n) (effect-act configs log ev) ∙ registers_none configs log n channels ev.act (λ c m rate k. grind (arith, nat_tests)) h;
@@ -244,21 +299,22 @@ part_frame channels configs log ev n x s h =
       sends = sends_unnamed log (effect configs log ev) n ev.act (effect-act configs log ev) h;
       closes = closes_unnamed log (effect configs log ev) n ev.act (effect-act configs log ev) h;
     })
-part_frame connections configs log ev n x s h =
+part_frame connections configs log ev n x s h late =
     let e = effect configs log ev in
     connections_frame configs log e n x.connections s
     (record {
-      spawns = λ conn. live_connection-kept log e n conn (ends_none configs log ev n conn) (connections_of-unmade log e n (ap (steps_spawner n) (effect-act configs log ev) ∙ spawns_none log n ev.act h) conn);
+      spawns = λ conn. live_connection-kept log e n conn (ends_none-act e n conn ev.act (effect-act configs log ev) (connections_apart log n conn ev.act h))
+          (connections_of-unmade log e n (ap (steps_spawner n) (effect-act configs log ev) ∙ spawns_none log n ev.act h) conn);
       begins = begins_unsent log e n ev.act (effect-act configs log ev) (λ conn. sends_none log n conn ev.act h);
       receives = receives_unnamed configs log e n ev.act (effect-act configs log ev) h (λ conn. line-unnamed configs log ev (queue.Held n conn) h);
       lines = λ conn. line-unnamed configs log ev (queue.Ready n conn) h;
     })
-part_frame tracker configs log ev n x s h =
+part_frame tracker configs log ev n x s h late =
     let e = effect configs log ev in
     tracker_frame configs log e n x.tracker s
     (record {
       no_step = ap (steps_tracker n) (effect-act configs log ev) ∙ tracks_none log n ev.act h;
-      no_end = ends_none configs log ev n;
+      no_end = λ conn. ends_none-act e n conn ev.act (effect-act configs log ev) (tracker_apart log n conn ev.act h);
       no_question = ap (asks_of n) (effect-act configs log ev) ∙ asks_none log n ev.act h;
       no_answer = λ d asked. ap (λ a. answers d a e.reply) (effect-act configs log ev) ∙ answers_none log n d ev.act e.reply h asked;
       no_late_answer = λ d past. late_answer configs log ev d past;
@@ -266,17 +322,17 @@ part_frame tracker configs log ev n x s h =
       told = λ q own. line-unnamed configs log ev q (ap (names log ev.act) (told_home n q own) ∙ h);
       handshakes = handshakes_unmoved log e n (ap (is_of_listener n) (effect-act configs log ev) ∙ admits_none log n ev.act h);
     })
-part_frame dialer configs log ev n x s h =
+part_frame dialer configs log ev n x s h late =
     let e = effect configs log ev in
     let acts = effect-act configs log ev in
     dialer_frame configs log e n x.dialing s
     (dialer_unmoved configs log e n (ap (starts n) acts ∙ dialer_starts_none log n ev.act h) (ap (is_of_dialer n) acts ∙ dials_none log n ev.act h) (λ k. line-unnamed configs log ev (queue.Attempt n k) h))
-part_frame listener configs log ev n x s h =
+part_frame listener configs log ev n x s h late =
     let e = effect configs log ev in
     listener_frame configs log e n x.listening s
     (listener_unmoved configs log e n (ap (is_of_listener n) (effect-act configs log ev) ∙ listens_none log n ev.act h) (line-unnamed configs log ev (queue.Arrivals n) h)
     (ends_unmoved log e n (ap (is_of_listener n) (effect-act configs log ev) ∙ listens_none log n ev.act h) (ap (links_to n) (effect-act configs log ev) ∙ leads_none log n ev.act h)))
-part_frame spawner configs log ev n x s h = spawner_kept configs log (effect configs log ev) n x.spawning s (line-unnamed configs log ev (queue.Spawner n) h)
+part_frame spawner configs log ev n x s h late = spawner_kept configs log (effect configs log ev) n x.spawning s (line-unnamed configs log ev (queue.Spawner n) h)
 
 -- an act that does not name the links opens none, and ends no exchange over one
 unopened : (log : List Entry) (a : Act) → names log a links ≡ false → opens_none a ≡ true
@@ -284,8 +340,17 @@ unopened log (act.Connect e from n to) h = cc
 unopened log (act.Finish link ok) h = cc
 unopened log _ h = refl
 
+-- and drops no end of one
+undropped : (log : List Entry) (a : Act) → names log a links ≡ false → drops_none a ≡ true
+undropped log (act.Attempt e n) h = cc
+undropped log (act.Handshake e n) h = cc
+undropped log (act.SendStep conn n) h = cc
+undropped log (act.RecvStep conn n) h = cc
+undropped log _ h = refl
+
 -- the links, where an act does not name them
-pub links_kept : (configs : List Config) (log : List Entry) (ev : Event) (l : Links) → LinksStand log l → names log ev.act links ≡ false → LinksStand (log ++ effect configs log ev ∷ []) l
+pub links_kept : (configs : List Config) (log : List Entry) (ev : Event) (l : Links) → LinksStand configs log l → names log ev.act links ≡ false → LinksStand configs (log ++ effect configs log ev ∷ []) l
 links_kept configs log ev l s h =
-    links_frame log (effect configs log ev) l s (λ t link. line-unnamed configs log ev (queue.Link link t) h)
+    links_frame configs log (effect configs log ev) l s (λ t link. line-unnamed configs log ev (queue.Link link t) h)
     (openings_unmoved log (effect configs log ev) (ap opens_none (effect-act configs log ev) ∙ unopened log ev.act h))
+    (drops_none-act configs log (effect configs log ev) (ap drops_none (effect-act configs log ev) ∙ undropped log ev.act h))

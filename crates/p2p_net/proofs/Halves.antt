@@ -12,7 +12,7 @@ use Rattle.p2p_net_links.specs.Stands.{LinksStand}
 use Rattle.p2p_net_links.specs.declared.links.Links.{Links}
 use Rattle.p2p_net.specs.Connecting.{half_in, half_by}
 
-pub half_is : (configs : List Config) (log : List Entry) (n conn : ℕ) (cs : Connections) (l : Links) → ConnectionsStand configs log n cs → LinksStand log l → half_by n cs l conn ≡ live_half log n conn
+pub half_is : (configs : List Config) (log : List Entry) (n conn : ℕ) (cs : Connections) (l : Links) → ConnectionsStand configs log n cs → LinksStand configs log l → half_by n cs l conn ≡ live_half log n conn
 half_is configs log n conn cs l s t = ap (half_in n l) (s.spawned conn) ∙ (over (live_connection log n conn) ∙ half_of-live log n conn)
   where
     over : (o : Option Spawned) → half_in n l o ≡ half_of log n o

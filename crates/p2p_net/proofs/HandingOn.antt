@@ -11,6 +11,8 @@ use Rattle.p2p_tracker_mailbox.specs.declared.message.Message.TheVariants as mes
 use Rattle.p2p_log.specs.declared.config.Config.{Config}
 use Rattle.p2p_log.specs.declared.queue.Queue.{Queue}
 use Rattle.p2p_log.specs.declared.queue.Queue.TheVariants as queue
+use Rattle.p2p_log.specs.declared.queue.Side.{Side}
+use Rattle.p2p_log.specs.declared.queue.Side.TheVariants as side
 use Rattle.p2p_log.specs.declared.item.Item.{Item}
 use Rattle.p2p_log.specs.declared.item.Item.TheVariants as item
 use Rattle.p2p_log.specs.declared.item.Envelope.{Envelope}
@@ -162,6 +164,14 @@ told_unspawned n m (queue.Updates k e) h = refl
 told_unspawned n m (queue.Blocked k e) h = refl
 told_unspawned n m (queue.Handshake k e) h = refl
 told_unspawned n m _ h = cc
+
+-- and nothing is put into a link
+pub handed_unlinked : (n k : ℕ) (h : Handed) (s : Side) (j : ℕ) → filter (stands_in (queue.Link j s)) (placed k 0 (handed_puts n h)) ≡ []
+handed_unlinked n k nothing s j = refl
+handed_unlinked n k (question i m) side.Out j = refl
+handed_unlinked n k (question i m) side.In j = refl
+handed_unlinked n k (connection link m) side.Out j = refl
+handed_unlinked n k (connection link m) side.In j = refl
 
 module _ (log : List Entry) (e : Entry) (n : ℕ) (h : Handed) (puts : e.puts ≡ handed_puts n h) where
   -- what stays in a queue, by what goes

@@ -83,7 +83,7 @@ abbrev asked_for : ℕ → Key → GatesReply → Option Item
 asked_for k key gates.Admitted = Some (item.AskAcceptable k key)
 asked_for k key _ = None
 
-module _ (configs : List Config) (log : List Entry) (moment seed n : ℕ) (x y : Node) (l ls : Links) (r : Row) (s : NodeStands configs log n x) (t : LinksStand log l) (up : is_up log n ≡ true)
+module _ (configs : List Config) (log : List Entry) (moment seed n : ℕ) (x y : Node) (l ls : Links) (r : Row) (s : NodeStands configs log n x) (t : LinksStand configs log l) (up : is_up log n ≡ true)
     (rest : y ≡ record x { tracker = y.tracker; listening = y.listening }) (kept : ls ≡ l) (what : Option Took)
     (steps : listening.Steps (length log) moment x.listening y.listening x.tracker.mailbox y.tracker.mailbox what) where
   abbrev ev : Event
@@ -154,11 +154,11 @@ module _ (configs : List Config) (log : List Entry) (moment seed n : ℕ) (x y :
       record {
         row_is = r_is ∙ sym row_is;
         node =
-            each_part configs log ev n x y (place.tracker ∷ place.listener ∷ []) s rest (λ p out. not_among (place.tracker ∷ place.listener ∷ []) p n n out) (
+            each_part configs log ev n x y (place.tracker ∷ place.listener ∷ []) s rest (λ p out. not_among (place.tracker ∷ place.listener ∷ []) p n n out) refl (
               subst (λ (d : Entry). TrackerStands configs (log ++ d ∷ []) n y.tracker) same tracks,
               (subst (λ (d : Entry). ListenerStands configs (log ++ d ∷ []) n y.listening) same hears, tt),
             );
-        linked = subst (LinksStand (log ++ effect configs log ev ∷ [])) (sym kept) (links_kept configs log ev l t refl);
+        linked = subst (LinksStand configs (log ++ effect configs log ev ∷ [])) (sym kept) (links_kept configs log ev l t refl);
       }
 
   -- what a turn makes of the listener, which took these
@@ -471,7 +471,7 @@ module _ (configs : List Config) (log : List Entry) (moment seed n : ℕ) (x y :
   steps_performs : Tracks what → Performs configs log ev n y ls r
   steps_performs tracks = by_heard m.heard refl tracked.heard tracks
 
-pub listener_performs : (configs : List Config) (log : List Entry) (moment seed n : ℕ) (x y : Node) (l ls : Links) (r : Row) → NodeStands configs log n x → LinksStand log l
+pub listener_performs : (configs : List Config) (log : List Entry) (moment seed n : ℕ) (x y : Node) (l ls : Links) (r : Row) → NodeStands configs log n x → LinksStand configs log l
     → ListenerStepsBy (is_started x) (length log) n moment x y r → ls ≡ l → Performs configs log (asked moment seed (act.Listener n)) n y ls r
 unfolding row
 listener_performs configs log moment seed n x y l ls r s t steps kept = by (is_started x) (sym (started_is configs log n x s)) steps

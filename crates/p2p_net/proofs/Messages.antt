@@ -21,6 +21,7 @@ use Rattle.p2p_log_rules.specs.Admitting.{asked_for, asked_moments, moments_by, 
 use Rattle.p2p_log_rules.specs.Checking.{checks_by, checked_at}
 use Rattle.p2p_log_rules.specs.Effect.{row, effect, takes_list}
 use Rattle.p2p_log_rules.specs.Facts.{events_of, latest_moment, registers_at, subscribers, routes, keys_in, peers_told}
+use Rattle.p2p_log_rules.specs.Spawning.{steps_spawner}
 use Rattle.p2p_log_laws.specs.Listed.{ListsAreCurrent}
 use Rattle.p2p_net_router.specs.Peers.{names_taken}
 use Rattle.p2p_net_router.specs.Stands.{StandsFor, StandsOver}
@@ -168,18 +169,18 @@ abbrev pub named : List place.Part
 named = place.channels ∷ place.router ∷ []
 
 pub built :
-    (configs : List Config) (log : List Entry) (ev : Event) (n : ℕ) (x y : Node) (l links : Links) (r : Row) (ch : Channels) (router : Router) → NodeStands configs log n x → LinksStand log l → links ≡ l
-    → ((p : place.Part) → is_in p named ≡ false → names log ev.act (at p n) ≡ false) → names log ev.act place.links ≡ false
+    (configs : List Config) (log : List Entry) (ev : Event) (n : ℕ) (x y : Node) (l links : Links) (r : Row) (ch : Channels) (router : Router) → NodeStands configs log n x → LinksStand configs log l → links ≡ l
+    → ((p : place.Part) → is_in p named ≡ false → names log ev.act (at p n) ≡ false) → names log ev.act place.links ≡ false → steps_spawner n ev.act ≡ false
     → r ≡ row configs log ev.at ev.seed ev.act → y ≡ record x { channels = ch; router = router } → ChannelsStand configs (log ++ effect configs log ev ∷ []) n ch
     → RouterStands configs (log ++ effect configs log ev ∷ []) n router → Performs configs log ev n y links r
-built configs log ev n x y l links r ch router s t kept unnamed apart is parts channels_now routes_now =
+built configs log ev n x y l links r ch router s t kept unnamed apart spawns is parts channels_now routes_now =
     let e = effect configs log ev in
     record {
       row_is = is;
       node =
-          each_part configs log ev n x y named s (subst (λ z. z ≡ with_parts named x z) (sym parts) refl) unnamed (
+          each_part configs log ev n x y named s (subst (λ z. z ≡ with_parts named x z) (sym parts) refl) unnamed spawns (
             subst (ChannelsStand configs (log ++ e ∷ []) n) (sym (ap (λ (z : Node). z.channels) parts)) channels_now,
             (subst (RouterStands configs (log ++ e ∷ []) n) (sym (ap (λ (z : Node). z.router) parts)) routes_now, tt),
           );
-      linked = subst (LinksStand (log ++ e ∷ [])) (sym kept) (links_kept configs log ev l t apart);
+      linked = subst (LinksStand configs (log ++ e ∷ [])) (sym kept) (links_kept configs log ev l t apart);
     }

@@ -41,9 +41,9 @@ use Rattle.p2p_net.proofs.EachPart.{not_among}
 use Rattle.p2p_net.proofs.Messages.{mailbox_left, asks_here, channels_unasked, IsOffered, is_offered, named, built}
 use Rattle.p2p_net.proofs.Performing.{asked, Performs, effect-still}
 use Rattle.p2p_net.proofs.Receivers.{admits_apart}
-use Rattle.p2p_net.proofs.Routers.{RouterStands-moved, RouterStands-idle}
+use Rattle.p2p_net.proofs.Routers.{hears_aside, RouterStands-moved, RouterStands-idle}
 
-module _ (configs : List Config) (log : List Entry) (at seed n c : ℕ) (bytes : List ℕ) (priority : Bool) (to : Recipients) (x y : Node) (l links : Links) (r : Row) (s : NodeStands configs log n x) (t : LinksStand log l)
+module _ (configs : List Config) (log : List Entry) (at seed n c : ℕ) (bytes : List ℕ) (priority : Bool) (to : Recipients) (x y : Node) (l links : Links) (r : Row) (s : NodeStands configs log n x) (t : LinksStand configs log l)
     (current : ListsAreCurrent log) (late : latest_moment (events_of log) ≤ at) (kept : links ≡ l) where
   abbrev a : Act
   a = act.Send bytes c n priority to
@@ -78,13 +78,13 @@ module _ (configs : List Config) (log : List Entry) (at seed n c : ℕ) (bytes :
 
   -- a node whose channels and whose router these are
   done : (ch : Channels) (router : Router) → r ≡ row configs log at seed a → y ≡ record x { channels = ch; router = router } → ChannelsStand configs (log ++ e ∷ []) n ch → RouterStands configs (log ++ e ∷ []) n router → Done
-  done ch router = built configs log ev n x y l links r ch router s t kept (λ p out. not_among named p n n out) refl
+  done ch router = built configs log ev n x y l links r ch router s t kept (λ p out. not_among named p n n out) refl refl
 
   -- the channels, whose quota was asked
   channels_now : ChannelsStand configs (log ++ e ∷ []) n (keys_metered c keys at x.channels)
   unfolding effect
   channels_now =
-      channels_asked configs log e n x.channels x.channels.checks chan refl (admits_apart configs log e n a refl (λ d. refl)) (λ d. line-untouched configs log ev (queue.Channel n d) refl refl)
+      channels_asked configs log e n x.channels x.channels.checks chan refl (admits_apart configs log e n a refl (λ d. refl)) (λ d. line-untouched configs log ev (queue.Channel n d) refl refl refl)
       (checks_kept log e n x.channels.checks chan.checks (λ name. refl)) (λ d. refl) c at to (λ d. asks_here n c d to) refl late
 
   -- the router, once it was handed what the row puts
@@ -92,7 +92,7 @@ module _ (configs : List Config) (log : List Entry) (at seed n c : ℕ) (bytes :
       → new.number ≡ x.router.number → new.peers ≡ x.router.peers → RouterStands configs (log ++ e ∷ []) n new
   unfolding effect
   router_now inner new is none over number peers =
-      RouterStands-moved configs log e n x.router new routes
+      RouterStands-moved configs log e n x.router new routes (hears_aside log e n a refl refl)
       (subst (λ (z : Row). StandsFor configs (log ++ entry_of ev z ∷ []) new) (sym is) (over_taking configs log ev new names inner over (record { no_step = refl; no_channel = refl; no_start = refl; no_end = λ conn. refl }) none))
       number peers
 
@@ -101,7 +101,7 @@ module _ (configs : List Config) (log : List Entry) (at seed n c : ℕ) (bytes :
       → new.number ≡ x.router.number → new.peers ≡ x.router.peers → RouterStands configs (log ++ e ∷ []) n new
   unfolding effect
   router_idle rep new is over number peers =
-      RouterStands-moved configs log e n x.router new routes
+      RouterStands-moved configs log e n x.router new routes (hears_aside log e n a refl refl)
       (subst (λ (z : Row). StandsFor configs (log ++ entry_of ev z ∷ []) new) (sym is)
       (over_gone configs log (entry_of ev (taking names (only rep))) new names over (record { no_step = refl; no_channel = refl; no_start = refl; no_end = λ conn. refl }) (append-nil names) refl))
       number peers
@@ -162,14 +162,14 @@ module _ (configs : List Config) (log : List Entry) (at seed n c : ℕ) (bytes :
   -- on a channel that is not registered no quota is asked
   unregistered : capacity_at x.channels c ≡ None → ChannelsStand configs (log ++ e ∷ []) n x.channels
   unfolding effect
-  unregistered has = channels_unasked configs log e n c to x.channels chan refl (λ d. asks_here n c d to) (admits_apart configs log e n a refl (λ d. refl)) (λ d. line-untouched configs log ev (queue.Channel n d) refl refl) (λ name. refl) (λ d. refl) has
+  unregistered has = channels_unasked configs log e n c to x.channels chan refl (λ d. asks_here n c d to) (admits_apart configs log e n a refl (λ d. refl)) (λ d. line-untouched configs log ev (queue.Channel n d) refl refl refl) (λ name. refl) (λ d. refl) has
 
   gone : capacity_at x.channels c ≡ None → row configs log at seed a ≡ only reply.Gone → r ≡ only reply.Gone → y ≡ x → Done
   unfolding effect
   gone has is told same =
       let still = effect-still configs log ev reply.Gone is in
       done x.channels x.router (told ∙ sym is) same (unregistered has)
-      (RouterStands-idle configs log e n x.router (record { no_step = refl; no_channel = refl; no_start = refl; no_end = λ conn. refl }) still.takes still.puts still.ends routes)
+      (RouterStands-idle configs log e n x.router (record { no_step = refl; no_channel = refl; no_start = refl; no_end = λ conn. refl }) (hears_aside log e n a refl refl) still.takes still.puts still.ends routes)
 
   -- the row, by whether the channel is registered
   due_on : (p : Option ℕ) → capacity_at x.channels c ≡ p → row configs log at seed a ≡ elim p [ None ↦ only reply.Gone | Some _ ↦ taking names (send_keys_row configs log bytes c n priority keys admitted) ]

@@ -18,7 +18,8 @@ use Rattle.p2p_log_rules.specs.Dialing.{Pace, pace_at, Dials, acted_dials, dials
 use Rattle.p2p_net_dialer.proofs.Changes.{dialer_frame}
 use Rattle.p2p_net_listener.proofs.Changes.{listener_frame}
 use Rattle.p2p_log_rules.specs.Closing.{closed_by}
-use Rattle.p2p_log_rules.specs.Connections.{steps_sender, is_done, is_answer, steps_receiver, is_end, ends_connection}
+use Rattle.p2p_log_rules.specs.Connections.{steps_sender, is_done, is_answer, begins, steps_receiver, is_end, ends_connection}
+use Rattle.p2p_log_rules.specs.Dropping.{acted_drops}
 use Rattle.p2p_log_rules.specs.Facts.{starts, registers_at, taken, item_named, steps_router}
 use Rattle.p2p_log_rules.proofs.Spawning.{connections_of-untaken}
 use Rattle.p2p_log_rules.specs.Effect.{only, row, effect}
@@ -34,6 +35,7 @@ use Rattle.p2p_net_connections.proofs.Changes.{connections_frame}
 use Rattle.p2p_net_links.specs.Stands.{LinksStand}
 use Rattle.p2p_net_links.specs.declared.links.Links.{Links}
 use Rattle.p2p_net_links.proofs.Changes.{opens_none, OpensNone, openings_unmoved, is_ok_reply, openings_unanswered, links_frame}
+use Rattle.p2p_net_links.proofs.Drops.{DropsNone}
 use Rattle.p2p_net_listener.proofs.Ends.{ends_quiet}
 use Rattle.p2p_net_listener.proofs.Handshakes.{nothing_tells}
 use Rattle.p2p_net_spawner.proofs.Changes.{spawner_kept}
@@ -42,7 +44,7 @@ use Rattle.p2p_net.specs.Stands.{PartStands, NodeStands, WorldStands}
 use Rattle.p2p_net.specs.declared.node.Node.{Node}
 use Rattle.p2p_net.proofs.ActKinds.{registers_unless, starts_unless}
 use Rattle.p2p_net.proofs.Receivers.{receives_nothing, admits_nothing, sends_at, sends_apart}
-use Rattle.p2p_net.proofs.Routers.{RouterStands-idle}
+use Rattle.p2p_net.proofs.Routers.{HearsTheSame, hears_kept, RouterStands-idle}
 use Rattle.p2p_log_rules.proofs.Connections.{live_connection-kept}
 
 -- an event with this act
@@ -53,7 +55,7 @@ asked at seed a = record { at = at; seed = seed; act = a }
 pub record Performs (configs : List Config) (log : List Entry) (ev : Event) (n : ℕ) (y : Node) (links : Links) (r : Row) : Type 0 where
   pub row_is : r ≡ row configs log ev.at ev.seed ev.act
   pub node : NodeStands configs (log ++ effect configs log ev ∷ []) n y
-  pub linked : LinksStand (log ++ effect configs log ev ∷ []) links
+  pub linked : LinksStand configs (log ++ effect configs log ev ∷ []) links
 
 -- the row is the act's, and the world stands for the log with its entry
 pub record Simulates (configs : List Config) (log : List Entry) (ev : Event) (nodes : List Node) (links : Links) (r : Row) : Type 0 where
@@ -62,7 +64,7 @@ pub record Simulates (configs : List Config) (log : List Entry) (ev : Event) (no
 
 -- ---- acts that move nothing
 
--- whether an act with this reply registers, starts, begins, ends, sends and closes nothing, and leaves the trackers alone
+-- whether an act with this reply registers, starts, begins, ends, sends, drops and closes nothing, and leaves the trackers alone
 abbrev pub is_quiet : Act → Reply → Bool
 is_quiet (act.Register c n rate) r = false
 is_quiet (act.Start n) r = false
@@ -110,6 +112,10 @@ quiet_begins n conn (act.SendStep d m) _ h = and_false ((m == n) && (d == conn))
     and_false true = refl
     and_false false = refl
 quiet_begins n conn _ r h = refl
+
+still_begins : (e : Entry) (n conn : ℕ) (a : Act) (rep : Reply) → e.event.act ≡ a → e.reply ≡ rep → is_quiet a rep ≡ true → begins n conn e ≡ false
+still_begins e n conn a rep is told q =
+    ap (λ b. steps_sender n conn b && is_done e.reply) is ∙ (ap (λ r. steps_sender n conn a && is_done r) told ∙ quiet_begins n conn a rep q)
 
 -- and none ends
 quiet_ends : (n conn : ℕ) (a : Act) (r : Reply) → is_quiet a r ≡ true → ((steps_sender n conn a || steps_receiver n conn a) && is_end r) ≡ false
@@ -229,6 +235,11 @@ line-still log e rep q h =
     line-kept log e q (ap (λ t. t ++ flat_map ended_item e.ends) h.takes ∙ ap (flat_map ended_item) h.ends)
     ∙ (ap (λ p. line log q ++ filter (stands_in q) (placed (length log) 0 p)) h.puts ∙ append-nil (line log q))
 
+-- a router is to know of the same connections
+still_hears : (log : List Entry) (e : Entry) (n : ℕ) (a : Act) (rep : Reply) → e.event.act ≡ a → is_quiet a rep ≡ true → IsStill e rep → HearsTheSame log e n
+still_hears log e n a rep is q h =
+    hears_kept log e n (λ conn. still_begins e n conn a rep is h.reply q) (λ conn. still_ends e n conn a rep is h.reply q) (λ conn. connections_of-untaken log e n (taken-none log e h.takes) conn)
+
 pub part_still : (p : Part) (configs : List Config) (log : List Entry) (e : Entry) (n : ℕ) (x : Node) (a : Act) (rep : Reply) → PartStands p configs log n x → e.event.act ≡ a → is_quiet a rep ≡ true → IsStill e rep
     → PartStands p configs (log ++ e ∷ []) n x
 part_still router configs log e n x a rep s is q h =
@@ -239,7 +250,7 @@ part_still router configs log e n x a rep s is q h =
       no_start = ap (starts n) is ∙ quiet_starts n a rep q;
       no_end = λ conn. still_ends e n conn a rep is h.reply q;
     })
-    h.takes h.puts h.ends s
+    (still_hears log e n a rep is q h) h.takes h.puts h.ends s
 part_still channels configs log e n x a rep s is q h =
     channels_frame configs log e n x.channels s
     (record {
@@ -254,7 +265,7 @@ part_still connections configs log e n x a rep s is q h =
     (record {
       spawns = λ conn. live_connection-kept log e n conn (still_ends e n conn a rep is h.reply q) (connections_of-untaken log e n (taken-none log e h.takes) conn);
       begins = record {
-        no_begin = λ conn. ap (λ b. steps_sender n conn b && is_done e.reply) is ∙ (ap (λ r. steps_sender n conn a && is_done r) h.reply ∙ quiet_begins n conn a rep q);
+        no_begin = λ conn. still_begins e n conn a rep is h.reply q;
         no_answer = λ conn. ap (λ b. cond (steps_sender n conn b) (map is_answer (taken log e)) []) is ∙ either_nothing (steps_sender n conn a) (map is_answer (taken log e)) (ap (map is_answer) (taken-none log e h.takes));
       };
       receives = receives_nothing configs log e n (taken-none log e h.takes) (λ conn. line-still log e rep (queue.Held n conn) h);
@@ -312,8 +323,28 @@ quiet_opens log e (act.Finish link ok) rep is q told = openings_unanswered log e
     unanswered _ h = refl
 quiet_opens log e _ rep is q told = openings_unmoved log e (ap opens_none is)
 
-pub links_still : (log : List Entry) (e : Entry) (a : Act) (rep : Reply) (l : Links) → LinksStand log l → e.event.act ≡ a → is_quiet a rep ≡ true → IsStill e rep → LinksStand (log ++ e ∷ []) l
-links_still log e a rep l s is q h = links_frame log e l s (λ t link. line-still log e rep (queue.Link link t) h) (quiet_opens log e a rep is q h.reply)
+-- no end of a link is dropped
+quiet_drops : (configs : List Config) (log : List Entry) (items : List Item) (a : Act) (r : Reply) → is_quiet a r ≡ true → acted_drops configs log r items [] a ≡ None
+quiet_drops configs log items (act.Attempt e n) r h = cc
+quiet_drops configs log items (act.Handshake e n) reply.Idle h = refl
+quiet_drops configs log items (act.Handshake e n) reply.Gone h = refl
+quiet_drops configs log items (act.Handshake e n) _ h = cc
+quiet_drops configs log items (act.SendStep conn n) reply.Ok h = cc
+quiet_drops configs log items (act.SendStep conn n) (reply.Ended why) h = cc
+quiet_drops configs log items (act.SendStep conn n) _ h = refl
+quiet_drops configs log items (act.RecvStep conn n) (reply.Ended why) h = cc
+quiet_drops configs log items (act.RecvStep conn n) _ h = refl
+quiet_drops configs log items _ r h = refl
+
+still_drops : (configs : List Config) (log : List Entry) (e : Entry) (a : Act) (rep : Reply) → e.event.act ≡ a → is_quiet a rep ≡ true → IsStill e rep → DropsNone configs log e
+still_drops configs log e a rep is q h =
+    ap (λ b. acted_drops configs log e.reply (taken log e) e.puts b) is
+    ∙ (ap (λ r. acted_drops configs log r (taken log e) e.puts a) h.reply
+    ∙ (ap (λ p. acted_drops configs log rep (taken log e) p a) h.puts ∙ quiet_drops configs log (taken log e) a rep q))
+
+pub links_still : (configs : List Config) (log : List Entry) (e : Entry) (a : Act) (rep : Reply) (l : Links) → LinksStand configs log l → e.event.act ≡ a → is_quiet a rep ≡ true → IsStill e rep → LinksStand configs (log ++ e ∷ []) l
+links_still configs log e a rep l s is q h =
+    links_frame configs log e l s (λ t link. line-still log e rep (queue.Link link t) h) (quiet_opens log e a rep is q h.reply) (still_drops configs log e a rep is q h)
 
 -- the entry of an act whose row moves nothing
 pub effect-still : (configs : List Config) (log : List Entry) (ev : Event) (rep : Reply) → row configs log ev.at ev.seed ev.act ≡ only rep → IsStill (effect configs log ev) rep
@@ -330,7 +361,7 @@ unfolding effect
 effect-asks configs log ev = refl
 
 -- a node and links that stay as they were
-pub stays_performs : (configs : List Config) (log : List Entry) (ev : Event) (n : ℕ) (x y : Node) (l links : Links) (r : Row) (rep : Reply) → NodeStands configs log n x → LinksStand log l
+pub stays_performs : (configs : List Config) (log : List Entry) (ev : Event) (n : ℕ) (x y : Node) (l links : Links) (r : Row) (rep : Reply) → NodeStands configs log n x → LinksStand configs log l
     → row configs log ev.at ev.seed ev.act ≡ only rep → is_quiet ev.act rep ≡ true → r ≡ only rep → y ≡ x → links ≡ l → Performs configs log ev n y links r
 stays_performs configs log ev n x y l links r rep s t is quiet row_is same kept =
     let e = effect configs log ev in
@@ -338,5 +369,5 @@ stays_performs configs log ev n x y l links r rep s t is quiet row_is same kept 
     record {
       row_is = row_is ∙ sym is;
       node = subst (NodeStands configs (log ++ e ∷ []) n) (sym same) (record { own = s.own; each = λ p. part_still p configs log e n x ev.act rep (s.each p) (effect-asks configs log ev) quiet still });
-      linked = subst (LinksStand (log ++ e ∷ [])) (sym kept) (links_still log e ev.act rep l t (effect-asks configs log ev) quiet still);
+      linked = subst (LinksStand configs (log ++ e ∷ [])) (sym kept) (links_still configs log e ev.act rep l t (effect-asks configs log ev) quiet still);
     }

@@ -309,17 +309,17 @@ connects_reserved : (configs : List Config) (log : List Entry) (n : ℕ) → IsL
 connects_reserved configs log n lawful conn key x rest first is = connect_is_reserved configs (events_of log) log lawful n conn key x rest first is
 
 -- the nodes that an act brings together are those that it names
-ends_there : (log : List Entry) (nodes : List Node) (l : Links) → LinksStand log l → (a : Act) → node_of log a < length nodes → other_of log (node_of log a) a < length nodes
+ends_there : (configs : List Config) (log : List Entry) (nodes : List Node) (l : Links) → LinksStand configs log l → (a : Act) → node_of log a < length nodes → other_of log (node_of log a) a < length nodes
     → (how : Meeting) → meeting_of a ≡ Some how → MeetsThere how nodes l
-ends_there log nodes l t (act.Connect e from m k) first second how is =
+ends_there configs log nodes l t (act.Connect e from m k) first second how is =
     subst (λ h. MeetsThere h nodes l) (same_Some (meeting.Link e from (record { dials = m; listens = k })) how is) (first, second)
-ends_there log nodes l t (act.Finish link ok) first second how is = subst (λ h. MeetsThere h nodes l) (same_Some (meeting.Finish link ok) how is) open_there
+ends_there configs log nodes l t (act.Finish link ok) first second how is = subst (λ h. MeetsThere h nodes l) (same_Some (meeting.Finish link ok) how is) open_there
   where
     open_there : (o : Opening) → table.at l.openings link ≡ Some o → (o.node < length nodes) × (o.to < length nodes)
     open_there o at =
         let made = opening_made log link o (sym (t.openings link) ∙ at) in
         (subst (λ i. i < length nodes) (ap (λ (e : Ends). e.dials) made) first, subst (λ i. i < length nodes) (ap (λ (e : Ends). e.listens) made) second)
-ends_there log nodes l t _ first second how is = cc
+ends_there configs log nodes l t _ first second how is = cc
 
 -- an act that may be asked for finds its nodes there, and ready
 pub may_perform : (configs : List Config) (log : List Entry) (nodes : List Node) (links : Links) (a : Act) → WorldStands configs log nodes links → IsLawful configs (events_of log) log → valid.may_act configs (events_of log) a ≡ true
@@ -334,7 +334,7 @@ may_perform configs log nodes links a s lawful may =
       first = lower n (length nodes) one.0;
       ready = λ x there.
           ready_by configs log n a x (s.each n x there) (releases_held configs log n lawful) (connects_reserved configs log n lawful) (sizes_there configs log nodes links s n x there) (sym (ap (λ o. may_at o log a) there) ∙ two.1);
-      ends = λ how is. ends_there log nodes links s.linked a (lower n (length nodes) one.0) (lower m (length nodes) two.0) how is;
+      ends = λ how is. ends_there configs log nodes links s.linked a (lower n (length nodes) one.0) (lower m (length nodes) two.0) how is;
       sizes = λ i x there. one_mailbox x.config (sizes_there configs log nodes links s i x there);
       numbers = λ i x there. let r : RouterStands configs log i x.router = (s.each i x there).each place.router in r.number;
     }

@@ -1,6 +1,6 @@
 -- Entries in which no connection of a node admits anything, and in which the node sends nothing and drops no reader.
 use Rattle.std.proofs.Common.{◌≡◌, ℕ, Bool, true, false, cond, List, [], ◌∷◌, ◌++◌, length, Option, Some, None, refl, ap, ◌∙◌, arith}
-use Rattle.std.specs.Prelude.{◌==◌, ◌&&◌}
+use Rattle.std.specs.Prelude.{◌==◌, ◌&&◌, not}
 use Rattle.std.proofs.lemmas.Bool.Decides.{nat_tests}
 use Rattle.p2p_log.specs.declared.config.Config.{Config}
 use Rattle.p2p_log.specs.declared.queue.Queue.TheVariants as queue
@@ -13,7 +13,7 @@ use Rattle.p2p_log_rules.specs.declared.row.Checked.{Checked}
 use Rattle.p2p_log_rules.specs.Admitting.{asked_for, asked_moments, rate_at, sent_moments}
 use Rattle.p2p_log_rules.specs.Checking.{checking_node, keys_checked, acted_checks, checked_at}
 use Rattle.p2p_log_rules.specs.Closing.{closed_by}
-use Rattle.p2p_log_rules.specs.Connections.{is_done, steps_receiver}
+use Rattle.p2p_log_rules.specs.Connections.{is_done, steps_receiver, is_end}
 use Rattle.p2p_log_rules.specs.Facts.{taken, peers_told, with_begun, with_named}
 use Rattle.p2p_log_rules.specs.Metering.{Metered, pings, messages, limit_at, admits_one, admitted_by}
 use Rattle.p2p_net_channels.specs.Stands.{AdmitsNone, SendsNone, ClosesNone}
@@ -24,17 +24,28 @@ use Rattle.p2p_net.specs.Places.{channels, connections, at, names}
 pub admits-unreceived : (limit n conn : ℕ) (what : Metered) (log : List Entry) (e : Entry) (a : Act) → e.event.act ≡ a → steps_receiver n conn a ≡ false
     → admitted_by limit n conn what log e ≡ []
 admits-unreceived limit n conn what log e a is none =
-    ap (λ b. cond (steps_receiver n conn b && admits_one limit what (taken log e) e.puts) (e.event.at ∷ []) []) is
-    ∙ ap (λ b. cond (b && admits_one limit what (taken log e) e.puts) (e.event.at ∷ []) []) none
+    ap (λ b. cond (steps_receiver n conn b && not (is_end e.reply) && admits_one limit what (taken log e) e.puts) (e.event.at ∷ []) []) is
+    ∙ ap (λ b. cond (b && not (is_end e.reply) && admits_one limit what (taken log e) e.puts) (e.event.at ∷ []) []) none
 
 -- one that takes nothing
 pub admits-untaken : (limit n conn : ℕ) (what : Metered) (log : List Entry) (e : Entry) → taken log e ≡ [] → admitted_by limit n conn what log e ≡ []
 admits-untaken limit n conn what log e none =
-    ap (λ items. cond (steps_receiver n conn e.event.act && admits_one limit what items e.puts) (e.event.at ∷ []) []) none ∙ never (steps_receiver n conn e.event.act)
+    ap (λ items. cond (steps_receiver n conn e.event.act && not (is_end e.reply) && admits_one limit what items e.puts) (e.event.at ∷ []) []) none
+    ∙ never (steps_receiver n conn e.event.act && not (is_end e.reply))
   where
     never : (b : Bool) → cond (b && false) (e.event.at ∷ []) [] ≡ []
     never true = refl
     never false = refl
+
+-- one that ends its connection
+pub admits-ended : (limit n conn : ℕ) (what : Metered) (log : List Entry) (e : Entry) → is_end e.reply ≡ true → admitted_by limit n conn what log e ≡ []
+admits-ended limit n conn what log e ends =
+    ap (λ b. cond (steps_receiver n conn e.event.act && not b && admits_one limit what (taken log e) e.puts) (e.event.at ∷ []) []) ends
+    ∙ never (steps_receiver n conn e.event.act) (admits_one limit what (taken log e) e.puts)
+  where
+    never : (b c : Bool) → cond (b && false && c) (e.event.at ∷ []) [] ≡ []
+    never true c = refl
+    never false c = refl
 
 -- ---- by the parts that an act names
 
@@ -69,6 +80,14 @@ receives_nothing configs log e n none held = record { held = held; no_ping = λ 
 
 pub admits_nothing : (configs : List Config) (log : List Entry) (e : Entry) (n : ℕ) → taken log e ≡ [] → AdmitsNone configs log e n
 admits_nothing configs log e n none conn c = admits-untaken (limit_at configs n) n conn (messages c) log e none
+
+-- ---- entries that end a connection
+
+pub admits_ended : (configs : List Config) (log : List Entry) (e : Entry) (n : ℕ) → is_end e.reply ≡ true → AdmitsNone configs log e n
+admits_ended configs log e n ends conn c = admits-ended (limit_at configs n) n conn (messages c) log e ends
+
+pub pings_ended : (configs : List Config) (log : List Entry) (e : Entry) (n : ℕ) → is_end e.reply ≡ true → (conn : ℕ) → admitted_by (limit_at configs n) n conn pings log e ≡ []
+pings_ended configs log e n ends conn = admits-ended (limit_at configs n) n conn pings log e ends
 
 -- ---- sends
 

@@ -1,495 +1,150 @@
--- A step of the receiving half of a connection: what comes over its link, or what it holds, is delivered, or waits for its quota.
-use Rattle.std.proofs.Common.{◌≡◌, ℕ, ◌≤◌, Bool, true, false, cond, List, [], ◌∷◌, ◌++◌, length, refl, ap, sym, subst, ◌∙◌, append-nil, Option, Some, None}
-use Rattle.std.specs.Prelude.{filter, flat_map, slice_get, ◌==◌, ◌&&◌, not}
-use Rattle.std.specs.Option.{option_map}
-use Rattle.p2p_base.specs.declared.key.Key.{Key}
+-- A step of the receiving half of a connection: what comes over its link, or what it holds, is delivered, or waits for its quota, or ends
+-- the connection.
+use Rattle.std.proofs.Common.{◌≡◌, ℕ, ◌≤◌, Bool, true, false, cond, List, [], ◌∷◌, length, refl, ap, sym, subst, ◌∙◌, Option, Some, None}
+use Rattle.std.specs.Prelude.{slice_get, is_some}
+use Rattle.std.specs.List.{AllByRecursion as Each}
 use Rattle.p2p_log.specs.declared.config.Config.{Config}
 use Rattle.p2p_log.specs.declared.queue.Queue.{Queue}
 use Rattle.p2p_log.specs.declared.queue.Queue.TheVariants as queue
 use Rattle.p2p_log.specs.declared.queue.Side.{Side}
-use Rattle.p2p_log.specs.declared.queue.Side.TheVariants as side
-use Rattle.p2p_log.specs.declared.item.Item.{Item}
 use Rattle.p2p_log.specs.declared.item.Envelope.{Envelope}
-use Rattle.p2p_log.specs.declared.end.Cause.{Cause}
+use Rattle.p2p_log.specs.declared.end.Cause.TheVariants as cause
+use Rattle.p2p_log.specs.declared.entry.Ended.TheVariants as ended
 use Rattle.p2p_log.specs.declared.entry.Entry.{Entry}
 use Rattle.p2p_log.specs.declared.entry.Reply.TheVariants as reply
-use Rattle.p2p_log.specs.declared.event.Event.{Event}
 use Rattle.p2p_log.specs.declared.event.Act.TheVariants as act
-use Rattle.p2p_log.specs.QueueCode.{same_queue}
-use Rattle.p2p_log.specs.Lines.{line, name_of, placed, stands_in, ended_item}
+use Rattle.p2p_log.specs.Lines.{line, live}
 use Rattle.p2p_log_rules.specs.declared.row.Half.{Half}
 use Rattle.p2p_log_rules.specs.declared.row.Row.{Row}
-use Rattle.p2p_log_rules.specs.Connections.{live_half, is_running, is_end}
-use Rattle.p2p_log_rules.specs.Facts.{events_of, latest_moment}
-use Rattle.p2p_log_rules.specs.Metering.{pings, messages, holds, limit_at, admitted_by}
-use Rattle.p2p_log_rules.specs.Effect.{entry_of, only, row, effect, hold_row, held_row, receive_row, other_side}
-use Rattle.p2p_log_rules.proofs.Spawning.{connections_of-unmade}
-use Rattle.p2p_net_queues.specs.Lines.{HoldsLines}
-use Rattle.p2p_net_queues.specs.Rows.{taken_row}
+use Rattle.p2p_log_rules.specs.Connections.{live_half, is_begun, is_running}
+use Rattle.p2p_log_rules.specs.Dropping.{is_dropped}
+use Rattle.p2p_log_rules.specs.Ending.{end_row}
+use Rattle.p2p_log_rules.specs.Facts.{is_up, events_of, latest_moment}
+use Rattle.p2p_log_rules.specs.Metering.{limit_at}
+use Rattle.p2p_log_rules.specs.Effect.{only, row, held_row, receive_row, receiving_row, other_side}
+use Rattle.p2p_log_rules.proofs.Moves.{first_has}
+use Rattle.p2p_log_laws.proofs.EndHeard.{names_ready}
+use Rattle.p2p_log_laws.proofs.Fitting.{StandsFit}
 use Rattle.p2p_net_queues.specs.Tables as table
-use Rattle.p2p_net_queues.specs.Tables.{waiting, pushed_at, popped_at}
-use Rattle.p2p_net_queues.proofs.Holding.{TakesFirst, holds_frame}
-use Rattle.p2p_net_channels.specs.declared.arrival.Arrived.{Arrived}
-use Rattle.p2p_net_channels.specs.declared.arrival.Arriving.{Arriving}
-use Rattle.p2p_net_channels.specs.declared.arrival.Arriving.TheVariants as arriving
-use Rattle.p2p_net_channels.specs.declared.channels.Channels.{Channels}
-use Rattle.p2p_net_channels.specs.Arrivals.{arrival_in, held_arrival, held_item, delivered}
-use Rattle.p2p_net_channels.specs.Channels.{capacity_at, refusal, message_put, delivered_to, may_admit, metered}
-use Rattle.p2p_net_channels.specs.Stands.{ChannelsStand, SendsNone}
-use Rattle.p2p_net_connections.specs.Connections.{runs_on, may_ping, ping_metered}
-use Rattle.p2p_net_connections.specs.Stands.{ConnectionsStand, BeginsNone, SpawnsNone}
-use Rattle.p2p_net_connections.specs.declared.connections.Connections.{Connections}
+use Rattle.p2p_net_channels.specs.Arrivals.{arrival_in, held_arrival}
+use Rattle.p2p_net_connections.specs.Connections.{runs_on}
+use Rattle.p2p_net_connections.specs.Stands.{ConnectionsStand}
 use Rattle.p2p_net_connections.specs.declared.connections.Stage.{Stage}
 use Rattle.p2p_net_connections.specs.declared.connections.Stage.TheVariants as stage
-use Rattle.p2p_net_connections.proofs.Receiving.{connections_received, connections_metered}
 use Rattle.p2p_net_links.specs.Stands.{LinksStand}
 use Rattle.p2p_net_links.specs.declared.links.Links.{Links}
-use Rattle.p2p_net_links.proofs.Changes.{openings_unmoved, links_taken, links_frame}
 use Rattle.p2p_net.specs.Connecting.{half_by}
 use Rattle.p2p_net.specs.Places as place
-use Rattle.p2p_net.specs.Receiving.{frame_in, first_in, kept_in, held_first, named_as, verdict_by, metered_on, asked_of, message_row, passed_row, message_into, passed_into, held_into, without_first, unheld, ReceivesAs, ReceivesBy, RetriesAs, RetriesBy, TakesBy, TakesAt, TakesOn, RecvSteps}
-use Rattle.p2p_net.specs.Stands.{NodeStands}
+use Rattle.p2p_net.specs.Ready.{is_started}
+use Rattle.p2p_net.specs.Receiving.{frame_in, first_in, kept_in, held_first, ReadsFrame, ReadsNone, ReceivesBy, RetriesBy, StepsBy, StepsAt, StepsOn, RecvStepsBy, RecvSteps}
+use Rattle.p2p_net.specs.Stands.{OwnStands, NodeStands}
 use Rattle.p2p_net.specs.declared.node.Node.{Node}
-use Rattle.p2p_net.proofs.Arriving.{IsRead, frame_read, held_read, settled_row, came_row, frame_settles, held_settles}
-use Rattle.p2p_net.proofs.EachPart.{with_parts, each_part, not_among-links}
-use Rattle.p2p_net.proofs.Frames.{begins_unsent}
+use Rattle.p2p_net.proofs.Delivering.{idle, stepped, off_performs, retried, held_performs}
 use Rattle.p2p_net.proofs.Halves.{half_is}
-use Rattle.p2p_net.proofs.Performing.{asked, Performs, stays_performs, IsStill, line-still, links_still}
-use Rattle.p2p_net.proofs.Receivers.{sends_apart}
-use Rattle.p2p_net.proofs.Taking.{stepped_as, link_channel, link_held, channel_link, held_link, Takes, takes_first, line_off, line_aside, not-not, other-none, passed_holds, passed_lives, passed_takes, passed_ends, passed_aside, held_aside, admits_of, admits_idle, message_channels, other_channels, delivered_waits, unheld_holds, held_holds}
-use Rattle.p2p_log_rules.proofs.Connections.{live_connection-kept, ends_none-reply}
+use Rattle.p2p_net.proofs.Performing.{asked, Performs, stays_performs}
+use Rattle.p2p_net.proofs.Readying.{started_is}
+use Rattle.p2p_net.proofs.Refusing.{unread_performs, refused_performs}
+use Rattle.p2p_net.proofs.Taking.{stepped_as}
 
--- ---- what comes of a step
+limit_here : (configs : List Config) (n : ℕ) (x : Node) → OwnStands configs n x → x.config.max_message_size ≡ limit_at configs n
+limit_here configs n x s = sym (ap (λ (o : Option Config). elim o [ None ↦ 0 | Some c ↦ c.max_message_size ]) s.config)
 
-module _ (configs : List Config) (log : List Entry) (at seed conn n : ℕ) (half : Half) (x y : Node) (l links : Links) (r : Row) (s : NodeStands configs log n x) (t : LinksStand log l)
-    (late : latest_moment (events_of log) ≤ at) where
-  abbrev ev : Event
-  ev = asked at seed (act.RecvStep conn n)
+-- ---- of a node that has started
 
-  abbrev made : Row → Entry
-  made due = entry_of ev due
-
+module _ (configs : List Config) (log : List Entry) (at seed conn n : ℕ) (half : Half) (x y : Node) (l links : Links) (r : Row) (s : NodeStands configs log n x) (t : LinksStand configs log l)
+    (late : latest_moment (events_of log) ≤ at) (heard : is_running log n conn ≡ true → Each (λ z. names_ready conn z.item ≡ false) (line log (queue.Router n))) (fitting : Each StandsFit (live log))
+    (up : is_up log n ≡ true) (has : live_half log n conn ≡ Some half) where
   abbrev Done : Type 0
-  Done = Performs configs log ev n y links r
+  Done = Performs configs log (asked at seed (act.RecvStep conn n)) n y links r
 
-  chan : ChannelsStand configs log n x.channels
-  chan = s.each place.channels
+  abbrev u : Side
+  u = other_side half.writes
+
+  abbrev p : Queue
+  p = queue.Link half.link u
 
   connects : ConnectionsStand configs log n x.connections
   connects = s.each place.connections
 
-  made_is : (due : Row) → row configs log at seed (act.RecvStep conn n) ≡ due → made due ≡ effect configs log ev
-  unfolding effect
-  made_is due is = ap (entry_of ev) (sym is)
+  -- it waits
+  waits : row configs log at seed (act.RecvStep conn n) ≡ only reply.Idle → r ≡ only reply.Idle → y ≡ x → links ≡ l → Done
+  waits = idle configs log at seed conn n half x y l links r s t late
 
-  -- a node whose channels and connections these are
-  built : (due : Row) (ch : Channels) (cs : Connections) → row configs log at seed (act.RecvStep conn n) ≡ due → r ≡ due → y ≡ record x { channels = ch; connections = cs }
-      → ChannelsStand configs (log ++ made due ∷ []) n ch → ConnectionsStand configs (log ++ made due ∷ []) n cs → LinksStand (log ++ made due ∷ []) links → Done
-  built due ch cs is told parts chan_now connects_now linked_now =
-      let same : made due ≡ effect configs log ev = made_is due is in
-      record {
-        row_is = told ∙ sym is;
-        node =
-            each_part configs log ev n x y (place.channels ∷ place.connections ∷ []) s (subst (λ z. z ≡ with_parts (place.channels ∷ place.connections ∷ []) x z) (sym parts) refl)
-            (λ p out. not_among-links (place.channels ∷ place.connections ∷ []) p n out) (
-              subst (λ (z : Entry). ChannelsStand configs (log ++ z ∷ []) n y.channels) same (subst (ChannelsStand configs (log ++ made due ∷ []) n) (sym (ap (λ (z : Node). z.channels) parts)) chan_now),
-              (
-                subst (λ (z : Entry). ConnectionsStand configs (log ++ z ∷ []) n y.connections) same (subst (ConnectionsStand configs (log ++ made due ∷ []) n) (sym (ap (λ (z : Node). z.connections) parts)) connects_now),
-                tt,
-              ),
-            );
-        linked = subst (λ (z : Entry). LinksStand (log ++ z ∷ []) links) same linked_now;
-      }
+  -- ---- one that runs
 
-  -- nothing becomes of it
-  idle : row configs log at seed (act.RecvStep conn n) ≡ only reply.Idle → r ≡ only reply.Idle → y ≡ x → links ≡ l → Done
-  idle is told same kept = stays_performs configs log ev n x y l links r reply.Idle s t is refl told same kept
-
-  still : IsStill (made (only reply.Idle)) reply.Idle
-  still = record { reply = refl; takes = refl; puts = refl; ends = refl }
-
-  begins_none : (due : Row) → BeginsNone log (made due) n
-  begins_none due = begins_unsent log (made due) n (act.RecvStep conn n) refl (λ c. refl)
-
-  spawns_none : (due : Row) → is_end due.reply ≡ false → SpawnsNone log (made due) n
-  spawns_none due lives c = live_connection-kept log (made due) n c (ends_none-reply (made due) n c lives) (connections_of-unmade log (made due) n refl c)
-
-  sends_none : (due : Row) → SendsNone log (made due) n
-  sends_none due = sends_apart log (made due) n (act.RecvStep conn n) refl refl
-
-  -- ---- what its quota admits
-
-  -- how a message moves the channels and how a ping moves the connections, by what their quotas say
-  messages_admitted : (due : Row) (p : Queue) (f : Envelope) (fs : List Envelope) (m : Arrived) (b : Bool) → Takes log (made due) (limit_at configs n) p f fs (messages m.channel) → holds due.puts ≡ not b
-      → may_admit x.channels m.channel conn at ≡ b → (d q : ℕ) → admitted_by (limit_at configs n) n d (messages q) log (made due) ≡ cond ((d == conn) && ((q == m.channel) && may_admit x.channels m.channel conn at)) (at ∷ []) []
-  messages_admitted due p f fs m b h held says d q =
-      admits_of configs log n conn at (made due) late p f fs (messages m.channel) due.puts (record { acts = refl; moment = refl; puts_are = refl }) h d (messages q) (not b) held
-      ∙ ap (λ z. cond ((d == conn) && ((q == m.channel) && z)) (at ∷ []) []) (not-not b ∙ sym says)
-
-  pings_admitted : (due : Row) (p : Queue) (f : Envelope) (fs : List Envelope) (b : Bool) → Takes log (made due) (limit_at configs n) p f fs pings → holds due.puts ≡ not b → may_ping x.connections conn at ≡ b
-      → (d : ℕ) → admitted_by (limit_at configs n) n d pings log (made due) ≡ cond ((d == conn) && may_ping x.connections conn at) (at ∷ []) []
-  pings_admitted due p f fs b h held says d =
-      admits_of configs log n conn at (made due) late p f fs pings due.puts (record { acts = refl; moment = refl; puts_are = refl }) h d pings (not b) held
-      ∙ ap (λ z. cond ((d == conn) && z) (at ∷ []) []) (not-not b ∙ sym says)
-
-  -- a message is no ping, and a ping no message
-  no_pings : (due : Row) (p : Queue) (f : Envelope) (fs : List Envelope) (c : ℕ) (held : Bool) → Takes log (made due) (limit_at configs n) p f fs (messages c) → holds due.puts ≡ held
-      → (d : ℕ) → admitted_by (limit_at configs n) n d pings log (made due) ≡ []
-  no_pings due p f fs c held h is d =
-      admits_of configs log n conn at (made due) late p f fs (messages c) due.puts (record { acts = refl; moment = refl; puts_are = refl }) h d pings held is
-      ∙ other-none (d == conn) (not held) at
-
-  no_messages : (due : Row) (p : Queue) (f : Envelope) (fs : List Envelope) (held : Bool) → Takes log (made due) (limit_at configs n) p f fs pings → holds due.puts ≡ held
-      → (d q : ℕ) → admitted_by (limit_at configs n) n d (messages q) log (made due) ≡ []
-  no_messages due p f fs held h is d q =
-      admits_of configs log n conn at (made due) late p f fs pings due.puts (record { acts = refl; moment = refl; puts_are = refl }) h d (messages q) held is
-      ∙ other-none (d == conn) (not held) at
-
-  -- ---- the parts after a message, or a ping
-
-  -- the channels once a message was delivered
-  passed_channels : (p : Queue) (f : Envelope) (fs : List Envelope) (why : Option Cause) (from : Key) (m : Arrived) → Takes log (made (delivered why n from m (taken_row (name_of f)))) (limit_at configs n) p f fs (messages m.channel)
-      → ((q : ℕ) → same_queue p (queue.Channel n q) ≡ false) → may_admit x.channels m.channel conn at ≡ true
-      → ChannelsStand configs (log ++ made (delivered why n from m (taken_row (name_of f))) ∷ []) n (delivered_to why (length log) 0 n from m (metered m.channel conn at x.channels))
-  passed_channels p f fs (Some why) from m h apart says =
-      let due = delivered (Some why) n from m (taken_row (name_of f)) in
-      message_channels configs log n conn at (made due) late x.channels chan refl (sends_none due) (λ q. refl) m.channel x.channels.waiting (messages_admitted due p f fs m true h refl says) refl
-      (delivered_waits configs log n conn at (made due) late x.channels chan refl (sends_none due) (λ q. refl) p f fs (Some why) from m (takes_first log (made due) (limit_at configs n) p f fs (messages m.channel) h) apart refl)
-  passed_channels p f fs None from m h apart says =
-      let due = delivered None n from m (taken_row (name_of f)) in
-      message_channels configs log n conn at (made due) late x.channels chan refl (sends_none due) (λ q. refl) m.channel (pushed_at x.channels.waiting m.channel (message_put (length log) 0 n from m)) (messages_admitted due p f fs m true h refl says) refl
-      (delivered_waits configs log n conn at (made due) late x.channels chan refl (sends_none due) (λ q. refl) p f fs None from m (takes_first log (made due) (limit_at configs n) p f fs (messages m.channel) h) apart refl)
-
-  -- the channels once a message was asked of, and no channel changed
-  asked_channels : (due : Row) (c : ℕ) → ((d q : ℕ) → admitted_by (limit_at configs n) n d (messages q) log (made due) ≡ cond ((d == conn) && ((q == c) && may_admit x.channels c conn at)) (at ∷ []) [])
-      → ((q : ℕ) → line (log ++ made due ∷ []) (queue.Channel n q) ≡ line log (queue.Channel n q)) → ChannelsStand configs (log ++ made due ∷ []) n (metered c conn at x.channels)
-  asked_channels due c admits lines =
-      message_channels configs log n conn at (made due) late x.channels chan refl (sends_none due) (λ q. refl) c x.channels.waiting admits refl (holds_frame (queue.Channel n) log (made due) x.channels.waiting chan.waits lines)
-
-  -- the channels beside a ping
-  beside_ping : (due : Row) → ((d q : ℕ) → admitted_by (limit_at configs n) n d (messages q) log (made due) ≡ []) → ((q : ℕ) → line (log ++ made due ∷ []) (queue.Channel n q) ≡ line log (queue.Channel n q))
-      → ChannelsStand configs (log ++ made due ∷ []) n x.channels
-  beside_ping due none lines = other_channels configs log n conn at (made due) late x.channels chan refl (sends_none due) (λ q. refl) none lines
-
-  -- the connections beside a message, by what is held then
-  beside_message : (due : Row) → is_end due.reply ≡ false → (w : List (ℕ × List Envelope)) → ((d : ℕ) → admitted_by (limit_at configs n) n d pings log (made due) ≡ []) → ((c : ℕ) → line (log ++ made due ∷ []) (queue.Ready n c) ≡ line log (queue.Ready n c))
-      → HoldsLines (queue.Held n) (log ++ made due ∷ []) w → ConnectionsStand configs (log ++ made due ∷ []) n (record x.connections { held = w })
-  beside_message due lives w none lines held = connections_received configs log (made due) n x.connections w connects (spawns_none due lives) (begins_none due) lines held none
-
-  -- the connections after a ping, by what is held then
-  pinged_connections : (due : Row) → is_end due.reply ≡ false → (w : List (ℕ × List Envelope)) → ((d : ℕ) → admitted_by (limit_at configs n) n d pings log (made due) ≡ cond ((d == conn) && may_ping x.connections conn at) (at ∷ []) [])
-      → ((c : ℕ) → line (log ++ made due ∷ []) (queue.Ready n c) ≡ line log (queue.Ready n c)) → HoldsLines (queue.Held n) (log ++ made due ∷ []) w
-      → ConnectionsStand configs (log ++ made due ∷ []) n (record (ping_metered conn at x.connections) { held = w })
-  pinged_connections due lives w admits lines held = connections_metered configs log (made due) n conn at x.connections w connects (spawns_none due lives) (begins_none due) lines late refl admits held
-
-  -- ---- off the link
-
-  module _ (has : live_half log n conn ≡ Some half) (running : is_running log n conn ≡ true) (f : Envelope) (fs : List Envelope) (first : line log (queue.Link half.link (other_side half.writes)) ≡ f ∷ fs) where
-    abbrev p : Queue
-    p = queue.Link half.link (other_side half.writes)
-
-    off : (due : Row) → due.takes ≡ name_of f ∷ [] → flat_map ended_item due.ends ≡ [] → TakesFirst log (made due) p f fs
-    off due takes ends = record { first = first; gone = ap (λ k. k ++ flat_map ended_item due.ends) takes ∙ ap (λ d. name_of f ∷ d) ends }
-
-    kept_line : (due : Row) (q : Queue) → due.takes ≡ name_of f ∷ [] → flat_map ended_item due.ends ≡ [] → same_queue p q ≡ false → filter (stands_in q) (placed (length log) 0 due.puts) ≡ [] → line (log ++ made due ∷ []) q ≡ line log q
-    kept_line due q takes ends apart none = line_aside log (made due) p q f fs due.puts (off due takes ends) refl apart none
-
-    links_now : (due : Row) → due.takes ≡ name_of f ∷ [] → flat_map ended_item due.ends ≡ [] → ((u : Side) (j : ℕ) → filter (stands_in (queue.Link j u)) (placed (length log) 0 due.puts) ≡ [])
-        → links ≡ without_first l half.link (other_side half.writes) → LinksStand (log ++ made due ∷ []) links
-    links_now due takes ends none kept =
-        subst (LinksStand (log ++ made due ∷ [])) (sym kept)
-        (links_taken log (made due) l (other_side half.writes) half.link f fs t first
-        (λ u j.
-        let left = cond (same_queue p (queue.Link j u)) fs (line log (queue.Link j u)) in
-        line_off log (made due) p (queue.Link j u) f fs due.puts (off due takes ends) refl ∙ (ap (λ w. left ++ w) (none u j) ∙ append-nil left))
-        (openings_unmoved log (made due) refl))
-
-    ready_apart : (c : ℕ) → same_queue p (queue.Ready n c) ≡ false
-    ready_apart c = by (other_side half.writes)
-      where
-        by : (u : Side) → same_queue (queue.Link half.link u) (queue.Ready n c) ≡ false
-        by side.Out = refl
-        by side.In = refl
-
-    -- the parts that nothing touches, where these are aside of what is put
-    ready_now : (due : Row) → due.takes ≡ name_of f ∷ [] → flat_map ended_item due.ends ≡ [] → ((c : ℕ) → filter (stands_in (queue.Ready n c)) (placed (length log) 0 due.puts) ≡ []) → (c : ℕ) → line (log ++ made due ∷ []) (queue.Ready n c) ≡ line log (queue.Ready n c)
-    ready_now due takes ends none c = kept_line due (queue.Ready n c) takes ends (ready_apart c) (none c)
-
-    held_now : (due : Row) → due.takes ≡ name_of f ∷ [] → flat_map ended_item due.ends ≡ [] → ((c : ℕ) → filter (stands_in (queue.Held n c)) (placed (length log) 0 due.puts) ≡ []) → HoldsLines (queue.Held n) (log ++ made due ∷ []) x.connections.held
-    held_now due takes ends none =
-        holds_frame (queue.Held n) log (made due) x.connections.held connects.holds (λ c. kept_line due (queue.Held n c) takes ends (link_held half.link n c (other_side half.writes)) (none c))
-
-    channel_now : (due : Row) → due.takes ≡ name_of f ∷ [] → flat_map ended_item due.ends ≡ [] → ((c : ℕ) → filter (stands_in (queue.Channel n c)) (placed (length log) 0 due.puts) ≡ []) → (c : ℕ) → line (log ++ made due ∷ []) (queue.Channel n c) ≡ line log (queue.Channel n c)
-    channel_now due takes ends none c = kept_line due (queue.Channel n c) takes ends (link_channel half.link n c (other_side half.writes)) (none c)
-
-    -- what becomes of the links
-    abbrev Off : Type 0
-    Off = links ≡ without_first l half.link (other_side half.writes)
-
-    -- a message that its quota admits
-    message_off : (why : Option Cause) (m : Arrived) → IsRead (limit_at configs n) f.item (arriving.Message m) → may_admit x.channels m.channel conn at ≡ true
-        → row configs log at seed (act.RecvStep conn n) ≡ delivered why n half.peer m (taken_row (name_of f)) → r ≡ delivered why n half.peer m (taken_row (name_of f))
-        → y ≡ record x { channels = delivered_to why (length log) 0 n half.peer m (metered m.channel conn at x.channels) } → Off → Done
-    message_off why m read says is told parts kept =
-        let due = delivered why n half.peer m (taken_row (name_of f)) in
-        let takes : due.takes ≡ name_of f ∷ [] = passed_takes why n half.peer m (name_of f) in
-        let ends : flat_map ended_item due.ends ≡ [] = passed_ends why n half.peer m (name_of f) in
-        let h : Takes log (made due) (limit_at configs n) p f fs (messages m.channel) = record { first = first; takes = takes; ends = ends; counts = read } in
-        let aside : (q : Queue) → same_queue q (queue.Channel n m.channel) ≡ false → filter (stands_in q) (placed (length log) 0 due.puts) ≡ [] = λ q apart. passed_aside why q (length log) n half.peer m (name_of f) apart in
-        built due (delivered_to why (length log) 0 n half.peer m (metered m.channel conn at x.channels)) x.connections is told parts
-        (passed_channels p f fs why half.peer m h (λ q. link_channel half.link n q (other_side half.writes)) says)
-        (beside_message due (passed_lives why n half.peer m (name_of f)) x.connections.held (no_pings due p f fs m.channel false h (passed_holds why n half.peer m (name_of f))) (ready_now due takes ends (λ c. aside (queue.Ready n c) refl)) (held_now due takes ends (λ c. aside (queue.Held n c) refl)))
-        (links_now due takes ends (λ u j. aside (queue.Link j u) (channel_link n m.channel j u)) kept)
-
-    -- a ping that its quota admits
-    ping_off : IsRead (limit_at configs n) f.item arriving.Ping → may_ping x.connections conn at ≡ true → row configs log at seed (act.RecvStep conn n) ≡ taken_row (name_of f) → r ≡ taken_row (name_of f)
-        → y ≡ record x { connections = ping_metered conn at x.connections } → Off → Done
-    ping_off read says is told parts kept =
-        let due = taken_row (name_of f) in
-        let h : Takes log (made due) (limit_at configs n) p f fs pings = record { first = first; takes = refl; ends = refl; counts = read } in
-        built due x.channels (ping_metered conn at x.connections) is told parts (beside_ping due (no_messages due p f fs false h refl) (channel_now due refl refl (λ c. refl)))
-        (pinged_connections due refl x.connections.held (pings_admitted due p f fs true h refl says) (ready_now due refl refl (λ c. refl)) (held_now due refl refl (λ c. refl))) (links_now due refl refl (λ u j. refl) kept)
-
-    -- what is held then, with one more
-    abbrev held_more : Item → List (ℕ × List Envelope)
-    held_more i = pushed_at x.connections.held conn (record { entry = length log; place = 0; queue = queue.Held n conn; item = i })
-
-    held_put : (i : Item) → HoldsLines (queue.Held n) (log ++ made (hold_row n conn (name_of f) i) ∷ []) (held_more i)
-    held_put i =
-        let due = hold_row n conn (name_of f) i in
-        held_holds configs log n conn at (made due) late x.connections connects p f fs i (off due refl refl) (λ c. link_held half.link n c (other_side half.writes)) refl
-
-    -- a message that its quota does not admit yet
-    message_held : (m : Arrived) → IsRead (limit_at configs n) f.item (arriving.Message m) → may_admit x.channels m.channel conn at ≡ false
-        → row configs log at seed (act.RecvStep conn n) ≡ hold_row n conn (name_of f) (held_item (arriving.Message m)) → r ≡ hold_row n conn (name_of f) (held_item (arriving.Message m))
-        → y ≡ record x { channels = metered m.channel conn at x.channels; connections = record x.connections { held = held_more (held_item (arriving.Message m)) } } → Off → Done
-    message_held m read says is told parts kept =
-        let i = held_item (arriving.Message m) in
-        let due = hold_row n conn (name_of f) i in
-        let h : Takes log (made due) (limit_at configs n) p f fs (messages m.channel) = record { first = first; takes = refl; ends = refl; counts = read } in
-        let aside : (q : Queue) → same_queue q (queue.Held n conn) ≡ false → filter (stands_in q) (placed (length log) 0 due.puts) ≡ [] = λ q apart. held_aside q (length log) n conn i apart in
-        built due (metered m.channel conn at x.channels) (record x.connections { held = held_more i }) is told parts
-        (asked_channels due m.channel (messages_admitted due p f fs m false h refl says) (channel_now due refl refl (λ c. aside (queue.Channel n c) refl)))
-        (beside_message due refl (held_more i) (no_pings due p f fs m.channel true h refl) (ready_now due refl refl (λ c. aside (queue.Ready n c) refl)) (held_put i))
-        (links_now due refl refl (λ u j. aside (queue.Link j u) (held_link n conn j u)) kept)
-
-    -- a ping that its quota does not admit yet
-    ping_held : IsRead (limit_at configs n) f.item arriving.Ping → may_ping x.connections conn at ≡ false → row configs log at seed (act.RecvStep conn n) ≡ hold_row n conn (name_of f) (held_item arriving.Ping)
-        → r ≡ hold_row n conn (name_of f) (held_item arriving.Ping) → y ≡ record x { connections = record (ping_metered conn at x.connections) { held = held_more (held_item arriving.Ping) } } → Off → Done
-    ping_held read says is told parts kept =
-        let i = held_item arriving.Ping in
-        let due = hold_row n conn (name_of f) i in
-        let h : Takes log (made due) (limit_at configs n) p f fs pings = record { first = first; takes = refl; ends = refl; counts = read } in
-        let aside : (q : Queue) → same_queue q (queue.Held n conn) ≡ false → filter (stands_in q) (placed (length log) 0 due.puts) ≡ [] = λ q apart. held_aside q (length log) n conn i apart in
-        built due x.channels (record (ping_metered conn at x.connections) { held = held_more i }) is told parts
-        (beside_ping due (no_messages due p f fs true h refl) (channel_now due refl refl (λ c. aside (queue.Channel n c) refl)))
-        (pinged_connections due refl (held_more i) (pings_admitted due p f fs false h refl says) (ready_now due refl refl (λ c. aside (queue.Ready n c) refl)) (held_put i))
-        (links_now due refl refl (λ u j. aside (queue.Link j u) (held_link n conn j u)) kept)
-
-    -- the row of a step that takes it
-    stepped : line log (queue.Held n conn) ≡ [] → row configs log at seed (act.RecvStep conn n) ≡ came_row configs log n conn at x s late half.peer (name_of f) false (arrival_in (limit_at configs n) f.item)
+  module _ (begun : is_begun log n conn ≡ true) (running : is_running log n conn ≡ true) where
+    -- no frame is in flight towards it, by whether the other end was dropped
+    none_row : line log (queue.Held n conn) ≡ [] → line log p ≡ [] → (b : Bool) → is_dropped configs log half.link u ≡ b
+        → row configs log at seed (act.RecvStep conn n) ≡ cond b (end_row log n conn half ended.ReceiveFailed cause.ConnectionEnded []) (only reply.Idle)
     unfolding row
-    stepped none =
-        stepped_as configs log conn n at (Some half) true has running
-        ∙ (ap (λ w. held_row configs log n conn at half.peer w (line log p)) none
-        ∙ (ap (receive_row configs log n conn at half.peer) first ∙ frame_settles configs log n conn at x s late half.peer (name_of f) f.item))
+    none_row none first b gone =
+        stepped_as configs log conn n at (Some half) true up has running
+        ∙ (ap (λ w. held_row configs log n conn at half w (line log p)) none
+        ∙ (ap (receive_row configs log n conn at half) first ∙ ap (λ c. cond c (end_row log n conn half ended.ReceiveFailed cause.ConnectionEnded []) (only reply.Idle)) gone))
 
-    -- by what its quota says
-    message_as : (m : Arrived) (o : Option ℕ) (b : Bool) → IsRead (limit_at configs n) f.item (arriving.Message m) → capacity_at x.channels m.channel ≡ o → may_admit x.channels m.channel conn at ≡ b
-        → row configs log at seed (act.RecvStep conn n) ≡ settled_row configs log n conn at x s late half.peer (name_of f) false (verdict_by o b) (arriving.Message m)
-        → ReceivesAs (verdict_by o b) (length log) n conn at half (named_as f (arriving.Message m)) x y l links r → Done
-    message_as m None b read has says is d = idle is d.0.0 (d.0.1 ∙ ap (λ o. metered_on o m.channel conn at x) has) d.1
-    message_as m (Some capacity) true read has says is d =
-        let why = refusal x.channels capacity m.channel in
-        let asks : asked_of conn at (arriving.Message m) x ≡ record x { channels = metered m.channel conn at x.channels } = ap (λ o. metered_on o m.channel conn at x) has in
-        let passes : passed_row n half.peer (name_of f) (arriving.Message m) x.channels ≡ delivered why n half.peer m (taken_row (name_of f)) = ap (λ o. message_row o n half.peer (name_of f) m x.channels) has in
-        let passes_metered : passed_row n half.peer (name_of f) (arriving.Message m) (metered m.channel conn at x.channels) ≡ delivered why n half.peer m (taken_row (name_of f)) =
-        ap (λ o. message_row o n half.peer (name_of f) m (metered m.channel conn at x.channels)) has
-        in
-        message_off why m read says (is ∙ passes)
-        (d.0 ∙ (ap (λ (z : Node). passed_row n half.peer (name_of f) (arriving.Message m) z.channels) asks ∙ passes_metered))
-        (d.1.0 ∙ (ap (passed_into (length log) n half.peer (arriving.Message m)) asks ∙ ap (λ o. message_into o (length log) n half.peer m (record x { channels = metered m.channel conn at x.channels })) has)) d.1.1
-    message_as m (Some capacity) false read has says is d =
-        message_held m read says is d.0 (d.1.0 ∙ ap (λ o. held_into (length log) n conn (arriving.Message m) (metered_on o m.channel conn at x)) has) d.1.1
+    by_dropped : line log (queue.Held n conn) ≡ [] → line log p ≡ [] → (b : Bool) → is_dropped configs log half.link u ≡ b → ReadsNone b (length log) n conn half x y l links r → Done
+    by_dropped none first false gone d = waits (none_row none first false gone) d.0.0 d.0.1 d.1
+    by_dropped none first true gone d = unread_performs configs log at seed conn n half x y l links r s t up has begun running (heard running) (none_row none first true gone) d
 
-    ping_as : (b : Bool) → IsRead (limit_at configs n) f.item arriving.Ping → may_ping x.connections conn at ≡ b
-        → row configs log at seed (act.RecvStep conn n) ≡ settled_row configs log n conn at x s late half.peer (name_of f) false (Some b) arriving.Ping
-        → ReceivesAs (Some b) (length log) n conn at half (named_as f arriving.Ping) x y l links r → Done
-    ping_as true read says is d = ping_off read says is d.0 d.1.0 d.1.1
-    ping_as false read says is d = ping_held read says is d.0 d.1.0 d.1.1
+    by_frames : (fs : List Envelope) → line log (queue.Held n conn) ≡ [] → line log p ≡ fs → ReceivesBy (slice_get fs 0) (length log) n conn at half x y l links r → Done
+    by_frames [] none first d =
+        by_dropped none first (is_dropped configs log half.link u) refl (subst (λ b. ReadsNone b (length log) n conn half x y l links r) (t.dropped half.link u) d)
+    by_frames (f ∷ fs) none first d =
+        let limit : x.config.max_message_size ≡ limit_at configs n = limit_here configs n x s.own in
+        off_performs configs log at seed conn n half x y l links r s t late up has running f fs first (arrival_in (limit_at configs n) f.item) refl
+        (stepped configs log at seed conn n half x y l links r s t late up has running f fs first none (first_has StandsFit log p f fs fitting first))
+        (refused_performs configs log at seed conn n half x y l links r s t up has begun running (heard running) f fs first)
+        (subst (λ k. ReadsFrame (frame_in k (Some f)) (length log) n conn at half x y l links r) limit d)
 
-    off_performs : (o : Option Arriving) → arrival_in (limit_at configs n) f.item ≡ o → row configs log at seed (act.RecvStep conn n) ≡ came_row configs log n conn at x s late half.peer (name_of f) false o
-        → ReceivesBy (option_map (named_as f) o) (length log) n conn at half x y l links r → Done
-    off_performs None reads is d = idle is d.0.0 d.0.1 d.1
-    off_performs (Some (arriving.Message m)) reads is d =
-        message_as m (capacity_at x.channels m.channel) (may_admit x.channels m.channel conn at) (frame_read (limit_at configs n) f.item (arriving.Message m) reads) refl refl is d
-    off_performs (Some arriving.Ping) reads is d = ping_as (may_ping x.connections conn at) (frame_read (limit_at configs n) f.item arriving.Ping reads) refl is d
+    by_held : (ws : List Envelope) → line log (queue.Held n conn) ≡ ws → StepsBy (slice_get ws 0) (length log) n conn at half x y l links r → Done
+    by_held [] none d =
+        let first : first_in l half.link u ≡ slice_get (line log p) 0 = ap (λ (w : List Envelope). slice_get w 0) (t.waits u half.link) in
+        by_frames (line log p) none refl (subst (λ o. ReceivesBy o (length log) n conn at half x y l links r) first d)
+    by_held (w ∷ ws) first d =
+        let same : held_first x.connections conn ≡ Some w = ap (λ (v : List Envelope). slice_get v 0) (connects.holds conn ∙ first) in
+        held_performs configs log at seed conn n half x y l links r s t late up has running d.1 w ws first (held_arrival w.item) refl
+        (retried configs log at seed conn n half x y l links r s t late up has running d.1 w ws first)
+        (subst (λ o. RetriesBy (kept_in o) (length log) n conn at half.peer x y r) same d.0)
 
-  -- ---- what is held
+  -- ---- by how far it is
 
-  module _ (has : live_half log n conn ≡ Some half) (running : is_running log n conn ≡ true) (kept : links ≡ l) (f : Envelope) (fs : List Envelope) (first : line log (queue.Held n conn) ≡ f ∷ fs) where
-    abbrev h : Queue
-    h = queue.Held n conn
-
-    taken_off : (due : Row) → due.takes ≡ name_of f ∷ [] → flat_map ended_item due.ends ≡ [] → TakesFirst log (made due) h f fs
-    taken_off due takes ends = record { first = first; gone = ap (λ k. k ++ flat_map ended_item due.ends) takes ∙ ap (λ d. name_of f ∷ d) ends }
-
-    line_still : (due : Row) (q : Queue) → due.takes ≡ name_of f ∷ [] → flat_map ended_item due.ends ≡ [] → same_queue h q ≡ false → filter (stands_in q) (placed (length log) 0 due.puts) ≡ [] → line (log ++ made due ∷ []) q ≡ line log q
-    line_still due q takes ends apart none = line_aside log (made due) h q f fs due.puts (taken_off due takes ends) refl apart none
-
-    links_stay : (due : Row) → due.takes ≡ name_of f ∷ [] → flat_map ended_item due.ends ≡ [] → ((u : Side) (j : ℕ) → filter (stands_in (queue.Link j u)) (placed (length log) 0 due.puts) ≡ []) → LinksStand (log ++ made due ∷ []) links
-    links_stay due takes ends none =
-        subst (LinksStand (log ++ made due ∷ [])) (sym kept) (links_frame log (made due) l t (λ u j. line_still due (queue.Link j u) takes ends (apart u j) (none u j)) (openings_unmoved log (made due) refl))
-      where
-        apart : (u : Side) (j : ℕ) → same_queue h (queue.Link j u) ≡ false
-        apart side.Out j = refl
-        apart side.In j = refl
-
-    -- what is held then, with one less
-    abbrev held_less : List (ℕ × List Envelope)
-    held_less = popped_at x.connections.held conn
-
-    -- a message that its quota admits now
-    message_freed : (why : Option Cause) (m : Arrived) → IsRead (limit_at configs n) f.item (arriving.Message m) → may_admit x.channels m.channel conn at ≡ true
-        → row configs log at seed (act.RecvStep conn n) ≡ delivered why n half.peer m (taken_row (name_of f)) → r ≡ delivered why n half.peer m (taken_row (name_of f))
-        → y ≡ record x { channels = delivered_to why (length log) 0 n half.peer m (metered m.channel conn at x.channels); connections = record x.connections { held = held_less } } → Done
-    message_freed why m read says is told parts =
-        let due = delivered why n half.peer m (taken_row (name_of f)) in
-        let takes : due.takes ≡ name_of f ∷ [] = passed_takes why n half.peer m (name_of f) in
-        let ends : flat_map ended_item due.ends ≡ [] = passed_ends why n half.peer m (name_of f) in
-        let took : Takes log (made due) (limit_at configs n) h f fs (messages m.channel) = record { first = first; takes = takes; ends = ends; counts = read } in
-        let aside : (q : Queue) → same_queue q (queue.Channel n m.channel) ≡ false → filter (stands_in q) (placed (length log) 0 due.puts) ≡ [] = λ q apart. passed_aside why q (length log) n half.peer m (name_of f) apart in
-        built due (delivered_to why (length log) 0 n half.peer m (metered m.channel conn at x.channels)) (record x.connections { held = held_less }) is told parts
-        (passed_channels h f fs why half.peer m took (λ q. refl) says)
-        (beside_message due (passed_lives why n half.peer m (name_of f)) held_less (no_pings due h f fs m.channel false took (passed_holds why n half.peer m (name_of f))) (λ c. line_still due (queue.Ready n c) takes ends refl (aside (queue.Ready n c) refl))
-        (unheld_holds configs log n conn at (made due) late x.connections connects f fs due.puts (taken_off due takes ends) refl (λ c. aside (queue.Held n c) refl)))
-        (links_stay due takes ends (λ u j. aside (queue.Link j u) (channel_link n m.channel j u)))
-
-    -- a ping that its quota admits now
-    ping_freed : IsRead (limit_at configs n) f.item arriving.Ping → may_ping x.connections conn at ≡ true → row configs log at seed (act.RecvStep conn n) ≡ taken_row (name_of f) → r ≡ taken_row (name_of f)
-        → y ≡ record x { connections = record (ping_metered conn at x.connections) { held = held_less } } → Done
-    ping_freed read says is told parts =
-        let due = taken_row (name_of f) in
-        let took : Takes log (made due) (limit_at configs n) h f fs pings = record { first = first; takes = refl; ends = refl; counts = read } in
-        built due x.channels (record (ping_metered conn at x.connections) { held = held_less }) is told parts
-        (beside_ping due (no_messages due h f fs false took refl) (λ c. line_still due (queue.Channel n c) refl refl refl refl))
-        (pinged_connections due refl held_less (pings_admitted due h f fs true took refl says) (λ c. line_still due (queue.Ready n c) refl refl refl refl)
-        (unheld_holds configs log n conn at (made due) late x.connections connects f fs [] (taken_off due refl refl) refl (λ c. refl)))
-        (links_stay due refl refl (λ u j. refl))
-
-    -- one that its quota does not admit stays
-    message_stays : (m : Arrived) → may_admit x.channels m.channel conn at ≡ false → row configs log at seed (act.RecvStep conn n) ≡ only reply.Idle → r ≡ only reply.Idle → y ≡ record x { channels = metered m.channel conn at x.channels } → Done
-    message_stays m says is told parts =
-        let due = only reply.Idle in
-        built due (metered m.channel conn at x.channels) x.connections is told parts
-        (asked_channels due m.channel (λ d q. admits_idle configs log n conn at (made due) late refl d (messages q) ∙ sym (refused (d == conn) (q == m.channel) says)) (λ q. line-still log (made due) reply.Idle (queue.Channel n q) still))
-        (beside_message due refl x.connections.held (λ d. admits_idle configs log n conn at (made due) late refl d pings) (λ c. line-still log (made due) reply.Idle (queue.Ready n c) still)
-        (holds_frame (queue.Held n) log (made due) x.connections.held connects.holds (λ c. line-still log (made due) reply.Idle (queue.Held n c) still)))
-        (subst (LinksStand (log ++ made due ∷ [])) (sym kept) (links_still log (made due) (act.RecvStep conn n) reply.Idle l t refl refl still))
-      where
-        refused : (a b : Bool) → may_admit x.channels m.channel conn at ≡ false → cond (a && (b && may_admit x.channels m.channel conn at)) (at ∷ []) [] ≡ []
-        refused a b shut = ap (λ z. cond (a && (b && z)) (at ∷ []) []) shut ∙ none a b
-          where
-            none : (a b : Bool) → cond (a && (b && false)) (at ∷ []) [] ≡ []
-            none true true = refl
-            none true false = refl
-            none false b = refl
-
-    ping_stays : may_ping x.connections conn at ≡ false → row configs log at seed (act.RecvStep conn n) ≡ only reply.Idle → r ≡ only reply.Idle → y ≡ record x { connections = ping_metered conn at x.connections } → Done
-    ping_stays says is told parts =
-        let due = only reply.Idle in
-        built due x.channels (ping_metered conn at x.connections) is told parts
-        (beside_ping due (λ d q. admits_idle configs log n conn at (made due) late refl d (messages q)) (λ q. line-still log (made due) reply.Idle (queue.Channel n q) still))
-        (pinged_connections due refl x.connections.held (λ d. admits_idle configs log n conn at (made due) late refl d pings ∙ sym (refused (d == conn) says)) (λ c. line-still log (made due) reply.Idle (queue.Ready n c) still)
-        (holds_frame (queue.Held n) log (made due) x.connections.held connects.holds (λ c. line-still log (made due) reply.Idle (queue.Held n c) still)))
-        (subst (LinksStand (log ++ made due ∷ [])) (sym kept) (links_still log (made due) (act.RecvStep conn n) reply.Idle l t refl refl still))
-      where
-        refused : (a : Bool) → may_ping x.connections conn at ≡ false → cond (a && may_ping x.connections conn at) (at ∷ []) [] ≡ []
-        refused true shut = ap (λ z. cond z (at ∷ []) []) shut
-        refused false shut = refl
-
-    retried : row configs log at seed (act.RecvStep conn n) ≡ came_row configs log n conn at x s late half.peer (name_of f) true (held_arrival f.item)
-    unfolding row
-    retried =
-        stepped_as configs log conn n at (Some half) true has running
-        ∙ (ap (λ w. held_row configs log n conn at half.peer w (line log (queue.Link half.link (other_side half.writes)))) first ∙ held_settles configs log n conn at x s late half.peer (name_of f) f.item)
-
-    message_tried : (m : Arrived) (o : Option ℕ) (b : Bool) → IsRead (limit_at configs n) f.item (arriving.Message m) → capacity_at x.channels m.channel ≡ o → may_admit x.channels m.channel conn at ≡ b
-        → row configs log at seed (act.RecvStep conn n) ≡ settled_row configs log n conn at x s late half.peer (name_of f) true (verdict_by o b) (arriving.Message m)
-        → RetriesAs (verdict_by o b) (length log) n conn at half.peer (named_as f (arriving.Message m)) x y r → Done
-    message_tried m None b read has says is d = idle is d.0 (d.1 ∙ ap (λ o. metered_on o m.channel conn at x) has) kept
-    message_tried m (Some capacity) true read has says is d =
-        let why = refusal x.channels capacity m.channel in
-        let asks : asked_of conn at (arriving.Message m) x ≡ record x { channels = metered m.channel conn at x.channels } = ap (λ o. metered_on o m.channel conn at x) has in
-        let passes : passed_row n half.peer (name_of f) (arriving.Message m) x.channels ≡ delivered why n half.peer m (taken_row (name_of f)) = ap (λ o. message_row o n half.peer (name_of f) m x.channels) has in
-        let passes_metered : passed_row n half.peer (name_of f) (arriving.Message m) (metered m.channel conn at x.channels) ≡ delivered why n half.peer m (taken_row (name_of f)) =
-        ap (λ o. message_row o n half.peer (name_of f) m (metered m.channel conn at x.channels)) has
-        in
-        message_freed why m read says (is ∙ passes)
-        (d.0 ∙ (ap (λ (z : Node). passed_row n half.peer (name_of f) (arriving.Message m) z.channels) asks ∙ passes_metered))
-        (d.1
-        ∙ (ap (λ z. passed_into (length log) n half.peer (arriving.Message m) (unheld conn z)) asks
-        ∙ ap (λ o. message_into o (length log) n half.peer m (unheld conn (record x { channels = metered m.channel conn at x.channels }))) has))
-    message_tried m (Some capacity) false read has says is d = message_stays m says is d.0 (d.1 ∙ ap (λ o. metered_on o m.channel conn at x) has)
-
-    ping_tried : (b : Bool) → IsRead (limit_at configs n) f.item arriving.Ping → may_ping x.connections conn at ≡ b
-        → row configs log at seed (act.RecvStep conn n) ≡ settled_row configs log n conn at x s late half.peer (name_of f) true (Some b) arriving.Ping
-        → RetriesAs (Some b) (length log) n conn at half.peer (named_as f arriving.Ping) x y r → Done
-    ping_tried true read says is d = ping_freed read says is d.0 d.1
-    ping_tried false read says is d = ping_stays says is d.0 d.1
-
-    held_performs : (o : Option Arriving) → held_arrival f.item ≡ o → row configs log at seed (act.RecvStep conn n) ≡ came_row configs log n conn at x s late half.peer (name_of f) true o
-        → RetriesBy (option_map (named_as f) o) (length log) n conn at half.peer x y r → Done
-    held_performs None reads is d = idle is d.0 d.1 kept
-    held_performs (Some (arriving.Message m)) reads is d =
-        message_tried m (capacity_at x.channels m.channel) (may_admit x.channels m.channel conn at) (held_read (limit_at configs n) f.item (arriving.Message m) reads) refl refl is d
-    held_performs (Some arriving.Ping) reads is d = ping_tried (may_ping x.connections conn at) (held_read (limit_at configs n) f.item arriving.Ping reads) refl is d
-
-  -- ---- a step
-
-  limit_is : x.config.max_message_size ≡ limit_at configs n
-  limit_is = sym (ap (λ (o : Option Config). elim o [ None ↦ 0 | Some c ↦ c.max_message_size ]) s.own.config)
-
-  by_frames : (has : live_half log n conn ≡ Some half) (running : is_running log n conn ≡ true) (fs : List Envelope) → line log (queue.Held n conn) ≡ [] → line log (queue.Link half.link (other_side half.writes)) ≡ fs
-      → ReceivesBy (frame_in (limit_at configs n) (slice_get fs 0)) (length log) n conn at half x y l links r → Done
+  resting : is_running log n conn ≡ false → row configs log at seed (act.RecvStep conn n) ≡ only reply.Idle
   unfolding row
-  by_frames has running [] none first d =
-      idle
-      (stepped_as configs log conn n at (Some half) true has running
-      ∙ (ap (λ w. held_row configs log n conn at half.peer w (line log (queue.Link half.link (other_side half.writes)))) none ∙ ap (receive_row configs log n conn at half.peer) first))
-      d.0.0 d.0.1 d.1
-  by_frames has running (f ∷ fs) none first d =
-      off_performs has running f fs first (arrival_in (limit_at configs n) f.item) refl (stepped has running f fs first none) d
+  resting rests = stepped_as configs log conn n at (Some half) false up has rests
 
-  by_held : (has : live_half log n conn ≡ Some half) (running : is_running log n conn ≡ true) (ws : List Envelope) → line log (queue.Held n conn) ≡ ws → TakesBy (slice_get ws 0) (length log) n conn at half x y l links r
-      → Done
-  by_held has running [] none d =
-      let u = other_side half.writes in
-      let first : first_in l half.link u ≡ slice_get (line log (queue.Link half.link u)) 0 = ap (λ (w : List Envelope). slice_get w 0) (t.waits u half.link) in
-      by_frames has running (line log (queue.Link half.link u)) none refl
-      (subst (λ o. ReceivesBy (frame_in (limit_at configs n) o) (length log) n conn at half x y l links r) first
-      (subst (λ k. ReceivesBy (frame_in k (first_in l half.link u)) (length log) n conn at half x y l links r) limit_is d))
-  by_held has running (w ∷ ws) first d =
-      let same : held_first x.connections conn ≡ Some w = ap (λ (v : List Envelope). slice_get v 0) (connects.holds conn ∙ first) in
-      held_performs has running d.1 w ws first (held_arrival w.item) refl (retried has running d.1 w ws first) (subst (λ o. RetriesBy (kept_in o) (length log) n conn at half.peer x y r) same d.0)
+  by_stage : (o : Option Stage) → table.at x.connections.stages conn ≡ o → StepsAt o (length log) n conn at half x y l links r → Done
+  by_stage (Some (stage.Running pinged)) is d =
+      by_held (sym (connects.begun conn) ∙ ap (λ (o : Option Stage). is_some o) is) (sym (connects.running conn) ∙ ap runs_on is) (line log (queue.Held n conn)) refl
+      (subst (λ o. StepsBy o (length log) n conn at half x y l links r) (ap (λ (v : List Envelope). slice_get v 0) (connects.holds conn)) d)
+  by_stage (Some stage.Begun) is d = waits (resting (sym (connects.running conn) ∙ ap runs_on is)) d.0.0 d.0.1 d.1
+  by_stage None is d = waits (resting (sym (connects.running conn) ∙ ap runs_on is)) d.0.0 d.0.1 d.1
 
-  by_stage : (o : Option Stage) → live_half log n conn ≡ Some half → is_running log n conn ≡ runs_on o → TakesAt o (length log) n conn at half x y l links r → Done
+-- ---- of any node
+
+module _ (configs : List Config) (log : List Entry) (at seed conn n : ℕ) (x y : Node) (l links : Links) (r : Row) (s : NodeStands configs log n x) (t : LinksStand configs log l)
+    (late : latest_moment (events_of log) ≤ at) (heard : is_running log n conn ≡ true → Each (λ z. names_ready conn z.item ≡ false) (line log (queue.Router n))) (fitting : Each StandsFit (live log)) where
+  abbrev Steps : Type 0
+  Steps = Performs configs log (asked at seed (act.RecvStep conn n)) n y links r
+
+  gone : row configs log at seed (act.RecvStep conn n) ≡ only reply.Gone → r ≡ only reply.Gone → y ≡ x → links ≡ l → Steps
+  gone is done same kept = stays_performs configs log (asked at seed (act.RecvStep conn n)) n x y l links r reply.Gone s t is refl done same kept
+
+  down : is_up log n ≡ false → row configs log at seed (act.RecvStep conn n) ≡ only reply.Gone
   unfolding row
-  by_stage (Some (stage.Running pinged)) has running d =
-      by_held has running (line log (queue.Held n conn)) refl (subst (λ o. TakesBy o (length log) n conn at half x y l links r) (ap (λ (v : List Envelope). slice_get v 0) (connects.holds conn)) d)
-  by_stage (Some stage.Begun) has running d = idle (stepped_as configs log conn n at (Some half) false has running) d.0.0 d.0.1 d.1
-  by_stage None has running d = idle (stepped_as configs log conn n at (Some half) false has running) d.0.0 d.0.1 d.1
+  down off = ap (λ b. cond b (receiving_row configs log n conn at (live_half log n conn)) (only reply.Gone)) off
 
-step_on : (configs : List Config) (log : List Entry) (at seed conn n : ℕ) (o : Option Half) (x y : Node) (l links : Links) (r : Row) → NodeStands configs log n x → LinksStand log l → latest_moment (events_of log) ≤ at
-    → live_half log n conn ≡ o → TakesOn o (length log) n conn at x y l links r → Performs configs log (asked at seed (act.RecvStep conn n)) n y links r
-unfolding row
-step_on configs log at seed conn n None x y l links r s t late has d =
-    stays_performs configs log (asked at seed (act.RecvStep conn n)) n x y l links r reply.Gone s t (stepped_as configs log conn n at None (is_running log n conn) has refl) refl d.0.0 d.0.1 d.1
-step_on configs log at seed conn n (Some half) x y l links r s t late has d =
-    let cs : ConnectionsStand configs log n x.connections = s.each place.connections in
-    by_stage configs log at seed conn n half x y l links r s t late (table.at x.connections.stages conn) has (sym (cs.running conn)) d
+  nobody : is_up log n ≡ true → live_half log n conn ≡ None → row configs log at seed (act.RecvStep conn n) ≡ only reply.Gone
+  unfolding row
+  nobody up none = stepped_as configs log conn n at None (is_running log n conn) up none refl
 
-pub recv_step_performs : (configs : List Config) (log : List Entry) (at seed conn n : ℕ) (x y : Node) (l links : Links) (r : Row) → NodeStands configs log n x → LinksStand log l → latest_moment (events_of log) ≤ at
-    → RecvSteps (length log) n conn at x y l links r → Performs configs log (asked at seed (act.RecvStep conn n)) n y links r
-recv_step_performs configs log at seed conn n x y l links r s t late d =
-    step_on configs log at seed conn n (half_by n x.connections l conn) x y l links r s t late (sym (half_is configs log n conn x.connections l (s.each place.connections) t)) d
+  by_half : (o : Option Half) → is_up log n ≡ true → live_half log n conn ≡ o → StepsOn o (length log) n conn at x y l links r → Steps
+  by_half None up none d = gone (nobody up none) d.0.0 d.0.1 d.1
+  by_half (Some half) up has d =
+      by_stage configs log at seed conn n half x y l links r s t late heard fitting up has (table.at x.connections.stages conn) refl d
+
+  by_start : (b : Bool) → is_up log n ≡ b → RecvStepsBy b (length log) n conn at x y l links r → Steps
+  by_start false off d = gone (down off) d.0.0 d.0.1 d.1
+  by_start true up d = by_half (half_by n x.connections l conn) up (sym (half_is configs log n conn x.connections l (s.each place.connections) t)) d
+
+  pub recv_step_performs : RecvSteps (length log) n conn at x y l links r → Steps
+  recv_step_performs d = by_start (is_started x) (sym (started_is configs log n x s)) d

@@ -37,7 +37,7 @@ use Rattle.p2p_net.proofs.Attempting.{other_attempt, told_is, does_itself, untol
 use Rattle.p2p_net.proofs.Performing.{asked, Performs}
 use Rattle.p2p_log_rules.specs.Facts.{with_named}
 
-module _ (configs : List Config) (log : List Entry) (moment seed : ℕ) (addresses : List SocketAddr) (name n : ℕ) (x y : Node) (l ls : Links) (r : Row) (s : NodeStands configs log n x) (t : LinksStand log l)
+module _ (configs : List Config) (log : List Entry) (moment seed : ℕ) (addresses : List SocketAddr) (name n : ℕ) (x y : Node) (l ls : Links) (r : Row) (s : NodeStands configs log n x) (t : LinksStand configs log l)
     (tells : TellsAttempt x y) (kept : ls ≡ l) where
   abbrev a : Act
   a = act.Resolve addresses name n
@@ -94,7 +94,7 @@ module _ (configs : List Config) (log : List Entry) (moment seed : ℕ) (address
   by_attempt None (Some b) there is stands h = absurd stands
   by_attempt (Some w) None there is stands h = absurd stands
 
-pub resolve_performs : (configs : List Config) (log : List Entry) (moment seed : ℕ) (addresses : List SocketAddr) (name n : ℕ) (x y : Node) (l ls : Links) (r : Row) → NodeStands configs log n x → LinksStand log l
+pub resolve_performs : (configs : List Config) (log : List Entry) (moment seed : ℕ) (addresses : List SocketAddr) (name n : ℕ) (x y : Node) (l ls : Links) (r : Row) → NodeStands configs log n x → LinksStand configs log l
     → Resolves (table.at x.dialing.attempts name) (length log) n name addresses x.dialing.attempts y.dialing.attempts r → TellsAttempt x y → ls ≡ l
     → Performs configs log (asked moment seed (act.Resolve addresses name n)) n y ls r
 resolve_performs configs log moment seed addresses name n x y l ls r s t h tells kept =

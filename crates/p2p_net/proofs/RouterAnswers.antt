@@ -1,5 +1,5 @@
 -- A step of the sending half of a connection that has begun: it takes its router's answer.
-use Rattle.std.proofs.Common.{◌≡◌, ℕ, Bool, true, false, cond, List, [], ◌∷◌, ◌++◌, length, refl, ap, sym, subst, ◌∙◌, arith, append-nil, Some}
+use Rattle.std.proofs.Common.{◌≡◌, ℕ, Bool, true, false, cond, List, [], ◌∷◌, ◌++◌, length, refl, ap, sym, subst, ◌∙◌, arith, append-nil, Some, None}
 use Rattle.std.specs.Prelude.{map, filter, flat_map, slice_get, ◌==◌, ◌&&◌}
 use Rattle.std.specs.List.{list_any}
 use Rattle.std.specs.BTreeMap.{insert_entry}
@@ -18,7 +18,8 @@ use Rattle.p2p_log.specs.QueueCode.{same_queue}
 use Rattle.p2p_log.specs.Lines.{line, name_of, placed, stands_in, ended_item}
 use Rattle.p2p_log_rules.specs.declared.row.Half.{Half}
 use Rattle.p2p_log_rules.specs.declared.row.Row.{Row}
-use Rattle.p2p_log_rules.specs.Connections.{live_half, steps_sender, is_done, begins, is_begun, is_answer, answers_by, is_running, is_end}
+use Rattle.p2p_log_rules.specs.Dropping.{half_end}
+use Rattle.p2p_log_rules.specs.Connections.{half_at, live_half, steps_sender, is_done, begins, is_begun, is_answer, answers_by, is_running, is_end}
 use Rattle.p2p_log_rules.specs.Effect.{only, row, effect, takes_oldest, half_row, sender_row, send_step_row}
 use Rattle.p2p_log_rules.specs.Pings.{ping_frequency_at, is_past, ping_is_due}
 use Rattle.p2p_log_rules.specs.Facts.{is_up, starts, registers_at, steps_router, taken, item_named}
@@ -44,6 +45,7 @@ use Rattle.p2p_net_connections.proofs.Pings.{not_pinged}
 use Rattle.p2p_net_links.specs.Stands.{LinksStand}
 use Rattle.p2p_net_links.specs.declared.links.Links.{Links}
 use Rattle.p2p_net_links.proofs.Changes.{openings_unmoved, links_frame}
+use Rattle.p2p_net_links.proofs.Drops.{DropsNone, drop_of-send}
 use Rattle.p2p_net_listener.specs.Stands.{is_of_listener}
 use Rattle.p2p_net_listener.proofs.Changes.{handshakes_unmoved}
 use Rattle.p2p_net_tracker.specs.Stands.{is_told, asks_of, TrackerStands, LeavesTracker}
@@ -54,7 +56,7 @@ use Rattle.p2p_net.specs.Stands.{RouterStands, NodeStands}
 use Rattle.p2p_net.specs.declared.node.Node.{Node}
 use Rattle.p2p_net.proofs.EachPart.{with_parts, each_part, not_among-links}
 use Rattle.p2p_net.proofs.Receivers.{receives_apart}
-use Rattle.p2p_net.proofs.Routers.{RouterStands-moved}
+use Rattle.p2p_net.proofs.Routers.{HearsTheSame, hears_again, RouterStands-moved}
 use Rattle.p2p_net.proofs.Performing.{asked, Performs, IsStill, part_still, links_still}
 use Rattle.p2p_log_rules.proofs.Connections.{live_connection-kept, ends_none-reply}
 
@@ -113,6 +115,15 @@ step_begins n conn c e acts ok =
 pub other_begins : (n conn c : ℕ) (e : Entry) → e.event.act ≡ act.SendStep conn n → (c == conn) ≡ false → begins n c e ≡ false
 other_begins n conn c e acts other =
     ap (λ a. steps_sender n c a && is_done e.reply) acts ∙ (ap (λ b. b && is_done e.reply) (same_conn n conn c) ∙ ap (λ b. b && is_done e.reply) other)
+
+-- where that has begun before, its router is to know of the same connections
+pub step_hears : (log : List Entry) (e : Entry) (n conn : ℕ) → e.event.act ≡ act.SendStep conn n → is_end e.reply ≡ false → is_begun log n conn ≡ true → HearsTheSame log e n
+step_hears log e n conn acts lives begun =
+    hears_again log e n conn begun (λ c other. other_begins n conn c e acts other) (λ c. ends_none-reply e n c lives) (λ c. connections_of-unmade log e n (ap (steps_spawner n) acts) c)
+
+-- and where it does not end, no end of a link is dropped
+pub step_drops : (configs : List Config) (log : List Entry) (e : Entry) (n conn : ℕ) → e.event.act ≡ act.SendStep conn n → is_end e.reply ≡ false → DropsNone configs log e
+step_drops configs log e n conn acts lives = drop_of-send configs log e conn n acts ∙ ap (λ b. cond b (half_end (half_at log n conn)) None) lives
 
 -- what a connection takes of it
 pub step_answers : (log : List Entry) (e : Entry) (n conn c : ℕ) → e.event.act ≡ act.SendStep conn n → answers_by n c log e ≡ cond (c == conn) (map is_answer (taken log e)) []
@@ -185,7 +196,7 @@ step_untold log e n conn acts lives mailbox told = record {
 }
 
 -- it takes what its router answered, where there is something
-pub run_performs : (configs : List Config) (log : List Entry) (at seed conn n : ℕ) (half : Half) (xs : List Envelope) (x y : Node) (l links : Links) (r : Row) → NodeStands configs log n x → LinksStand log l
+pub run_performs : (configs : List Config) (log : List Entry) (at seed conn n : ℕ) (half : Half) (xs : List Envelope) (x y : Node) (l links : Links) (r : Row) → NodeStands configs log n x → LinksStand configs log l
     → is_up log n ≡ true → live_half log n conn ≡ Some half → is_begun log n conn ≡ true → is_running log n conn ≡ false → waiting x.connections.answers conn ≡ xs → Runs conn at x y r → links ≡ l
     → Performs configs log (asked at seed (act.SendStep conn n)) n y links r
 unfolding effect row
@@ -209,7 +220,7 @@ run_performs configs log at seed conn n half [] x y l links r s t up has begun i
       row_is = d.0 ∙ (ap takes_oldest is ∙ sym row_is);
       node =
           each_part configs log ev n x y named_parts s (subst (λ z. z ≡ with_parts named_parts x z) (sym parts) refl)
-          (λ p out. not_among-links named_parts p n out) (
+          (λ p out. not_among-links named_parts p n out) refl (
             let old : ConnectionsStand configs (log ++ e ∷ []) n x.connections = part_still place.connections configs log e n x (act.SendStep conn n) reply.Idle cs refl refl still in
                 subst (ConnectionsStand configs (log ++ e ∷ []) n) (sym (ap (λ (z : Node). z.connections) parts))
                 (record {
@@ -229,7 +240,7 @@ run_performs configs log at seed conn n half [] x y l links r s t up has begun i
               ),
             ),
           );
-      linked = subst (LinksStand (log ++ e ∷ [])) (sym kept) (links_still log e (act.SendStep conn n) reply.Idle l t refl refl still);
+      linked = subst (LinksStand configs (log ++ e ∷ [])) (sym kept) (links_still configs log e (act.SendStep conn n) reply.Idle l t refl refl still);
     }
 run_performs configs log at seed conn n half (w ∷ ws) x y l links r s t up has begun idle is d kept =
     let ev = asked at seed (act.SendStep conn n) in
@@ -247,11 +258,11 @@ run_performs configs log at seed conn n half (w ∷ ws) x y l links r s t up has
       row_is = d.0 ∙ (ap takes_oldest is ∙ sym row_is);
       node =
           each_part configs log ev n x y named_parts s (subst (λ z. z ≡ with_parts named_parts x z) (sym parts) refl)
-          (λ p out. not_among-links named_parts p n out) (
+          (λ p out. not_among-links named_parts p n out) refl (
             subst (ConnectionsStand configs (log ++ e ∷ []) n) (sym (ap (λ (z : Node). z.connections) parts)) (took_stands configs log e n conn x.connections w ws cs begun idle refl (ap (λ (z : Row). z.reply) row_is) takes),
             (
               subst (RouterStands configs (log ++ e ∷ []) n) (sym (ap (λ (z : Node). z.router) parts))
-                  (RouterStands-moved configs log e n x.router x.router rout
+                  (RouterStands-moved configs log e n x.router x.router rout (step_hears log e n conn refl lives begun)
                   (stands_begun configs log e x.router conn n rout.stands (step_beside configs log e x.router.number conn n refl lives) (takes.takes ∙ sym (ap (λ vs. (takes_oldest vs).takes) first)) takes.puts takes.ends) refl refl),
               (
                 subst (TrackerStands configs (log ++ e ∷ []) n) (sym (ap (λ (z : Node). z.tracker) parts))
@@ -262,6 +273,6 @@ run_performs configs log at seed conn n half (w ∷ ws) x y l links r s t up has
               ),
             ),
           );
-      linked = subst (LinksStand (log ++ e ∷ [])) (sym kept)
-          (links_frame log e l t (λ u link. line_begun log e n conn w ws (queue.Link link u) takes ∙ ap (λ b. cond b ws (line log (queue.Link link u))) (link_other n conn link u)) (openings_unmoved log e refl));
+      linked = subst (LinksStand configs (log ++ e ∷ [])) (sym kept)
+          (links_frame configs log e l t (λ u link. line_begun log e n conn w ws (queue.Link link u) takes ∙ ap (λ b. cond b ws (line log (queue.Link link u))) (link_other n conn link u)) (openings_unmoved log e refl) (step_drops configs log e n conn refl lives));
     }

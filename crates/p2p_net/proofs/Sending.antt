@@ -1,16 +1,20 @@
 -- A step of the sending half of a connection, by whether it has begun and whether it runs.
 use Rattle.std.proofs.Common.{◌≡◌, ℕ, Bool, true, false, cond, List, length, refl, ap, sym, ◌∙◌, Option, Some, None}
 use Rattle.std.specs.Prelude.{is_some}
+use Rattle.std.specs.List.{AllByRecursion as Each}
 use Rattle.p2p_log.specs.declared.config.Config.{Config}
 use Rattle.p2p_log.specs.declared.entry.Entry.{Entry}
 use Rattle.p2p_log.specs.declared.entry.Reply.TheVariants as reply
 use Rattle.p2p_log.specs.declared.event.Act.TheVariants as act
+use Rattle.p2p_log.specs.declared.queue.Queue.TheVariants as queue
+use Rattle.p2p_log.specs.Lines.{line}
 use Rattle.p2p_log_rules.specs.declared.row.Half.{Half}
 use Rattle.p2p_log_rules.specs.declared.row.Row.{Row}
-use Rattle.p2p_log_rules.specs.Connections.{live_half}
+use Rattle.p2p_log_rules.specs.Connections.{live_half, is_running}
 use Rattle.p2p_log_rules.specs.Effect.{only, row, sender_row}
 use Rattle.p2p_log_rules.specs.Facts.{is_up}
 use Rattle.p2p_log_rules.specs.Pings.{is_past}
+use Rattle.p2p_log_laws.proofs.EndHeard.{names_ready}
 use Rattle.p2p_log_laws.specs.Leading.{ConnectionsAreOne}
 use Rattle.p2p_net_queues.specs.Tables as table
 use Rattle.p2p_net_queues.specs.Tables.{waiting}
@@ -30,9 +34,11 @@ use Rattle.p2p_net.proofs.Halves.{half_is}
 use Rattle.p2p_net.proofs.Performing.{asked, Performs, stays_performs}
 use Rattle.p2p_net.proofs.Readying.{started_is}
 use Rattle.p2p_net.proofs.RouterAnswers.{run_performs}
-use Rattle.p2p_net.proofs.Writing.{due_is, write_performs}
+use Rattle.p2p_net.proofs.Working.{work_performs}
+use Rattle.p2p_net.proofs.Writing.{due_is}
 
-module _ (configs : List Config) (log : List Entry) (at seed conn n : ℕ) (x y : Node) (l links : Links) (r : Row) (s : NodeStands configs log n x) (t : LinksStand log l) (one : ConnectionsAreOne log) where
+module _ (configs : List Config) (log : List Entry) (at seed conn n : ℕ) (x y : Node) (l links : Links) (r : Row) (s : NodeStands configs log n x) (t : LinksStand configs log l) (one : ConnectionsAreOne log)
+    (heard : is_running log n conn ≡ true → Each (λ z. names_ready conn z.item ≡ false) (line log (queue.Router n))) where
   abbrev Done : Type 0
   Done = Performs configs log (asked at seed (act.SendStep conn n)) n y links r
 
@@ -56,8 +62,9 @@ module _ (configs : List Config) (log : List Entry) (at seed conn n : ℕ) (x y 
   at_stage half (Some stage.Begun) up has is d =
       run_performs configs log at seed conn n half (waiting x.connections.answers conn) x y l links r s t up has (sym (connects.begun conn) ∙ ap (λ (p : Option Stage). is_some p) is) (sym (connects.running conn) ∙ ap runs_on is) refl d.0 d.1
   at_stage half (Some (stage.Running pinged)) up has is d =
-      write_performs configs log at seed conn n half (is_past x.config.ping_frequency at (Some pinged)) x y l links r s t up has (sym (connects.begun conn) ∙ ap (λ (p : Option Stage). is_some p) is)
-      (sym (connects.running conn) ∙ ap runs_on is) (due_is configs log n conn at pinged x s is) d
+      let running : is_running log n conn ≡ true = sym (connects.running conn) ∙ ap runs_on is in
+      work_performs configs log at seed conn n half (is_past x.config.ping_frequency at (Some pinged)) x y l links r s t up has
+      (sym (connects.begun conn) ∙ ap (λ (p : Option Stage). is_some p) is) running (heard running) (due_is configs log n conn at pinged x s is) d
 
   by_half : (o : Option Half) → is_up log n ≡ true → live_half log n conn ≡ o → StepsHalf o (length log) n conn at x y l links r → Done
   by_half None up none d = gone (nobody up none) d.0.0 d.0.1 d.1

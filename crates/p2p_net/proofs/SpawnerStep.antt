@@ -35,13 +35,13 @@ use Rattle.p2p_net.specs.Places as place
 use Rattle.p2p_net.specs.Ready.{is_started}
 use Rattle.p2p_net.specs.Stands.{NodeStands}
 use Rattle.p2p_net.specs.declared.node.Node.{Node}
-use Rattle.p2p_net.proofs.EachPart.{with_parts, each_part, not_among}
+use Rattle.p2p_net.proofs.EachPart.{with_parts, each_part-made, not_among}
 use Rattle.p2p_net.proofs.Frames.{begins_unsent, links_kept}
 use Rattle.p2p_net.proofs.Receivers.{receives_apart}
 use Rattle.p2p_net.proofs.Readying.{started_is}
 use Rattle.p2p_net.proofs.Performing.{asked, Performs, IsStill, line-still, part_still, stays_performs}
 use Rattle.p2p_net_tracker.proofs.Steps.{first_taken}
-use Rattle.p2p_log_rules.specs.Connections.{is_ended, live_connection}
+use Rattle.p2p_log_rules.specs.Connections.{is_begun, is_ended, live_connection}
 use Rattle.p2p_log_rules.proofs.Connections.{is_ended-kept, ends_none-act}
 
 -- a connection of a new name is one of those that live
@@ -53,8 +53,8 @@ live_named log n conn c fresh = by (conn == length log) refl
     by true is = ap (λ e. cond e None (Some c)) (ap (is_ended log n) (eqb-true conn (length log) is) ∙ fresh)
     by false is = refl
 
-module _ (configs : List Config) (log : List Entry) (moment seed n : ℕ) (x y : Node) (l ls : Links) (r : Row) (s : NodeStands configs log n x) (t : LinksStand log l) (kept : ls ≡ l)
-    (fresh : is_ended log n (length log) ≡ false) where
+module _ (configs : List Config) (log : List Entry) (moment seed n : ℕ) (x y : Node) (l ls : Links) (r : Row) (s : NodeStands configs log n x) (t : LinksStand configs log l) (kept : ls ≡ l)
+    (fresh : is_ended log n (length log) ≡ false) (unbegun : is_begun log n (length log) ≡ false) where
   abbrev a : Act
   a = act.Spawner n
 
@@ -105,11 +105,11 @@ module _ (configs : List Config) (log : List Entry) (moment seed n : ℕ) (x y :
       record {
         row_is = done ∙ sym is;
         node =
-            each_part configs log ev n x y both s parts (λ p out. not_among both p n n out) (
+            each_part-made configs log ev n x y both s parts (λ p out. not_among both p n n out) (λ makes. unbegun) (
               subst (λ (d : Entry). SpawnerStands configs (log ++ d ∷ []) n y.spawning) same spawner,
               (subst (λ (d : Entry). ConnectionsStand configs (log ++ d ∷ []) n y.connections) same connections, tt),
             );
-        linked = subst (LinksStand (log ++ effect configs log ev ∷ [])) (sym kept) (links_kept configs log ev l t refl);
+        linked = subst (LinksStand configs (log ++ effect configs log ev ∷ [])) (sym kept) (links_kept configs log ev l t refl);
       }
 
   idle : is_up log n ≡ true → waits ≡ [] → SpawnsBy None (length log) x y r → Done
@@ -154,10 +154,10 @@ module _ (configs : List Config) (log : List Entry) (moment seed n : ℕ) (x y :
       let took = spawner_takes configs log n x.spawning z zs spawns first in
       spawn up z zs first took.0 took.1.1 (subst (λ o. SpawnsBy o (length log) x y r) took.1.0 d)
 
-pub spawner_performs : (configs : List Config) (log : List Entry) (moment seed n : ℕ) (x y : Node) (l ls : Links) (r : Row) → NodeStands configs log n x → LinksStand log l → is_ended log n (length log) ≡ false
-    → SpawnerStepsBy (is_started x) (length log) x y r → ls ≡ l → Performs configs log (asked moment seed (act.Spawner n)) n y ls r
-spawner_performs configs log moment seed n x y l ls r s t fresh d kept = by (is_started x) (sym (started_is configs log n x s)) d
+pub spawner_performs : (configs : List Config) (log : List Entry) (moment seed n : ℕ) (x y : Node) (l ls : Links) (r : Row) → NodeStands configs log n x → LinksStand configs log l → is_ended log n (length log) ≡ false
+    → is_begun log n (length log) ≡ false → SpawnerStepsBy (is_started x) (length log) x y r → ls ≡ l → Performs configs log (asked moment seed (act.Spawner n)) n y ls r
+spawner_performs configs log moment seed n x y l ls r s t fresh unbegun d kept = by (is_started x) (sym (started_is configs log n x s)) d
   where
     by : (b : Bool) → is_up log n ≡ b → SpawnerStepsBy b (length log) x y r → Performs configs log (asked moment seed (act.Spawner n)) n y ls r
-    by true up d = by_line configs log moment seed n x y l ls r s t kept fresh up (line log (queue.Spawner n)) refl d
-    by false down d = gone configs log moment seed n x y l ls r s t kept fresh down d.0 d.1
+    by true up d = by_line configs log moment seed n x y l ls r s t kept fresh unbegun up (line log (queue.Spawner n)) refl d
+    by false down d = gone configs log moment seed n x y l ls r s t kept fresh unbegun down d.0 d.1

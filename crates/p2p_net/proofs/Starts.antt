@@ -10,6 +10,7 @@ use Rattle.p2p_log.specs.declared.config.Config.{Config}
 use Rattle.p2p_log.specs.declared.queue.Queue.TheVariants as queue
 use Rattle.p2p_log.specs.declared.queue.Side.TheVariants as side
 use Rattle.p2p_log_rules.specs.Attempting.{dial_rules_in}
+use Rattle.p2p_log_rules.specs.Connections.{is_begun, live_connection}
 use Rattle.p2p_log_rules.specs.Facts.{registered}
 use Rattle.p2p_net_connections.proofs.Changes.{connections_new}
 use Rattle.p2p_net_channels.proofs.Checks.{checks_new}
@@ -37,12 +38,13 @@ use Rattle.p2p_net_queues.proofs.Holding.{holds_none}
 use Rattle.p2p_net_spawner.specs.Spawning.{no_spawning}
 use Rattle.p2p_net_spawner.specs.Stands.{SpawnerStands}
 use Rattle.p2p_net_spawner.proofs.Changes.{spawner_new}
-use Rattle.p2p_net_links.proofs.Changes.{dialers_new, openings_new}
+use Rattle.p2p_net_links.proofs.Changes.{dialers_new, openings_new, dropped_new}
 use Rattle.p2p_net_links.specs.Links.{no_links, way_of}
 use Rattle.p2p_net_links.specs.Stands.{LinksStand}
 use Rattle.p2p_net.specs.Places as place
-use Rattle.p2p_net.specs.Stands.{PartStands, NodeStands}
+use Rattle.p2p_net.specs.Stands.{key_heard, PartStands, NodeStands}
 use Rattle.p2p_net.specs.declared.node.Node.{Node}
+use Rattle.p2p_net.proofs.Routers.{unheard}
 
 none_there : (b : Bool) (rest : Option ℕ) (k : ℕ) → cond b rest (Some k) ≡ None → b ≡ true × rest ≡ None
 none_there true rest k h = (refl, h)
@@ -85,15 +87,21 @@ channels_new : (configs : List Config) (n : ℕ) → mailbox_size_at configs n <
 unfolding registered
 channels_new configs n h = record { capacities = λ c. refl; total = refl; room = omega (arith, h); waits = holds_none (queue.Channel n); quotas = quotas_new configs n; senders = senders_new n; checks = checks_new n; closed = closed_new n }
 
-pub links_new : LinksStand [] no_links
-links_new = record {
+pub links_new : (configs : List Config) → LinksStand configs [] no_links
+links_new configs = record {
   waits = λ s. elim s as (λ t. HoldsLines (λ link. queue.Link link t) [] (way_of no_links t)) [
     | side.Out ↦ holds_none (λ link. queue.Link link side.Out)
     | side.In ↦ holds_none (λ link. queue.Link link side.In)
   ];
   dialers = dialers_new;
   openings = openings_new;
+  dropped = dropped_new configs;
 }
+
+-- of no log a router is to know of no connection
+nobody_heard : (n conn : ℕ) → key_heard (is_begun [] n conn) (live_connection [] n conn) ≡ None
+unfolding is_begun
+nobody_heard n conn = unheard false (live_connection [] n conn) refl
 
 -- a node that was asked for nothing
 pub node_new :
@@ -107,7 +115,7 @@ node_new configs n x config retained works small number stands none ch cs tr di 
         (record {
           number = number;
           stands = stands;
-          hears = λ conn key told. let h = none conn in cc;
+          hears = λ conn. none conn ∙ sym (nobody_heard n conn);
         })
     | place.channels ↦
         subst (ChannelsStand configs [] n) (sym ch)

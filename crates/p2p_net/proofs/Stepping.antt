@@ -31,7 +31,7 @@ use Rattle.p2p_net.proofs.EachPart.{with_parts, each_part, not_among}
 use Rattle.p2p_log_laws.proofs.Untouched.{line-untouched}
 use Rattle.p2p_net.proofs.Frames.{links_kept, begins_unsent}
 use Rattle.p2p_net.proofs.Receivers.{receives_apart}
-use Rattle.p2p_net.proofs.Routers.{RouterStands-moved}
+use Rattle.p2p_net.proofs.Routers.{hears_aside, RouterStands-moved}
 use Rattle.p2p_net.proofs.Performing.{asked, Performs, stays_performs}
 use Rattle.p2p_log_rules.proofs.Connections.{live_connection-kept, ends_none-act}
 
@@ -45,7 +45,7 @@ line-adds log ev r n c adds = ap (filter (stands_in (queue.Ready n c))) (live-ap
 routed_by : (configs : List Config) (log : List Entry) (n : ℕ) (b : Bool) → is_up log n ≡ b → router_row configs log n ≡ cond b (route_oldest configs log n (line log (queue.Router n))) (only reply.Gone)
 routed_by configs log n b up = ap (λ t. cond t (route_oldest configs log n (line log (queue.Router n))) (only reply.Gone)) up
 
-route_on : (configs : List Config) (log : List Entry) (at seed n : ℕ) (b : Bool) (x y : Node) (l links : Links) (r : Row) → NodeStands configs log n x → LinksStand log l
+route_on : (configs : List Config) (log : List Entry) (at seed n : ℕ) (b : Bool) (x y : Node) (l links : Links) (r : Row) → NodeStands configs log n x → LinksStand configs log l
     → is_started x ≡ b → RoutesBy b (length log) n x y r → links ≡ l → Performs configs log (asked at seed (act.Router n)) n y links r
 unfolding effect row
 route_on configs log at seed n false x y l links r s t started d kept =
@@ -74,21 +74,21 @@ route_on configs log at seed n true x y l links r s t started d kept =
       row_is = row_is;
       node =
           each_part configs log ev n x y (place.router ∷ place.connections ∷ []) s (subst (λ z. z ≡ with_parts (place.router ∷ place.connections ∷ []) x z) (sym parts) refl)
-          (λ p out. not_among (place.router ∷ place.connections ∷ []) p n n out) (
-            RouterStands-moved configs log e n x.router y.router rout
+          (λ p out. not_among (place.router ∷ place.connections ∷ []) p n n out) refl (
+            RouterStands-moved configs log e n x.router y.router rout (hears_aside log e n (act.Router n) refl refl)
                 (subst (λ (z : Row). StandsFor configs (log ++ entry_of ev z ∷ []) y.router) row_is (calls.stands configs log ev rout.stands refl (ap act.Router (sym rout.number))))
                 (ap (λ (z : Router). z.number) calls.rest) (ap (λ (z : Router). z.peers) calls.rest),
             (
               subst (ConnectionsStand configs (log ++ e ∷ []) n) (sym (ap (λ (z : Node). z.connections) parts))
                   (connections_answered configs log e n x.connections (answered (length log) n 0 r.puts x.connections.answers) conn (λ c. live_connection-kept log e n c (ends_none-act e n c (act.Router n) refl refl) (connections_of-unmade log e n refl c)) (begins_unsent log e n (act.Router n) refl (λ c. refl))
-                  (receives_apart configs log e n (act.Router n) refl (λ c. refl) (λ c. line-untouched configs log ev (queue.Held n c) refl refl))
+                  (receives_apart configs log e n (act.Router n) refl (λ c. refl) (λ c. line-untouched configs log ev (queue.Held n c) refl refl refl))
                   (λ c. waiting-answered (length log) n 0 c r.puts x.connections.answers ∙ (ap (λ w. w ++ filter (stands_in (queue.Ready n c)) (placed (length log) 0 r.puts)) (conn.waits c) ∙ sym (adds c)))),
               tt,
             ),
           );
-      linked = subst (LinksStand (log ++ e ∷ [])) (sym kept) (links_kept configs log ev l t refl);
+      linked = subst (LinksStand configs (log ++ e ∷ [])) (sym kept) (links_kept configs log ev l t refl);
     }
 
-pub route_performs : (configs : List Config) (log : List Entry) (at seed n : ℕ) (x y : Node) (l links : Links) (r : Row) → NodeStands configs log n x → LinksStand log l
+pub route_performs : (configs : List Config) (log : List Entry) (at seed n : ℕ) (x y : Node) (l links : Links) (r : Row) → NodeStands configs log n x → LinksStand configs log l
     → Routes (length log) n x y r → links ≡ l → Performs configs log (asked at seed (act.Router n)) n y links r
 route_performs configs log at seed n x y l links r s t d kept = route_on configs log at seed n (is_started x) x y l links r s t refl d kept

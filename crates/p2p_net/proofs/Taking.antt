@@ -18,9 +18,9 @@ use Rattle.p2p_log.specs.Lines.{line, name_of, placed, stands_in, ended_item}
 use Rattle.p2p_log_rules.specs.declared.row.Half.{Half}
 use Rattle.p2p_log_rules.specs.declared.row.Row.{Row}
 use Rattle.p2p_log_rules.specs.Connections.{live_half, is_running, is_end}
-use Rattle.p2p_log_rules.specs.Facts.{events_of, latest_moment, taken, registers_at}
+use Rattle.p2p_log_rules.specs.Facts.{is_up, events_of, latest_moment, taken, registers_at}
 use Rattle.p2p_log_rules.specs.Metering.{Metered, messages, is_of, metered_in, holds, limit_at, admitted_by}
-use Rattle.p2p_log_rules.specs.Effect.{only, receiver_row, recv_step_row}
+use Rattle.p2p_log_rules.specs.Effect.{only, receiver_row, receiving_row, recv_step_row}
 use Rattle.p2p_net_queues.specs.Lines.{HoldsLines}
 use Rattle.p2p_net_queues.specs.Rows.{taken_row}
 use Rattle.p2p_net_queues.specs.Tables.{pushed_at, popped_at}
@@ -43,16 +43,21 @@ use Rattle.p2p_net.proofs.RouterAnswers.{taken-first}
 
 -- ---- the row
 
--- what a half's step comes to, by what stands of it
+-- what a half's step comes to where its node has started, by what stands of it
 abbrev pub stepped_row : List Config → List Entry → ℕ → ℕ → ℕ → Option Half → Bool → Row
 stepped_row configs log conn n at o runs = elim o [
   | None ↦ only reply.Gone
   | Some half ↦ cond runs (receiver_row configs log n conn at half) (only reply.Idle)
 ]
 
-pub stepped_as : (configs : List Config) (log : List Entry) (conn n at : ℕ) (o : Option Half) (runs : Bool) → live_half log n conn ≡ o → is_running log n conn ≡ runs
+pub stepped_as : (configs : List Config) (log : List Entry) (conn n at : ℕ) (o : Option Half) (runs : Bool) → is_up log n ≡ true → live_half log n conn ≡ o → is_running log n conn ≡ runs
     → recv_step_row configs log conn n at ≡ stepped_row configs log conn n at o runs
-stepped_as configs log conn n at o runs has is = ap (λ h. stepped_row configs log conn n at h (is_running log n conn)) has ∙ ap (stepped_row configs log conn n at o) is
+stepped_as configs log conn n at o runs up has is =
+    ap (λ b. cond b (receiving_row configs log n conn at (live_half log n conn)) (only reply.Gone)) up ∙ (ap (receiving_row configs log n conn at) has ∙ by o)
+  where
+    by : (o : Option Half) → receiving_row configs log n conn at o ≡ stepped_row configs log conn n at o runs
+    by None = refl
+    by (Some half) = ap (λ b. cond b (receiver_row configs log n conn at half) (only reply.Idle)) is
 
 -- ---- queues of different kinds
 
@@ -74,9 +79,10 @@ held_link n c j side.In = refl
 
 -- ---- what a step moves
 
--- the entry is of a step of this half at this moment, in which nothing but these is put
+-- the entry is of a step of this half at this moment which ends nothing, and in which nothing but these is put
 pub record IsStep (log : List Entry) (e : Entry) (n conn at : ℕ) (puts : List (Queue × Item)) : Type 0 where
   pub acts : e.event.act ≡ act.RecvStep conn n
+  pub lives : is_end e.reply ≡ false
   pub moment : e.event.at ≡ at
   pub puts_are : e.puts ≡ puts
 
@@ -148,7 +154,7 @@ module _ (configs : List Config) (log : List Entry) (n conn at : ℕ) (e : Entry
 
     -- what it admits of a kind
     pub admits_of : (d : ℕ) (what : Metered) (held : Bool) → holds puts ≡ held → admitted_by limit n d what log e ≡ cond ((d == conn) && (is_of what (Some kind) && not held)) (at ∷ []) []
-    admits_of d what held is = admitted_here limit n conn d at what kind log e f.item held step.acts step.moment took h.counts (ap holds step.puts_are ∙ is)
+    admits_of d what held is = admitted_here limit n conn d at what kind log e f.item held step.acts step.lives step.moment took h.counts (ap holds step.puts_are ∙ is)
 
   -- nothing is admitted where nothing is taken
   pub admits_idle : e.takes ≡ [] → (d : ℕ) (what : Metered) → admitted_by limit n d what log e ≡ []

@@ -6,6 +6,7 @@ use Rattle.std.proofs.lemmas.Bool.Decides.{nat_tests}
 use Rattle.p2p_log.specs.declared.config.Config.{Config}
 use Rattle.p2p_log.specs.declared.queue.Queue.{Queue}
 use Rattle.p2p_log.specs.declared.queue.Queue.TheVariants as queue
+use Rattle.p2p_log.specs.declared.queue.Side.TheVariants as side
 use Rattle.p2p_log.specs.declared.entry.Entry.{Entry}
 use Rattle.p2p_log.specs.declared.event.Event.{Event}
 use Rattle.p2p_log.specs.declared.asked.Asked.TheVariants as ask
@@ -16,13 +17,17 @@ use Rattle.p2p_log.specs.QueueCode.{same_queue}
 use Rattle.p2p_log.specs.Lines.{line}
 use Rattle.p2p_log.proofs.Queues.{same_queue-sym}
 use Rattle.p2p_log_rules.specs.declared.row.Opening.{Opening}
+use Rattle.p2p_log_rules.specs.Attempting.{attempts_of}
+use Rattle.p2p_log_rules.specs.Dropping.{LinkEnd, other_side, dialing_end, half_end}
 use Rattle.p2p_log_rules.specs.Effect.{effect}
+use Rattle.p2p_log_rules.specs.Handshakes.{peer_at}
 use Rattle.p2p_log_rules.specs.Checking.{checking_node}
 use Rattle.p2p_log_rules.specs.Links.{openings_of}
 use Rattle.p2p_log_rules.specs.declared.row.Half.{Half}
 use Rattle.p2p_log_rules.specs.Connections.{half_at}
-use Rattle.p2p_log_rules.proofs.Touches.{are_all, in_lists, in_router, in_mailboxes, in_half, in_link, in_held, in_channels, in_tracker, in_handshakes, in_ends, is_told_to, reads, writes, away}
+use Rattle.p2p_log_rules.proofs.Touches.{are_all, in_lists, in_router, in_mailboxes, in_half, in_link, in_held, in_channels, in_tracker, in_handshakes, in_ends, is_told_to, away}
 use Rattle.p2p_log_rules.specs.Tracking.{asked_by}
+use Rattle.p2p_log_laws.proofs.Reaching.{in_control, in_flight, in_connection, reads, writes, ends_in}
 use Rattle.p2p_log_laws.proofs.Untouched.{line-untouched}
 use Rattle.p2p_net.specs.Places.{home, names, at, router, channels, connections, tracker, dialer, listener, spawner, links, same_place, ends_named, asked_node, or_first, node_asked}
 
@@ -68,6 +73,16 @@ mailbox_kinds : (n : ℕ) (q : Queue) → same_place (at router n) (home q) ≡ 
 mailbox_kinds n (queue.Router m) h k = grind (arith, nat_tests)
 mailbox_kinds n (queue.Tracker m) h k = grind (arith, nat_tests)
 mailbox_kinds n _ h k = refl
+
+control_kinds : (n conn : ℕ) (q : Queue) → same_place (at tracker n) (home q) ≡ false → in_control n conn q ≡ false
+control_kinds n conn (queue.Control m e) h = grind (arith, nat_tests)
+control_kinds n conn _ h = refl
+
+flight_kinds : (o : Option LinkEnd) (q : Queue) → same_place links (home q) ≡ false → in_flight o q ≡ false
+flight_kinds None q h = refl
+flight_kinds (Some e) q h =
+    let towards = queue.Link e.0 (other_side e.1) in
+    same_queue-sym towards q ∙ away (λ r. same_place links (home r)) q towards h refl
 
 held_kinds : (n conn : ℕ) (q : Queue) → same_place (at connections n) (home q) ≡ false → in_held n conn q ≡ false
 held_kinds n conn (queue.Held m e) h = grind (arith, nat_tests)
@@ -153,6 +168,18 @@ third_of_three a b c h = second_of_two b c (second_false a (b || (c || false)) h
 second_of_three : (a b c : Bool) → (a || (b || (c || false))) ≡ false → b ≡ false
 second_of_three a b c h = first_false b (c || false) (second_false a (b || (c || false)) h)
 
+-- four that are false
+record AreOff (a b c d : Bool) : Type 0 where
+  first : a ≡ false
+  second : b ≡ false
+  third : c ≡ false
+  fourth : d ≡ false
+
+are_off : (a b c d : Bool) → (a || (b || (c || (d || false)))) ≡ false → AreOff a b c d
+are_off a b c d h =
+    let rest = second_false a (b || (c || (d || false))) h in
+    record { first = first_false a (b || (c || (d || false))) h; second = first_false b (c || (d || false)) rest; third = second_of_three b c d rest; fourth = third_of_three b c d rest }
+
 both_false : (a b : Bool) → a ≡ false → b ≡ false → (a || b) ≡ false
 both_false true b h k = h
 both_false false b h k = k
@@ -165,20 +192,58 @@ ends_queue (Some o) q h =
     (attempt_queue o.node o.attempt q (first_false (same_place (at dialer o.node) (home q)) (same_place (at tracker o.to) (home q) || false) h))
     (handshake_kinds o.to q (second_of_two (same_place (at dialer o.node) (home q)) (same_place (at tracker o.to) (home q)) h))
 
+-- where a step of a half reaches: the links, and three parts of its node
+abbrev AreOffHalf : ℕ → Queue → Type 0
+AreOffHalf n q = AreOff (same_place links (home q)) (same_place (at connections n) (home q)) (same_place (at router n) (home q)) (same_place (at tracker n) (home q))
+
+off_sender : (log : List Entry) (conn n : ℕ) (q : Queue) → names log (act.SendStep conn n) (home q) ≡ false → AreOffHalf n q
+off_sender log conn n q h = are_off (same_place links (home q)) (same_place (at connections n) (home q)) (same_place (at router n) (home q)) (same_place (at tracker n) (home q)) h
+
+-- a receiving half reaches the channels too
+without_second : (a b c : Bool) → (a || (b || c)) ≡ false → (a || c) ≡ false
+without_second a b c h = both_false a c (first_false a (b || c) h) (second_false b c (second_false a (b || c) h))
+
+off_receiver : (log : List Entry) (conn n : ℕ) (q : Queue) → names log (act.RecvStep conn n) (home q) ≡ false → AreOffHalf n q
+off_receiver log conn n q h =
+    let first = same_place links (home q) in
+    let second = same_place (at connections n) (home q) in
+    let third = same_place (at router n) (home q) in
+    let fourth = same_place (at tracker n) (home q) in
+    are_off first second third fourth (without_second first (same_place (at channels n) (home q)) (second || (third || (fourth || false))) h)
+
+off_channels : (log : List Entry) (conn n : ℕ) (q : Queue) → names log (act.RecvStep conn n) (home q) ≡ false → same_place (at channels n) (home q) ≡ false
+off_channels log conn n q h =
+    let rest = same_place (at connections n) (home q) || (same_place (at router n) (home q) || (same_place (at tracker n) (home q) || false)) in
+    first_false (same_place (at channels n) (home q)) rest (second_false (same_place links (home q)) (same_place (at channels n) (home q) || rest) h)
+
+-- what ends with a connection
+connection_kinds : (o : Option Half) (n conn : ℕ) (q : Queue) → AreOffHalf n q → in_connection o n conn q ≡ false
+connection_kinds o n conn (queue.High m e) h = let off = h.third in grind (arith, nat_tests)
+connection_kinds o n conn (queue.Low m e) h = let off = h.third in grind (arith, nat_tests)
+connection_kinds o n conn (queue.Held m e) h = let off = h.second in grind (arith, nat_tests)
+connection_kinds o n conn (queue.Control m e) h = let off = h.fourth in grind (arith, nat_tests)
+connection_kinds o n conn (queue.Ready m e) h = let off = h.second in grind (arith, nat_tests)
+connection_kinds o n conn q h = flight_kinds (half_end o) q h.first
+
+-- a handshake and an attempt reach the links, the tracker, the spawner and the part that has them
+off_handshake : (log : List Entry) (e n : ℕ) (q : Queue) → names log (act.Handshake e n) (home q) ≡ false
+    → AreOff (same_place links (home q)) (same_place (at tracker n) (home q)) (same_place (at listener n) (home q)) (same_place (at spawner n) (home q))
+off_handshake log e n q h = are_off (same_place links (home q)) (same_place (at tracker n) (home q)) (same_place (at listener n) (home q)) (same_place (at spawner n) (home q)) h
+
+off_attempt : (log : List Entry) (e n : ℕ) (q : Queue) → names log (act.Attempt e n) (home q) ≡ false
+    → AreOff (same_place links (home q)) (same_place (at tracker n) (home q)) (same_place (at dialer n) (home q)) (same_place (at spawner n) (home q))
+off_attempt log e n q h = are_off (same_place links (home q)) (same_place (at tracker n) (home q)) (same_place (at dialer n) (home q)) (same_place (at spawner n) (home q)) h
+
 reads-named : (configs : List Config) (log : List Entry) (a : Act) (q : Queue) → names log a (home q) ≡ false → reads configs log a q ≡ false
 reads-named configs log (act.Send bytes c n priority to) q h = list_kinds n c to q (second_of_two (same_place (at channels n) (home q)) (same_place (at router n) (home q)) h)
 reads-named configs log (act.Check c n to) q h = list_kinds n c to q (second_of_two (same_place (at channels n) (home q)) (same_place (at router n) (home q)) h)
 reads-named configs log (act.Router n) q h = router_queue n q (first_false (same_place (at router n) (home q)) (same_place (at connections n) (home q) || false) h)
 reads-named configs log (act.SendStep conn n) q h =
-    let rest = second_false (same_place links (home q)) (same_place (at connections n) (home q) || (same_place (at router n) (home q) || (same_place (at tracker n) (home q) || false))) h in
-    half_kinds (half_at log n conn) n conn q
-    (second_of_three (same_place (at connections n) (home q)) (same_place (at router n) (home q)) (same_place (at tracker n) (home q)) rest)
-    (first_false (same_place (at connections n) (home q)) (same_place (at router n) (home q) || (same_place (at tracker n) (home q) || false)) rest)
-    (first_false (same_place links (home q)) (same_place (at connections n) (home q) || (same_place (at router n) (home q) || (same_place (at tracker n) (home q) || false))) h)
+    let off = off_sender log conn n q h in
+    both_false (in_control n conn q) (in_half (half_at log n conn) n conn q) (control_kinds n conn q off.fourth) (half_kinds (half_at log n conn) n conn q off.third off.second off.first)
 reads-named configs log (act.RecvStep conn n) q h =
-    both_false (in_held n conn q) (in_link (half_at log n conn) q)
-    (held_kinds n conn q (third_of_three (same_place links (home q)) (same_place (at channels n) (home q)) (same_place (at connections n) (home q)) h))
-    (link_kinds (half_at log n conn) q (first_false (same_place links (home q)) (same_place (at channels n) (home q) || (same_place (at connections n) (home q) || false)) h))
+    let off = off_receiver log conn n q h in
+    both_false (in_held n conn q) (in_link (half_at log n conn) q) (held_kinds n conn q off.second) (link_kinds (half_at log n conn) q off.first)
 reads-named configs log (act.Recv c n) q h = channel_queue n c q (first_false (same_place (at channels n) (home q)) false h)
 reads-named configs log (act.Answer e) q h = told_queue log e q (first_false (same_place (at tracker (node_asked (slice_get log e))) (home q)) false h)
 reads-named configs log (act.Next e) q h = told_queue log e q (first_false (same_place (at tracker (node_asked (slice_get log e))) (home q)) false h)
@@ -188,10 +253,9 @@ reads-named configs log (act.Listener n) q h =
     both_false (same_queue (queue.Update n) q) (same_queue (queue.Arrivals n) q)
     (update_queue n q (first_false (same_place (at tracker n) (home q)) (same_place (at listener n) (home q) || false) h))
     (arrivals_queue n q (second_of_two (same_place (at tracker n) (home q)) (same_place (at listener n) (home q)) h))
-reads-named configs log (act.Handshake e n) q h =
-    handshake_queue n e q (first_false (same_place (at tracker n) (home q)) (same_place (at listener n) (home q) || (same_place (at spawner n) (home q) || false)) h)
+reads-named configs log (act.Handshake e n) q h = handshake_queue n e q (off_handshake log e n q h).second
 reads-named configs log (act.Spawner n) q h = spawner_queue n q (first_false (same_place (at spawner n) (home q)) (same_place (at connections n) (home q) || false) h)
-reads-named configs log (act.Attempt e n) q h = attempt_queue n e q (second_of_three (same_place (at tracker n) (home q)) (same_place (at dialer n) (home q)) (same_place (at spawner n) (home q)) h)
+reads-named configs log (act.Attempt e n) q h = attempt_queue n e q (off_attempt log e n q h).third
 reads-named configs log _ q h = refl
 
 writes-named : (configs : List Config) (log : List Entry) (a : Act) (q : Queue) → names log a (home q) ≡ false → writes configs log a q ≡ false
@@ -204,30 +268,24 @@ writes-named configs log (act.Router n) q h =
     router_kinds n q (first_false (same_place (at router n) (home q)) (same_place (at connections n) (home q) || false) h)
     (first_false (same_place (at connections n) (home q)) false (second_false (same_place (at router n) (home q)) (same_place (at connections n) (home q) || false) h))
 writes-named configs log (act.SendStep conn n) q h =
-    let rest = second_false (same_place links (home q)) (same_place (at connections n) (home q) || (same_place (at router n) (home q) || (same_place (at tracker n) (home q) || false))) h in
-    both_false (in_mailboxes n q) (in_half (half_at log n conn) n conn q)
-    (mailbox_kinds n q (second_of_three (same_place (at connections n) (home q)) (same_place (at router n) (home q)) (same_place (at tracker n) (home q)) rest)
-    (third_of_three (same_place (at connections n) (home q)) (same_place (at router n) (home q)) (same_place (at tracker n) (home q)) rest))
-    (reads-named configs log (act.SendStep conn n) q h)
+    let off = off_sender log conn n q h in
+    both_false (in_mailboxes n q) (in_half (half_at log n conn) n conn q) (mailbox_kinds n q off.third off.fourth) (half_kinds (half_at log n conn) n conn q off.third off.second off.first)
 writes-named configs log (act.RecvStep conn n) q h =
-    both_false (in_held n conn q) (in_channels n q)
-    (held_kinds n conn q (third_of_three (same_place links (home q)) (same_place (at channels n) (home q)) (same_place (at connections n) (home q)) h))
-    (channel_kinds n q (second_of_three (same_place links (home q)) (same_place (at channels n) (home q)) (same_place (at connections n) (home q)) h))
+    let off = off_receiver log conn n q h in
+    both_false (in_mailboxes n q) (in_held n conn q || in_channels n q) (mailbox_kinds n q off.third off.fourth)
+    (both_false (in_held n conn q) (in_channels n q) (held_kinds n conn q off.second) (channel_kinds n q (off_channels log conn n q h)))
 writes-named configs log (act.Ask what n) q h = tracker_queue n q (first_false (same_place (at tracker n) (home q)) false h)
 writes-named configs log (act.Tracker n) q h = tracker_kinds n q (first_false (same_place (at tracker n) (home q)) false h)
 writes-named configs log (act.Dialer n) q h = tracker_queue n q (first_false (same_place (at tracker n) (home q)) (same_place (at dialer n) (home q) || false) h)
 writes-named configs log (act.Listener n) q h = tracker_queue n q (first_false (same_place (at tracker n) (home q)) (same_place (at listener n) (home q) || false) h)
 writes-named configs log (act.Handshake e n) q h =
-    let first = first_false (same_place (at tracker n) (home q)) (same_place (at listener n) (home q) || (same_place (at spawner n) (home q) || false)) h in
-    both_false (same_queue (queue.Tracker n) q) (same_queue (queue.Spawner n) q || same_queue (queue.Handshake n e) q) (tracker_queue n q first)
-    (both_false (same_queue (queue.Spawner n) q) (same_queue (queue.Handshake n e) q)
-    (spawner_queue n q (third_of_three (same_place (at tracker n) (home q)) (same_place (at listener n) (home q)) (same_place (at spawner n) (home q)) h)) (handshake_queue n e q first))
+    let off = off_handshake log e n q h in
+    both_false (same_queue (queue.Tracker n) q) (same_queue (queue.Spawner n) q || same_queue (queue.Handshake n e) q) (tracker_queue n q off.second)
+    (both_false (same_queue (queue.Spawner n) q) (same_queue (queue.Handshake n e) q) (spawner_queue n q off.fourth) (handshake_queue n e q off.second))
 writes-named configs log (act.Attempt e n) q h =
-    both_false (same_queue (queue.Tracker n) q) (same_queue (queue.Spawner n) q || same_queue (queue.Attempt n e) q)
-    (tracker_queue n q (first_false (same_place (at tracker n) (home q)) (same_place (at dialer n) (home q) || (same_place (at spawner n) (home q) || false)) h))
-    (both_false (same_queue (queue.Spawner n) q) (same_queue (queue.Attempt n e) q)
-    (spawner_queue n q (third_of_three (same_place (at tracker n) (home q)) (same_place (at dialer n) (home q)) (same_place (at spawner n) (home q)) h))
-    (attempt_queue n e q (second_of_three (same_place (at tracker n) (home q)) (same_place (at dialer n) (home q)) (same_place (at spawner n) (home q)) h)))
+    let off = off_attempt log e n q h in
+    both_false (same_queue (queue.Tracker n) q) (same_queue (queue.Spawner n) q || same_queue (queue.Attempt n e) q) (tracker_queue n q off.second)
+    (both_false (same_queue (queue.Spawner n) q) (same_queue (queue.Attempt n e) q) (spawner_queue n q off.fourth) (attempt_queue n e q off.third))
 writes-named configs log (act.Resolve addresses e n) q h = attempt_queue n e q (first_false (same_place (at dialer n) (home q)) false h)
 writes-named configs log (act.Connect e from n to) q h =
     both_false (same_queue (queue.Attempt n e) q) (same_queue (queue.Arrivals to) q)
@@ -238,5 +296,19 @@ writes-named configs log (act.Finish link ok) q h =
     ends_queue (openings_of log link) q (second_false (same_place links (home q)) (list_any (λ p. same_place p (home q)) (ends_named (openings_of log link))) h)
 writes-named configs log _ q h = refl
 
+-- the queues in which it ends something
+ends-named : (configs : List Config) (log : List Entry) (a : Act) (q : Queue) → names log a (home q) ≡ false → ends_in configs log a q ≡ false
+ends-named configs log (act.SendStep conn n) q h = connection_kinds (half_at log n conn) n conn q (off_sender log conn n q h)
+ends-named configs log (act.RecvStep conn n) q h = connection_kinds (half_at log n conn) n conn q (off_receiver log conn n q h)
+ends-named configs log (act.Attempt e n) q h =
+    let off = off_attempt log e n q h in
+    let towards = dialing_end (attempts_of configs log n e) in
+    both_false (same_queue (queue.Attempt n e) q) (in_flight towards q) (attempt_queue n e q off.third) (flight_kinds towards q off.first)
+ends-named configs log (act.Handshake e n) q h =
+    let off = off_handshake log e n q h in
+    let towards : Option LinkEnd = Some ((peer_at log e).link, side.In) in
+    both_false (same_queue (queue.Handshake n e) q) (in_flight towards q) (handshake_queue n e q off.second) (flight_kinds towards q off.first)
+ends-named configs log a q h = writes-named configs log a q h
+
 pub line-unnamed : (configs : List Config) (log : List Entry) (ev : Event) (q : Queue) → names log ev.act (home q) ≡ false → line (log ++ effect configs log ev ∷ []) q ≡ line log q
-line-unnamed configs log ev q h = line-untouched configs log ev q (reads-named configs log ev.act q h) (writes-named configs log ev.act q h)
+line-unnamed configs log ev q h = line-untouched configs log ev q (reads-named configs log ev.act q h) (writes-named configs log ev.act q h) (ends-named configs log ev.act q h)

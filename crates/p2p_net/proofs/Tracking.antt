@@ -12,6 +12,7 @@ use Rattle.p2p_log.specs.declared.event.Act.TheVariants as act
 use Rattle.p2p_log_rules.specs.declared.row.Row.{Row}
 use Rattle.p2p_log_rules.specs.Facts.{events_of, is_up}
 use Rattle.p2p_log_rules.specs.Effect.{only, row, effect, entry_of}
+use Rattle.p2p_log_rules.specs.Spawning.{steps_spawner}
 use Rattle.p2p_log_rules.specs.Tracking.{asked_by}
 use Rattle.p2p_log_rules.specs.TrackerRows.{tracker_step}
 use Rattle.p2p_log_rules.specs.Valid.{may_act}
@@ -39,6 +40,7 @@ use Rattle.p2p_net.proofs.Readying.{started_is}
 record NamesTracker (log : List Entry) (ev : Event) (n : ℕ) : Type 0 where
   parts : (p : Part) → is_in p (tracker ∷ []) ≡ false → names log ev.act (at p n) ≡ false
   unlinked : names log ev.act links ≡ false
+  spawns : steps_spawner n ev.act ≡ false
 
 -- the row is the event's, and the tracker stands for the log with it
 abbrev IsDone : List Config → List Entry → Event → ℕ → Tracker → Row → Type 0
@@ -48,16 +50,16 @@ effect_is : (configs : List Config) (log : List Entry) (ev : Event) (r : Row) �
 unfolding effect
 effect_is configs log ev r h = ap (entry_of ev) h
 
-track_alone : (configs : List Config) (log : List Entry) (ev : Event) (n : ℕ) (x y : Node) (l ls : Links) (r : Row) → NodeStands configs log n x → LinksStand log l → NamesTracker log ev n
+track_alone : (configs : List Config) (log : List Entry) (ev : Event) (n : ℕ) (x y : Node) (l ls : Links) (r : Row) → NodeStands configs log n x → LinksStand configs log l → NamesTracker log ev n
     → Tracks y.tracker x y → ls ≡ l → IsDone configs log ev n y.tracker r → Performs configs log ev n y ls r
 track_alone configs log ev n x y l ls r s t named alone kept done =
     let e = effect configs log ev in
     record {
       row_is = done.0;
       node =
-          each_part configs log ev n x y (tracker ∷ []) s alone named.parts
+          each_part configs log ev n x y (tracker ∷ []) s alone named.parts named.spawns
           (subst (λ (d : Entry). TrackerStands configs (log ++ d ∷ []) n y.tracker) (effect_is configs log ev r done.0) done.1, tt);
-      linked = subst (LinksStand (log ++ e ∷ [])) (sym kept) (links_kept configs log ev l t named.unlinked);
+      linked = subst (LinksStand configs (log ++ e ∷ [])) (sym kept) (links_kept configs log ev l t named.unlinked);
     }
 
 -- the tracker of a node that has this one
@@ -69,12 +71,12 @@ alone_by t x y h = h ∙ ap (λ k. record x { tracker = k }) (sym (has_tracker t
 
 -- ---- questions
 
-pub ask_performs : (configs : List Config) (log : List Entry) (moment seed n : ℕ) (what : Asked) (x y : Node) (l ls : Links) (r : Row) → NodeStands configs log n x → LinksStand log l
+pub ask_performs : (configs : List Config) (log : List Entry) (moment seed n : ℕ) (what : Asked) (x y : Node) (l ls : Links) (r : Row) → NodeStands configs log n x → LinksStand configs log l
     → r ≡ ask_answer x.tracker n (length log) what → Tracks (after_asking x.tracker (length log) what) x y → ls ≡ l → Performs configs log (asked moment seed (act.Ask what n)) n y ls r
 unfolding row
 ask_performs configs log moment seed n what x y l ls r s t is alone kept =
     let now = after_asking x.tracker (length log) what in
-    track_alone configs log (asked moment seed (act.Ask what n)) n x y l ls r s t (record { parts = λ p out. not_among (tracker ∷ []) p n n out; unlinked = refl }) (alone_by now x y alone) kept
+    track_alone configs log (asked moment seed (act.Ask what n)) n x y l ls r s t (record { parts = λ p out. not_among (tracker ∷ []) p n n out; unlinked = refl; spawns = refl }) (alone_by now x y alone) kept
     (ask_stands configs log moment seed n what x.tracker y.tracker r (s.each tracker) is (has_tracker now x y alone))
 
 -- ---- what those who asked take
@@ -102,23 +104,23 @@ subscription_asked configs (d ∷ ds) zero h = by d.event.act h
     by _ h = cc
 subscription_asked configs (d ∷ ds) (suc i) h = subscription_asked configs ds i h
 
-pub answer_performs : (configs : List Config) (log : List Entry) (moment seed e : ℕ) (x y : Node) (l ls : Links) (r : Row) → NodeStands configs log (node_asked (slice_get log e)) x → LinksStand log l
+pub answer_performs : (configs : List Config) (log : List Entry) (moment seed e : ℕ) (x y : Node) (l ls : Links) (r : Row) → NodeStands configs log (node_asked (slice_get log e)) x → LinksStand configs log l
     → may_act configs (events_of log) (act.Answer e) ≡ true → Answers (node_asked (slice_get log e)) e x.tracker y.tracker r → Tracks y.tracker x y → ls ≡ l
     → Performs configs log (asked moment seed (act.Answer e)) (node_asked (slice_get log e)) y ls r
 unfolding row
 answer_performs configs log moment seed e x y l ls r s t may answers alone kept =
     let n = node_asked (slice_get log e) in
     let question = set_asked configs log e may in
-    track_alone configs log (asked moment seed (act.Answer e)) n x y l ls r s t (record { parts = λ p out. not_among (tracker ∷ []) p n n out; unlinked = refl }) alone kept
+    track_alone configs log (asked moment seed (act.Answer e)) n x y l ls r s t (record { parts = λ p out. not_among (tracker ∷ []) p n n out; unlinked = refl; spawns = refl }) alone kept
     (tracker_answers configs log moment seed n e question.0 x.tracker y.tracker r (s.each tracker) question.1 answers)
 
-pub next_performs : (configs : List Config) (log : List Entry) (moment seed e : ℕ) (x y : Node) (l ls : Links) (r : Row) → NodeStands configs log (node_asked (slice_get log e)) x → LinksStand log l
+pub next_performs : (configs : List Config) (log : List Entry) (moment seed e : ℕ) (x y : Node) (l ls : Links) (r : Row) → NodeStands configs log (node_asked (slice_get log e)) x → LinksStand configs log l
     → may_act configs (events_of log) (act.Next e) ≡ true → Continues (node_asked (slice_get log e)) e x.tracker y.tracker r → Tracks y.tracker x y → ls ≡ l
     → Performs configs log (asked moment seed (act.Next e)) (node_asked (slice_get log e)) y ls r
 unfolding row
 next_performs configs log moment seed e x y l ls r s t may goes alone kept =
     let n = node_asked (slice_get log e) in
-    track_alone configs log (asked moment seed (act.Next e)) n x y l ls r s t (record { parts = λ p out. not_among (tracker ∷ []) p n n out; unlinked = refl }) alone kept
+    track_alone configs log (asked moment seed (act.Next e)) n x y l ls r s t (record { parts = λ p out. not_among (tracker ∷ []) p n n out; unlinked = refl; spawns = refl }) alone kept
     (elim (subscription_asked configs log e may) [
       | inl updates ↦ tracker_updates configs log moment seed n e x.tracker y.tracker r (s.each tracker) updates goes
       | inr blocked ↦ tracker_sets configs log moment seed n e x.tracker y.tracker r (s.each tracker) blocked goes
@@ -126,13 +128,13 @@ next_performs configs log moment seed e x y l ls r s t may goes alone kept =
 
 -- ---- its step
 
-pub tracker_performs : (configs : List Config) (log : List Entry) (moment seed n : ℕ) (x y : Node) (l ls : Links) (r : Row) → NodeStands configs log n x → LinksStand log l → AsksRun log n
+pub tracker_performs : (configs : List Config) (log : List Entry) (moment seed n : ℕ) (x y : Node) (l ls : Links) (r : Row) → NodeStands configs log n x → LinksStand configs log l → AsksRun log n
     → TrackerStepsBy (is_started x) (length log) n moment seed x y r → ls ≡ l → Performs configs log (asked moment seed (act.Tracker n)) n y ls r
 unfolding row
 tracker_performs configs log moment seed n x y l ls r s t runs steps kept = by (is_started x) (sym (started_is configs log n x s)) steps
   where
     named : NamesTracker log (asked moment seed (act.Tracker n)) n
-    named = record { parts = λ p out. not_among (tracker ∷ []) p n n out; unlinked = refl }
+    named = record { parts = λ p out. not_among (tracker ∷ []) p n n out; unlinked = refl; spawns = refl }
 
     by : (b : Bool) → is_up log n ≡ b → TrackerStepsBy b (length log) n moment seed x y r → Performs configs log (asked moment seed (act.Tracker n)) n y ls r
     by true up h =

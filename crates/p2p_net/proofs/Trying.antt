@@ -1,6 +1,7 @@
 -- The steps of the attempts of a node's dialer.
 use Rattle.std.proofs.Common.{◌≡◌, ℕ, ◌+◌, Bool, true, false, cond, List, [], ◌∷◌, ◌++◌, map, length, refl, ap, sym, subst, ◌∙◌, eq-eqb, Option, Some, None}
-use Rattle.std.specs.Prelude.{nat_le, filter}
+use Rattle.std.specs.Prelude.{nat_le, not, filter}
+use Rattle.std.specs.Option.{option_map}
 use Rattle.p2p_base.specs.declared.key.Key.{Key}
 use Rattle.p2p_address.specs.declared.ip.SocketAddr.{SocketAddr}
 use Rattle.p2p_tracker_directory.specs.Reserved.{peer_of}
@@ -17,6 +18,8 @@ use Rattle.p2p_gates.specs.declared.stepped.Stepped.TheVariants as stepped
 use Rattle.p2p_log.specs.declared.config.Config.{Config}
 use Rattle.p2p_log.specs.declared.queue.Queue.{Queue}
 use Rattle.p2p_log.specs.declared.queue.Queue.TheVariants as queue
+use Rattle.p2p_log.specs.declared.queue.Side.{Side}
+use Rattle.p2p_log.specs.declared.queue.Side.TheVariants as side
 use Rattle.p2p_log.specs.declared.item.Item.{Item}
 use Rattle.p2p_log.specs.declared.item.Item.TheVariants as item
 use Rattle.p2p_log.specs.declared.item.Envelope.{Envelope}
@@ -30,8 +33,9 @@ use Rattle.p2p_log.specs.QueueCode.{same_queue}
 use Rattle.p2p_log.specs.Lines.{name_of, goes, stays, stands_in, live, line}
 use Rattle.p2p_log.proofs.Queues.{same_queue-refl}
 use Rattle.p2p_log_rules.specs.declared.row.Row.{Row}
-use Rattle.p2p_log_rules.specs.Attempting.{Attempt, DialRules, dial_rules_at, linked, stepped_attempt, drawn_address, dialing, resolved, and_then, attempts_of, left_ends, given_up_row, gone_on_row, resolved_row, ready_row, link_of, took_row, attempt_turn, attempt_by}
-use Rattle.p2p_log_rules.specs.Effect.{only, row, effect, entry_of}
+use Rattle.p2p_log_rules.specs.Attempting.{Attempt, DialRules, dial_rules_at, linked, stepped_attempt, drawn_address, dialing, resolved, and_then, attempts_of, left_ends, given_up_row, gone_on_row, resolved_row, ready_row, link_of, took_row, attempt_turn, attempt_by, attempt_row}
+use Rattle.p2p_log_rules.specs.Dropping.{LinkEnd, gave_up, dialing_end, attempt_drops, attempt_step_row}
+use Rattle.p2p_log_rules.specs.Effect.{only, row, entry_of}
 use Rattle.p2p_log_rules.specs.Facts.{taken, with_named}
 use Rattle.p2p_log_rules.specs.Rows.{is_spawner_full}
 use Rattle.p2p_net_queues.specs.Board.{held}
@@ -39,12 +43,13 @@ use Rattle.p2p_net_queues.specs.Rows.{item_ends}
 use Rattle.p2p_net_queues.specs.Tables as table
 use Rattle.p2p_net_queues.proofs.Going.{first_left}
 use Rattle.p2p_net_queues.specs.Tables.{AreBut}
-use Rattle.p2p_net_dialer.specs.Attempts.{tried, after_turn, unless_ended, Tries}
+use Rattle.p2p_net_dialer.specs.Attempts.{answer_of, tried, after_turn, unless_ended, Tries}
 use Rattle.p2p_net_dialer.specs.Stands.{gates_at, told_item, attempt_of, AttemptStands, DialerStands}
 use Rattle.p2p_net_dialer.specs.declared.attempt.RunningAttempt.{RunningAttempt}
 use Rattle.p2p_net_dialer.specs.declared.attempt.Tried.{Tried}
 use Rattle.p2p_net_dialer.proofs.Attempting.{attempt_changed}
 use Rattle.p2p_net_dialer.proofs.Changes.{private_is, handshake_timeout_is}
+use Rattle.p2p_net_dialer.proofs.Dropping.{attempt_end}
 use Rattle.p2p_net_links.specs.Stands.{LinksStand}
 use Rattle.p2p_net_links.specs.declared.links.Links.{Links}
 use Rattle.p2p_net_spawner.specs.Spawning.{refuses}
@@ -56,16 +61,16 @@ use Rattle.p2p_net_tracker.specs.declared.tracker.Tracker.{Tracker}
 use Rattle.p2p_net_tracker.proofs.DialerSteps.{tracker_dialed}
 use Rattle.p2p_net_tracker.proofs.Moved.{asked_line, names_are, asked_messages, asked_desk, IsAsked, asked_match, desk_grows}
 use Rattle.p2p_net_tracker.proofs.Steps.{none_taken, first_taken}
-use Rattle.p2p_net.specs.Acts.{HandsOn, AttemptSteps}
+use Rattle.p2p_net.specs.Acts.{HandsOn, TriesAttempt, AttemptSteps}
 use Rattle.p2p_net.specs.Places as place
 use Rattle.p2p_net.specs.Spawning.{release_item}
-use Rattle.p2p_net.specs.Stands.{NodeStands}
+use Rattle.p2p_net.specs.Stands.{PartStands, NodeStands}
 use Rattle.p2p_net.specs.declared.node.Node.{Node}
 use Rattle.p2p_net.proofs.Attempting.{other_attempt}
-use Rattle.p2p_net.proofs.EachPart.{each_part, not_among}
-use Rattle.p2p_net.proofs.Frames.{links_kept}
+use Rattle.p2p_net.proofs.DroppedEnds.{dropped, goes_by, is_of_link, told_unlinked, unlinked_stay, LeavesLinks, end_by, DidBeside, performs_beside}
+use Rattle.p2p_net.proofs.EachPart.{AllOf, not_among-links}
 use Rattle.p2p_net.proofs.HandingOn.{Handed, nothing, question, connection, handed_puts, item_in, message_in, spawner_after, HandedOn, nothing_asked, question_asked, connection_refused, connection_asked}
-use Rattle.p2p_net.proofs.HandingOn.{all_gone, none_gone, line_asked, line_elsewhere, line_told, handed_spawner, tracker_after}
+use Rattle.p2p_net.proofs.HandingOn.{all_gone, none_gone, handed_unlinked, line_asked, line_elsewhere, line_told, handed_spawner, tracker_after}
 use Rattle.p2p_net.proofs.Performing.{asked, Performs}
 
 -- what waits for an attempt is not what a tracker tells
@@ -83,10 +88,22 @@ ends_are : (xs : List Envelope) → item_ends (map name_of xs) ≡ left_ends xs
 ends_are [] = refl
 ends_are (x ∷ xs) = ap (λ l. end.Item x.entry x.place ∷ l) (ends_are xs)
 
-module _ (configs : List Config) (log : List Entry) (moment seed name n : ℕ) (x y : Node) (l ls : Links) (r : Row) (s : NodeStands configs log n x) (t : LinksStand log l)
-    (steps : AttemptSteps (length log) n name moment seed x y r) (kept : ls ≡ l) where
+-- nor does it wait in a link
+linked_elsewhere : (n name : ℕ) (s : Side) (j : ℕ) → same_queue (queue.Attempt n name) (queue.Link j s) ≡ false
+linked_elsewhere n name side.Out j = refl
+linked_elsewhere n name side.In j = refl
+
+-- the parts that a step of an attempt changes
+abbrev named : List place.Part
+named = place.tracker ∷ place.dialer ∷ place.spawner ∷ []
+
+module _ (configs : List Config) (log : List Entry) (moment seed name n : ℕ) (x y : Node) (r : Row) (s : NodeStands configs log n x) (steps : TriesAttempt (length log) n name moment seed x y r) (lost : Option LinkEnd) where
   abbrev ev : Event
   ev = asked moment seed (act.Attempt name n)
+
+  -- the row is that of the attempt, and the node stands for the log with its entry, by which this end is dropped too
+  abbrev Done : Type 0
+  Done = DidBeside configs log ev n x y named lost (attempt_row configs log name n moment seed) r
 
   abbrev g : Gates
   g = gates_at configs n
@@ -129,28 +146,27 @@ module _ (configs : List Config) (log : List Entry) (moment seed name n : ℕ) (
   refuses_is : refuses mid.spawning ≡ full
   refuses_is = ap refuses same_spawner ∙ spawner_refuses configs log n x.spawning spawns
 
-  -- the entry of a row
+  -- the entry of a row, where this end is dropped too
   abbrev e : Row → Entry
-  e due = entry_of ev due
+  e due = entry_of ev (dropped log lost due)
 
-  effect_is : (due : Row) → row configs log moment seed (act.Attempt name n) ≡ due → e due ≡ effect configs log ev
-  unfolding effect
-  effect_is due is = ap (entry_of ev) (sym is)
-
-  row_by : (b : Option Attempt) → attempts name ≡ b → row configs log moment seed (act.Attempt name n) ≡ attempt_by b n moment seed full private (line log q)
-  unfolding row
+  row_by : (b : Option Attempt) → attempts name ≡ b → attempt_row configs log name n moment seed ≡ attempt_by b n moment seed full private (line log q)
   row_by b is = ap (λ o. attempt_by o n moment seed full private (line log q)) is
 
   -- a turn that put nothing of its own, and handed this on: these are left in the line of the attempt, which is this then
   module _ (base : Row) (o : Handed) (way : Mailbox Key) (left : List Envelope) (now : Option RunningAttempt) (next : Option Attempt) (none : base.puts ≡ []) (on : HandedOn (length log) n o way mid y base r)
-      (row_is : row configs log moment seed (act.Attempt name n) ≡ record base { puts = handed_puts n o })
+      (row_is : attempt_row configs log name n moment seed ≡ record base { puts = handed_puts n o })
       (way_is : way ≡ record m { desk = asked_desk m.desk (message_in o) }) (says : IsAsked x.tracker.tickets log (item_in o) (message_in o))
       (but : AreBut name now x.dialing.attempts mid.dialing.attempts)
       (becomes : and_then (stepped_attempt rules moment seed base.reply (taken log (e (record base { puts = handed_puts n o })))) (attempts name) ≡ next)
-      (stay : (p : Queue) → filter (stands_in p) (filter (stays (goes (e (record base { puts = handed_puts n o })))) (live log)) ≡ cond (same_queue q p) left (line log p))
+      (stay : (p : Queue) → filter (stands_in p) (filter (stays (goes_by (record base { puts = handed_puts n o }))) (live log)) ≡ cond (same_queue q p) left (line log p))
       (stands : AttemptStands g name now next left) where
     abbrev due : Row
     due = record base { puts = handed_puts n o }
+
+    -- what stays of a queue that is no link's
+    left_in : (p : Queue) → is_of_link p ≡ false → filter (stands_in p) (filter (stays (goes (e due))) (live log)) ≡ cond (same_queue q p) left (line log p)
+    left_in p away = unlinked_stay log due lost p away ∙ stay p
 
     same_dialer : y.dialing ≡ mid.dialing
     same_dialer = ap (λ (z : Node). z.dialing) on.rest
@@ -184,8 +200,8 @@ module _ (configs : List Config) (log : List Entry) (moment seed name n : ℕ) (
           updates = grows.updates;
           sets = grows.sets;
           each = asked_match x.tracker.tickets log n (length log) (item_in o) (message_in o) says;
-          waits = line_asked log (e due) n o refl (stay (queue.Tracker n));
-          lines = λ p own. line_told log (e due) n o refl p (line log p) own (stay p ∙ ap (λ c. cond c left (line log p)) (told_elsewhere n name p own));
+          waits = line_asked log (e due) n o refl (left_in (queue.Tracker n) refl);
+          lines = λ p own. line_told log (e due) n o refl p (line log p) own (left_in p (told_unlinked n p own) ∙ ap (λ c. cond c left (line log p)) (told_elsewhere n name p own));
           answered = refl;
           told = λ p. ap (λ (w : Tracker). held w.told p) on.tracker ∙ ap (λ (w : Tracker). held w.told p) steps.tracker;
         }))
@@ -203,29 +219,30 @@ module _ (configs : List Config) (log : List Entry) (moment seed name n : ℕ) (
               ∙ ap (λ w. with_named name w attempts j) becomes;
           lines = λ j other.
               line_elsewhere log (e due) n o refl (queue.Attempt n j) (line log (queue.Attempt n j)) refl refl
-              (stay (queue.Attempt n j) ∙ ap (λ c. cond c left (line log (queue.Attempt n j))) (other_attempt n name j other));
-          stands = subst (AttemptStands g name now next) (sym (line_elsewhere log (e due) n o refl q left refl refl (stay q ∙ ap (λ c. cond c left (line log q)) (same_queue-refl q)))) stands;
+              (left_in (queue.Attempt n j) refl ∙ ap (λ c. cond c left (line log (queue.Attempt n j))) (other_attempt n name j other));
+          stands = subst (AttemptStands g name now next) (sym (line_elsewhere log (e due) n o refl q left refl refl (left_in q refl ∙ ap (λ c. cond c left (line log q)) (same_queue-refl q)))) stands;
         })
 
     spawner_is : SpawnerStands configs (log ++ e due ∷ []) n y.spawning
     spawner_is =
         subst (SpawnerStands configs (log ++ e due ∷ []) n) (sym (on.spawner ∙ ap (spawner_after (length log) o) same_spawner))
-        (handed_spawner log (e due) n o refl configs x.spawning spawns (stay (queue.Spawner n)))
+        (handed_spawner log (e due) n o refl configs x.spawning spawns (left_in (queue.Spawner n) refl))
 
-    turned : Performs configs log ev n y ls r
+    turned : Done
     turned =
-        let same = effect_is due row_is in
+        let is : r ≡ due = on.row_is ∙ ap (λ l. record base { puts = l ++ handed_puts n o }) none in
         record {
-          row_is = on.row_is ∙ (ap (λ l. record base { puts = l ++ handed_puts n o }) none ∙ sym row_is);
-          node =
-              each_part configs log ev n x y (place.tracker ∷ place.dialer ∷ place.spawner ∷ []) s parts (λ p out. not_among (place.tracker ∷ place.dialer ∷ place.spawner ∷ []) p n n out) (
-                subst (λ (d : Entry). TrackerStands configs (log ++ d ∷ []) n y.tracker) same tracker_is,
-                (
-                  subst (λ (d : Entry). DialerStands configs (log ++ d ∷ []) n y.dialing) same (subst (DialerStands configs (log ++ e due ∷ []) n) (sym same_dialer) dialer_is),
-                  (subst (λ (d : Entry). SpawnerStands configs (log ++ d ∷ []) n y.spawning) same spawner_is, tt),
-                ),
-              );
-          linked = subst (LinksStand (log ++ effect configs log ev ∷ [])) (sym kept) (links_kept configs log ev l t refl);
+          row_is = is ∙ sym row_is;
+          rest = parts;
+          parts =
+              subst (λ (z : Row). AllOf (λ p. PartStands p configs (log ++ e z ∷ []) n y) named) (sym is)
+              (tracker_is, (subst (DialerStands configs (log ++ e due ∷ []) n) (sym same_dialer) dialer_is, (spawner_is, tt)));
+          leaves =
+              subst (LeavesLinks log) (sym is)
+              (record {
+                kept = λ t j. stay (queue.Link j t) ∙ ap (λ c. cond c left (line log (queue.Link j t))) (linked_elsewhere n name t j);
+                unput = λ t j. handed_unlinked n (length log) o t j;
+              });
         }
 
   -- ---- what it handed on
@@ -248,8 +265,8 @@ module _ (configs : List Config) (log : List Entry) (moment seed name n : ℕ) (
 
   -- ---- nothing is taken, and it goes on
 
-  still : (rep : Reply) (o : Option RunningAttempt) (b : Option Attempt) → table.at x.dialing.attempts name ≡ o → attempts name ≡ b → row configs log moment seed (act.Attempt name n) ≡ only rep
-      → and_then (stepped_attempt rules moment seed rep []) b ≡ b → steps.tried ≡ record { row = only rep; released = None; ready = None } → AreBut name o x.dialing.attempts mid.dialing.attempts → mid.tracker.mailbox ≡ m → Performs configs log ev n y ls r
+  still : (rep : Reply) (o : Option RunningAttempt) (b : Option Attempt) → table.at x.dialing.attempts name ≡ o → attempts name ≡ b → attempt_row configs log name n moment seed ≡ only rep
+      → and_then (stepped_attempt rules moment seed rep []) b ≡ b → steps.tried ≡ record { row = only rep; released = None; ready = None } → AreBut name o x.dialing.attempts mid.dialing.attempts → mid.tracker.mailbox ≡ m → Done
   still rep o b there is row_is becomes tried_is but same =
       turned (only rep) nothing m (line log q) o b refl (asked_nothing (only rep) tried_is same) row_is refl tt but
       (ap (λ i. and_then (stepped_attempt rules moment seed rep i) (attempts name)) (none_taken log (e (only rep)) refl) ∙ (ap (and_then (stepped_attempt rules moment seed rep [])) is ∙ becomes))
@@ -265,13 +282,13 @@ module _ (configs : List Config) (log : List Entry) (moment seed name n : ℕ) (
     abbrev w : RunningAttempt
     w = attempt_of g name reserved b (line log q)
 
-    due_row : (xs : List Envelope) → line log q ≡ xs → row configs log moment seed (act.Attempt name n) ≡ attempt_turn n moment seed full private b xs
+    due_row : (xs : List Envelope) → line log q ≡ xs → attempt_row configs log name n moment seed ≡ attempt_turn n moment seed full private b xs
     due_row xs first = row_by (Some b) is ∙ ap (attempt_turn n moment seed full private b) first
 
     -- its deadline has come, or has not
     by_deadline : (c : Bool) → nat_le b.deadline moment ≡ c → line log q ≡ []
         → TurnsTo (cond c (turns.gives_up (Some reserved) input.Deadline (attempt_of g name reserved b []).actor m) (record { stepped = stepped.Idle; actor = (attempt_of g name reserved b []).actor; way = m })) (attempt_of g name reserved b [])
-        → Performs configs log ev n y ls r
+        → Done
     by_deadline true come none h =
         let base : Row = record { reply = reply.Ok; takes = []; puts = []; ends = [] } in
         turned base (release reserved) (with_message_in m (message.Release reserved)) [] None None refl (gave_back base reserved h.0 h.1.1)
@@ -299,22 +316,22 @@ module _ (configs : List Config) (log : List Entry) (moment seed name n : ℕ) (
       abbrev ended_row : Row
       ended_row = record { reply = reply.Ok; takes = name_of z ∷ []; puts = []; ends = left_ends zs }
 
-      gives_up : HandedOn (length log) n (release reserved) (with_message_in m (message.Release reserved)) mid y ended_row r → row configs log moment seed (act.Attempt name n) ≡ given_up_row n b.key (name_of z ∷ []) zs
-          → stepped_attempt rules moment seed reply.Ok (z.item ∷ []) b ≡ None → AreBut name None x.dialing.attempts mid.dialing.attempts → Performs configs log ev n y ls r
+      gives_up : HandedOn (length log) n (release reserved) (with_message_in m (message.Release reserved)) mid y ended_row r → attempt_row configs log name n moment seed ≡ given_up_row n b.key (name_of z ∷ []) zs
+          → stepped_attempt rules moment seed reply.Ok (z.item ∷ []) b ≡ None → AreBut name None x.dialing.attempts mid.dialing.attempts → Done
       gives_up on row_is becomes but =
           turned ended_row (release reserved) (with_message_in m (message.Release reserved)) [] None None refl on (row_is ∙ ap (λ key. given_up_row n key (name_of z ∷ []) zs) (sym peer)) refl (reserved, refl, refl) but
           (becoming (given_up_row n (peer_of reserved) (name_of z ∷ []) zs) None refl becomes) (all_gone log q z zs first) refl
 
-      ends : row configs log moment seed (act.Attempt name n) ≡ given_up_row n b.key (name_of z ∷ []) zs → stepped_attempt rules moment seed reply.Ok (z.item ∷ []) b ≡ None
-          → TurnsTo (turns.gives_up (Some reserved) input.Item left m) before → Performs configs log ev n y ls r
+      ends : attempt_row configs log name n moment seed ≡ given_up_row n b.key (name_of z ∷ []) zs → stepped_attempt rules moment seed reply.Ok (z.item ∷ []) b ≡ None
+          → TurnsTo (turns.gives_up (Some reserved) input.Item left m) before → Done
       ends row_is becomes h =
           gives_up
           (gave_back ended_row reserved (h.0 ∙ ap (λ c. record { row = record { reply = reply.Ok; takes = name_of z ∷ []; puts = []; ends = c }; released = Some (peer_of reserved); ready = None }) (ends_are zs)) h.1.1)
           row_is becomes h.1.0
 
       -- it ends with its reservation
-      is_ready : (c : Bool) → full ≡ c → row configs log moment seed (act.Attempt name n) ≡ ready_row n c b.key (link_of b.answer) (name_of z) zs → stepped_attempt rules moment seed reply.Ok (z.item ∷ []) b ≡ None
-          → HandsOn (Some (link_of b.answer, reserved)) (length log) n None mid y ended_row r → AreBut name None x.dialing.attempts mid.dialing.attempts → mid.tracker.mailbox ≡ m → Performs configs log ev n y ls r
+      is_ready : (c : Bool) → full ≡ c → attempt_row configs log name n moment seed ≡ ready_row n c b.key (link_of b.answer) (name_of z) zs → stepped_attempt rules moment seed reply.Ok (z.item ∷ []) b ≡ None
+          → HandsOn (Some (link_of b.answer, reserved)) (length log) n None mid y ended_row r → AreBut name None x.dialing.attempts mid.dialing.attempts → mid.tracker.mailbox ≡ m → Done
       is_ready true is_full row_is becomes hands but same =
           gives_up (connection_refused (length log) n m mid y ended_row r same (link_of b.answer) reserved hands (refuses_is ∙ is_full)) row_is becomes but
       is_ready false room row_is becomes hands but same =
@@ -323,28 +340,28 @@ module _ (configs : List Config) (log : List Entry) (moment seed name n : ℕ) (
           (becoming (ready_row n false (peer_of reserved) (link_of b.answer) (name_of z) zs) None refl becomes) (all_gone log q z zs first) refl
 
       -- it goes on
-      lasts : (next : Attempt) → next.key ≡ b.key → row configs log moment seed (act.Attempt name n) ≡ gone_on_row (name_of z) → stepped_attempt rules moment seed reply.Ok (z.item ∷ []) b ≡ Some next
+      lasts : (next : Attempt) → next.key ≡ b.key → attempt_row configs log name n moment seed ≡ gone_on_row (name_of z) → stepped_attempt rules moment seed reply.Ok (z.item ∷ []) b ≡ Some next
           → steps.tried ≡ record { row = gone_on_row (name_of z); released = None; ready = None }
-          → AreBut name (Some (attempt_of g name reserved next zs)) x.dialing.attempts mid.dialing.attempts → mid.tracker.mailbox ≡ m → Performs configs log ev n y ls r
+          → AreBut name (Some (attempt_of g name reserved next zs)) x.dialing.attempts mid.dialing.attempts → mid.tracker.mailbox ≡ m → Done
       lasts next key row_is becomes tried_is but same =
           turned (gone_on_row (name_of z)) nothing m zs (Some (attempt_of g name reserved next zs)) (Some next) refl (asked_nothing (gone_on_row (name_of z)) tried_is same) row_is refl tt but
           (becoming (gone_on_row (name_of z)) (Some next) refl becomes) (first_left log q z zs first) (reserved, peer ∙ sym key, refl)
 
       -- it dials the address that was drawn, if there is one
-      by_drawn : (to : Option SocketAddr) → row configs log moment seed (act.Attempt name n) ≡ resolved_row (dialing to b) n b.key (name_of z) zs → stepped_attempt rules moment seed reply.Ok (z.item ∷ []) b ≡ dialing to b
-          → TurnsTo (turns.dials to left m) before → Performs configs log ev n y ls r
+      by_drawn : (to : Option SocketAddr) → attempt_row configs log name n moment seed ≡ resolved_row (dialing to b) n b.key (name_of z) zs → stepped_attempt rules moment seed reply.Ok (z.item ∷ []) b ≡ dialing to b
+          → TurnsTo (turns.dials to left m) before → Done
       by_drawn None row_is becomes h = ends row_is becomes h
       by_drawn (Some to) row_is becomes h = lasts (record b { address = Some to }) refl row_is becomes h.0 h.1.0 h.1.1
 
       -- and keeps the one that it has
-      by_address : (at : Option SocketAddr) (addresses : List SocketAddr) → b.address ≡ at → row configs log moment seed (act.Attempt name n) ≡ resolved_row (resolved at private addresses seed b) n b.key (name_of z) zs
-          → stepped_attempt rules moment seed reply.Ok (z.item ∷ []) b ≡ resolved at private addresses seed b → TurnsTo (turns.resolves at addresses left m seed) before → Performs configs log ev n y ls r
+      by_address : (at : Option SocketAddr) (addresses : List SocketAddr) → b.address ≡ at → attempt_row configs log name n moment seed ≡ resolved_row (resolved at private addresses seed b) n b.key (name_of z) zs
+          → stepped_attempt rules moment seed reply.Ok (z.item ∷ []) b ≡ resolved at private addresses seed b → TurnsTo (turns.resolves at addresses left m seed) before → Done
       by_address (Some to) addresses at_is row_is becomes h = lasts b refl row_is becomes h.0 h.1.0 h.1.1
       by_address None addresses at_is row_is becomes h =
           by_drawn (drawn_address private addresses seed) row_is becomes (subst (λ c. TurnsTo (turns.dials (turns.chosen (turns.may_be_dialed c addresses) seed) left m) before) (private_is configs n) h)
 
-      by_item : (i : Item) → row configs log moment seed (act.Attempt name n) ≡ took_row n full private seed b (name_of z) i zs
-          → stepped_attempt rules moment seed reply.Ok (z.item ∷ []) b ≡ stepped_attempt rules moment seed reply.Ok (i ∷ []) b → TurnsTo (turns.item_turn (told_item i) left m moment seed) before → Performs configs log ev n y ls r
+      by_item : (i : Item) → attempt_row configs log name n moment seed ≡ took_row n full private seed b (name_of z) i zs
+          → stepped_attempt rules moment seed reply.Ok (z.item ∷ []) b ≡ stepped_attempt rules moment seed reply.Ok (i ∷ []) b → TurnsTo (turns.item_turn (told_item i) left m moment seed) before → Done
       by_item (item.Resolved addresses) row_is becomes h = by_address b.address addresses refl row_is becomes h
       by_item item.Linked row_is becomes h =
           lasts (linked (moment + rules.handshake_timeout) b) refl row_is becomes h.0
@@ -357,12 +374,12 @@ module _ (configs : List Config) (log : List Entry) (moment seed name n : ℕ) (
       by_item (item.Finished false) row_is becomes h = ends row_is becomes h
       by_item _ row_is becomes h = ends row_is becomes h
 
-    by_line : (xs : List Envelope) → line log q ≡ xs → TurnsTo (turns.attempt_turn (attempt_of g name reserved b xs).actor m moment seed) (attempt_of g name reserved b xs) → Performs configs log ev n y ls r
+    by_line : (xs : List Envelope) → line log q ≡ xs → TurnsTo (turns.attempt_turn (attempt_of g name reserved b xs).actor m moment seed) (attempt_of g name reserved b xs) → Done
     by_line [] none h = by_deadline (nat_le b.deadline moment) refl none h
     by_line (z ∷ zs) first h = by_item z zs first z.item (due_row (z ∷ zs) first) refl h
 
   by_attempt : (o : Option RunningAttempt) (b : Option Attempt) → table.at x.dialing.attempts name ≡ o → attempts name ≡ b → AttemptStands g name o b (line log q)
-      → Tries o name moment seed x.dialing.attempts mid.dialing.attempts m mid.tracker.mailbox steps.tried → Performs configs log ev n y ls r
+      → Tries o name moment seed x.dialing.attempts mid.dialing.attempts m mid.tracker.mailbox steps.tried → Done
   by_attempt None None there is stands h = still reply.Gone None None there is (row_by None is) refl h.0 h.1.0 h.1.1
   by_attempt (Some w) (Some b) there is stands h =
       let same : w ≡ attempt_of g name stands.0 b (line log q) = stands.2 in
@@ -370,8 +387,29 @@ module _ (configs : List Config) (log : List Entry) (moment seed name n : ℕ) (
   by_attempt None (Some b) there is stands h = absurd stands
   by_attempt (Some w) None there is stands h = absurd stands
 
-pub attempt_performs : (configs : List Config) (log : List Entry) (moment seed name n : ℕ) (x y : Node) (l ls : Links) (r : Row) → NodeStands configs log n x → LinksStand log l
-    → AttemptSteps (length log) n name moment seed x y r → ls ≡ l → Performs configs log (asked moment seed (act.Attempt name n)) n y ls r
-attempt_performs configs log moment seed name n x y l ls r s t steps kept =
-    let d : DialerStands configs log n x.dialing = s.each place.dialer in
-    by_attempt configs log moment seed name n x y l ls r s t steps kept (table.at x.dialing.attempts name) (attempts_of configs log n name) refl refl (d.attempts name) steps.tries
+-- ---- the end of its link
+
+-- it is dropped where the reservation was given back
+dropped_end : (b : Bool) (o : Option ℕ) (one : Option LinkEnd) → option_map (λ link. (link, side.Out)) o ≡ one → end_by (not b) o side.Out ≡ cond b one None
+dropped_end true o one is = is
+dropped_end false o one is = refl
+
+step_row : (configs : List Config) (log : List Entry) (moment seed name n : ℕ) → row configs log moment seed (act.Attempt name n) ≡ attempt_step_row configs log name n moment seed
+unfolding row
+step_row configs log moment seed name n = refl
+
+pub attempt_performs : (configs : List Config) (log : List Entry) (moment seed name n : ℕ) (x y : Node) (l ls : Links) (r : Row) → NodeStands configs log n x → LinksStand configs log l
+    → AttemptSteps (length log) n name moment seed x y l ls r → Performs configs log (asked moment seed (act.Attempt name n)) n y ls r
+attempt_performs configs log moment seed name n x y l ls r s t d =
+    let stood : DialerStands configs log n x.dialing = s.each place.dialer in
+    let o = table.at x.dialing.attempts name in
+    let b = attempts_of configs log n name in
+    let lost : Option LinkEnd = cond (gave_up d.row.puts) (dialing_end b) None in
+    let did : DidBeside configs log (asked moment seed (act.Attempt name n)) n x y named lost (attempt_row configs log name n moment seed) d.row =
+    by_attempt configs log moment seed name n x y d.row s d.steps lost o b refl refl (stood.attempts name) d.steps.tries
+    in
+    performs_beside configs log (asked moment seed (act.Attempt name n)) n x y l ls named lost (attempt_row configs log name n moment seed) d.row r (not (gave_up d.row.puts)) (answer_of o) side.Out s t refl refl
+    (λ p out. not_among-links named p n out) did d.drops
+    (dropped_end (gave_up d.row.puts) (answer_of o) (dialing_end b) (attempt_end configs log n x.dialing stood name))
+    refl
+    (step_row configs log moment seed name n ∙ ap (attempt_drops log b) (sym did.row_is))

@@ -19,12 +19,12 @@ use Rattle.p2p_log.proofs.Names.{AreApart-live_from}
 use Rattle.p2p_log.proofs.Queues.{same_queue-sym}
 use Rattle.p2p_log_rules.specs.declared.row.Half.{Half}
 use Rattle.p2p_log_rules.specs.declared.row.Row.{Row}
-use Rattle.p2p_log_rules.specs.Connections.{live_half, is_begun, is_answer, is_running, is_end}
-use Rattle.p2p_log_rules.specs.Effect.{row, effect, write_row, batch_size_at, beside_ping, batch, ping_puts, running_row, mailbox_size_at}
+use Rattle.p2p_log_rules.specs.Connections.{is_begun, is_running, is_end}
+use Rattle.p2p_log_rules.specs.Effect.{row, effect, write_row, batch_size_at, beside_ping, batch, ping_puts, mailbox_size_at}
 use Rattle.p2p_log_rules.specs.Pings.{ping_frequency_at, is_past, ping_is_due}
-use Rattle.p2p_log_rules.specs.Facts.{is_up, taken}
+use Rattle.p2p_log_rules.specs.Facts.{taken}
 use Rattle.p2p_log_rules.specs.Spawning.{steps_spawner}
-use Rattle.p2p_log_rules.proofs.Connections.{is_running-append, live_connection-kept, ends_none-reply}
+use Rattle.p2p_log_rules.proofs.Connections.{live_connection-kept, ends_none-reply}
 use Rattle.p2p_log_rules.proofs.Spawning.{connections_of-unmade}
 use Rattle.p2p_log_rules.proofs.Touches.{away}
 use Rattle.p2p_net_queues.specs.Lines.{HoldsLines}
@@ -45,14 +45,16 @@ use Rattle.p2p_net_links.specs.declared.links.Links.{Links}
 use Rattle.p2p_net_links.proofs.Changes.{opens_none, openings_unmoved, frames_put, links_written}
 use Rattle.p2p_net_tracker.specs.Stands.{is_told, TrackerStands}
 use Rattle.p2p_net_tracker.proofs.Changes.{tracker_frame}
-use Rattle.p2p_net.specs.Connecting.{Writes}
+use Rattle.p2p_net.specs.Connecting.{WritesFrames}
 use Rattle.p2p_net.specs.Places as place
+use Rattle.p2p_net.specs.Routing as routing
 use Rattle.p2p_net.specs.Stands.{RouterStands, NodeStands}
 use Rattle.p2p_net.specs.declared.node.Node.{Node}
+use Rattle.p2p_net.proofs.EndSteps.{still_runs}
 use Rattle.p2p_net.proofs.EachPart.{with_parts, each_part, not_among-links}
 use Rattle.p2p_net.proofs.Routers.{RouterStands-moved}
 use Rattle.p2p_net.proofs.Performing.{asked, Performs}
-use Rattle.p2p_net.proofs.RouterAnswers.{half_steps, step_beside, step_begins, other_begins, step_answers, step_receives, named_parts, step_untold}
+use Rattle.p2p_net.proofs.RouterAnswers.{step_beside, step_begins, other_begins, step_receives, step_hears, step_drops, named_parts, step_untold}
 
 -- an item, to a queue
 abbrev put_frame : Queue → (ℕ × ℕ) × Item → Queue × Item
@@ -132,7 +134,7 @@ line_written log e n conn link most s due fs q high low is takes ends puts =
     ∙ (ap (λ t. t ++ put_in log e q) (batch_beside n conn most (live log) q (AreApart-live_from 0 log) high low)
     ∙ ap (λ p. filter (stands_in q) (live log) ++ filter (stands_in q) (placed (length log) 0 p)) puts))
 
-batch_is : (log : List Entry) (n conn most : ℕ) → batch_of n conn most (live log) ≡ batch log n conn most
+pub batch_is : (log : List Entry) (n conn most : ℕ) → batch_of n conn most (live log) ≡ batch log n conn most
 unfolding line
 batch_is log n conn most = refl
 
@@ -156,23 +158,6 @@ low_link : (n conn j : ℕ) (t : Side) → same_queue (queue.Low n conn) (queue.
 low_link n conn j side.Out = refl
 low_link n conn j side.In = refl
 
--- a connection that runs goes on to run
-still_runs : (log : List Entry) (e : Entry) (n conn c : ℕ) → e.event.act ≡ act.SendStep conn n → is_running log n conn ≡ true → is_running (log ++ e ∷ []) n c ≡ is_running log n c
-still_runs log e n conn c acts runs =
-    is_running-append log e n c ∙ (ap (λ b. is_running log n c || list_any (λ t. t) b) (step_answers log e n conn c acts) ∙ by_conn (c == conn) refl)
-  where
-    or_nothing : (b : Bool) → (b || false) ≡ b
-    or_nothing true = refl
-    or_nothing false = refl
-
-    already : (b t : Bool) → b ≡ true → (b || t) ≡ b
-    already true t h = refl
-    already false t h = cc
-
-    by_conn : (b : Bool) → (c == conn) ≡ b → (is_running log n c || list_any (λ t. t) (cond b (map is_answer (taken log e)) [])) ≡ is_running log n c
-    by_conn true h = already (is_running log n c) (list_any (λ t. t) (map is_answer (taken log e))) (ap (is_running log n) (eqb-true c conn h) ∙ runs)
-    by_conn false h = or_nothing (is_running log n c)
-
 -- whether a ping is due, as the node tells it
 pub due_is : (configs : List Config) (log : List Entry) (n conn at pinged : ℕ) (x : Node) → NodeStands configs log n x → table.at x.connections.stages conn ≡ Some (stage.Running pinged)
     → ping_is_due configs log n conn at ≡ is_past x.config.ping_frequency at (Some pinged)
@@ -181,9 +166,11 @@ due_is configs log n conn at pinged x s is =
     ap (is_past (ping_frequency_at configs n) at) (sym (cs.pinged conn) ∙ ap pinged_on is)
     ∙ ap (λ (o : Option Config). is_past (elim o [ None ↦ 0 | Some c ↦ c.ping_frequency ]) at (Some pinged)) s.own.config
 
-module _ (configs : List Config) (log : List Entry) (at seed conn n : ℕ) (half : Half) (due : Bool) (x y : Node) (l links : Links) (r : Row) (s : NodeStands configs log n x) (t : LinksStand log l)
-    (up : is_up log n ≡ true) (has : live_half log n conn ≡ Some half) (begun : is_begun log n conn ≡ true) (running : is_running log n conn ≡ true) (pings : ping_is_due configs log n conn at ≡ due)
-    (d : Writes (length log) conn at half due x y l links r) where
+module _ (configs : List Config) (log : List Entry) (at seed conn n : ℕ) (half : Half) (due : Bool) (x w y : Node) (l links : Links) (r : Row) (s : NodeStands configs log n x) (t : LinksStand configs log l)
+    (begun : is_begun log n conn ≡ true) (running : is_running log n conn ≡ true) (pings : ping_is_due configs log n conn at ≡ due)
+    (frames : List ((ℕ × ℕ) × Item)) (calls : routing.Batches conn (beside_ping due x.config.send_batch_size) x.router w.router frames) (others : w ≡ record x { router = w.router })
+    (row_is : row configs log at seed (act.SendStep conn n) ≡ write_row (queue.Link half.link half.writes) due (batch log n conn (beside_ping due (batch_size_at configs n))))
+    (d : WritesFrames (length log) conn at half due frames w y l links r) where
   abbrev ev : Event
   ev = asked at seed (act.SendStep conn n)
 
@@ -199,9 +186,6 @@ module _ (configs : List Config) (log : List Entry) (at seed conn n : ℕ) (half
   abbrev q : Queue
   q = queue.Link half.link half.writes
 
-  abbrev frames : List ((ℕ × ℕ) × Item)
-  frames = d.0
-
   abbrev most : ℕ
   most = beside_ping due x.config.send_batch_size
 
@@ -210,12 +194,8 @@ module _ (configs : List Config) (log : List Entry) (at seed conn n : ℕ) (half
 
   took : frames ≡ map named (batch_of n conn most (live log))
   took =
-      d.1.0.taken (mailbox_size_at configs x.router.number) (live log) routes.stands.holds (AreApart-live_from 0 log)
+      calls.taken (mailbox_size_at configs x.router.number) (live log) routes.stands.holds (AreApart-live_from 0 log)
       ∙ ap (λ m. map named (batch_of m conn most (live log))) routes.number
-
-  row_is : row configs log at seed (act.SendStep conn n) ≡ write_row q due (batch log n conn (beside_ping due (batch_size_at configs n)))
-  unfolding row
-  row_is = half_steps configs log conn n at half true true up has begun running ∙ ap (running_row configs log n conn half) pings
 
   framed : write_frames_row half.link half.writes due frames ≡ row configs log at seed (act.SendStep conn n)
   framed =
@@ -278,10 +258,9 @@ module _ (configs : List Config) (log : List Entry) (at seed conn n : ℕ) (half
           connections_stepped configs log e n conn x.connections x.connections.answers connects spawns begun (λ c other. other_begins n conn c e acts other) runs
           (ap (ping_is_due configs log n conn) moment ∙ (pings ∙ is)) receives waits
 
-  router_now : RouterStands configs (log ++ e ∷ []) n y.router
+  router_now : RouterStands configs (log ++ e ∷ []) n w.router
   router_now =
-      let calls = d.1.0 in
-      RouterStands-moved configs log e n x.router y.router routes
+      RouterStands-moved configs log e n x.router w.router routes (step_hears log e n conn acts lives begun)
       (calls.stands configs log e routes.stands (step_beside configs log e x.router.number conn n acts lives) takes ends
       (λ p own. subst (AreAway p) (sym puts) (batch_away due half.link half.writes p frames (same_queue-sym p q ∙ same_queue-other x.router.number q p refl own))))
       calls.kept.number calls.kept.peers
@@ -294,20 +273,24 @@ module _ (configs : List Config) (log : List Entry) (at seed conn n : ℕ) (half
       beside p (away (is_told n) (queue.High n conn) p refl own) (away (is_told n) (queue.Low n conn) p refl own)
       (same_queue-sym p q ∙ away (is_told n) q p refl own)))
 
-  parts : y ≡ record x { router = y.router; connections = pinged_with due conn at x.connections }
-  parts = d.1.1.0
+  parts : y ≡ record x { router = w.router; connections = pinged_with due conn at x.connections }
+  parts = d.rest ∙ ap (λ (z : Node). record z { router = w.router; connections = pinged_with due conn at z.connections }) others
 
   pub write_performs : Performs configs log ev n y links r
   unfolding e
   write_performs = record {
-    row_is = d.1.1.1.0 ∙ framed;
+    row_is = d.row_is ∙ framed;
     node =
         each_part configs log ev n x y named_parts s (subst (λ z. z ≡ with_parts named_parts x z) (sym parts) refl)
-        (λ p out. not_among-links named_parts p n out) (
+        (λ p out. not_among-links named_parts p n out) refl (
           subst (ConnectionsStand configs (log ++ e ∷ []) n) (sym (ap (λ (z : Node). z.connections) parts)) connections_now,
-          (router_now, (subst (TrackerStands configs (log ++ e ∷ []) n) (sym (ap (λ (z : Node). z.tracker) parts)) tracker_now, tt)),
+          (
+            subst (RouterStands configs (log ++ e ∷ []) n) (sym (ap (λ (z : Node). z.router) parts)) router_now,
+            (subst (TrackerStands configs (log ++ e ∷ []) n) (sym (ap (λ (z : Node). z.tracker) parts)) tracker_now, tt),
+          ),
         );
-    linked = subst (LinksStand (log ++ e ∷ [])) (sym d.1.1.1.1)
-        (links_written log e l half.writes half.link (length log) due frames t
-        (λ u j. line_written log e n conn half.link most half.writes due frames (queue.Link j u) (high_link n conn j u) (low_link n conn j u) took takes ends puts) (openings_unmoved log e (ap opens_none acts)));
+    linked = subst (LinksStand configs (log ++ e ∷ [])) (sym d.links_are)
+        (links_written configs log e l half.writes half.link (length log) due frames t
+        (λ u j. line_written log e n conn half.link most half.writes due frames (queue.Link j u) (high_link n conn j u) (low_link n conn j u) took takes ends puts) (openings_unmoved log e (ap opens_none acts))
+        (step_drops configs log e n conn acts lives));
   }

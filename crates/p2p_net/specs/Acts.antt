@@ -1,16 +1,23 @@
 -- What each act comes to, and what it makes of a node and of the links. No log: of the router's calls the log is a matter of its own.
-use Rattle.std.specs.Prelude.{◌≡◌, ℕ, ◌+◌, Bool, true, false, ◌&&◌, [], ◌∷◌, ◌++◌, drop, Option, Some, None, slice_get, if◌then◌else◌}
+use Rattle.std.specs.Prelude.{◌≡◌, ℕ, ◌+◌, Bool, true, false, ◌&&◌, ◌||◌, not, [], ◌∷◌, ◌++◌, drop, Option, Some, None, is_some, slice_get, if◌then◌else◌}
+use Rattle.std.specs.List.{list_any}
+use Rattle.std.specs.Option.{option_map}
 use Rattle.p2p_base.specs.declared.key.Key.{Key}
 use Rattle.p2p_log.specs.declared.queue.Queue.{Queue}
 use Rattle.p2p_log.specs.declared.queue.Queue.TheVariants as queue
 use Rattle.p2p_log.specs.declared.item.Item.{Item}
+use Rattle.p2p_log.specs.declared.queue.Side.{Side}
+use Rattle.p2p_log.specs.declared.queue.Side.TheVariants as side
+use Rattle.p2p_log.specs.declared.end.Cause.TheVariants as cause
 use Rattle.p2p_log.specs.declared.entry.Reply.TheVariants as reply
 use Rattle.p2p_log.specs.declared.event.Rate.{Rate}
 use Rattle.p2p_log.specs.declared.event.Act.{Act}
 use Rattle.p2p_log.specs.declared.event.Act.TheVariants as act
 use Rattle.p2p_log.specs.QueueCode.{same_queue}
 use Rattle.p2p_log_rules.specs.declared.row.Row.{Row}
-use Rattle.p2p_log_rules.specs.Effect.{only, oldest_read}
+use Rattle.p2p_log.specs.Drained.{all_end}
+use Rattle.p2p_log_rules.specs.Dropping.{gave_up, is_spawn}
+use Rattle.p2p_log_rules.specs.Effect.{only, oldest_read, other_side}
 use Rattle.p2p_log_rules.specs.Listening.{quota_of}
 use Rattle.p2p_net_queues.specs.Board.{held}
 use Rattle.p2p_net_queues.specs.Rows.{taken_row}
@@ -19,7 +26,10 @@ use Rattle.p2p_net_queues.specs.Tables.{waiting}
 use Rattle.p2p_net_channels.specs.Channels.{registered_with, has_reader, read_from, closed_row, closed_with}
 use Rattle.p2p_net_connections.specs.Connections.{answered, spawned_with}
 use Rattle.p2p_net_links.specs.declared.links.Links.{Links}
-use Rattle.p2p_net_dialer.specs.Attempts.{Tries, Resolves, AnswersDial}
+use Rattle.p2p_net_links.specs.Dropping.{end_dropped}
+use Rattle.p2p_net_links.specs.Links.{way_of}
+use Rattle.p2p_gates.specs.Handshaking.{Handshaking}
+use Rattle.p2p_net_dialer.specs.Attempts.{answer_of, Tries, Resolves, AnswersDial}
 use Rattle.p2p_net_dialer.specs.Dialing as dialing
 use Rattle.p2p_net_dialer.specs.Dialing.{started}
 use Rattle.p2p_net_dialer.specs.declared.attempt.Tried.{Tried}
@@ -140,6 +150,14 @@ abbrev pub ListenerStepsBy : Bool → ℕ → ℕ → ℕ → Node → Node → 
 ListenerStepsBy false k n at old new r = Stays old new r (only reply.Gone)
 ListenerStepsBy true k n at old new r = ListenerSteps k n at old new r
 
+-- ---- ends of links
+
+-- the end of this link that writes in this direction is dropped, where there is one, unless it is kept
+abbrev pub DropsUnless : Bool → Option ℕ → Side → Links → Links → Row → Row → Type 0
+DropsUnless false (Some link) s l links row after =
+    (after ≡ record row { ends = row.ends ++ all_end cause.ConnectionEnded (waiting (way_of l (other_side s)) link) }) × (links ≡ end_dropped link s l)
+DropsUnless _ _ s l links row after = (after ≡ row) × (links ≡ l)
+
 -- ---- what is handed on
 
 -- the tracker is asked this
@@ -168,8 +186,8 @@ abbrev pub HandsOnBy : HandshakeStep → ℕ → ℕ → Node → Node → Row �
 HandsOnBy (handshake.Served took ended asked ready) k n old new row after = HandsOn ready k n asked old new row after
 HandsOnBy _ k n old new row after = (after ≡ row) × (new ≡ old)
 
--- a step of the handshake of this name, for which items wait in the tracker's mailbox
-pub record HandshakeSteps (k n name at : ℕ) (old new : Node) (r : Row) : Type 0 where
+-- a step of the handshake of this name, for which items wait in the tracker's mailbox, but for the end of its link
+pub record Shakes (k n name at : ℕ) (old new : Node) (r : Row) : Type 0 where
   pub step : HandshakeStep
   -- its node once it did that, and its row so far
   pub mid : Node
@@ -179,10 +197,21 @@ pub record HandshakeSteps (k n name at : ℕ) (old new : Node) (r : Row) : Type 
   pub rest : mid ≡ record old { tracker = mid.tracker; listening = mid.listening }
   pub hands : HandsOnBy step k n mid new taken r
 
+-- the link over which the peer of a handshake came
+abbrev pub link_over : Option (Handshaking Key) → Option ℕ
+link_over o = option_map (λ (h : Handshaking Key). h.arrival.link) o
+
+-- and with it, which is dropped where the handshake ended without a connection
+pub record HandshakeSteps (k n name at : ℕ) (old new : Node) (l links : Links) (r : Row) : Type 0 where
+  pub row : Row
+  pub steps : Shakes k n name at old new row
+  pub drops : DropsUnless (is_some (table.at new.listening.handshakes name) || list_any is_spawn row.puts) (link_over (table.at old.listening.handshakes name)) side.In l links row r
+
 -- ---- the dialer's attempts
 
--- a step of the attempt of this name, which gives its reservation back into the tracker's mailbox where it ends without a connection
-pub record AttemptSteps (k n name at seed : ℕ) (old new : Node) (r : Row) : Type 0 where
+-- a step of the attempt of this name, which gives its reservation back into the tracker's mailbox where it ends without a connection,
+-- but for the end of its link
+pub record TriesAttempt (k n name at seed : ℕ) (old new : Node) (r : Row) : Type 0 where
   pub tried : Tried
   -- its node once it did that
   pub mid : Node
@@ -191,6 +220,12 @@ pub record AttemptSteps (k n name at seed : ℕ) (old new : Node) (r : Row) : Ty
   pub actor : mid.dialing.actor ≡ old.dialing.actor
   pub rest : mid ≡ record old { tracker = mid.tracker; dialing = mid.dialing }
   pub hands : HandsOn tried.ready k n (release_item tried.released) mid new tried.row r
+
+-- and with it, which is dropped where the attempt gave its reservation back
+pub record AttemptSteps (k n name at seed : ℕ) (old new : Node) (l links : Links) (r : Row) : Type 0 where
+  pub row : Row
+  pub steps : TriesAttempt k n name at seed old new row
+  pub drops : DropsUnless (not (gave_up row.puts)) (answer_of (table.at old.dialing.attempts name)) side.Out l links row r
 
 -- ---- the spawner
 
@@ -231,9 +266,9 @@ NodeDoes k n at seed (act.Next e) old new l links r = (Continues n e old.tracker
 NodeDoes k n at seed (act.Tracker m) old new l links r = TrackerStepsBy (is_started old) k n at seed old new r × (links ≡ l)
 NodeDoes k n at seed (act.Dialer m) old new l links r = DialerStepsBy (is_started old) k n at seed old new r × (links ≡ l)
 NodeDoes k n at seed (act.Listener m) old new l links r = ListenerStepsBy (is_started old) k n at old new r × (links ≡ l)
-NodeDoes k n at seed (act.Handshake e m) old new l links r = HandshakeSteps k n e at old new r × (links ≡ l)
+NodeDoes k n at seed (act.Handshake e m) old new l links r = HandshakeSteps k n e at old new l links r
 NodeDoes k n at seed (act.Spawner m) old new l links r = SpawnerStepsBy (is_started old) k old new r × (links ≡ l)
-NodeDoes k n at seed (act.Attempt e m) old new l links r = AttemptSteps k n e at seed old new r × (links ≡ l)
+NodeDoes k n at seed (act.Attempt e m) old new l links r = AttemptSteps k n e at seed old new l links r
 NodeDoes k n at seed (act.Resolve addresses e m) old new l links r =
     (Resolves (table.at old.dialing.attempts e) k n e addresses old.dialing.attempts new.dialing.attempts r × TellsAttempt old new) × (links ≡ l)
 NodeDoes k n at seed (act.Refuse e m) old new l links r = (AnswersDial (table.at old.dialing.attempts e) k n e false old.dialing.attempts new.dialing.attempts r × TellsAttempt old new) × (links ≡ l)

@@ -1,6 +1,7 @@
 pub mod Acts
 pub mod Applying
 pub mod Connecting
+pub mod Ending
 pub mod Events
 pub mod Finishing
 pub mod Linking

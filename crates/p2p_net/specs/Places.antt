@@ -77,7 +77,7 @@ parts_named (act.Check c n to) = channels ∷ router ∷ []
 parts_named (act.SendChecked bytes check priority) = channels ∷ router ∷ []
 parts_named (act.Router n) = router ∷ connections ∷ []
 parts_named (act.SendStep conn n) = connections ∷ router ∷ tracker ∷ []
-parts_named (act.RecvStep conn n) = channels ∷ connections ∷ []
+parts_named (act.RecvStep conn n) = channels ∷ connections ∷ router ∷ tracker ∷ []
 parts_named (act.Recv c n) = channels ∷ []
 parts_named (act.Close c n) = channels ∷ []
 parts_named (act.Dialer n) = tracker ∷ dialer ∷ []
@@ -94,6 +94,8 @@ parts_named _ = tracker ∷ []
 abbrev pub names_links : Act → Bool
 names_links (act.SendStep conn n) = true
 names_links (act.RecvStep conn n) = true
+names_links (act.Handshake e n) = true
+names_links (act.Attempt e n) = true
 names_links (act.Connect e from n to) = true
 names_links (act.Finish link ok) = true
 names_links _ = false

@@ -4,6 +4,8 @@ use Rattle.std.specs.Option.{option_map}
 use Rattle.p2p_base.specs.declared.key.Key.{Key}
 use Rattle.p2p_log.specs.declared.queue.Side.{Side}
 use Rattle.p2p_log.specs.declared.item.Envelope.{Envelope}
+use Rattle.p2p_log.specs.declared.end.Cause.TheVariants as cause
+use Rattle.p2p_log.specs.declared.entry.Ended.TheVariants as ended
 use Rattle.p2p_log.specs.declared.entry.Reply.TheVariants as reply
 use Rattle.p2p_log.specs.Lines.{name_of}
 use Rattle.p2p_log_rules.specs.declared.row.Half.{Half}
@@ -23,8 +25,11 @@ use Rattle.p2p_net_connections.specs.declared.connections.Stage.{Stage}
 use Rattle.p2p_net_connections.specs.declared.connections.Stage.TheVariants as stage
 use Rattle.p2p_net_connections.specs.Connections.{held_with, without_held, may_ping, ping_metered}
 use Rattle.p2p_net_links.specs.declared.links.Links.{Links}
+use Rattle.p2p_net_links.specs.Dropping.{is_dropped_at}
 use Rattle.p2p_net_links.specs.Links.{way_of, with_way}
 use Rattle.p2p_net.specs.Connecting.{Stays, half_by}
+use Rattle.p2p_net.specs.Ending.{EndsUnread, EndsRefused}
+use Rattle.p2p_net.specs.Ready.{is_started}
 use Rattle.p2p_net.specs.declared.node.Node.{Node}
 use Rattle.p2p_net.specs.declared.receiving.Arrival.{Arrival}
 
@@ -100,23 +105,36 @@ held_into k n conn a x = record x { connections = held_with k 0 n conn (held_ite
 abbrev pub without_first : Links → ℕ → Side → Links
 without_first l link s = with_way l s (popped_at (way_of l s) link)
 
-abbrev pub ReceivesAs : Option Bool → ℕ → ℕ → ℕ → ℕ → Half → Arrival → Node → Node → Links → Links → Row → Type 0
-ReceivesAs None k n conn at half a old new l links r = Stays (asked_of conn at a.arriving old) new r (only reply.Idle) × (links ≡ l)
-ReceivesAs (Some true) k n conn at half a old new l links r =
-    (r ≡ passed_row n half.peer a.name a.arriving (asked_of conn at a.arriving old).channels)
-    × ((new ≡ passed_into k n half.peer a.arriving (asked_of conn at a.arriving old)) × (links ≡ without_first l half.link (other_side half.writes)))
-ReceivesAs (Some false) k n conn at half a old new l links r =
-    (r ≡ hold_row n conn a.name (held_item a.arriving))
-    × ((new ≡ held_into k n conn a.arriving (asked_of conn at a.arriving old)) × (links ≡ without_first l half.link (other_side half.writes)))
+-- by what its quota says: where it has none, the connection ends
+abbrev pub TakesAs : Option Bool → ℕ → ℕ → ℕ → Half → Arrival → Node → Node → Links → Links → Row → Type 0
+TakesAs None k n conn half a asked new l links r = EndsRefused k n conn half ended.InvalidChannel cause.ChannelUnregistered asked new l links r
+TakesAs (Some true) k n conn half a asked new l links r =
+    (r ≡ passed_row n half.peer a.name a.arriving asked.channels)
+    × ((new ≡ passed_into k n half.peer a.arriving asked) × (links ≡ without_first l half.link (other_side half.writes)))
+TakesAs (Some false) k n conn half a asked new l links r =
+    (r ≡ hold_row n conn a.name (held_item a.arriving)) × ((new ≡ held_into k n conn a.arriving asked) × (links ≡ without_first l half.link (other_side half.writes)))
 
-abbrev pub ReceivesBy : Option Arrival → ℕ → ℕ → ℕ → ℕ → Half → Node → Node → Links → Links → Row → Type 0
-ReceivesBy None k n conn at half old new l links r = Stays old new r (only reply.Idle) × (links ≡ l)
-ReceivesBy (Some a) k n conn at half old new l links r = ReceivesAs (verdict conn at a.arriving old) k n conn at half a old new l links r
+-- what came in the first frame is delivered, or held, or the connection ends
+abbrev pub Takes : ℕ → ℕ → ℕ → ℕ → Half → Arrival → Node → Node → Links → Links → Row → Type 0
+Takes k n conn at half a old new l links r = TakesAs (verdict conn at a.arriving old) k n conn half a (asked_of conn at a.arriving old) new l links r
 
--- the first frame is delivered, or held
+-- by what is in the first frame, where that can be read
+abbrev pub ReadsFrame : Option Arrival → ℕ → ℕ → ℕ → ℕ → Half → Node → Node → Links → Links → Row → Type 0
+ReadsFrame None k n conn at half old new l links r = EndsRefused k n conn half ended.DecodeFailed cause.FrameRefused old new l links r
+ReadsFrame (Some a) k n conn at half old new l links r = Takes k n conn at half a old new l links r
+
+-- where no frame is in flight, by whether the other end was dropped
+abbrev pub ReadsNone : Bool → ℕ → ℕ → ℕ → Half → Node → Node → Links → Links → Row → Type 0
+ReadsNone false k n conn half old new l links r = Stays old new r (only reply.Idle) × (links ≡ l)
+ReadsNone true k n conn half old new l links r = EndsUnread k n conn half old new l links r
+
+abbrev pub ReceivesBy : Option Envelope → ℕ → ℕ → ℕ → ℕ → Half → Node → Node → Links → Links → Row → Type 0
+ReceivesBy None k n conn at half old new l links r = ReadsNone (is_dropped_at l (other_side half.writes) half.link) k n conn half old new l links r
+ReceivesBy (Some x) k n conn at half old new l links r = ReadsFrame (frame_in old.config.max_message_size (Some x)) k n conn at half old new l links r
+
+-- the first frame is delivered, or held, or the connection ends
 abbrev pub Receives : ℕ → ℕ → ℕ → ℕ → Half → Node → Node → Links → Links → Row → Type 0
-Receives k n conn at half old new l links r =
-    ReceivesBy (frame_in old.config.max_message_size (first_in l half.link (other_side half.writes))) k n conn at half old new l links r
+Receives k n conn at half old new l links r = ReceivesBy (first_in l half.link (other_side half.writes)) k n conn at half old new l links r
 
 -- ---- what is held
 
@@ -140,18 +158,22 @@ Retries k n conn at from old new r = RetriesBy (kept_in (held_first old.connecti
 -- ---- a step
 
 -- by what is held
-abbrev pub TakesBy : Option Envelope → ℕ → ℕ → ℕ → ℕ → Half → Node → Node → Links → Links → Row → Type 0
-TakesBy None k n conn at half old new l links r = Receives k n conn at half old new l links r
-TakesBy (Some x) k n conn at half old new l links r = Retries k n conn at half.peer old new r × (links ≡ l)
+abbrev pub StepsBy : Option Envelope → ℕ → ℕ → ℕ → ℕ → Half → Node → Node → Links → Links → Row → Type 0
+StepsBy None k n conn at half old new l links r = Receives k n conn at half old new l links r
+StepsBy (Some x) k n conn at half old new l links r = Retries k n conn at half.peer old new r × (links ≡ l)
 
 -- by how far the connection is
-abbrev pub TakesAt : Option Stage → ℕ → ℕ → ℕ → ℕ → Half → Node → Node → Links → Links → Row → Type 0
-TakesAt (Some (stage.Running pinged)) k n conn at half old new l links r = TakesBy (held_first old.connections conn) k n conn at half old new l links r
-TakesAt _ k n conn at half old new l links r = Stays old new r (only reply.Idle) × (links ≡ l)
+abbrev pub StepsAt : Option Stage → ℕ → ℕ → ℕ → ℕ → Half → Node → Node → Links → Links → Row → Type 0
+StepsAt (Some (stage.Running pinged)) k n conn at half old new l links r = StepsBy (held_first old.connections conn) k n conn at half old new l links r
+StepsAt _ k n conn at half old new l links r = Stays old new r (only reply.Idle) × (links ≡ l)
 
-abbrev pub TakesOn : Option Half → ℕ → ℕ → ℕ → ℕ → Node → Node → Links → Links → Row → Type 0
-TakesOn None k n conn at old new l links r = Stays old new r (only reply.Gone) × (links ≡ l)
-TakesOn (Some half) k n conn at old new l links r = TakesAt (table.at old.connections.stages conn) k n conn at half old new l links r
+abbrev pub StepsOn : Option Half → ℕ → ℕ → ℕ → ℕ → Node → Node → Links → Links → Row → Type 0
+StepsOn None k n conn at old new l links r = Stays old new r (only reply.Gone) × (links ≡ l)
+StepsOn (Some half) k n conn at old new l links r = StepsAt (table.at old.connections.stages conn) k n conn at half old new l links r
+
+abbrev pub RecvStepsBy : Bool → ℕ → ℕ → ℕ → ℕ → Node → Node → Links → Links → Row → Type 0
+RecvStepsBy false k n conn at old new l links r = Stays old new r (only reply.Gone) × (links ≡ l)
+RecvStepsBy true k n conn at old new l links r = StepsOn (half_by n old.connections l conn) k n conn at old new l links r
 
 abbrev pub RecvSteps : ℕ → ℕ → ℕ → ℕ → Node → Node → Links → Links → Row → Type 0
-RecvSteps k n conn at old new l links r = TakesOn (half_by n old.connections l conn) k n conn at old new l links r
+RecvSteps k n conn at old new l links r = RecvStepsBy (is_started old) k n conn at old new l links r

@@ -7,6 +7,7 @@ use Rattle.p2p_log.specs.declared.config.Config.{Config}
 use Rattle.p2p_log.specs.declared.queue.Queue.{Queue}
 use Rattle.p2p_log.specs.declared.queue.Queue.TheVariants as queue
 use Rattle.p2p_log.specs.declared.item.Item.{Item}
+use Rattle.p2p_log.specs.declared.item.Item.TheVariants as item
 use Rattle.p2p_log.specs.declared.item.Envelope.{Envelope}
 use Rattle.p2p_log.specs.declared.entry.Entry.{Entry}
 use Rattle.p2p_log.specs.declared.event.Event.{Event}
@@ -18,11 +19,12 @@ use Rattle.p2p_log_rules.specs.Frames.{frame_of}
 use Rattle.p2p_log_rules.specs.Facts.{channels, capacity_in, is_up}
 use Rattle.p2p_log_rules.specs.Effect.{entry_of, mailbox_size_at, router_capacity, start_row, sent_row, route_oldest}
 use Rattle.p2p_router.specs.Messenger.{is_unbound}
-use Rattle.p2p_net_router.specs.Batches.{batch_of, AreKept}
+use Rattle.p2p_net_router.specs.Batches.{batch_of, all_of, AreKept}
+use Rattle.p2p_net_router.specs.Ends.{IsIdle}
 use Rattle.p2p_net_router.specs.Holds.{Holds, Adds, IsStranger, after}
 use Rattle.p2p_net_router.specs.Names.{is_routers}
 use Rattle.p2p_net_router.specs.Peers.{names_taken}
-use Rattle.p2p_net_router.specs.Stands.{StandsFor, StandsOver, IsBeside, IsRegistration, IsReadied, AreAway}
+use Rattle.p2p_net_router.specs.Stands.{StandsFor, StandsOver, IsBeside, IsRegistration, IsReadied, IsEnding, AreAway}
 use Rattle.p2p_net_router.specs.Telling.{accepted_reply, refused_reply}
 use Rattle.p2p_net_router.specs.declared.router.Router.{Router}
 use Rattle.p2p_net_router.specs.declared.telling.Telling.{Telling}
@@ -81,3 +83,20 @@ pub record Batches (conn size : ℕ) (old new : Router) (frames : List ((ℕ × 
   pub stands : (configs : List Config) (log : List Entry) (e : Entry) → StandsFor configs log old → IsBeside configs log e old.number
       → e.takes ≡ map (λ (f : (ℕ × ℕ) × Item). f.0) frames → e.ends ≡ [] → ((q : Queue) → is_routers old.number q ≡ true → AreAway q e.puts)
       → StandsFor configs (log ++ e ∷ []) new
+  pub over : (configs : List Config) (log : List Entry) (items : List Envelope) → StandsOver configs log old items → AreApart items
+      → StandsOver configs log new (filter (stays (map name_of (batch_of old.number conn size items))) items)
+
+-- all that wait for a connection are taken, with their names
+pub record TakesAll (conn : ℕ) (old new : Router) (frames : List ((ℕ × ℕ) × Item)) : Type 0 where
+  pub kept : AreKept old new
+  pub taken : (places : ℕ) (items : List Envelope) → Holds places old items → AreApart items → frames ≡ map named (all_of old.number conn items)
+  pub over : (configs : List Config) (log : List Entry) (items : List Envelope) → StandsOver configs log old items → AreApart items
+      → StandsOver configs log new (filter (stays (map name_of (all_of old.number conn items))) items)
+
+-- this connection, with this key, is released, as the put of this place
+pub record Releases (entry place conn : ℕ) (key : Key) (old new : Router) : Type 0 where
+  pub peers : (c : ℕ) → get nat_cmp new.peers c ≡ (if is_eq (nat_cmp conn c) then None else get nat_cmp old.peers c)
+  pub rest : new ≡ record old { messenger = new.messenger; actor = record old.actor { links = new.actor.links }; peers = new.peers; names = new.names }
+  pub over : (configs : List Config) (log : List Entry) (e : Entry) (items : List Envelope) → StandsOver configs log old items → IsIdle old items conn key
+      → IsEnding configs log e old.number conn key
+      → StandsOver configs (log ++ e ∷ []) new (items ++ record { entry = entry; place = place; queue = queue.Router old.number; item = item.Release key } ∷ [])

@@ -1,13 +1,13 @@
 -- When the nodes and the links of a world stand for a log.
-use Rattle.std.specs.Prelude.{◌≡◌, ℕ, ◌*◌, true, false, List, length, Some, None, slice_get}
+use Rattle.std.specs.Prelude.{◌≡◌, ℕ, ◌*◌, Bool, true, false, List, length, Option, Some, None, slice_get}
 use Rattle.std.specs.Ordering.{nat_cmp}
 use Rattle.std.specs.BTreeMap as tree
 use Rattle.std.specs.BTreeMap.{BTreeMap}
 use Rattle.p2p_base.specs.declared.key.Key.{Key}
 use Rattle.p2p_log.specs.declared.config.Config.{Config}
 use Rattle.p2p_log.specs.declared.entry.Entry.{Entry}
-use Rattle.p2p_log_rules.specs.Connections.{is_begun}
-use Rattle.p2p_log_rules.specs.Spawning.{Spawned, connections_of}
+use Rattle.p2p_log_rules.specs.Connections.{is_begun, live_connection}
+use Rattle.p2p_log_rules.specs.Spawning.{Spawned}
 use Rattle.p2p_log_rules.specs.Valid.{config_fault}
 use Rattle.p2p_net_router.specs.Stands.{StandsFor}
 use Rattle.p2p_net_router.specs.declared.router.Router.{Router}
@@ -22,10 +22,14 @@ use Rattle.p2p_net_links.specs.declared.links.Links.{Links}
 use Rattle.p2p_net.specs.Places.{Part, router, channels, connections, tracker, dialer, listener, spawner}
 use Rattle.p2p_net.specs.declared.node.Node.{Node}
 
--- a node's router was told of the connections that have begun, each with its key
+-- the key with which a router knows a connection, by whether that has begun, while it has not ended
+abbrev pub key_heard : Bool → Option Spawned → Option Key
+key_heard true (Some c) = Some c.key
+key_heard _ _ = None
+
+-- a node's router knows those connections that have begun and have not ended, each with its key, and no other
 abbrev pub HearsOfBegun : List Entry → ℕ → BTreeMap ℕ Key → Type 0
-HearsOfBegun log n peers = (conn : ℕ) (key : Key) → tree.get nat_cmp peers conn ≡ Some key
-    → (c : Spawned) × (connections_of log n conn ≡ Some c) × (c.key ≡ key) × (is_begun log n conn ≡ true)
+HearsOfBegun log n peers = (conn : ℕ) → tree.get nat_cmp peers conn ≡ key_heard (is_begun log n conn) (live_connection log n conn)
 
 -- the router of a node, against the log
 pub record RouterStands (configs : List Config) (log : List Entry) (n : ℕ) (r : Router) : Type 0 where
@@ -59,4 +63,4 @@ pub record WorldStands (configs : List Config) (log : List Entry) (nodes : List 
   pub valid : config_fault configs ≡ None
   pub long : length nodes ≡ length configs
   pub each : (n : ℕ) (x : Node) → slice_get nodes n ≡ Some x → NodeStands configs log n x
-  pub linked : LinksStand log links
+  pub linked : LinksStand configs log links

@@ -5,6 +5,7 @@
 mod calls;
 mod configs;
 mod connecting;
+mod ending;
 mod error;
 mod events;
 mod finishing;
@@ -24,7 +25,7 @@ pub use crate::node::Node;
 pub use crate::world::World;
 pub use p2p_gates_rules::Reply as GatesReply;
 pub use p2p_log::{
-    Act, Asked, Cause, Config, End, Entry, Envelope, Event, Fate, Item, Outcome, Queue, Rate,
-    Recipients, Reply, Report, Side,
+    Act, Asked, Cause, Config, End, Ended, Entry, Envelope, Event, Fate, Item, Outcome, Queue,
+    Rate, Recipients, Reply, Report, Side,
 };
 pub use p2p_net_links::Links;

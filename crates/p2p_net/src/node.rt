@@ -314,11 +314,11 @@ impl Node {
             Act::Dialer { .. } => Ok(self.dial_step(turn, event.at, event.seed)?),
             Act::Listener { .. } => Ok(self.listen_step(turn, event.at)?),
             Act::Handshake { handshake, .. } => {
-                Ok(self.handshake_step(turn, *handshake, event.at)?)
+                Ok(self.handshake_step(turn, links, *handshake, event.at)?)
             }
             Act::Spawner { .. } => Ok(self.spawn_step(turn)?),
             Act::Attempt { attempt, .. } => {
-                Ok(self.attempt_step(turn, *attempt, event.at, event.seed)?)
+                Ok(self.attempt_step(turn, links, *attempt, event.at, event.seed)?)
             }
             Act::Resolve {
                 addresses,

@@ -1,28 +1,20 @@
 //! What the receiving half of a connection does: it takes what comes over its link, or what it holds, as the quotas admit it.
-ghost use Rattle.std.specs.Prelude.{◌≡◌, true, IfOk, OnOk};
-ghost use Rattle.p2p_log_rules.specs.Effect.{only as only_reply, hold_row, other_side as other_side_of};
+ghost use Rattle.std.specs.Prelude.{◌≡◌, true, IfOk, OnOk, IsTrue};
+ghost use Rattle.p2p_log_rules.specs.Effect.{only as only_reply, hold_row};
+ghost use Rattle.p2p_router.specs.Messenger.{is_bound};
 ghost use Rattle.p2p_net_channels.specs.Arrivals.{held_item};
-ghost use Rattle.p2p_net.specs.Receiving.{frame_in, first_in, kept_in, held_first, verdict, asked_of, passed_row, passed_into, held_into, Receives, Retries, RecvSteps};
+ghost use Rattle.p2p_net.specs.Receiving.{frame_in, first_in, kept_in, held_first, verdict, asked_of, passed_row, passed_into, held_into, Takes, Receives, Retries, RecvSteps};
 
+use crate::ending::other_side;
 use crate::node::Node;
 use p2p_base::Key;
-use p2p_log::{Reply, Side};
+use p2p_log::{Cause, Ended, Reply, Side};
 use p2p_log_rules::{Half, Row};
 use p2p_net_channels::{Arriving, hold, open, reopen};
 use p2p_net_connections::{Connections, Stage};
 use p2p_net_links::Links;
 use p2p_net_queues::{Turn, only, taking};
 use std::alloc::AllocError;
-
-/// The direction opposite to this one.
-fn other_side(side: Side) -> Side
-    ensures { result ≡ other_side_of side }
-{
-    match side {
-        Side::Out => Side::In,
-        Side::In => Side::Out,
-    }
-}
 
 /// What came over a connection: the name of its item, and what it is.
 #[derive(Drop)]
@@ -113,7 +105,36 @@ impl Node {
         Ok(row)
     }
 
-    /// Takes the first frame off a link, where it can be read, and delivers what is in it or holds it.
+    /// Delivers what came in the first frame in flight, or holds it. Where it is on a channel that is not registered, the
+    /// connection ends.
+    fn take(
+        &mut self,
+        turn: Turn,
+        links: &mut Links,
+        conn: u64,
+        at: u64,
+        half: Half,
+        arrival: Arrival,
+    ) -> Result<Row, AllocError>
+        requires bound { IsTrue (is_bound self.old.router.messenger.binding) }
+        ensures does { IfOk result (λ r. Takes turn.entry turn.node conn at half arrival self.old self.new links.old links.new r) }
+        ensures failed { OnOk result (self.new.failed ≡ self.old.failed) }
+    {
+        let Some(admitted) = self.admit(conn, at, &arrival.arriving)? else {
+            let why = Ended::InvalidChannel;
+            let row = self.end_refused(turn, links, conn, half, why, Cause::ChannelUnregistered)?;
+            return Ok(row);
+        };
+        let _ = links.take(half.link, other_side(half.writes));
+        if admitted {
+            Ok(self.pass(turn, half.peer, arrival)?)
+        } else {
+            Ok(self.hold(turn, conn, arrival)?)
+        }
+    }
+
+    /// Takes the first frame off a link. Where it cannot be read, or none will come since the other end was dropped, the
+    /// connection ends.
     fn receive(
         &mut self,
         turn: Turn,
@@ -122,21 +143,23 @@ impl Node {
         at: u64,
         half: Half,
     ) -> Result<Row, AllocError>
+        requires bound { IsTrue (is_bound self.old.router.messenger.binding) }
         ensures does { IfOk result (λ r. Receives turn.entry turn.node conn at half self.old self.new links.old links.new r) }
         ensures failed { OnOk result (self.new.failed ≡ self.old.failed) }
     {
         let side = other_side(half.writes);
-        let Some(arrival) = look(links, half.link, side, self.config.max_message_size)? else {
+        if links.front(half.link, side).is_none() {
+            if links.is_dropped(half.link, side) {
+                return Ok(self.end_unread(turn, links, conn, half)?);
+            }
             return Ok(only(turn.alloc, Reply::Idle));
-        };
-        let Some(admitted) = self.admit(conn, at, &arrival.arriving)? else {
-            return Ok(only(turn.alloc, Reply::Idle));
-        };
-        let _ = links.take(half.link, side);
-        if admitted {
-            Ok(self.pass(turn, half.peer, arrival)?)
-        } else {
-            Ok(self.hold(turn, conn, arrival)?)
+        }
+        match look(links, half.link, side, self.config.max_message_size)? {
+            Some(arrival) => Ok(self.take(turn, links, conn, at, half, arrival)?),
+            None => {
+                let why = Ended::DecodeFailed;
+                Ok(self.end_refused(turn, links, conn, half, why, Cause::FrameRefused)?)
+            }
         }
     }
 
@@ -168,6 +191,9 @@ impl Node {
         ensures does { IfOk result (λ r. RecvSteps turn.entry turn.node conn at self.old self.new links.old links.new r) }
         ensures failed { OnOk result (self.new.failed ≡ self.old.failed) }
     {
+        if !self.is_started() {
+            return Ok(only(turn.alloc, Reply::Gone));
+        }
         let Some(half) = self.half(turn.node, links, conn) else {
             return Ok(only(turn.alloc, Reply::Gone));
         };

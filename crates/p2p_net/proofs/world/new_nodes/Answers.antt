@@ -44,4 +44,4 @@ returns c =
     let i = c.loop-number.invariant.long in
     let past = c.loop-number-test.false in
     let most = c.loop-number.auto.number-end in
-    record { valid = c.requires; long = omega (arith, i, past, most); each = c.loop-number.invariant.each; linked = links_new }
+    record { valid = c.requires; long = omega (arith, i, past, most); each = c.loop-number.invariant.each; linked = links_new c.args.configs.now }

@@ -1,20 +1,26 @@
-use Rattle.std.proofs.Common.{refl, subst, Option}
-use Rattle.p2p_log.specs.declared.item.Item.{Item}
-use Rattle.p2p_net.specs.Acts.{HandsOn}
+use Rattle.std.proofs.Common.{ℕ, Bool, ap, subst, ◌∙◌, Option}
+use Rattle.std.specs.Prelude.{not}
+use Rattle.p2p_log.specs.declared.queue.Side.TheVariants as side
+use Rattle.p2p_log_rules.specs.declared.row.Row.{Row}
+use Rattle.p2p_log_rules.specs.Dropping.{gave_up}
+use Rattle.p2p_net_dialer.specs.Attempts.{answer_of}
+use Rattle.p2p_net_links.specs.declared.links.Links.{Links}
+use Rattle.p2p_net_queues.specs.Tables as table
+use Rattle.p2p_net.specs.Acts.{DropsUnless}
 use Rattle.p2p_net.specs.declared.node.Node.{Node}
 use Rattle.p2p_net.proofs.node.Node.attempt_step.Goals as goal
 
 pub returns-clause-does : goal.returns-clause-does
 returns-clause-does c =
     let x : Node = c.args.self.now in
-    let t = c.in_ok-tried.tried in
-    let mid : Node = record x { tracker = record x.tracker { mailbox = c.attempt.new.way }; dialing = c.attempt.new.self } in
+    let l : Links = c.args.links.now in
+    let ls : Links = c.drop_unless.new.links in
+    let row : Row = c.in_ok-row.row in
+    let after : Row = c.drop_unless.new.row in
     record {
-      tried = t;
-      mid = mid;
-      tries = c.in_ok-tried.ensures.tries;
-      tracker = refl;
-      actor = c.in_ok-tried.ensures.actor;
-      rest = refl;
-      hands = subst (λ (i : Option Item). HandsOn t.ready c.args.turn.entry c.args.turn.node i mid c.hand_on.new.self t.row c.hand_on.new.row) c.release_of.ensures c.in_ok-hand_on.ensures.does;
+      row = row;
+      steps = c.in_ok-row.ensures.does;
+      drops =
+          subst (λ (b : Bool). DropsUnless (not b) (answer_of (table.at x.dialing.attempts c.args.attempt)) side.Out l ls row after) (c.gives_up-kept.ensures ∙ ap gave_up c.as_slice.ensures)
+          (subst (λ (o : Option ℕ). DropsUnless (not c.gives_up-kept.result) o side.Out l ls row after) c.answer-link.ensures c.in_ok-drop_unless.ensures);
     }

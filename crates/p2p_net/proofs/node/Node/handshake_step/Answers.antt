@@ -1,61 +1,35 @@
-use Rattle.std.proofs.Common.{◌≡◌, refl, ap, sym, subst, ◌∙◌}
-use Rattle.p2p_base.specs.declared.key.Key.{Key}
-use Rattle.p2p_tracker_mailbox.specs.declared.mailbox.Mailbox.{Mailbox}
-use Rattle.p2p_net_tracker.specs.declared.tracker.Tracker.{Tracker}
+use Rattle.std.proofs.Common.{◌≡◌, ℕ, Bool, ap, sym, subst, ◌∙◌, Option}
+use Rattle.std.specs.Prelude.{◌||◌, is_some}
+use Rattle.std.specs.List.{list_any}
+use Rattle.p2p_log.specs.declared.queue.Side.TheVariants as side
+use Rattle.p2p_log_rules.specs.declared.row.Row.{Row}
+use Rattle.p2p_log_rules.specs.Dropping.{is_spawn}
+use Rattle.p2p_net_links.specs.declared.links.Links.{Links}
 use Rattle.p2p_net_queues.specs.Tables as table
-use Rattle.p2p_net_listener.specs.Handshaking.{StepsHandshake}
-use Rattle.p2p_net_listener.specs.declared.handshake.HandshakeStep.{HandshakeStep}
-use Rattle.p2p_net_listener.specs.declared.handshake.HandshakeStep.TheVariants as handshake
+use Rattle.p2p_net.specs.Acts.{link_over, DropsUnless}
 use Rattle.p2p_net.specs.declared.node.Node.{Node}
 use Rattle.p2p_net.proofs.node.Node.handshake_step.Goals as goal
+use Rattle.p2p_net.proofs.node.Node.handshake_step.Goals.{then-stands, else-stands}
 
-pub returns-in-Gone-clause-does : goal.returns-in-Gone-clause-does
-returns-in-Gone-clause-does c =
+pub returns-clause-does : goal.returns-clause-does
+returns-clause-does c =
     let x : Node = c.args.self.now in
+    let y : Node = c.shake.new.self in
+    let l : Links = c.args.links.now in
+    let ls : Links = c.drop_unless.new.links in
+    let row : Row = c.in_ok-row.row in
+    let after : Row = c.drop_unless.new.row in
+    let stands : Bool = is_some (table.at y.listening.handshakes c.args.handshake) in
+    let makes : Bool = list_any is_spawn row.puts in
+    let kept_is : c.if-stands.kept ≡ (stands || makes) =
+    elim c.if-stands.branch [
+      | then-stands w ↦ w.kept-is ∙ (w.if-stands.true ∙ ap (λ b. b || makes) (sym w.if-stands.true ∙ c.stands-stands.ensures))
+      | else-stands w ↦ w.kept-is ∙ (w.makes_connection-kept.ensures ∙ (ap (list_any is_spawn) w.as_slice.ensures ∙ ap (λ b. b || makes) (sym w.if-stands.false ∙ c.stands-stands.ensures)))
+    ] in
     record {
-      step = handshake.Gone;
-      mid = record x { tracker = record x.tracker { mailbox = c.handshake.new.way }; listening = c.handshake.new.self };
-      taken = c.only.result;
-      steps =
-          subst (λ (s : HandshakeStep). StepsHandshake (table.at x.listening.handshakes c.args.handshake) c.args.handshake c.args.at x.listening c.handshake.new.self x.tracker.mailbox c.handshake.new.way s)
-          c.in-Gone.is c.in_ok-handshake.ensures;
-      tracks = (c.only.ensures, refl);
-      rest = refl;
-      hands = (refl, refl);
-    }
-
-pub returns-in-Idle-clause-does : goal.returns-in-Idle-clause-does
-returns-in-Idle-clause-does c =
-    let x : Node = c.args.self.now in
-    record {
-      step = handshake.Idle;
-      mid = record x { tracker = record x.tracker { mailbox = c.handshake.new.way }; listening = c.handshake.new.self };
-      taken = c.only-in-Idle.result;
-      steps =
-          subst (λ (s : HandshakeStep). StepsHandshake (table.at x.listening.handshakes c.args.handshake) c.args.handshake c.args.at x.listening c.handshake.new.self x.tracker.mailbox c.handshake.new.way s)
-          c.in-Idle.is c.in_ok-handshake.ensures;
-      tracks = (c.only-in-Idle.ensures, refl);
-      rest = refl;
-      hands = (refl, refl);
-    }
-
-pub returns-in_ok-hand_on-in-Served-clause-does : goal.returns-in_ok-hand_on-in-Served-clause-does
-returns-in_ok-hand_on-in-Served-clause-does c =
-    let x : Node = c.args.self.now in
-    let made = c.in_ok-row-in-Served in
-    let t : Tracker = c.handshake_step.new.self in
-    let rest : t ≡ record x.tracker { mailbox = c.handshake.new.way; told = t.told } = made.ensures.rest in
-    let way : t.mailbox ≡ c.handshake.new.way = ap (λ (u : Tracker). u.mailbox) rest in
-    record {
-      step = handshake.Served c.in-Served.took c.in-Served.ended c.in-Served.asked c.in-Served.ready;
-      mid = record x { tracker = t; listening = c.handshake.new.self };
-      taken = made.row;
-      steps =
-          subst (λ (w : Mailbox Key). StepsHandshake (table.at x.listening.handshakes c.args.handshake) c.args.handshake c.args.at x.listening c.handshake.new.self x.tracker.mailbox w
-          (handshake.Served c.in-Served.took c.in-Served.ended c.in-Served.asked c.in-Served.ready)) (sym way)
-          (subst (λ (s : HandshakeStep). StepsHandshake (table.at x.listening.handshakes c.args.handshake) c.args.handshake c.args.at x.listening c.handshake.new.self x.tracker.mailbox c.handshake.new.way s)
-          c.in-Served.is c.in_ok-handshake.ensures);
-      tracks = (made.ensures.row, (made.ensures.told, rest ∙ ap (λ (w : Mailbox Key). record x.tracker { mailbox = w; told = t.told }) (sym way)));
-      rest = refl;
-      hands = c.in_ok-hand_on-in-Served.ensures.does;
+      row = row;
+      steps = c.in_ok-row.ensures.does;
+      drops =
+          subst (λ (b : Bool). DropsUnless b (link_over (table.at x.listening.handshakes c.args.handshake)) side.In l ls row after) kept_is
+          (subst (λ (o : Option ℕ). DropsUnless c.if-stands.kept o side.In l ls row after) c.link_of-link.ensures c.in_ok-drop_unless.ensures);
     }
