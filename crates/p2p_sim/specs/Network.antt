@@ -1,5 +1,5 @@
 -- The network as the program that is run: which trees it runs, and what a world that ran one is.
-use Rattle.std.specs.Prelude.{◌≡◌, ℕ, cond, List, Option, Some, None}
+use Rattle.std.specs.Prelude.{◌≡◌, ℕ, List, Option, Some, None}
 use Rattle.serde_json.specs.Data.{Data}
 use Rattle.p2p_log.specs.declared.config.Config.{Config}
 use Rattle.p2p_log.specs.declared.event.Event.{Event}
@@ -15,13 +15,13 @@ use Rattle.p2p_log_laws.specs.Listed.{ListsAreCurrent}
 use Rattle.p2p_log_laws.specs.Leading.{ConnectionsAreOne, ConnectionsLead, EndsMeet}
 use Rattle.p2p_log_laws.specs.OneEnd.{EachHasOneEnd, NothingElseEnds}
 use Rattle.p2p_log_laws.specs.Delivered.{EachIsDelivery, EachDeliveredIsRead}
-use Rattle.p2p_log_laws.specs.Order.{AreDeliveredInOrder, AreDeliveredInOrderOverOne, AreDeliveredInOrderOfConnections, EachWentOver}
+use Rattle.p2p_log_laws.specs.Order.{AreDeliveredInOrderOverOne, AreDeliveredInOrderOfConnections, EachWentOver}
 use Rattle.p2p_log_laws.specs.Admitted.{EachIsAdmitted, ChecksAreAdmitted, EachIsChecked, ChecksAreSpentOnce}
 use Rattle.p2p_log_laws.specs.Beginning.{EachBeginsReserved}
 use Rattle.p2p_log_laws.specs.Causes.{EachDropShowsItsCause}
+use Rattle.p2p_log_laws.specs.Endings.{EachEndShows, EachEndsOne, EachIsEndedOnce, ReleasesAreTimely}
 use Rattle.p2p_log_laws.specs.Fates.{EachHasFate, WaitingIsTrue, DroppedIsTrue, DeliveredIsTrue}
 use Rattle.p2p_sim_script.specs.Form.{script_of}
-use Rattle.p2p_sim_script.specs.FirstForm.{is_first_form}
 use Rattle.p2p_sim_report.specs.ReportText.{report_text}
 use Rattle.p2p_net.specs.Stands.{WorldStands}
 use Rattle.p2p_net.specs.World.{WorldView}
@@ -37,14 +37,10 @@ first_fault None None = None
 abbrev pub fault_of : List Config → List Event → Option Refusal
 fault_of configs script = first_fault (config_fault configs) (event_fault configs script)
 
--- a script is run that is of the form that is built so far, and valid
-abbrev pub script_refusal : List Config × List Event → Option Refusal
-script_refusal s = cond (is_first_form s.0 s.1) (fault_of s.0 s.1) (Some refusal.NotScript)
-
--- a tree is run that says such a script
+-- a tree is run that says a script that is valid
 abbrev pub tree_refusal : Option (List Config × List Event) → Option Refusal
 tree_refusal None = Some refusal.NotScript
-tree_refusal (Some s) = script_refusal s
+tree_refusal (Some s) = fault_of s.0 s.1
 
 abbrev pub refusal_of : Data → Option Refusal
 refusal_of tree = tree_refusal (script_of tree)
@@ -63,8 +59,9 @@ pub record HasRunScript (configs : List Config) (script : List Event) (world : W
 -- or dropped; what is delivered was sent, is read, and in order; each drop shows its cause; the fate of each copy, which the
 -- report tells, is true; each key that is reserved at a node is held by one thing there, or its one release waits; each
 -- handshake waits for one answer at a time, is told once how the exchange over its link ended, and asks for its peer once after
--- that; each connection that a spawner made leads to the peer that is reserved for it, is the only one of its node that does,
--- meets the one of its peer, and begins while its key is reserved; and each kill of one shows its cause
+-- that; each connection that a spawner made leads to the peer that is reserved for it, is the only one of its node over its link
+-- and, while it has not ended, with its peer, meets the one of its peer, and begins while its key is reserved; each kill of one
+-- shows its cause; and each end of one shows its reason, comes once, and is heard of before the next with its peer
 pub record IsAccounted (configs : List Config) (log : List Entry) : Type 0 where
   pub admitted : EachIsAdmitted configs log
   pub checks : ChecksAreAdmitted log
@@ -75,7 +72,6 @@ pub record IsAccounted (configs : List Config) (log : List Entry) : Type 0 where
   pub nothing_else : NothingElseEnds log
   pub delivery : EachIsDelivery configs log
   pub read : EachDeliveredIsRead configs log
-  pub order : AreDeliveredInOrder configs log
   pub link : AreDeliveredInOrderOverOne configs log
   pub connections : AreDeliveredInOrderOfConnections configs log
   pub connection : EachWentOver configs log
@@ -93,6 +89,10 @@ pub record IsAccounted (configs : List Config) (log : List Entry) : Type 0 where
   pub ends : EndsMeet configs log
   pub begins : EachBeginsReserved configs log
   pub kills : EachKillShowsItsCause configs log
+  pub shown : EachEndShows configs log
+  pub one : EachEndsOne log
+  pub ended_once : EachIsEndedOnce log
+  pub timely : ReleasesAreTimely log
 
 -- the tree says a script, the world ran it, and the text is the report of the world's log, in which each copy has its end
 pub record RunsTree (tree : Data) (world : WorldView) (text : List ℕ) : Type 0 where

@@ -7,22 +7,21 @@ ghost use Rattle.p2p_log.specs.declared.event.Event.{Event as OneEvent};
 ghost use Rattle.p2p_log.specs.declared.entry.Entry.{Entry};
 ghost use Rattle.p2p_log_rules.specs.Lawful.{IsLawful};
 ghost use Rattle.p2p_sim_script.specs.Form.{script_of};
-ghost use Rattle.p2p_sim_script.specs.FirstForm.{is_first_form as is_form};
 ghost use Rattle.p2p_sim.specs.Network.{fault_of, refusal_of as refusal_of_tree, HasRunScript, IsAccounted};
 ghost use Rattle.p2p_sim_command.specs.declared.program.RunError.TheVariants as run_error;
 
 use p2p_base::List;
 use p2p_log::{Config, Event};
 use p2p_log_laws::{
-    checks_are_spent, connections_begin_reserved, connections_lead_to_their_peers,
-    delivered_in_order, each_drop_shows_its_cause, each_kill_shows_its_cause, fates_are_true,
-    handshakes_have_one_answer, lists_are_current, node_grants, one_end, only_sent_is_delivered,
-    sends_are_admitted,
+    checks_are_spent, connections_begin_reserved, connections_end_by_cause,
+    connections_lead_to_their_peers, delivered_in_order, each_drop_shows_its_cause,
+    each_kill_shows_its_cause, fates_are_true, handshakes_have_one_answer, lists_are_current,
+    node_grants, one_end, only_sent_is_delivered, releases_are_timely, sends_are_admitted,
 };
 use p2p_net::{RunError as WorldError, World};
 use p2p_sim_command::{Program, Refusal, RunError};
 use p2p_sim_report::write_report;
-use p2p_sim_script::{ScriptError, is_first_form, read_script};
+use p2p_sim_script::{ScriptError, read_script};
 use serde_json::Value;
 use std::alloc::Global;
 
@@ -39,7 +38,7 @@ impl Program for Network {
     ghost Runs = { RunsTree };
 
     fn run(alloc: Global, tree: Value) -> Result<(World, String), RunError> {
-        let (configs, script) = read_form(alloc, tree)?;
+        let (configs, script) = read(alloc, tree)?;
         let world = run_script(alloc, configs.as_slice(), script.as_slice())?;
         account();
         match write_report(alloc, world.report()) {
@@ -50,7 +49,7 @@ impl Program for Network {
 }
 
 // Each message is for those whom its quota admits, each copy has its end, each grant its holder or its release, each handshake one
-// answer, and each connection its peer, in each lawful log.
+// answer, and each connection its peer and the reason for which it ends, in each lawful log.
 fn account()
     ensures { (configs : List OneConfig) (script : List OneEvent) (log : List Entry) → IsLawful configs script log → IsAccounted configs log }
 {
@@ -67,33 +66,19 @@ fn account()
     connections_lead_to_their_peers();
     connections_begin_reserved();
     each_kill_shows_its_cause();
+    connections_end_by_cause();
+    releases_are_timely();
 }
 
-// Reads a script of the form that is run, and gives the memory of its tree back.
-fn read_form(alloc: Global, tree: Value) -> Result<(List<Config>, List<Event>), RunError>
+// Reads a script, and gives the memory of its tree back.
+fn read(alloc: Global, tree: Value) -> Result<(List<Config>, List<Event>), RunError>
     ensures says { IfOk result (λ s. script_of (view tree) ≡ Some s) }
-    ensures form { IfOk result (λ s. is_form s.0 s.1 ≡ true) }
     ensures refused { (r : Refusal) → result ≡ Err (run_error.Refused r) → refusal_of_tree (view tree) ≡ Some r }
 {
     match read_script(alloc, &tree) {
-        Ok((configs, script)) => {
-            test_form(alloc, configs.as_slice(), script.as_slice())?;
-            Ok((configs, script))
-        }
+        Ok(script) => Ok(script),
         Err(ScriptError::NotScript) => Err(RunError::Refused(Refusal::NotScript)),
         Err(ScriptError::Memory) => Err(RunError::Memory),
-    }
-}
-
-// Tells whether a script has the form that is run.
-fn test_form(alloc: Global, configs: &[Config], script: &[Event]) -> Result<(), RunError>
-    ensures form { OnOk result (is_form configs.now script.now ≡ true) }
-    ensures refused { (r : Refusal) → result ≡ Err (run_error.Refused r) → (r ≡ Refusal.NotScript) × (is_form configs.now script.now ≡ false) }
-{
-    match is_first_form(alloc, configs, script) {
-        Ok(true) => Ok(()),
-        Ok(false) => Err(RunError::Refused(Refusal::NotScript)),
-        Err(_) => Err(RunError::Memory),
     }
 }
 

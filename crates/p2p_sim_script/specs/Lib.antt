@@ -2,13 +2,8 @@ pub mod ActForm
 pub mod AddressForm
 pub mod ConfigForm
 pub mod DialerActForm
-pub mod FirstForm
 pub mod Form
 pub mod Gives
-pub mod KeptLinks
-pub mod KeptPeers
-pub mod Nodes
-pub mod Pairs
 pub mod Parts
 pub mod Presets
 pub mod TrackerActForm

@@ -7,12 +7,7 @@ mod config;
 mod dialer_act;
 mod error;
 mod event;
-mod first_form;
-mod kept_links;
-mod kept_peers;
 mod list;
-mod nodes;
-mod pairs;
 mod parts;
 mod preset;
 mod script;
@@ -20,5 +15,4 @@ mod tracker_act;
 mod tree;
 
 pub use error::ScriptError;
-pub use first_form::is_first_form;
 pub use script::read_script;

@@ -12,7 +12,6 @@ returns c = λ configs script log lawful.
       nothing_else = c.one_end.ensures.nothing_else configs script log lawful;
       delivery = c.only_sent_is_delivered.ensures.sent configs script log lawful;
       read = c.only_sent_is_delivered.ensures.read configs script log lawful;
-      order = c.delivered_in_order.ensures.order configs script log lawful;
       link = c.delivered_in_order.ensures.link configs script log lawful;
       connections = c.delivered_in_order.ensures.connections configs script log lawful;
       connection = c.delivered_in_order.ensures.connection configs script log lawful;
@@ -30,4 +29,8 @@ returns c = λ configs script log lawful.
       answered = λ n name. c.handshakes_have_one_answer.ensures configs script log n name lawful;
       begins = c.connections_begin_reserved.ensures configs script log lawful;
       kills = c.each_kill_shows_its_cause.ensures configs script log lawful;
+      shown = c.connections_end_by_cause.ensures.shown configs script log lawful;
+      one = c.connections_end_by_cause.ensures.one configs script log lawful;
+      ended_once = c.connections_end_by_cause.ensures.once configs script log lawful;
+      timely = c.releases_are_timely.ensures configs script log lawful;
     }
