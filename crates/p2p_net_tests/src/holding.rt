@@ -91,34 +91,6 @@ fn two_channels_of_a_connection_do_not_share_a_quota(rt: HostRuntime) {
     assert_eq!(rt; first_other(alloc, &nodes(), before, ON_EACH), Ok(None));
 }
 
-// The node of the key 2 has no channel 8.
-const ANOTHER_CHANNEL: &[(u64, Do)] = &[
-    (0, Do::RegisterOn(7, 8, 1000)),
-    (1, Do::RegisterOn(7, 8, 1000)),
-    (0, Do::RegisterOn(8, 8, 1000)),
-    (1, Do::RegisterOn(9, 8, 1000)),
-];
-
-const WITHOUT_A_CHANNEL: &[Step] = &[
-    (0, 0, Do::SendOn(8, 2, 1), Asked),
-    (0, 0, Do::SendOn(7, 2, 2), Asked),
-    (0, 0, Do::Router, Routed(0, 35)),
-    (0, 0, Do::Router, Routed(0, 35)),
-    (0, 0, Do::SendStep(35), WrittenTwo(24, Side::In)),
-    (0, 1, Do::RecvStep(34), Idle),
-    (9000, 1, Do::RecvStep(34), Idle),
-];
-
-#[test]
-fn a_message_without_a_channel_is_not_held_and_stays_on_its_link(rt: HostRuntime) {
-    let alloc = rt.alloc();
-    let before = one_running_with_two_channels(alloc, ANOTHER_CHANNEL);
-    assert_eq!(rt;
-        first_other(alloc, &nodes(), before, WITHOUT_A_CHANNEL),
-        Ok(None)
-    );
-}
-
 // ---- two connections of one node
 
 // The first node admits one message of each connection, and one more each 1000 nanoseconds.

@@ -1,8 +1,8 @@
 //! The tests of the world, through its public names alone.
 //!
 //! Of `p2p_net` are `world` and, with the parts of these names, `tracker`, `dialer`, `attempts`, `listener`, `handshakes`,
-//! `finishing`, `spawning`, `connecting`, `pinging`, `holding`, `closing`, `sending` and `checking`: they are scripts, which `scripts`
-//! and, of the last five, `moments` run, `paths` has the events by which two nodes get a connection, and `seen` has what an event shows.
+//! `finishing`, `spawning`, `connecting`, `pinging`, `holding`, `closing`, `ending`, `sending` and `checking`: they are scripts, which `scripts`
+//! and, of the last six, `moments` run, `paths` has the events by which two nodes get a connection, and `seen` has what an event shows.
 #![tactic(auto)]
 
 #[cfg(test)]
@@ -15,6 +15,8 @@ mod closing;
 mod connecting;
 #[cfg(test)]
 mod dialer;
+#[cfg(test)]
+mod ending;
 #[cfg(test)]
 mod finishing;
 #[cfg(test)]
