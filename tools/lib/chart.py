@@ -37,7 +37,7 @@ def reply_text(reply):
             return 'update %s' % value.get('index')
         if name == 'peer_set':
             return 'peer set %s' % peers_text(value)
-        if name == 'outcome':
+        if name in ('outcome', 'ended'):
             return str(value)
         if name == 'limited' and isinstance(value, list):
             return limited_text(value)

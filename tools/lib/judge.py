@@ -1,5 +1,4 @@
 """The verdict on a script: what is wrong with it, where, and with which status the program ends."""
-from built_form import built_faults
 from faults import Fault, Verdict
 from json_text import BadJson, Places, read_json
 from script_form import read_script
@@ -19,15 +18,12 @@ CONCLUSIONS = {
 
 
 def judge_tree(tree):
-    """The verdict on a tree: its form first, then what is not built, then valid input."""
+    """The verdict on a tree: its form first, then acts that are not built, then valid input."""
     script = read_script(tree)
     if script.faults:
         return Verdict(script.faults, 6)
     if script.not_built:
         return Verdict(script.not_built, None)
-    faults = built_faults(script)
-    if faults:
-        return Verdict(faults, None)
     fault = configuration_fault(script.configurations)
     if fault:
         return Verdict([fault], 7)

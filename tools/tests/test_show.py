@@ -14,6 +14,7 @@ from report_form import BadReport, read_report
 HELLO = os.path.join(TOP, 'examples', 'hello.report')
 PINGS = os.path.join(TOP, 'examples', 'pings.report')
 CHECKED = os.path.join(TOP, 'examples', 'checked.report')
+ENDED = os.path.join(TOP, 'examples', 'ended.report')
 TRACKER = r'''{"end":[],"n":0,"put":[["tracker:0",{"call":0}]],"reply":{"feedback":"ok"},"take":[]}
 {"end":[],"n":1,"put":[["control:0:4","kill"],["update:0",[[10,0,0,2]]],["updates:0",{"all":{"primary":[2],"secondary":[]},"index":6,"latest":{"primary":[2],"secondary":[]}}]],"reply":"ok","take":[[0,0]]}
 {"end":[],"n":2,"put":[],"reply":{"update":{"all":{"primary":[2],"secondary":[]},"index":6,"latest":{"primary":[2],"secondary":[]}}},"take":[[1,2]]}
@@ -233,6 +234,15 @@ class Show(unittest.TestCase):
         self.assertEqual(self.drawn(HELD, HELD_SCRIPT).count('ping: '), 1)
         drawn = self.drawn(read_text(PINGS), read_text(beside(PINGS, '.json')))
         self.assertEqual((drawn.count('ping: link:13:out'), drawn.count('ping: held:1:25'), drawn.count('ping: ')), (2, 1, 3))
+
+    def test_each_end_of_a_connection_is_drawn_with_its_reason_and_with_what_it_takes_along(self):
+        drawn = self.assert_drawn(read_text(ENDED), read_text(beside(ENDED, '.json')), (
+            '57  node 1 send_step: killed', '64  node 0 recv_step: invalid_channel', '98  node 1 recv_step: decode_failed',
+            '101  node 0 send_step: send_failed', '129  node 0 recv_step: receive_failed', 'kill: control:1:26',
+            'release of key 1: router:1', 'release of key 2: tracker:0', '[47,0] dropped: channel_unregistered',
+            '[52,0] dropped: connection_ended', '[95,0] dropped: frame_refused'))
+        reasons = ('killed', 'invalid_channel', 'decode_failed', 'send_failed', 'receive_failed')
+        self.assertEqual([drawn.count('connection ended: %s<' % why) for why in reasons], [1] * 5)
 
     def test_each_direction_of_a_link_has_its_writer(self):
         self.assertEqual(link_writers(read_report(read_text(HELLO))), {'link:13:out': 0, 'link:13:in': 1})
