@@ -105,15 +105,10 @@ const STEP_OF_THE_OTHER_NODE: &str = r#"{"configs":[
     {"node":1,"at":0,"do":"spawner"},
     {"conn":3,"node":0,"at":0,"do":"recv_step"}]}"#;
 
-// A node is to block a peer once it may have a connection with it, which isn't built.
-const LATE_BLOCK: &str = r#"{"configs":[
+// A node stops, which isn't built.
+const STOP: &str = r#"{"configs":[
     {"key":1,"preset":"local","max_peers_per_set":2,"max_message_size":1024,"mailbox_size":4}],
-    "script":[
-    {"node":0,"at":0,"do":"start"},
-    {"node":0,"at":0,"do":"dialer"},
-    {"node":0,"at":0,"do":"spawner"},
-    {"conn":2,"node":0,"at":0,"do":"send_step"},
-    {"key":2,"node":0,"at":0,"do":"block"}]}"#;
+    "script":[{"node":0,"at":0,"do":"start"},{"node":0,"at":0,"do":"stop"}]}"#;
 
 const REFUSED: &[Outcome] = &[
     (&[NO_WHOLE_MOMENT], Status::NotScript, NO_SCRIPT),
@@ -135,7 +130,7 @@ const REFUSED: &[Outcome] = &[
         Status::Event,
         &[&[r#"{"error":"event","event":4}"#]],
     ),
-    (&[LATE_BLOCK], Status::NotScript, NO_SCRIPT),
+    (&[STOP], Status::NotScript, NO_SCRIPT),
 ];
 
 const NO_SCRIPT: &[&[&str]] = &[&[r#"{"error":"script"}"#]];
