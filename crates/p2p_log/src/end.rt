@@ -9,9 +9,9 @@ pub enum Cause {
     NoConnection,
     /// The queue of its recipient's connection was full.
     RelayFull,
-    /// The connection that it stood with ended, or a queue of a connection that had ended was the one it was to enter.
+    /// Its sender's connection, or its receiver's end of their link, ended before it came through.
     ConnectionEnded,
-    /// The frame that held it was no frame within its receiver's limit.
+    /// Its frame was neither a message within its receiver's limit nor a ping.
     FrameRefused,
     /// Its channel was not registered where it came.
     ChannelUnregistered,

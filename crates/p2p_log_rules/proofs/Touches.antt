@@ -1,22 +1,17 @@
 -- Which queues an act reaches: from which it takes, and which it changes.
 use Rattle.p2p_log.specs.declared.config.Config.{Config}
-use Rattle.p2p_log.proofs.Queues.{same_queue-refl}
-use Rattle.std.proofs.Common.{◌≡◌, ℕ, Bool, true, false, List, [], ◌∷◌, ◌++◌, Option, Some, None, inl, inr, refl, ap, sym, ◌∙◌}
+use Rattle.std.proofs.Common.{◌≡◌, ℕ, Bool, true, false, List, Option, Some, None, refl, ap, sym, ◌∙◌}
 use Rattle.std.specs.Prelude.{◌==◌, ◌&&◌, ◌||◌}
-use Rattle.std.specs.List.{AllByRecursion as Each, list_any}
 use Rattle.std.proofs.lemmas.Bool.{false≢true}
 use Rattle.p2p_log.specs.declared.queue.Queue.{Queue}
 use Rattle.p2p_log.specs.declared.queue.Queue.TheVariants as queue
 use Rattle.p2p_log.specs.declared.entry.Entry.{Entry}
-use Rattle.p2p_log.specs.declared.event.Event.{Event}
 use Rattle.p2p_log.specs.declared.asked.Asked.TheVariants as ask
 use Rattle.p2p_log.specs.declared.event.Act.{Act}
 use Rattle.p2p_log.specs.declared.event.Act.TheVariants as act
 use Rattle.p2p_log.specs.declared.event.Recipients.{Recipients}
 use Rattle.p2p_log.specs.declared.event.Recipients.TheVariants as recipients
-use Rattle.p2p_log_rules.specs.declared.row.Row.{Row}
 use Rattle.p2p_log.specs.QueueCode.{same_queue}
-use Rattle.p2p_log.specs.Lines.{stands_in, line}
 use Rattle.p2p_log_rules.specs.declared.row.Half.{Half}
 use Rattle.p2p_log_rules.specs.declared.row.Opening.{Opening}
 use Rattle.p2p_log_rules.specs.Checking.{checking_node}
@@ -24,10 +19,6 @@ use Rattle.p2p_log_rules.specs.Connections.{half_at}
 use Rattle.p2p_log_rules.specs.Links.{openings_of}
 use Rattle.p2p_log_rules.specs.Reading.{reading_of}
 use Rattle.p2p_log_rules.specs.Tracking.{asked_by}
-use Rattle.p2p_log_rules.specs.Effect.{entry_of, goes_to}
-use Rattle.p2p_log.proofs.Each.{Has, Each-append, Each-weaker}
-use Rattle.p2p_log_rules.specs.Moves.{Moves}
-use Rattle.p2p_log_rules.proofs.Moves.{line-left}
 use Rattle.p2p_log.proofs.QueueNames.{queue_from_same}
 
 -- what a router has: its mailbox, and the queues to which it writes
@@ -94,10 +85,6 @@ is_told_to (Some (act.Ask ask.Subscribe n)) e q = same_queue (queue.Updates n e)
 is_told_to (Some (act.Ask ask.Blocked n)) e q = same_queue (queue.Blocked n e) q
 is_told_to _ e q = false
 
--- whether a queue is one of these
-abbrev pub is_among : List Queue → Queue → Bool
-is_among qs q = list_any (λ p. same_queue p q) qs
-
 -- the list of peers that waits for a channel, for what asks its quota for all
 abbrev pub are_all : Recipients → Bool
 are_all recipients.All = true
@@ -145,23 +132,6 @@ writes configs log (act.Refuse e n) q = same_queue (queue.Attempt n e) q
 writes configs log (act.Finish link ok) q = in_ends (openings_of log link) q
 writes configs log _ q = false
 
-pub Has-among : (qs : List Queue) (q : Queue) → Has qs q → is_among qs q ≡ true
-Has-among [] q h = absurd h
-Has-among (p ∷ ps) q h = elim h [
-  | inl e ↦ ap (λ b. b || is_among ps q) (ap (λ x. same_queue x q) e ∙ same_queue-refl q)
-  | inr l ↦ ap (λ b. same_queue p q || b) (Has-among ps q l) ∙ or_true (same_queue p q)
-]
-  where
-    or_true : (b : Bool) → (b || true) ≡ true
-    or_true true = refl
-    or_true false = refl
-
--- a row stays within its act's reach
-pub record Reach (configs : List Config) (a : Act) (log : List Entry) (r : Row) (m : Moves log r) : Type 0 where
-  pub taken : Each (λ x. reads configs log a x.queue ≡ true) m.taken
-  pub ended : Each (λ x. writes configs log a x.queue ≡ true) m.ended
-  pub puts : Each (λ x. writes configs log a x.0 ≡ true) r.puts
-
 -- of two queues one passes a test and the other does not, so they are two
 pub away : (p : Queue → Bool) (q x : Queue) → p q ≡ false → p x ≡ true → same_queue q x ≡ false
 away p q x none some = go (same_queue q x) refl
@@ -169,13 +139,3 @@ away p q x none some = go (same_queue q x) refl
     go : (b : Bool) → same_queue q x ≡ b → b ≡ false
     go true e = absurd (false≢true (sym none ∙ (ap p (sym (queue_from_same q x e)) ∙ some)))
     go false e = refl
-
--- a line out of its reach stays as it was
-pub line-out_of_reach : (configs : List Config) (log : List Entry) (ev : Event) (r : Row) (m : Moves log r) → Reach configs ev.act log r m → (q : Queue)
-    → reads configs log ev.act q ≡ false → writes configs log ev.act q ≡ false → line (log ++ entry_of ev r ∷ []) q ≡ line log q
-line-out_of_reach configs log ev r m h q no_read no_write =
-    line-left log ev r m q
-    (Each-append (λ x. stands_in q x ≡ false) m.taken m.ended
-    (Each-weaker (λ x. reads configs log ev.act x.queue ≡ true) (λ x. stands_in q x ≡ false) (λ x k. away (reads configs log ev.act) q x.queue no_read k) m.taken h.taken)
-    (Each-weaker (λ x. writes configs log ev.act x.queue ≡ true) (λ x. stands_in q x ≡ false) (λ x k. away (writes configs log ev.act) q x.queue no_write k) m.ended h.ended))
-    (Each-weaker (λ x. writes configs log ev.act x.0 ≡ true) (λ x. goes_to q x ≡ false) (λ x k. away (writes configs log ev.act) q x.0 no_write k) r.puts h.puts)
