@@ -74,13 +74,14 @@ def setup(nodes, burst):
     return events, conns
 
 
-def message(a, conns):
+def message(sender, conns):
     """The five events that carry one message from a node to its partner."""
-    yield {'do': 'send', 'node': a, 'channel': CHANNEL, 'bytes': '68656c6c6f', 'priority': False, 'to': {'one': a + 2}}
-    yield {'do': 'router', 'node': a}
-    yield {'do': 'send_step', 'node': a, 'conn': conns[a]}
-    yield {'do': 'recv_step', 'node': a + 1, 'conn': conns[a + 1]}
-    yield {'do': 'recv', 'node': a + 1, 'channel': CHANNEL}
+    reader = sender ^ 1
+    yield {'do': 'send', 'node': sender, 'channel': CHANNEL, 'bytes': '68656c6c6f', 'priority': False, 'to': {'one': reader + 1}}
+    yield {'do': 'router', 'node': sender}
+    yield {'do': 'send_step', 'node': sender, 'conn': conns[sender]}
+    yield {'do': 'recv_step', 'node': reader, 'conn': conns[reader]}
+    yield {'do': 'recv', 'node': reader, 'channel': CHANNEL}
 
 
 def script(count, nodes):

@@ -44,3 +44,9 @@ class Docs(unittest.TestCase):
         crates = [line.split(':')[0].split()[0] for line in read_text(os.path.join(TOP, 'crates.txt')).splitlines() if ':' in line]
         listed = re.findall(r'^\| `(p2p\w*)` \|', read_text(os.path.join(TOP, 'README.md')), re.MULTILINE)
         self.assertEqual(sorted(listed), sorted(crates))
+
+    def test_the_promises_have_each_edit(self):
+        edits = {tuple(path.split(os.sep)[-3::2]) for path in glob.glob(os.path.join(TOP, 'crates', '*', 'must-fail', '*.edit'))}
+        rows = re.findall(r'^\| `(p2p\w*)` \| (`[^|]*`) \|$', read_text(os.path.join(TOP, 'docs', 'PROMISES.md')), re.MULTILINE)
+        listed = {(crate, name + '.edit') for crate, names in rows for name in re.findall(r'`([\w-]+)`', names)}
+        self.assertEqual(listed, edits)
