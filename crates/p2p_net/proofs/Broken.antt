@@ -1,6 +1,6 @@
 -- A connection ends that has something to write to a link whose other end was dropped: its batch was taken.
-use Rattle.std.proofs.Common.{◌≡◌, ℕ, Bool, true, false, cond, List, [], ◌∷◌, ◌++◌, length, take, refl, ap, sym, subst, ◌∙◌, append-nil, eq-eqb, Option, Some, None}
-use Rattle.std.specs.Prelude.{filter, map}
+use Rattle.std.proofs.Common.{◌≡◌, ℕ, false, List, [], ◌∷◌, ◌++◌, take, refl, ap, sym, subst, ◌∙◌, append-nil, eq-eqb}
+use Rattle.std.specs.Prelude.{filter}
 use Rattle.std.specs.List.{AllByRecursion as Each}
 use Rattle.p2p_log.specs.declared.config.Config.{Config}
 use Rattle.p2p_log.specs.declared.queue.Queue.{Queue}
@@ -11,23 +11,19 @@ use Rattle.p2p_log.specs.declared.item.Item.{Item}
 use Rattle.p2p_log.specs.declared.item.Envelope.{Envelope}
 use Rattle.p2p_log.specs.declared.entry.Entry.{Entry}
 use Rattle.p2p_log.specs.QueueCode.{same_queue}
-use Rattle.p2p_log.specs.Lines.{line, live, lines_in, name_of, stays, stands_in}
+use Rattle.p2p_log.specs.Lines.{line, live, stands_in}
 use Rattle.p2p_log.specs.Taken.{AreTaken}
 use Rattle.p2p_log.proofs.Each.{Each-append, Each-take, Each-weaker}
 use Rattle.p2p_log.proofs.Names.{AreApart-live_from}
 use Rattle.p2p_log.proofs.QueueNames.{Each-in_queue}
-use Rattle.p2p_log.proofs.Queues.{same_queue-sym}
 use Rattle.p2p_log_rules.specs.declared.row.Half.{Half}
 use Rattle.p2p_log_rules.specs.Effect.{other_side}
-use Rattle.p2p_log_rules.specs.Ending.{queues_with, left_by}
+use Rattle.p2p_log_rules.specs.Ending.{left_by}
 use Rattle.p2p_log_rules.proofs.Moves.{batch_stood}
 use Rattle.p2p_net_queues.specs.Board.{held}
-use Rattle.p2p_net_queues.specs.Tables.{waiting}
 use Rattle.p2p_net_router.specs.Batches.{batch_of}
 use Rattle.p2p_net_router.specs.Stands.{StandsOver}
-use Rattle.p2p_net_router.specs.declared.router.Router.{Router}
 use Rattle.p2p_net_router.proofs.Batches.{batch_beside}
-use Rattle.p2p_net_links.specs.Links.{way_of}
 use Rattle.p2p_net_links.specs.Stands.{LinksStand}
 use Rattle.p2p_net_links.specs.declared.links.Links.{Links}
 use Rattle.p2p_net_links.proofs.Ending.{links_dropped}
@@ -37,7 +33,7 @@ use Rattle.p2p_net.specs.Places as place
 use Rattle.p2p_net.specs.Routing as routing
 use Rattle.p2p_net.specs.Stands.{RouterStands, NodeStands}
 use Rattle.p2p_net.specs.declared.node.Node.{Node}
-use Rattle.p2p_net.proofs.EndSteps.{HaveLeft}
+use Rattle.p2p_net.proofs.HaveLeft.{HaveLeft}
 
 -- a batch is the front of what stands in its two lanes
 batch_taken : (log : List Entry) (n conn most : ℕ) → AreTaken (live log) (batch_of n conn most (live log))

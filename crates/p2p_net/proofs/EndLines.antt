@@ -1,13 +1,11 @@
--- The lines after an entry that ends a connection: of what ends with it nothing is left, and the others are as they were.
-use Rattle.std.proofs.Common.{◌≡◌, ℕ, Bool, true, false, cond, List, [], ◌∷◌, ◌++◌, length, refl, ap, sym, subst, ◌∙◌}
+-- The lines after an entry that ends a connection: what is left of each, and what is put there.
+use Rattle.std.proofs.Common.{◌≡◌, ℕ, false, List, [], ◌∷◌, ◌++◌, refl, ap, sym, ◌∙◌}
 use Rattle.std.specs.Prelude.{map, filter, flat_map}
 use Rattle.std.specs.List.{AllByRecursion as Each}
 use Rattle.std.proofs.lemmas.Grind.{flat_map-append}
 use Rattle.std.proofs.lemmas.List.{map-append}
 use Rattle.p2p_log.specs.declared.queue.Queue.{Queue}
-use Rattle.p2p_log.specs.declared.queue.Queue.TheVariants as queue
 use Rattle.p2p_log.specs.declared.item.Envelope.{Envelope}
-use Rattle.p2p_log.specs.declared.end.End.{End}
 use Rattle.p2p_log.specs.declared.end.End.TheVariants as end
 use Rattle.p2p_log.specs.declared.end.Outcome.{Outcome as How}
 use Rattle.p2p_log.specs.declared.end.Outcome.TheVariants as outcome
@@ -20,12 +18,12 @@ use Rattle.p2p_log.specs.QueueCode.{same_queue}
 use Rattle.p2p_log.specs.Apart.{AreApart}
 use Rattle.p2p_log.specs.Copies.{copies_of}
 use Rattle.p2p_log.specs.Drained.{drained, all_end}
-use Rattle.p2p_log.specs.Lines.{name_of, ended_item, stays, placed, live, stands_in, line}
+use Rattle.p2p_log.specs.Lines.{name_of, ended_item, stays, live, stands_in, line}
 use Rattle.p2p_log.specs.Taken.{AreTaken}
 use Rattle.p2p_log.proofs.Each.{Each-weaker, Each-append}
 use Rattle.p2p_log.proofs.Filters.{filter-none}
 use Rattle.p2p_log.proofs.Lines.{filter_stays-append}
-use Rattle.p2p_log.proofs.Names.{AreApart-live_from, AreApart-filter}
+use Rattle.p2p_log.proofs.Names.{AreApart-filter}
 use Rattle.p2p_log.proofs.Taken.{AreDifferent, other_left, Each-drained}
 use Rattle.p2p_log_rules.specs.declared.row.Half.{Half}
 use Rattle.p2p_log_rules.specs.declared.row.Row.{Row}
@@ -33,7 +31,6 @@ use Rattle.p2p_log_rules.specs.Effect.{entry_of}
 use Rattle.p2p_log_rules.specs.Ending.{queues_with, copies_drop, left_by, end_row}
 use Rattle.p2p_log_rules.specs.Moves.{Moves}
 use Rattle.p2p_log_rules.proofs.Moves.{all_end-gone, goes_moved, kept, line-after, line-moved, rest_stood}
-use Rattle.p2p_log_laws.proofs.Emptying.{drained_none}
 use Rattle.p2p_net_queues.proofs.Going.{put_in}
 
 -- ---- what is emptied, queue by queue
@@ -110,10 +107,6 @@ module _ (log : List Entry) (ev : Event) (n conn : ℕ) (half : Half) (why : End
   -- a line is what is left of it, and then what is put there
   pub line_ended : (p : Queue) → line (log ++ e ∷ []) p ≡ filter (stands_in p) (filter (stays (map name_of (drained left qs))) left) ++ put_in log e p
   line_ended p = line-after log ev r moves p ∙ ap (λ k. filter (stands_in p) k ++ put_in log e p) (sym kept_is)
-
-  -- nothing is left of what ends with the connection
-  pub nothing_kept : Each (λ p. filter (stands_in p) (filter (stays (map name_of (drained left qs))) left) ≡ []) qs
-  nothing_kept = drained_none left qs
 
   -- and all else is left, where of what was taken nothing stood there
   pub others_ended : (p : Queue) → Each (λ q. same_queue p q ≡ false) qs → Each (λ x. stands_in p x ≡ false) taken → line (log ++ e ∷ []) p ≡ line log p ++ put_in log e p

@@ -1,13 +1,9 @@
 -- The row that the code makes of the end of a connection is the row of the rule.
-use Rattle.std.proofs.Common.{◌≡◌, ℕ, Bool, true, false, cond, List, [], ◌∷◌, ◌++◌, refl, ap, sym, ◌∙◌, append_assoc, append-nil}
-use Rattle.std.specs.Prelude.{map, filter, flat_map}
+use Rattle.std.proofs.Common.{◌≡◌, ℕ, List, [], ◌∷◌, ◌++◌, refl, ap, sym, ◌∙◌, append_assoc, append-nil}
+use Rattle.std.specs.Prelude.{map, flat_map}
 use Rattle.std.proofs.lemmas.Grind.{flat_map-append}
-use Rattle.p2p_log.specs.declared.queue.Queue.{Queue}
-use Rattle.p2p_log.specs.declared.queue.Queue.TheVariants as queue
-use Rattle.p2p_log.specs.declared.item.Item.{Item}
 use Rattle.p2p_log.specs.declared.item.Envelope.{Envelope}
 use Rattle.p2p_log.specs.declared.end.Cause.{Cause}
-use Rattle.p2p_log.specs.declared.end.Cause.TheVariants as cause
 use Rattle.p2p_log.specs.declared.end.End.{End}
 use Rattle.p2p_log.specs.declared.entry.Ended.{Ended}
 use Rattle.p2p_log.specs.declared.entry.Reply.TheVariants as reply
@@ -15,7 +11,7 @@ use Rattle.p2p_log.specs.Drained.{ends_with, all_end}
 use Rattle.p2p_log.specs.Lines.{name_of, named}
 use Rattle.p2p_log_rules.specs.declared.row.Row.{Row}
 use Rattle.p2p_log_rules.specs.Ending.{copies_drop}
-use Rattle.p2p_net_queues.specs.Rows.{named_ends, named_end, taken_dropped, all_dropped}
+use Rattle.p2p_net_queues.specs.Rows.{named_end, taken_dropped, all_dropped}
 
 -- ---- items under their names
 

@@ -1,6 +1,6 @@
 -- A connection that is told to end does so: the oldest of what it was told is taken.
-use Rattle.std.proofs.Common.{◌≡◌, ℕ, Bool, true, false, cond, List, [], ◌∷◌, ◌++◌, drop, length, refl, ap, sym, subst, ◌∙◌, eq-eqb, Option, Some, None}
-use Rattle.std.specs.Prelude.{filter, map, slice_get, ◌==◌, if◌then◌else◌}
+use Rattle.std.proofs.Common.{◌≡◌, ℕ, true, false, cond, List, [], ◌∷◌, drop, refl, ap, sym, subst, ◌∙◌, eq-eqb}
+use Rattle.std.specs.Prelude.{filter, slice_get, ◌==◌, if◌then◌else◌}
 use Rattle.std.specs.List.{AllByRecursion as Each}
 use Rattle.p2p_log.specs.declared.config.Config.{Config}
 use Rattle.p2p_log.specs.declared.queue.Queue.{Queue}
@@ -11,35 +11,30 @@ use Rattle.p2p_log.specs.declared.item.Envelope.{Envelope}
 use Rattle.p2p_log.specs.declared.end.Cause.TheVariants as cause
 use Rattle.p2p_log.specs.declared.entry.Ended.TheVariants as ended
 use Rattle.p2p_log.specs.declared.entry.Entry.{Entry}
-use Rattle.p2p_log.specs.declared.event.Act.TheVariants as act
 use Rattle.p2p_log.specs.QueueCode.{same_queue}
-use Rattle.p2p_log.specs.Lines.{line, live, name_of, stays, stands_in}
+use Rattle.p2p_log.specs.Lines.{line, live, stands_in}
 use Rattle.p2p_log.proofs.Names.{AreApart-live_from, filter_stays-first}
-use Rattle.p2p_log.proofs.Queues.{same_queue-sym, same_queue-refl}
+use Rattle.p2p_log.proofs.Queues.{same_queue-refl}
 use Rattle.p2p_log_rules.specs.declared.row.Half.{Half}
-use Rattle.p2p_log_rules.specs.declared.row.Row.{Row}
-use Rattle.p2p_log_rules.specs.Effect.{row, other_side}
-use Rattle.p2p_log_rules.specs.Ending.{queues_with, left_by, end_row}
+use Rattle.p2p_log_rules.specs.Effect.{other_side}
+use Rattle.p2p_log_rules.specs.Ending.{left_by}
 use Rattle.p2p_log_rules.proofs.Moves.{one_taken, stands_first}
 use Rattle.p2p_net_queues.specs.Board.{held}
-use Rattle.p2p_net_queues.specs.Tables.{waiting}
 use Rattle.p2p_net_router.specs.Names.{is_routers}
 use Rattle.p2p_net_router.specs.Stands.{StandsOver}
 use Rattle.p2p_net_router.specs.declared.router.Router.{Router}
 use Rattle.p2p_net_router.proofs.Aside.{same_queue-other}
 use Rattle.p2p_net_router.proofs.Over.{over_same}
-use Rattle.p2p_net_links.specs.Links.{way_of}
 use Rattle.p2p_net_links.specs.Stands.{LinksStand}
 use Rattle.p2p_net_links.specs.declared.links.Links.{Links}
 use Rattle.p2p_net_links.proofs.Ending.{links_dropped}
 use Rattle.p2p_net_tracker.specs.Stands.{TrackerStands}
-use Rattle.p2p_net_tracker.specs.declared.tracker.Tracker.{Tracker}
-use Rattle.p2p_net.specs.Ending.{ending_for, EndsKilled}
+use Rattle.p2p_net.specs.Ending.{ending_for}
 use Rattle.p2p_net.specs.Places as place
 use Rattle.p2p_net.specs.Stands.{RouterStands, NodeStands}
 use Rattle.p2p_net.specs.declared.node.Node.{Node}
-use Rattle.p2p_net.proofs.EndSteps.{HaveLeft}
 use Rattle.p2p_net.proofs.EndRows.{took_row, taken_dropped-row}
+use Rattle.p2p_net.proofs.HaveLeft.{HaveLeft}
 
 -- the first of a queue was taken: its line is the rest, and each other line is as it was
 pub left_first : (log : List Entry) (p q : Queue) (k : Envelope) (rest : List Envelope) → line log p ≡ k ∷ rest

@@ -26,8 +26,15 @@ pub mod Frames
 pub mod Halves
 pub mod HandingOn
 pub mod Handshaking
+pub mod HaveLeft
 pub mod Keys
 pub mod Killed
+pub mod Leaving
+pub mod LeavingEntry
+pub mod LeavingLines
+pub mod LeavingParts
+pub mod LeavingRouter
+pub mod LeavingRow
 pub mod Linked
 pub mod LinkedNodes
 pub mod Listening

@@ -84,7 +84,7 @@ module _ (configs : List Config) (log : List Entry) (at seed conn n : ℕ) (half
 
     by_dropped : line log (queue.Held n conn) ≡ [] → line log p ≡ [] → (b : Bool) → is_dropped configs log half.link u ≡ b → ReadsNone b (length log) n conn half x y l links r → Done
     by_dropped none first false gone d = waits (none_row none first false gone) d.0.0 d.0.1 d.1
-    by_dropped none first true gone d = unread_performs configs log at seed conn n half x y l links r s t up has begun running (heard running) (none_row none first true gone) d
+    by_dropped none first true gone d = unread_performs configs log at seed conn n half x y l links r s t has begun running (heard running) (none_row none first true gone) d
 
     by_frames : (fs : List Envelope) → line log (queue.Held n conn) ≡ [] → line log p ≡ fs → ReceivesBy (slice_get fs 0) (length log) n conn at half x y l links r → Done
     by_frames [] none first d =
@@ -93,7 +93,7 @@ module _ (configs : List Config) (log : List Entry) (at seed conn n : ℕ) (half
         let limit : x.config.max_message_size ≡ limit_at configs n = limit_here configs n x s.own in
         off_performs configs log at seed conn n half x y l links r s t late up has running f fs first (arrival_in (limit_at configs n) f.item) refl
         (stepped configs log at seed conn n half x y l links r s t late up has running f fs first none (first_has StandsFit log p f fs fitting first))
-        (refused_performs configs log at seed conn n half x y l links r s t up has begun running (heard running) f fs first)
+        (refused_performs configs log at seed conn n half x y l links r s t has begun running (heard running) f fs first)
         (subst (λ k. ReadsFrame (frame_in k (Some f)) (length log) n conn at half x y l links r) limit d)
 
     by_held : (ws : List Envelope) → line log (queue.Held n conn) ≡ ws → StepsBy (slice_get ws 0) (length log) n conn at half x y l links r → Done

@@ -26,7 +26,6 @@ use Rattle.p2p_log_rules.specs.declared.row.Row.{Row}
 use Rattle.p2p_log_rules.specs.Connections.{live_half, is_begun, is_running}
 use Rattle.p2p_log_rules.specs.Effect.{row, other_side}
 use Rattle.p2p_log_rules.specs.Ending.{left_by, end_row}
-use Rattle.p2p_log_rules.specs.Facts.{is_up}
 use Rattle.p2p_log_rules.proofs.Moves.{stands_first}
 use Rattle.p2p_log_laws.proofs.EndHeard.{names_ready}
 use Rattle.p2p_net_queues.specs.Tables.{waiting, popped_at}
@@ -43,8 +42,9 @@ use Rattle.p2p_net.specs.Receiving.{without_first}
 use Rattle.p2p_net.specs.Stands.{RouterStands, NodeStands}
 use Rattle.p2p_net.specs.declared.node.Node.{Node}
 use Rattle.p2p_net.proofs.Beside.{beside_link, routers_beside}
-use Rattle.p2p_net.proofs.EndSteps.{HaveLeft, received_end_performs}
 use Rattle.p2p_net.proofs.EndRows.{took_row, taken_dropped-row}
+use Rattle.p2p_net.proofs.EndSteps.{received_end_performs}
+use Rattle.p2p_net.proofs.HaveLeft.{HaveLeft}
 use Rattle.p2p_net.proofs.Killed.{left_first, first_apart}
 use Rattle.p2p_net.proofs.Performing.{asked, Performs}
 use Rattle.p2p_net.proofs.Taking.{link_held}
@@ -145,13 +145,13 @@ module _ (configs : List Config) (log : List Entry) (n conn : ℕ) (half : Half)
 -- ---- the end
 
 module _ (configs : List Config) (log : List Entry) (at seed conn n : ℕ) (half : Half) (x y : Node) (l links : Links) (r : Row) (s : NodeStands configs log n x) (t : LinksStand configs log l)
-    (up : is_up log n ≡ true) (has : live_half log n conn ≡ Some half) (begun : is_begun log n conn ≡ true) (running : is_running log n conn ≡ true)
+    (has : live_half log n conn ≡ Some half) (begun : is_begun log n conn ≡ true) (running : is_running log n conn ≡ true)
     (heard : Each (λ z. names_ready conn z.item ≡ false) (line log (queue.Router n))) where
   -- none will come
   pub unread_performs : row configs log at seed (act.RecvStep conn n) ≡ end_row log n conn half ended.ReceiveFailed cause.ConnectionEnded []
       → EndsUnread (length log) n conn half x y l links r → Performs configs log (asked at seed (act.RecvStep conn n)) n y links r
   unread_performs is d =
-      received_end_performs configs log at seed n conn half ended.ReceiveFailed cause.ConnectionEnded [] x x y l l links r s up has begun running heard is (nothing_taken configs log n conn half x l s t) d
+      received_end_performs configs log at seed n conn half ended.ReceiveFailed cause.ConnectionEnded [] x x y l l links r s has begun running heard is (nothing_taken configs log n conn half x l s t) d
 
   -- the first is refused
   pub refused_performs : (f : Envelope) (fs : List Envelope) → line log (queue.Link half.link (other_side half.writes)) ≡ f ∷ fs → (why : Ended) (c : Cause)
@@ -159,7 +159,7 @@ module _ (configs : List Config) (log : List Entry) (at seed conn n : ℕ) (half
       → Performs configs log (asked at seed (act.RecvStep conn n)) n y links r
   refused_performs f fs first why c is d =
       let m = without_first l half.link (other_side half.writes) in
-      received_end_performs configs log at seed n conn half why c (f ∷ []) x x y l m links r s up has begun running heard is (first_taken configs log n conn half x l s t f fs first)
+      received_end_performs configs log at seed n conn half why c (f ∷ []) x x y l m links r s has begun running heard is (first_taken configs log n conn half x l s t f fs first)
       (subst (λ (o : Row). Ends (length log) n conn half x y m links o r) begins_with d)
     where
       begins_with : ending_for why c (slice_get (waiting (way_of l (other_side half.writes)) half.link) 0) ≡ took_row why c (f ∷ [])

@@ -30,7 +30,6 @@ use Rattle.p2p_net_links.specs.Stands.{LinksStand}
 use Rattle.p2p_net_links.specs.declared.links.Links.{Links}
 use Rattle.p2p_net.specs.Acts.{TellsAttempt}
 use Rattle.p2p_net.specs.Places as place
-use Rattle.p2p_net.specs.Places.{at}
 use Rattle.p2p_net.specs.Stands.{NodeStands}
 use Rattle.p2p_net.specs.declared.node.Node.{Node}
 use Rattle.p2p_net.proofs.Attempting.{other_attempt, told_is, does_itself, untold_stands, told_stands, unnamed_by, tells_performs}

@@ -1,6 +1,6 @@
 -- A step of the sending half of a connection that has begun: it takes its router's answer.
-use Rattle.std.proofs.Common.{◌≡◌, ℕ, Bool, true, false, cond, List, [], ◌∷◌, ◌++◌, length, refl, ap, sym, subst, ◌∙◌, arith, append-nil, Some, None}
-use Rattle.std.specs.Prelude.{map, filter, flat_map, slice_get, ◌==◌, ◌&&◌}
+use Rattle.std.proofs.Common.{◌≡◌, ℕ, Bool, true, false, cond, List, [], ◌∷◌, ◌++◌, length, refl, ap, sym, subst, ◌∙◌, arith, append-nil, eqb-true, Some, None}
+use Rattle.std.specs.Prelude.{map, filter, flat_map, slice_get, ◌==◌, ◌&&◌, ◌||◌}
 use Rattle.std.specs.List.{list_any}
 use Rattle.std.specs.BTreeMap.{insert_entry}
 use Rattle.std.specs.Ordering.{nat_cmp}
@@ -58,7 +58,7 @@ use Rattle.p2p_net.proofs.EachPart.{with_parts, each_part, not_among-links}
 use Rattle.p2p_net.proofs.Receivers.{receives_apart}
 use Rattle.p2p_net.proofs.Routers.{HearsTheSame, hears_again, RouterStands-moved}
 use Rattle.p2p_net.proofs.Performing.{asked, Performs, IsStill, part_still, links_still}
-use Rattle.p2p_log_rules.proofs.Connections.{live_connection-kept, ends_none-reply}
+use Rattle.p2p_log_rules.proofs.Connections.{live_connection-kept, ends_none-reply, is_running-append}
 
 -- the row of a step, where the node runs, by the half and how far it is
 pub half_steps : (configs : List Config) (log : List Entry) (conn n at : ℕ) (half : Half) (begun running : Bool) → is_up log n ≡ true → live_half log n conn ≡ Some half → is_begun log n conn ≡ begun → is_running log n conn ≡ running
@@ -129,6 +129,23 @@ step_drops configs log e n conn acts lives = drop_of-send configs log e conn n a
 pub step_answers : (log : List Entry) (e : Entry) (n conn c : ℕ) → e.event.act ≡ act.SendStep conn n → answers_by n c log e ≡ cond (c == conn) (map is_answer (taken log e)) []
 step_answers log e n conn c acts =
     ap (λ a. cond (steps_sender n c a) (map is_answer (taken log e)) []) acts ∙ ap (λ b. cond b (map is_answer (taken log e)) []) (same_conn n conn c)
+
+-- a connection that runs goes on to run
+pub still_runs : (log : List Entry) (e : Entry) (n conn c : ℕ) → e.event.act ≡ act.SendStep conn n → is_running log n conn ≡ true → is_running (log ++ e ∷ []) n c ≡ is_running log n c
+still_runs log e n conn c acts runs =
+    is_running-append log e n c ∙ (ap (λ b. is_running log n c || list_any (λ t. t) b) (step_answers log e n conn c acts) ∙ by_conn (c == conn) refl)
+  where
+    or_nothing : (b : Bool) → (b || false) ≡ b
+    or_nothing true = refl
+    or_nothing false = refl
+
+    already : (b t : Bool) → b ≡ true → (b || t) ≡ b
+    already true t h = refl
+    already false t h = cc
+
+    by_conn : (b : Bool) → (c == conn) ≡ b → (is_running log n c || list_any (λ t. t) (cond b (map is_answer (taken log e)) [])) ≡ is_running log n c
+    by_conn true h = already (is_running log n c) (list_any (λ t. t) (map is_answer (taken log e))) (ap (is_running log n) (eqb-true c conn h) ∙ runs)
+    by_conn false h = or_nothing (is_running log n c)
 
 any_of : (b a : Bool) → list_any (λ t. t) (cond b (a ∷ []) []) ≡ (b && a)
 any_of true true = refl

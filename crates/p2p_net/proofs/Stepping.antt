@@ -13,7 +13,6 @@ use Rattle.p2p_log_rules.specs.declared.row.Row.{Row}
 use Rattle.p2p_log_rules.specs.Facts.{is_up}
 use Rattle.p2p_log_rules.proofs.Spawning.{connections_of-unmade}
 use Rattle.p2p_log_rules.specs.Effect.{only, row, effect, entry_of, route_oldest, router_row}
-use Rattle.p2p_net_queues.specs.Tables.{at}
 use Rattle.p2p_net_router.specs.Holds.{Adds}
 use Rattle.p2p_net_router.specs.Stands.{StandsFor}
 use Rattle.p2p_net_router.specs.declared.router.Router.{Router}

@@ -1,10 +1,9 @@
 -- A step of the sending half of a connection that runs: it ends where it is told to, or where it cannot write; else it writes a batch.
-use Rattle.std.proofs.Common.{◌≡◌, ℕ, Bool, true, false, cond, List, [], ◌∷◌, length, refl, ap, sym, subst, ◌∙◌, eq-eqb, Option, Some, None}
-use Rattle.std.specs.Prelude.{map, ◌==◌, ◌&&◌, nat_lt, is_some, slice_get}
+use Rattle.std.proofs.Common.{◌≡◌, ℕ, Bool, true, false, List, [], ◌∷◌, length, refl, ap, sym, subst, ◌∙◌, eq-eqb, Option, Some, None}
+use Rattle.std.specs.Prelude.{map, ◌&&◌, nat_lt, is_some, slice_get}
 use Rattle.std.specs.List.{AllByRecursion as Each}
 use Rattle.p2p_log.specs.declared.config.Config.{Config}
 use Rattle.p2p_log.specs.declared.queue.Queue.TheVariants as queue
-use Rattle.p2p_log.specs.declared.item.Item.{Item}
 use Rattle.p2p_log.specs.declared.item.Envelope.{Envelope}
 use Rattle.p2p_log.specs.declared.end.Cause.TheVariants as cause
 use Rattle.p2p_log.specs.declared.entry.Ended.TheVariants as ended
@@ -34,8 +33,9 @@ use Rattle.p2p_net.specs.Places as place
 use Rattle.p2p_net.specs.Stands.{RouterStands, NodeStands}
 use Rattle.p2p_net.specs.declared.node.Node.{Node}
 use Rattle.p2p_net.proofs.Broken.{batch_left}
-use Rattle.p2p_net.proofs.EndSteps.{HaveLeft, sent_end_performs}
-use Rattle.p2p_net.proofs.EndRows.{took_row, all_dropped-row}
+use Rattle.p2p_net.proofs.EndRows.{all_dropped-row}
+use Rattle.p2p_net.proofs.EndSteps.{sent_end_performs}
+use Rattle.p2p_net.proofs.HaveLeft.{HaveLeft}
 use Rattle.p2p_net.proofs.Killed.{killed_left, killed_row}
 use Rattle.p2p_net.proofs.Performing.{asked, Performs}
 use Rattle.p2p_net.proofs.RouterAnswers.{half_steps}
@@ -120,7 +120,7 @@ module _ (configs : List Config) (log : List Entry) (at seed conn n : ℕ) (half
   killed h d =
       let to = is_told (line log (queue.Control n conn)) (nat_lt 0 most) h in
       let gone = killed_left configs log n conn half to.k to.rest x d.told_less l s t to.is d.told d.tracker d.rest in
-      sent_end_performs configs log at seed n conn half ended.Killed cause.ConnectionEnded (to.k ∷ []) x d.told_less y l l links r s up has begun running heard
+      sent_end_performs configs log at seed n conn half ended.Killed cause.ConnectionEnded (to.k ∷ []) x d.told_less y l l links r s has begun running heard
       (row_told
       ∙ (ap (λ cs. told_row log n conn half cs (nat_lt 0 most) written) to.is
       ∙ ap (λ b. told_row log n conn half (to.k ∷ to.rest) b written) to.has_room))
@@ -147,7 +147,7 @@ module _ (configs : List Config) (log : List Entry) (at seed conn n : ℕ) (half
     broken h ends =
         let xs = batch log n conn most in
         let same : batch_of n conn (beside_ping due x.config.send_batch_size) (live log) ≡ xs = batch_is log n conn (beside_ping due x.config.send_batch_size) ∙ ap (batch log n conn) size_is in
-        sent_end_performs configs log at seed n conn half ended.SendFailed cause.ConnectionEnded xs x d.batched y l l links r s up has begun running heard
+        sent_end_performs configs log at seed n conn half ended.SendFailed cause.ConnectionEnded xs x d.batched y l l links r s has begun running heard
         (row_written ∙ written_row-broken log n conn half dropped due xs h)
         (subst (λ v. HaveLeft configs log n conn half v x d.batched l l) same
         (batch_left configs log n conn (beside_ping due x.config.send_batch_size) half x d.batched l d.frames s t d.batches d.kept))

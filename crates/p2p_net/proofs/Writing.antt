@@ -1,7 +1,6 @@
 -- A step of the sending half of a connection that runs: a batch, with a ping before it where one is due.
-use Rattle.std.proofs.Common.{◌≡◌, ℕ, ◌+◌, Bool, true, false, cond, List, [], ◌∷◌, ◌++◌, length, refl, ap, sym, subst, ◌∙◌, append-nil, eq-eqb, eqb-true, Option, Some, None}
-use Rattle.std.specs.Prelude.{map, filter, flat_map, ◌==◌, ◌||◌}
-use Rattle.std.specs.List.{list_any}
+use Rattle.std.proofs.Common.{◌≡◌, ℕ, ◌+◌, Bool, true, false, cond, List, [], ◌∷◌, ◌++◌, length, refl, ap, sym, subst, ◌∙◌, append-nil, eq-eqb, Option, Some, None}
+use Rattle.std.specs.Prelude.{map, filter, flat_map, ◌==◌}
 use Rattle.p2p_log.specs.declared.config.Config.{Config}
 use Rattle.p2p_log.specs.declared.queue.Queue.{Queue}
 use Rattle.p2p_log.specs.declared.queue.Queue.TheVariants as queue
@@ -22,14 +21,12 @@ use Rattle.p2p_log_rules.specs.declared.row.Row.{Row}
 use Rattle.p2p_log_rules.specs.Connections.{is_begun, is_running, is_end}
 use Rattle.p2p_log_rules.specs.Effect.{row, effect, write_row, batch_size_at, beside_ping, batch, ping_puts, mailbox_size_at}
 use Rattle.p2p_log_rules.specs.Pings.{ping_frequency_at, is_past, ping_is_due}
-use Rattle.p2p_log_rules.specs.Facts.{taken}
 use Rattle.p2p_log_rules.specs.Spawning.{steps_spawner}
 use Rattle.p2p_log_rules.proofs.Connections.{live_connection-kept, ends_none-reply}
 use Rattle.p2p_log_rules.proofs.Spawning.{connections_of-unmade}
 use Rattle.p2p_log_rules.proofs.Touches.{away}
 use Rattle.p2p_net_queues.specs.Lines.{HoldsLines}
 use Rattle.p2p_net_queues.specs.Tables as table
-use Rattle.p2p_net_queues.specs.Tables.{waiting, popped_at}
 use Rattle.p2p_net_queues.proofs.Going.{put_in, line-append}
 use Rattle.p2p_net_router.specs.Batches.{batch_of}
 use Rattle.p2p_net_router.specs.Stands.{AreAway}
@@ -50,11 +47,10 @@ use Rattle.p2p_net.specs.Places as place
 use Rattle.p2p_net.specs.Routing as routing
 use Rattle.p2p_net.specs.Stands.{RouterStands, NodeStands}
 use Rattle.p2p_net.specs.declared.node.Node.{Node}
-use Rattle.p2p_net.proofs.EndSteps.{still_runs}
 use Rattle.p2p_net.proofs.EachPart.{with_parts, each_part, not_among-links}
 use Rattle.p2p_net.proofs.Routers.{RouterStands-moved}
 use Rattle.p2p_net.proofs.Performing.{asked, Performs}
-use Rattle.p2p_net.proofs.RouterAnswers.{step_beside, step_begins, other_begins, step_receives, step_hears, step_drops, named_parts, step_untold}
+use Rattle.p2p_net.proofs.RouterAnswers.{step_beside, step_begins, other_begins, step_receives, step_hears, step_drops, named_parts, step_untold, still_runs}
 
 -- an item, to a queue
 abbrev put_frame : Queue → (ℕ × ℕ) × Item → Queue × Item

@@ -73,8 +73,15 @@ pub record EndsKept (k n conn : ℕ) (half : Half) (connection : Connection) (ol
   pub drops : DropsWaiting n conn half without left l links row emptied
   pub frees : Frees k n conn half.peer connection left new emptied after
 
+-- no connection of this name is kept, and nothing changes
+pub record EndsNone (conn : ℕ) (old new : Node) (l links : Links) (row after : Row) : Type 0 where
+  pub others : AreBut conn None old.connections.spawned new.connections.spawned
+  pub kept : new ≡ record old { connections = record old.connections { spawned = new.connections.spawned } }
+  pub links_are : links ≡ l
+  pub row_is : after ≡ row
+
 abbrev pub EndsBy : Option Connection → ℕ → ℕ → ℕ → Half → Node → Node → Links → Links → Row → Row → Type 0
-EndsBy None k n conn half old new l links row after = (after ≡ row)
+EndsBy None k n conn half old new l links row after = EndsNone conn old new l links row after
 EndsBy (Some connection) k n conn half old new l links row after = EndsKept k n conn half connection old new l links row after
 
 -- by the connection that is kept under this name

@@ -8,8 +8,11 @@ ghost use Rattle.p2p_log_rules.specs.Facts.{events_of, latest_moment};
 ghost use Rattle.p2p_log_rules.specs.Effect.{effect};
 ghost use Rattle.p2p_log_rules.specs.Lawful.{IsLawful};
 ghost use Rattle.p2p_log_rules.specs.Valid.{config_fault as config_fault_of, event_fault, is_valid_event};
+ghost use Rattle.p2p_log_laws.specs.Endings.{EachEndShows, ReleasesAreTimely};
 ghost use Rattle.p2p_log_laws.specs.Grants.{HasOneHolder};
+ghost use Rattle.p2p_log_laws.specs.Kills.{EachKillShowsItsCause};
 ghost use Rattle.p2p_log_laws.specs.NodeGrants.{granting};
+ghost use Rattle.p2p_log_laws.specs.Order.{AreDeliveredInOrderOverOne, AreDeliveredInOrderOfConnections};
 ghost use Rattle.p2p_net_links.specs.Links.{no_links};
 ghost use Rattle.p2p_net.specs.Places.{node_of as node_of_act};
 ghost use Rattle.p2p_net.specs.Ready.{may_apply, MayPerform};
@@ -169,15 +172,24 @@ impl World {
     ///
     /// The log of the world that comes back is the one log that is lawful for the configurations and the script, and its
     /// nodes and links stand for it: every queue holds its line, and each key that is reserved at a node is held by one thing
-    /// there, or its one release waits. Where a configuration is not valid, `RunError::Config` has
-    /// the place of the first one; where each is, and an event may not be asked for, `RunError::Event` has the place of the
-    /// first one. Where there is no memory, the answer is `RunError::Memory`.
+    /// there, or its one release waits. Messages are delivered in the order in which they went over their link, and those of a
+    /// peer's older connection before those of its newer one; a connection ends for a reason that its entry shows, a kill of one
+    /// shows its cause, and a router hears that a connection has ended before it hears of its peer's next one.
+    ///
+    /// Where a configuration is not valid, `RunError::Config` has the place of the first one; where each is, and an event may not
+    /// be asked for, `RunError::Event` has the place of the first one. Where there is no memory, the answer is
+    /// `RunError::Memory`.
     pub fn run(alloc: Global, configs: &[Config], script: &[Event]) -> Result<World, RunError>
         ensures configs { IfOk result (λ w. w.configs ≡ configs.now) }
         ensures lawful { IfOk result (λ w. IsLawful configs.now script.now w.log) }
         ensures only { IfOk result (λ w. (log : List Entry) → IsLawful configs.now script.now log → log ≡ w.log) }
         ensures stands { IfOk result (λ w. WorldStands configs.now w.log w.nodes w.links) }
         ensures grants { IfOk result (λ w. (n : ℕ) (key : Key) → HasOneHolder (granting configs.now n key) w.log) }
+        ensures order { IfOk result (λ w. AreDeliveredInOrderOverOne configs.now w.log) }
+        ensures connections { IfOk result (λ w. AreDeliveredInOrderOfConnections configs.now w.log) }
+        ensures ends { IfOk result (λ w. EachEndShows configs.now w.log) }
+        ensures kills { IfOk result (λ w. EachKillShowsItsCause configs.now w.log) }
+        ensures releases { IfOk result (λ w. ReleasesAreTimely w.log) }
         ensures works { IfOk result (λ w. w.failed ≡ false) }
         ensures valid { OnOk result (config_fault_of configs.now ≡ None) }
         ensures allowed { OnOk result (event_fault configs.now script.now ≡ None) }

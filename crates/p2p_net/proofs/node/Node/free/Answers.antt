@@ -2,7 +2,6 @@ use Rattle.std.proofs.Common.{ap, refl, subst, ◌∙◌, List, ℕ}
 use Rattle.std.specs.Prelude.{length}
 use Rattle.p2p_log.specs.declared.queue.Queue.{Queue}
 use Rattle.p2p_log.specs.declared.item.Item.{Item}
-use Rattle.p2p_log_rules.specs.declared.row.Row.{Row}
 use Rattle.p2p_tracker_directory.specs.Reserved.{peer_of}
 use Rattle.p2p_net_tracker.specs.Ending.{released_by, releasing_row}
 use Rattle.p2p_net.specs.Routing as routing
