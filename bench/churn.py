@@ -10,19 +10,10 @@ their reservations back.
 import json
 import sys
 
-from script import CHANNEL, begin, config, meet, message, socket, track
+from script import begin, config, meet, message, socket, started
 
 NODES = 4
 ROUND = 2_000_000_000
-
-
-def setup(burst):
-    """Registers the channel everywhere, starts all nodes and lets each track its partner."""
-    quota = {'burst': burst, 'period': 1_000_000_000}
-    events = [{'do': 'register', 'node': node, 'channel': CHANNEL, 'quota': quota} for node in range(NODES)]
-    events.extend({'do': 'start', 'node': node} for node in range(NODES))
-    events.extend(track(node, node ^ 1) for node in range(NODES))
-    return events
 
 
 def life(events, a, turn):
@@ -42,7 +33,7 @@ def life(events, a, turn):
 
 
 def script(count):
-    events, turn = setup(count), 0
+    events, turn = started(NODES, count), 0
     moments = [0] * len(events)
     while len(events) < count:
         for a in range(0, NODES, 2):

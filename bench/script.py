@@ -60,12 +60,18 @@ def begin(events, node, conn):
     events.extend([step, router, router, step, {'do': 'tracker', 'node': node}])
 
 
-def setup(nodes, burst):
-    """The events that register the channel everywhere, start all nodes and connect them two by two, and the connections."""
+def started(nodes, burst):
+    """The events that register the channel everywhere, start all nodes and let each track its partner."""
     quota = {'burst': burst, 'period': 1000000000}
     events = [{'do': 'register', 'node': node, 'channel': CHANNEL, 'quota': quota} for node in range(nodes)]
     events.extend({'do': 'start', 'node': node} for node in range(nodes))
     events.extend(track(node, node ^ 1) for node in range(nodes))
+    return events
+
+
+def setup(nodes, burst):
+    """Those events and the ones that connect the nodes two by two, and the connections."""
+    events = started(nodes, burst)
     conns = []
     for a in range(0, nodes, 2):
         conns.extend(meet(events, a))

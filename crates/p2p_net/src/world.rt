@@ -172,9 +172,10 @@ impl World {
     ///
     /// The log of the world that comes back is the one log that is lawful for the configurations and the script, and its
     /// nodes and links stand for it: every queue holds its line, and each key that is reserved at a node is held by one thing
-    /// there, or its one release waits. Messages are delivered in the order in which they went over their link, and those of a
-    /// peer's older connection before those of its newer one; a connection ends for a reason that its entry shows, a kill of one
-    /// shows its cause, and a router hears that a connection has ended before it hears of its peer's next one.
+    /// there, or its one release waits. Of two messages of a node on one channel with one priority that went over one link, the
+    /// one that was accepted first is delivered first, and of two that came by two connections of their reader's node the one of
+    /// the older connection is; a connection ends for a reason that its entry shows, a kill of one shows its cause, and a router
+    /// hears that a connection has ended before it hears of the next one with its key.
     ///
     /// Where a configuration is not valid, `RunError::Config` has the place of the first one; where each is, and an event may not
     /// be asked for, `RunError::Event` has the place of the first one. Where there is no memory, the answer is
