@@ -13,7 +13,6 @@ use Rattle.p2p_log.specs.declared.entry.Ended.{Ended}
 use Rattle.p2p_log.specs.declared.entry.Ended.TheVariants as ended
 use Rattle.p2p_log.specs.declared.entry.Reply.TheVariants as reply
 use Rattle.p2p_log.specs.QueueCode.{same_queue}
-use Rattle.p2p_log.specs.Drained.{all_end}
 use Rattle.p2p_log.specs.Lines.{named}
 use Rattle.p2p_log_rules.specs.declared.row.Half.{Half}
 use Rattle.p2p_log_rules.specs.declared.row.Row.{Row}
@@ -27,7 +26,6 @@ use Rattle.p2p_net_links.specs.declared.links.Links.{Links}
 use Rattle.p2p_net_links.specs.Links.{way_of, with_way}
 use Rattle.p2p_net_links.specs.Dropping.{end_dropped}
 use Rattle.p2p_net_tracker.specs.Ending.{dropped_row, released_by, releasing_row}
-use Rattle.p2p_net_tracker.specs.declared.tracker.Tracker.{Tracker}
 use Rattle.p2p_net.specs.Routing as routing
 use Rattle.p2p_net.specs.declared.node.Node.{Node}
 
