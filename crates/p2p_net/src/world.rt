@@ -35,7 +35,6 @@ use std::marker::Model;
 /// All nodes of a network and the links between them, with the log of what was asked of them and what came of it.
 ///
 /// A caller sees its configurations, its nodes and links, its log, and whether it found no memory.
-#[derive(Drop)]
 pub struct World {
     alloc: Global,
     configs: List<Config>,
@@ -44,6 +43,20 @@ pub struct World {
     report: Report,
     last: u64,
     failed: bool,
+}
+
+impl Drop for World {
+    fn drop(self) {
+        let World {
+            alloc: _alloc,
+            configs: _configs,
+            nodes: _nodes,
+            links: _links,
+            report: _report,
+            last: _last,
+            failed: _failed,
+        } = self;
+    }
 }
 
 impl Model for World {

@@ -20,7 +20,6 @@ use std::alloc::{AllocError, Global};
 
 /// The registered channels of a node, what each admits of each connection and to each key, the messages that wait in each for its
 /// reader, which readers were dropped, and what the node's checks admitted.
-#[derive(Drop)]
 pub struct Channels {
     /// How many messages each channel holds at most.
     pub capacities: Table<usize>,
@@ -36,6 +35,20 @@ pub struct Channels {
     pub checks: Table<Checked>,
     /// The channels whose reader was dropped.
     pub closed: Table<()>,
+}
+
+impl Drop for Channels {
+    fn drop(self) {
+        let Channels {
+            capacities: _capacities,
+            total: _total,
+            waiting: _waiting,
+            quotas: _quotas,
+            senders: _senders,
+            checks: _checks,
+            closed: _closed,
+        } = self;
+    }
 }
 
 /// Whether an item is a message for a reader.

@@ -34,7 +34,6 @@ pub enum Stage {
 
 /// The connections of a node, by the events that made them, the router's answers that wait for them, and what came over them
 /// and waits for their quotas.
-#[derive(Drop)]
 pub struct Connections {
     /// Each connection that its spawner made and that has not ended.
     pub spawned: Table<Connection>,
@@ -46,6 +45,18 @@ pub struct Connections {
     pub held: Table<Deque<Envelope>>,
     /// The quota of the pings that come, on each connection, by the names of connections.
     pub pings: KeyedRateLimiter<u64>,
+}
+
+impl Drop for Connections {
+    fn drop(self) {
+        let Connections {
+            spawned: _spawned,
+            stages: _stages,
+            answers: _answers,
+            held: _held,
+            pings: _pings,
+        } = self;
+    }
 }
 
 /// Whether an item is the router's answer.

@@ -19,12 +19,20 @@ use std::alloc::{AllocError, Global};
 
 /// The dialer of a node, once the node has started, and the attempts that it has begun and that have not ended, by the events
 /// that began them.
-#[derive(Drop)]
 pub struct Dialing {
     /// The dialer.
     pub actor: Option<Dialer<Key>>,
     /// The attempts.
     pub attempts: Table<RunningAttempt>,
+}
+
+impl Drop for Dialing {
+    fn drop(self) {
+        let Dialing {
+            actor: _actor,
+            attempts: _attempts,
+        } = self;
+    }
 }
 
 /// What a dialer did in a step.

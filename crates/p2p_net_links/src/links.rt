@@ -14,7 +14,6 @@ use std::alloc::{AllocError, Global};
 
 /// The frames in flight over each link, the oldest first, by the direction in which they go, who dialed it, between whom keys
 /// are exchanged over it, and which of its ends were dropped.
-#[derive(Drop)]
 pub struct Links {
     /// From the end that dialed.
     pub outward: Table<Deque<Envelope>>,
@@ -28,6 +27,19 @@ pub struct Links {
     pub dropped_outward: Table<()>,
     /// The links whose end that listened was dropped.
     pub dropped_inward: Table<()>,
+}
+
+impl Drop for Links {
+    fn drop(self) {
+        let Links {
+            outward: _outward,
+            inward: _inward,
+            dialers: _dialers,
+            openings: _openings,
+            dropped_outward: _dropped_outward,
+            dropped_inward: _dropped_inward,
+        } = self;
+    }
 }
 
 /// Writes these frames, which have these names, to one direction of a link, in order, and adds to the row what was moved.

@@ -19,7 +19,6 @@ use p2p_tracker_mailbox::Mailbox;
 use std::alloc::{AllocError, Global};
 
 /// The listener of a node.
-#[derive(Drop)]
 pub struct Listening {
     /// The listener, with the peers that it has yet to take.
     pub actor: Listener<Key>,
@@ -29,6 +28,17 @@ pub struct Listening {
     pub handshakes: Table<Handshake<Key>>,
     /// What has the listening end of each link that leads here, by the link's name.
     pub ends: Table<ListeningEnd>,
+}
+
+impl Drop for Listening {
+    fn drop(self) {
+        let Listening {
+            actor: _actor,
+            names: _names,
+            handshakes: _handshakes,
+            ends: _ends,
+        } = self;
+    }
 }
 
 /// What a listener took in a step.

@@ -26,7 +26,6 @@ use std::alloc::{AllocError, Global};
 use std::collections::BTreeMap;
 
 /// The router of one node: its messenger and its actor, and the names of what stands in their queues.
-#[derive(Drop)]
 pub struct Router {
     /// The node's number.
     pub number: u64,
@@ -42,6 +41,20 @@ pub struct Router {
     pub peers: BTreeMap<u64, Key>,
     /// The names of what stands in its queues.
     pub names: Board<Name>,
+}
+
+impl Drop for Router {
+    fn drop(self) {
+        let Router {
+            number: _number,
+            messenger: _messenger,
+            actor: _actor,
+            channels: _channels,
+            subscriptions: _subscriptions,
+            peers: _peers,
+            names: _names,
+        } = self;
+    }
 }
 
 /// A router without a mailbox, which holds nothing.

@@ -18,12 +18,20 @@ use p2p_tracker_mailbox::Mailbox as Tracker;
 use std::alloc::{AllocError, Global};
 
 /// The spawner's mailbox of a node.
-#[derive(Drop)]
 pub struct Spawning {
     /// The connections that it is to make.
     pub mailbox: Mailbox<Key>,
     /// The names of what waits there, the oldest first.
     pub names: Deque<(u64, u64)>,
+}
+
+impl Drop for Spawning {
+    fn drop(self) {
+        let Spawning {
+            mailbox: _mailbox,
+            names: _names,
+        } = self;
+    }
 }
 
 /// A message that the spawner took: its name, the link of the connection that it asks for, and the right to connect with the peer.

@@ -16,7 +16,6 @@ use std::alloc::{AllocError, Global};
 
 /// The tracker of a node: its actor with the mailbox, the names of the messages that wait there, whose questions its tickets
 /// are, and what waits for those who asked.
-#[derive(Drop)]
 pub struct Tracker {
     /// The actor.
     pub actor: Actor<Key>,
@@ -36,6 +35,22 @@ pub struct Tracker {
     pub ended: Table<()>,
     /// What it put and what was not taken.
     pub told: Board<Envelope>,
+}
+
+impl Drop for Tracker {
+    fn drop(self) {
+        let Tracker {
+            actor: _actor,
+            mailbox: _mailbox,
+            oracle: _oracle,
+            names: _names,
+            tickets: _tickets,
+            questions: _questions,
+            answered: _answered,
+            ended: _ended,
+            told: _told,
+        } = self;
+    }
 }
 
 impl Tracker {
