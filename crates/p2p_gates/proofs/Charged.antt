@@ -8,7 +8,7 @@ use Rattle.p2p_address.specs.declared.ip.IpAddr.{IpAddr}
 use Rattle.p2p_runtime.specs.QuotaKeys.{KeptByKey, StandsForEach, with_admission}
 use Rattle.p2p_runtime.specs.QuotaLaw.{Rate, admits}
 use Rattle.p2p_tracker_calls.specs.Heard.{ip_cmp}
-use Rattle.p2p_gates_rules.specs.Quotas.{Passed, refuses, charged, verdict}
+use Rattle.p2p_tracker_calls.specs.Quotas.{Passed, refuses, charged, verdict}
 use Rattle.p2p_gates.specs.Quotas.{Quotas, KeepsRates, rates_of}
 use Rattle.p2p_gates.proofs.Orders.{derived-is}
 

@@ -7,7 +7,7 @@ use Rattle.p2p_address.specs.contracts.ip.IpAddrOrd.TheImpl.{ghosts}
 use Rattle.p2p_address.specs.declared.ip.IpAddr.{IpAddr}
 use Rattle.p2p_tracker_calls.specs.Heard.{ip_cmp}
 use Rattle.p2p_tracker_directory.proofs.Addresses.{derived-order}
-use Rattle.p2p_gates_rules.specs.Gates.{is_registered}
+use Rattle.p2p_tracker_calls.specs.Gates.{is_registered}
 
 -- the order that is derived is the one by which addresses are told
 pub derived-is : ghosts.cmp ≡ ip_cmp

@@ -7,13 +7,13 @@ use Rattle.p2p_tracker_mailbox.specs.declared.mailbox.Mailbox.{Mailbox}
 use Rattle.p2p_gates.specs.Handshaking.{Handshaking}
 use Rattle.p2p_gates.specs.HandshakeTurns.{line_turn, handshake_turn}
 use Rattle.p2p_gates.specs.Gates.{places_after}
-use Rattle.p2p_gates_rules.specs.Gates.{Known}
+use Rattle.p2p_tracker_calls.specs.Gates.{Known}
 use Rattle.p2p_gates.specs.Listening.{Listening}
 use Rattle.p2p_gates.specs.ListenerTurns.{begins, stepped_by, receive_turn, update_turn, listener_turn}
 use Rattle.p2p_gates.specs.Stepping.{idle_turn}
 use Rattle.p2p_gates.specs.declared.arrival.Arrival.{Arrival}
-use Rattle.p2p_gates_rules.specs.declared.reply.Reply.{Reply}
-use Rattle.p2p_gates_rules.specs.declared.reply.Reply.TheVariants as reply
+use Rattle.p2p_tracker_calls.specs.declared.gates.Reply.{Reply}
+use Rattle.p2p_tracker_calls.specs.declared.gates.Reply.TheVariants as reply
 use Rattle.p2p_gates.specs.declared.stepped.Stepped.{Stepped}
 use Rattle.p2p_runtime.specs.QuotaPlaces.{Places}
 use Rattle.std.proofs.lemmas.Bool.{false≢true}

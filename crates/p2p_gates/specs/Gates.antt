@@ -2,10 +2,10 @@
 use Rattle.std.specs.Prelude.{ℕ, Bool, ◌+◌, nat_lt}
 use Rattle.p2p_address.specs.declared.ip.IpAddr.{IpAddr}
 use Rattle.p2p_runtime.specs.QuotaPlaces.{Places}
-use Rattle.p2p_gates_rules.specs.Gates as gates
-use Rattle.p2p_gates_rules.specs.Gates.{GateRules, Known}
-use Rattle.p2p_gates_rules.specs.declared.reply.Reply.{Reply}
-use Rattle.p2p_gates_rules.specs.declared.reply.Reply.TheVariants as reply
+use Rattle.p2p_tracker_calls.specs.Gates as gates
+use Rattle.p2p_tracker_calls.specs.Gates.{GateRules, Known}
+use Rattle.p2p_tracker_calls.specs.declared.gates.Reply.{Reply}
+use Rattle.p2p_tracker_calls.specs.declared.gates.Reply.TheVariants as reply
 use Rattle.p2p_gates.specs.Listening.{Listening}
 use Rattle.p2p_gates.specs.Quotas.{rates_of}
 

@@ -6,12 +6,12 @@ use Rattle.p2p_tracker_mailbox.specs.Lines.{begun}
 use Rattle.p2p_tracker_mailbox.specs.declared.mailbox.Mailbox.{Mailbox}
 use Rattle.p2p_gates.specs.Gates.{reply_to, known_after, places_after}
 use Rattle.p2p_gates.specs.Handshaking.{new_handshake}
-use Rattle.p2p_gates_rules.specs.Gates.{Known}
+use Rattle.p2p_tracker_calls.specs.Gates.{Known}
 use Rattle.p2p_gates.specs.Listening.{Listening}
 use Rattle.p2p_gates.specs.Stepping.{gone_on, with_put}
 use Rattle.p2p_gates.specs.declared.arrival.Arrival.{Arrival}
-use Rattle.p2p_gates_rules.specs.declared.reply.Reply.{Reply}
-use Rattle.p2p_gates_rules.specs.declared.reply.Reply.TheVariants as reply
+use Rattle.p2p_tracker_calls.specs.declared.gates.Reply.{Reply}
+use Rattle.p2p_tracker_calls.specs.declared.gates.Reply.TheVariants as reply
 use Rattle.p2p_gates.specs.declared.stepped.Input.TheVariants as input
 use Rattle.p2p_gates.specs.declared.stepped.Left.TheVariants as left
 use Rattle.p2p_gates.specs.declared.stepped.Outcome.{Outcome}

@@ -2,7 +2,7 @@
 use Rattle.std.specs.Prelude.{◌≡◌, ℕ, Bool, false, List, [], ◌∷◌, ◌++◌}
 use Rattle.p2p_address.specs.declared.ip.IpAddr.{IpAddr}
 use Rattle.p2p_runtime.specs.QuotaPlaces.{Places}
-use Rattle.p2p_gates_rules.specs.Gates.{Known, is_registered}
+use Rattle.p2p_tracker_calls.specs.Gates.{Known, is_registered}
 use Rattle.p2p_gates.specs.Quotas as quotas
 use Rattle.p2p_gates.specs.Quotas.{Quotas}
 use Rattle.p2p_gates.specs.declared.arrival.Arrival.{Arrival}

@@ -3,7 +3,7 @@ use Rattle.std.specs.Prelude.{◌≡◌, ℕ, ◌+◌, nat_lt, Bool, cond}
 use Rattle.p2p_address.specs.declared.ip.IpAddr.{IpAddr}
 use Rattle.p2p_runtime.specs.QuotaKeys.{KeptByKey, StandsForEach}
 use Rattle.p2p_tracker_calls.specs.Heard.{ip_cmp}
-use Rattle.p2p_gates_rules.specs.Quotas.{Rates, Passed}
+use Rattle.p2p_tracker_calls.specs.Quotas.{Rates, Passed}
 
 -- what is kept for addresses and for subnets, and how many arrivals were counted since the last pruning
 pub record Quotas : Type 0 where

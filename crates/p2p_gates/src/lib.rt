@@ -21,5 +21,5 @@ pub use config::Config;
 pub use dialer::Dialer;
 pub use handshake::Handshake;
 pub use listener::Listener;
-pub use p2p_gates_rules::Reply;
+pub use p2p_tracker_calls::gates::Reply;
 pub use stepped::{Input, Left, Outcome, Put, Stepped};

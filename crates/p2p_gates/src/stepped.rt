@@ -6,7 +6,7 @@ use crate::attempt::{Attempt, AttemptItem};
 use crate::handshake::Handshake;
 use p2p_address::IpAddr;
 use p2p_base::{Deque, PublicKey};
-use p2p_gates_rules::Reply;
+use p2p_tracker_calls::gates::Reply;
 use p2p_tracker_directory::{Metadata, Reservation};
 use p2p_tracker_mailbox::{HandshakeItem, Waiting};
 

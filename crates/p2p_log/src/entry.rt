@@ -6,7 +6,7 @@ use crate::queue::Queue;
 use bytes::Bytes;
 use p2p_base::{Feedback, Key, List, Set, Unreliable};
 use p2p_flow::{PeerSetUpdate, TrackedPeers};
-use p2p_gates_rules::Reply as GatesReply;
+use p2p_tracker_calls::gates::Reply as GatesReply;
 
 /// Why a connection ended.
 #[derive(Clone, Copy, Debug, PartialEq, Eq)]

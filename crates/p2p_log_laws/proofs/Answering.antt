@@ -10,9 +10,9 @@ use Rattle.p2p_tracker_calls.specs.declared.call.Call.TheVariants as call
 use Rattle.p2p_tracker_calls.specs.BlockedKeys.{due_keys}
 use Rattle.p2p_tracker_calls.specs.DialList.{dialable_keys, query_again_at}
 use Rattle.p2p_tracker_calls.specs.Rules.{Rules}
-use Rattle.p2p_gates_rules.specs.Gates.{Known, reply_to}
-use Rattle.p2p_gates_rules.specs.declared.reply.Reply.{Reply as GatesReply}
-use Rattle.p2p_gates_rules.specs.declared.reply.Reply.TheVariants as gates
+use Rattle.p2p_tracker_calls.specs.Gates.{Known, reply_to}
+use Rattle.p2p_tracker_calls.specs.declared.gates.Reply.{Reply as GatesReply}
+use Rattle.p2p_tracker_calls.specs.declared.gates.Reply.TheVariants as gates
 use Rattle.p2p_log.specs.declared.config.Config.{Config}
 use Rattle.p2p_log.specs.declared.queue.Queue.{Queue}
 use Rattle.p2p_log.specs.declared.queue.Queue.TheVariants as queue

@@ -3,9 +3,9 @@ use Rattle.std.proofs.Common.{◌≡◌, ℕ, Bool, true, false, cond, List, [],
 use Rattle.std.specs.Prelude.{◌||◌, length}
 use Rattle.std.specs.List.{AllByRecursion as Each}
 use Rattle.p2p_base.specs.declared.key.Key.{Key}
-use Rattle.p2p_gates_rules.specs.Gates.{Known, reply_to}
-use Rattle.p2p_gates_rules.specs.declared.reply.Reply.{Reply as GatesReply}
-use Rattle.p2p_gates_rules.specs.declared.reply.Reply.TheVariants as gates
+use Rattle.p2p_tracker_calls.specs.Gates.{Known, reply_to}
+use Rattle.p2p_tracker_calls.specs.declared.gates.Reply.{Reply as GatesReply}
+use Rattle.p2p_tracker_calls.specs.declared.gates.Reply.TheVariants as gates
 use Rattle.p2p_log.specs.declared.config.Config.{Config}
 use Rattle.p2p_log.specs.declared.queue.Queue.{Queue}
 use Rattle.p2p_log.specs.declared.queue.Queue.TheVariants as queue

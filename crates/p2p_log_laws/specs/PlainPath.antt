@@ -7,7 +7,7 @@ use Rattle.p2p_address.specs.declared.ip.SocketAddr.{SocketAddr}
 use Rattle.p2p_address.specs.declared.peer.Address.TheVariants.{Symmetric}
 use Rattle.p2p_address.specs.declared.peer.Ingress.TheVariants.{Socket}
 use Rattle.p2p_base.specs.declared.outcome.Feedback.TheVariants as feedback
-use Rattle.p2p_gates_rules.specs.declared.reply.Reply.TheVariants as gates
+use Rattle.p2p_tracker_calls.specs.declared.gates.Reply.TheVariants as gates
 use Rattle.p2p_log.specs.declared.asked.Asked.TheVariants as ask
 use Rattle.p2p_log.specs.declared.config.Config.{Config}
 use Rattle.p2p_log.specs.declared.queue.Queue.{Queue}

@@ -3,7 +3,7 @@
 use Rattle.std.specs.Prelude.{ℕ, ◌==◌, ◌&&◌, Bool, true, false, cond, List, [], ◌∷◌, ◌++◌, length, Option, Some, None, is_some, slice_get}
 use Rattle.std.specs.Option.{option_map}
 use Rattle.p2p_base.specs.declared.key.Key.{Key}
-use Rattle.p2p_gates_rules.specs.declared.reply.Reply.TheVariants as gates
+use Rattle.p2p_tracker_calls.specs.declared.gates.Reply.TheVariants as gates
 use Rattle.p2p_log.specs.declared.config.Config.{Config}
 use Rattle.p2p_log.specs.declared.queue.Queue.{Queue}
 use Rattle.p2p_log.specs.declared.queue.Queue.TheVariants as queue

@@ -2,9 +2,9 @@
 use Rattle.std.specs.Prelude.{ℕ, Bool, false, cond, nat_lt, List, [], ◌∷◌, length, Some, None, slice_get}
 use Rattle.p2p_base.specs.declared.key.Key.{Key}
 use Rattle.p2p_runtime.specs.QuotaLaw.{Rate as Quota}
-use Rattle.p2p_gates_rules.specs.Gates.{GateRules, Known, nothing_known, reply_to, known_after}
-use Rattle.p2p_gates_rules.specs.declared.reply.Reply.{Reply as GatesReply}
-use Rattle.p2p_gates_rules.specs.declared.reply.Reply.TheVariants as gates
+use Rattle.p2p_tracker_calls.specs.Gates.{GateRules, Known, nothing_known, reply_to, known_after}
+use Rattle.p2p_tracker_calls.specs.declared.gates.Reply.{Reply as GatesReply}
+use Rattle.p2p_tracker_calls.specs.declared.gates.Reply.TheVariants as gates
 use Rattle.p2p_log.specs.declared.config.Config.{Config}
 use Rattle.p2p_log.specs.declared.queue.Queue.{Queue}
 use Rattle.p2p_log.specs.declared.queue.Queue.TheVariants as queue

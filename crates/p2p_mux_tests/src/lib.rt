@@ -1,4 +1,4 @@
-//! The tests of `p2p_mux`, `p2p_mux_codec` and `p2p_labels`, through their public names alone.
+//! The tests of `p2p_mux` and `p2p_mux_codec`, through their public names alone.
 //!
 //! `number` is a value with a codec, `node` the sender and the receiver of one channel, and `stand` a muxer over them, with scripts of what is
 //! done with it.

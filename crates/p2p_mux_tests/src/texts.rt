@@ -1,6 +1,6 @@
 //! The texts of errors and of labels.
 use p2p_base::Key;
-use p2p_labels::{Message, MessageType, Peer};
+use p2p_mux_codec::labels::{Message, MessageType, Peer};
 use p2p_mux::Error;
 use std::alloc::{AllocError, Global};
 use std::fmt::Display;

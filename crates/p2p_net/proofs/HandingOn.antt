@@ -28,10 +28,10 @@ use Rattle.p2p_log_rules.specs.declared.row.Row.{Row}
 use Rattle.p2p_log_laws.proofs.Emptying.{line_gone}
 use Rattle.p2p_log_laws.proofs.LineShape.{left_gone}
 use Rattle.p2p_net_queues.proofs.Going.{put_in, line-append}
-use Rattle.p2p_net_spawner.specs.Spawning.{refuses, told_row, spawned, given_back, released}
-use Rattle.p2p_net_spawner.specs.Stands.{SpawnerStands}
-use Rattle.p2p_net_spawner.specs.declared.spawning.Spawning.{Spawning}
-use Rattle.p2p_net_spawner.proofs.Changes.{spawner_kept, spawner_more}
+use Rattle.p2p_net_connections.specs.Spawner.{refuses, told_row, spawned, given_back, released}
+use Rattle.p2p_net_connections.specs.SpawnerStands.{SpawnerStands}
+use Rattle.p2p_net_connections.specs.declared.spawner.Spawning.{Spawning}
+use Rattle.p2p_net_connections.proofs.SpawnerChanges.{spawner_kept, spawner_more}
 use Rattle.p2p_net_tracker.specs.Dialed.{asked_puts, names_asked}
 use Rattle.p2p_net_tracker.specs.Stands.{is_told}
 use Rattle.p2p_net_tracker.specs.declared.tracker.Tracker.{Tracker}

@@ -55,9 +55,9 @@ use Rattle.p2p_net_listener.proofs.Changes.{listener_same, listener_untouched, h
 use Rattle.p2p_net_listener.proofs.Handshakes.{facts_after}
 use Rattle.p2p_net_links.specs.Stands.{LinksStand}
 use Rattle.p2p_net_links.specs.declared.links.Links.{Links}
-use Rattle.p2p_net_spawner.specs.Spawning.{refuses}
-use Rattle.p2p_net_spawner.specs.Stands.{SpawnerStands}
-use Rattle.p2p_net_spawner.proofs.Changes.{spawner_refuses}
+use Rattle.p2p_net_connections.specs.Spawner.{refuses}
+use Rattle.p2p_net_connections.specs.SpawnerStands.{SpawnerStands}
+use Rattle.p2p_net_connections.proofs.SpawnerChanges.{spawner_refuses}
 use Rattle.p2p_net_tracker.specs.Dialed.{names_asked}
 use Rattle.p2p_net_tracker.specs.Handshaking.{handshake_step_row}
 use Rattle.p2p_net_queues.specs.Matching.{Match}

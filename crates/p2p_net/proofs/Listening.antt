@@ -9,10 +9,10 @@ use Rattle.p2p_runtime.specs.QuotaPlaces.{Places}
 use Rattle.p2p_tracker_mailbox.specs.Lines.{begun}
 use Rattle.p2p_tracker_mailbox.specs.declared.mailbox.Mailbox.{Mailbox}
 use Rattle.p2p_tracker_mailbox.specs.declared.message.Message.TheVariants as message
-use Rattle.p2p_gates_rules.specs.Gates as rule
-use Rattle.p2p_gates_rules.specs.Gates.{GateRules, Known}
-use Rattle.p2p_gates_rules.specs.declared.reply.Reply.{Reply as GatesReply}
-use Rattle.p2p_gates_rules.specs.declared.reply.Reply.TheVariants as gates
+use Rattle.p2p_tracker_calls.specs.Gates as rule
+use Rattle.p2p_tracker_calls.specs.Gates.{GateRules, Known}
+use Rattle.p2p_tracker_calls.specs.declared.gates.Reply.{Reply as GatesReply}
+use Rattle.p2p_tracker_calls.specs.declared.gates.Reply.TheVariants as gates
 use Rattle.p2p_gates.specs.Gates.{has_place, places_after, reply_to}
 use Rattle.p2p_gates.specs.Handshaking.{new_handshake}
 use Rattle.p2p_gates.specs.Listening.{Listening as Actor, StandsFor}

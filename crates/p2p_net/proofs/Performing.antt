@@ -38,7 +38,7 @@ use Rattle.p2p_net_links.proofs.Changes.{opens_none, OpensNone, openings_unmoved
 use Rattle.p2p_net_links.proofs.Drops.{DropsNone}
 use Rattle.p2p_net_listener.proofs.Ends.{ends_quiet}
 use Rattle.p2p_net_listener.proofs.Handshakes.{nothing_tells}
-use Rattle.p2p_net_spawner.proofs.Changes.{spawner_kept}
+use Rattle.p2p_net_connections.proofs.SpawnerChanges.{spawner_kept}
 use Rattle.p2p_net.specs.Places.{Part, router, channels, connections, tracker, dialer, listener, spawner}
 use Rattle.p2p_net.specs.Stands.{PartStands, NodeStands, WorldStands}
 use Rattle.p2p_net.specs.declared.node.Node.{Node}

@@ -27,9 +27,9 @@ use Rattle.p2p_net_connections.specs.Stands.{ConnectionsStand}
 use Rattle.p2p_net_connections.proofs.Spawning.{connections_spawned}
 use Rattle.p2p_net_links.specs.Stands.{LinksStand}
 use Rattle.p2p_net_links.specs.declared.links.Links.{Links}
-use Rattle.p2p_net_spawner.specs.Stands.{SpawnerStands}
-use Rattle.p2p_net_spawner.specs.declared.spawning.Taken.{Taken}
-use Rattle.p2p_net_spawner.proofs.Changes.{TakesFirst, spawner_less, spawner_takes, spawner_empty}
+use Rattle.p2p_net_connections.specs.SpawnerStands.{SpawnerStands}
+use Rattle.p2p_net_connections.specs.declared.spawner.Taken.{Taken}
+use Rattle.p2p_net_connections.proofs.SpawnerChanges.{TakesFirst, spawner_less, spawner_takes, spawner_empty}
 use Rattle.p2p_net.specs.Acts.{SpawnsBy, SpawnerStepsBy}
 use Rattle.p2p_net.specs.Places as place
 use Rattle.p2p_net.specs.Ready.{is_started}

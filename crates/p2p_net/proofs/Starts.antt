@@ -35,9 +35,9 @@ use Rattle.p2p_net_tracker.specs.Begins.{IsNew}
 use Rattle.p2p_net_tracker.proofs.Begins.{tracker_new}
 use Rattle.p2p_net_queues.specs.Lines.{HoldsLines}
 use Rattle.p2p_net_queues.proofs.Holding.{holds_none}
-use Rattle.p2p_net_spawner.specs.Spawning.{no_spawning}
-use Rattle.p2p_net_spawner.specs.Stands.{SpawnerStands}
-use Rattle.p2p_net_spawner.proofs.Changes.{spawner_new}
+use Rattle.p2p_net_connections.specs.Spawner.{no_spawning}
+use Rattle.p2p_net_connections.specs.SpawnerStands.{SpawnerStands}
+use Rattle.p2p_net_connections.proofs.SpawnerChanges.{spawner_new}
 use Rattle.p2p_net_links.proofs.Changes.{dialers_new, openings_new, dropped_new}
 use Rattle.p2p_net_links.specs.Links.{no_links, way_of}
 use Rattle.p2p_net_links.specs.Stands.{LinksStand}

@@ -52,9 +52,9 @@ use Rattle.p2p_net_dialer.proofs.Changes.{private_is, handshake_timeout_is}
 use Rattle.p2p_net_dialer.proofs.Dropping.{attempt_end}
 use Rattle.p2p_net_links.specs.Stands.{LinksStand}
 use Rattle.p2p_net_links.specs.declared.links.Links.{Links}
-use Rattle.p2p_net_spawner.specs.Spawning.{refuses}
-use Rattle.p2p_net_spawner.specs.Stands.{SpawnerStands}
-use Rattle.p2p_net_spawner.proofs.Changes.{spawner_refuses}
+use Rattle.p2p_net_connections.specs.Spawner.{refuses}
+use Rattle.p2p_net_connections.specs.SpawnerStands.{SpawnerStands}
+use Rattle.p2p_net_connections.proofs.SpawnerChanges.{spawner_refuses}
 use Rattle.p2p_net_tracker.specs.Dialed.{names_asked}
 use Rattle.p2p_net_tracker.specs.Stands.{is_told, TrackerStands}
 use Rattle.p2p_net_tracker.specs.declared.tracker.Tracker.{Tracker}

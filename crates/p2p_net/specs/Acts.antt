@@ -47,8 +47,8 @@ use Rattle.p2p_net_tracker.specs.Handshaking.{left_of, handshake_step_row}
 use Rattle.p2p_net_tracker.specs.Stepping as tracking
 use Rattle.p2p_net_tracker.specs.declared.tracker.Tracker.{Tracker}
 use Rattle.p2p_base.specs.Queue.{oldest}
-use Rattle.p2p_net_spawner.specs.Spawning.{taken_by, without_first}
-use Rattle.p2p_net_spawner.specs.declared.spawning.Taken.{Taken}
+use Rattle.p2p_net_connections.specs.Spawner.{taken_by, without_first}
+use Rattle.p2p_net_connections.specs.declared.spawner.Taken.{Taken}
 use Rattle.p2p_net.specs.Connecting.{Stays, SendSteps}
 use Rattle.p2p_net.specs.Ready.{is_started, capacity_by}
 use Rattle.p2p_net.specs.Offering.{Sends, Checks, SendsChecked}

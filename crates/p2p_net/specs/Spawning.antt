@@ -6,7 +6,7 @@ use Rattle.p2p_log.specs.declared.item.Item.TheVariants as item
 use Rattle.p2p_log_rules.specs.declared.row.Row.{Row}
 use Rattle.p2p_tracker_directory.specs.declared.metadata.Metadata.{Metadata}
 use Rattle.p2p_net_tracker.specs.Dialed.{asked_puts, names_asked}
-use Rattle.p2p_net_spawner.specs.Spawning.{refuses, told_row, spawned, given_back, released}
+use Rattle.p2p_net_connections.specs.Spawner.{refuses, told_row, spawned, given_back, released}
 use Rattle.p2p_net.specs.declared.node.Node.{Node}
 
 -- what gives the reservation of a key back

@@ -16,7 +16,7 @@ use Rattle.p2p_net_connections.specs.Stands.{ConnectionsStand}
 use Rattle.p2p_net_tracker.specs.Stands.{TrackerStands}
 use Rattle.p2p_net_dialer.specs.Stands.{DialerStands}
 use Rattle.p2p_net_listener.specs.Stands.{ListenerStands}
-use Rattle.p2p_net_spawner.specs.Stands.{SpawnerStands}
+use Rattle.p2p_net_connections.specs.SpawnerStands.{SpawnerStands}
 use Rattle.p2p_net_links.specs.Stands.{LinksStand}
 use Rattle.p2p_net_links.specs.declared.links.Links.{Links}
 use Rattle.p2p_net.specs.Places.{Part, router, channels, connections, tracker, dialer, listener, spawner}

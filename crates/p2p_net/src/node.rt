@@ -10,7 +10,7 @@ ghost use Rattle.p2p_net_connections.specs.Connections.{no_connections};
 ghost use Rattle.p2p_net_dialer.specs.Dialing.{no_dialing, gates_of};
 ghost use Rattle.p2p_net_listener.specs.Listening.{IsNew as IsNewListening};
 ghost use Rattle.p2p_net_router.specs.Stands.{StandsFor};
-ghost use Rattle.p2p_net_spawner.specs.Spawning.{no_spawning};
+ghost use Rattle.p2p_net_connections.specs.Spawner.{no_spawning};
 ghost use Rattle.p2p_net_tracker.specs.Begins.{IsNew};
 ghost use Rattle.p2p_net.specs.Places.{asked_node as asked_node_of, node_asked as node_asked_by, nodes_linked as nodes_linked_by, node_of as node_of_act, other_of as other_of_act};
 ghost use Rattle.p2p_net.specs.Ready.{is_started as started_test, IsReady};
@@ -30,7 +30,7 @@ use p2p_net_links::Links;
 use p2p_net_listener::Listening;
 use p2p_net_queues::{Turn, only};
 use p2p_net_router::Router;
-use p2p_net_spawner::Spawning;
+use p2p_net_connections::Spawning;
 use p2p_net_tracker::Tracker;
 use std::alloc::{AllocError, Global};
 

@@ -3,4 +3,5 @@ pub mod Changes
 pub mod Ended
 pub mod Pings
 pub mod Receiving
+pub mod SpawnerChanges
 pub mod Spawning

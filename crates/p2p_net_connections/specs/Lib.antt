@@ -1,2 +1,4 @@
 pub mod Connections
+pub mod Spawner
+pub mod SpawnerStands
 pub mod Stands

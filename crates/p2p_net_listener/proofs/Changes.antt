@@ -7,7 +7,7 @@ use Rattle.std.proofs.lemmas.List.{map-append}
 use Rattle.p2p_base.specs.declared.key.Key.{Key}
 use Rattle.p2p_address.specs.declared.ip.SocketAddr.{SocketAddr}
 use Rattle.p2p_runtime.specs.QuotaPlaces.{Places}
-use Rattle.p2p_gates_rules.specs.Gates.{GateRules, Known, nothing_known}
+use Rattle.p2p_tracker_calls.specs.Gates.{GateRules, Known, nothing_known}
 use Rattle.p2p_gates.specs.Gates.{rules_of}
 use Rattle.p2p_gates.specs.Handshaking.{Handshaking}
 use Rattle.p2p_gates.specs.Listening.{Listening as Actor, StandsFor, with_arrival, with_rest}

@@ -5,9 +5,9 @@ use Rattle.std.specs.Ordering.{nat_cmp}
 use Rattle.p2p_base.specs.declared.key.Key.{Key}
 use Rattle.p2p_address.specs.declared.ip.SocketAddr.{SocketAddr}
 use Rattle.p2p_tracker_mailbox.specs.declared.mailbox.Mailbox.{Mailbox}
-use Rattle.p2p_gates_rules.specs.Gates.{Known, nothing_known}
-use Rattle.p2p_gates_rules.specs.declared.reply.Reply.{Reply}
-use Rattle.p2p_gates_rules.specs.declared.reply.Reply.TheVariants as gates
+use Rattle.p2p_tracker_calls.specs.Gates.{Known, nothing_known}
+use Rattle.p2p_tracker_calls.specs.declared.gates.Reply.{Reply}
+use Rattle.p2p_tracker_calls.specs.declared.gates.Reply.TheVariants as gates
 use Rattle.p2p_gates.specs.Handshaking.{Handshaking}
 use Rattle.p2p_gates.specs.Listening.{StandsFor, new_listener, with_arrival, with_rest}
 use Rattle.p2p_gates.specs.ListenerTurns.{listener_turn}

@@ -3,7 +3,7 @@ use crate::handshakes::{DIALING as DIALING_OTHERS, LISTENING};
 use crate::scripts::{Do, first_other_of_two};
 use crate::seen::{Put, Puts, Said, Seen};
 use p2p_base::Feedback;
-use p2p_gates_rules::Reply as GatesReply;
+use p2p_tracker_calls::gates::Reply as GatesReply;
 use p2p_net::RunError;
 use std::alloc::Global;
 

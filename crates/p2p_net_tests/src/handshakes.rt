@@ -1,7 +1,7 @@
 //! What becomes of the handshakes of a node's listener in a world of two nodes.
 use crate::scripts::{Do, first_other_of_two};
 use crate::seen::{Put, Puts, Said, Seen};
-use p2p_gates_rules::Reply as GatesReply;
+use p2p_tracker_calls::gates::Reply as GatesReply;
 use p2p_net::RunError;
 use std::alloc::Global;
 

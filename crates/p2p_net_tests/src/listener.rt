@@ -2,7 +2,7 @@
 use crate::attempts::DIALING;
 use crate::scripts::{Do, first_other};
 use crate::seen::{Put, Puts, Said, Seen};
-use p2p_gates_rules::Reply as GatesReply;
+use p2p_tracker_calls::gates::Reply as GatesReply;
 
 const IDLE: Seen = Seen(Said::Idle, 0, Puts::Nothing);
 

@@ -1,6 +1,6 @@
 //! What the entries of a world show, in plain data.
 use p2p_base::{Feedback, Key, Unreliable};
-use p2p_gates_rules::Reply as GatesReply;
+use p2p_tracker_calls::gates::Reply as GatesReply;
 use p2p_net::{End, Entry, Item, Queue, Reply, Side};
 use p2p_wire::PING_PREFIX;
 

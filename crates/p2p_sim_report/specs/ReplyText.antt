@@ -7,8 +7,8 @@ use Rattle.p2p_base.specs.declared.outcome.Unreliable.{Unreliable}
 use Rattle.p2p_base.specs.declared.outcome.Unreliable.TheVariants.{Outcome, Rejected}
 use Rattle.p2p_flow.specs.declared.tracked.TrackedPeers.{TrackedPeers}
 use Rattle.p2p_flow.specs.declared.update.PeerSetUpdate.{PeerSetUpdate}
-use Rattle.p2p_gates_rules.specs.declared.reply.Reply.{Reply as GatesReply}
-use Rattle.p2p_gates_rules.specs.declared.reply.Reply.TheVariants as gates
+use Rattle.p2p_tracker_calls.specs.declared.gates.Reply.{Reply as GatesReply}
+use Rattle.p2p_tracker_calls.specs.declared.gates.Reply.TheVariants as gates
 use Rattle.p2p_log.specs.declared.entry.Ended.{Ended}
 use Rattle.p2p_log.specs.declared.entry.Ended.TheVariants as ended
 use Rattle.p2p_log.specs.declared.entry.Reply.{Reply}

@@ -8,7 +8,7 @@ use crate::text::{ToText, put, put_flag, put_hex, put_list, put_number};
 use crate::tracker_item::put_digits;
 use p2p_base::{Feedback, Key, Unreliable};
 use p2p_flow::{PeerSetUpdate, TrackedPeers};
-use p2p_gates_rules::Reply as GatesReply;
+use p2p_tracker_calls::gates::Reply as GatesReply;
 use p2p_log::{Ended, Reply};
 use std::alloc::AllocError;
 

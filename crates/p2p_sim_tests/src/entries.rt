@@ -2,7 +2,7 @@
 use crate::items::{Thing, blocked, item_of, tracked, update};
 use bytes::Bytes;
 use p2p_base::{Feedback, Key, List, Unreliable};
-use p2p_gates_rules::Reply as GatesReply;
+use p2p_tracker_calls::gates::Reply as GatesReply;
 use p2p_log::{Act, End, Ended, Entry, Event, Item, Queue, Rate, Recipients, Reply, Report};
 use p2p_sim_report::write_report;
 use std::alloc::{AllocError, Global};

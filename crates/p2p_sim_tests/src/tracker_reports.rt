@@ -3,7 +3,7 @@ use crate::entries::{Do, Row, Said, is_written};
 use crate::items::Thing;
 use p2p_address::IpAddr;
 use p2p_base::{Feedback, Key};
-use p2p_gates_rules::Reply as GatesReply;
+use p2p_tracker_calls::gates::Reply as GatesReply;
 use p2p_log::Queue;
 
 const PAST_64_BITS: u128 = 18_446_744_073_709_551_616;

@@ -2,6 +2,7 @@ pub mod Allows
 pub mod BlockedKeys
 pub mod Blocks
 pub mod DialList
+pub mod Gates
 pub mod Granted
 pub mod Grants
 pub mod Heard
@@ -14,6 +15,7 @@ pub mod Lives
 pub mod Named
 pub mod Overwrites
 pub mod Peers
+pub mod Quotas
 pub mod Rules
 pub mod Sets
 pub mod Turns

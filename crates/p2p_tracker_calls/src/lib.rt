@@ -1,9 +1,10 @@
-//! What a directory of peers was asked and answered, and, in `specs/`, the facts that follow from it. It has no code but
-//! the functions that state the laws of these facts.
+//! What a directory of peers was asked and answered, and what a listener tells who arrives; and, in `specs/`, the facts that
+//! follow from it, and which gate refuses whom. It has no code but the functions that state the laws of these facts.
 #![tactic(auto)]
 
 pub mod call;
 pub mod config;
+pub mod gates;
 pub mod keeping;
 pub mod turns;
 

@@ -4,14 +4,14 @@ ghost use Rattle.std.specs.BTreeSet.{IsFromIterResult};
 ghost use Rattle.p2p_address.specs.declared.ip.IpAddr.{IpAddr as Address};
 ghost use Rattle.p2p_runtime.specs.QuotaPlaces.{Places};
 ghost use Rattle.p2p_gates.specs.Gates.{has_place, rules_of, reply_to, known_after, places_after};
-ghost use Rattle.p2p_gates_rules.specs.Gates.{Known, is_registered, nothing_known, limited_reply, turned_away, charged_by};
-ghost use Rattle.p2p_gates_rules.specs.Quotas.{verdict};
+ghost use Rattle.p2p_tracker_calls.specs.Gates.{Known, is_registered, nothing_known, limited_reply, turned_away, charged_by};
+ghost use Rattle.p2p_tracker_calls.specs.Quotas.{verdict};
 ghost use Rattle.p2p_gates.specs.Listening.{StandsFor, with_arrival, with_rest, new_listener};
 ghost use Rattle.p2p_gates.specs.ListenerTurns.{begins, stepped_by, way_by, refused_over, receive_turn, listener_turn};
 ghost use Rattle.p2p_gates.specs.Quotas.{KeepsRates, rates_of};
 ghost use Rattle.p2p_gates.specs.Stepping.{gone_on};
 ghost use Rattle.p2p_gates.specs.declared.stepped.Input.TheVariants as input;
-ghost use Rattle.p2p_gates_rules.specs.declared.reply.Reply.TheVariants as reply;
+ghost use Rattle.p2p_tracker_calls.specs.declared.gates.Reply.TheVariants as reply;
 
 mod quotas;
 
@@ -21,7 +21,7 @@ use crate::handshake::Handshake;
 use crate::stepped::{Input, Left, Outcome, Put, Stepped};
 use p2p_address::{IpAddr, SocketAddr, is_global};
 use p2p_base::{Deque, PublicKey};
-use p2p_gates_rules::Reply;
+use p2p_tracker_calls::gates::Reply;
 use p2p_runtime::Limiter;
 use p2p_tracker_mailbox::Mailbox;
 use quotas::Quotas;

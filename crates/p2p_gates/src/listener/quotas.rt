@@ -3,7 +3,7 @@ ghost use Rattle.std.specs.Prelude.{◌≡◌, ℕ, true, max, List, IfOk, OnOk}
 ghost use Rattle.p2p_address.specs.declared.ip.IpAddr.{IpAddr as Address};
 ghost use Rattle.p2p_runtime.specs.QuotaKeys.{StandsForEach, KeepsOnlyRecent};
 ghost use Rattle.p2p_tracker_calls.specs.Heard.{ip_cmp};
-ghost use Rattle.p2p_gates_rules.specs.Quotas.{Passed, none_passed, refuses, charged, verdict, passed_after};
+ghost use Rattle.p2p_tracker_calls.specs.Quotas.{Passed, none_passed, refuses, charged, verdict, passed_after};
 ghost use Rattle.p2p_gates.specs.Quotas.{StandsFor, KeepsRates, rates_of, is_pruned, counted_after};
 
 use p2p_address::{IpAddr, subnet};

@@ -5,7 +5,7 @@ use Rattle.p2p_log.specs.declared.config.Config.{Config}
 use Rattle.p2p_net_connections.specs.Connections.{no_connections}
 use Rattle.p2p_net_dialer.specs.Dialing.{gates_of}
 use Rattle.p2p_net_listener.specs.Listening.{IsNew as IsNewListening}
-use Rattle.p2p_net_spawner.specs.Spawning.{no_spawning}
+use Rattle.p2p_net_connections.specs.Spawner.{no_spawning}
 use Rattle.p2p_net_tracker.specs.Begins.{IsNew}
 use Rattle.p2p_net.specs.Stands.{NodeStands}
 use Rattle.p2p_net.proofs.Starts.{absent, fits_there, each-append, node_new, links_new}

@@ -1,7 +1,7 @@
 use Rattle.std.proofs.Common.{◌≡◌, max, IfOk, OnOk, Option, sym, ap, subst, ◌∙◌}
-use Rattle.p2p_gates_rules.specs.Gates.{first_told, unless_refused, limited_reply, charged_by}
-use Rattle.p2p_gates_rules.specs.Quotas.{verdict}
-use Rattle.p2p_gates_rules.specs.declared.reply.Reply.{Reply}
+use Rattle.p2p_tracker_calls.specs.Gates.{first_told, unless_refused, limited_reply, charged_by}
+use Rattle.p2p_tracker_calls.specs.Quotas.{verdict}
+use Rattle.p2p_tracker_calls.specs.declared.gates.Reply.{Reply}
 use Rattle.p2p_gates.specs.Gates.{has_place, rules_of}
 use Rattle.p2p_gates.specs.Listening.{StandsFor}
 use Rattle.p2p_gates.specs.Quotas.{rates_of}

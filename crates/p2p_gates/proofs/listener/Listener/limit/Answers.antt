@@ -1,5 +1,5 @@
 use Rattle.std.proofs.Common.{sym, subst}
-use Rattle.p2p_gates_rules.specs.Gates.{charged_by}
+use Rattle.p2p_tracker_calls.specs.Gates.{charged_by}
 use Rattle.p2p_gates.specs.Gates.{rules_of}
 use Rattle.p2p_gates.specs.Listening.{Listening, StandsFor}
 use Rattle.p2p_gates.proofs.listener.Listener.limit.Goals as goal

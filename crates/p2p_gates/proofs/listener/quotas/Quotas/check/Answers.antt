@@ -3,7 +3,7 @@ use Rattle.p2p_address.specs.declared.ip.IpAddr.{IpAddr}
 use Rattle.p2p_runtime.specs.QuotaKeys.{StandsForEach}
 use Rattle.p2p_runtime.specs.QuotaLaw.{Rate}
 use Rattle.p2p_tracker_calls.specs.Heard.{ip_cmp}
-use Rattle.p2p_gates_rules.specs.Quotas.{charged}
+use Rattle.p2p_tracker_calls.specs.Quotas.{charged}
 use Rattle.p2p_gates.specs.Quotas.{Quotas, StandsFor, KeepsRates}
 use Rattle.p2p_gates.proofs.Charged.{verdict-counted}
 use Rattle.p2p_gates.proofs.listener.quotas.Quotas.check.Goals as goal

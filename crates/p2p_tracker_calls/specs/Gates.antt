@@ -5,9 +5,9 @@ use Rattle.std.specs.BTreeMap.{is_at}
 use Rattle.p2p_address.specs.Addresses.{is_global}
 use Rattle.p2p_address.specs.declared.ip.IpAddr.{IpAddr}
 use Rattle.p2p_tracker_calls.specs.Heard.{ip_cmp}
-use Rattle.p2p_gates_rules.specs.Quotas.{Rates, Passed, none_passed, verdict, passed_after}
-use Rattle.p2p_gates_rules.specs.declared.reply.Reply.{Reply}
-use Rattle.p2p_gates_rules.specs.declared.reply.Reply.TheVariants as reply
+use Rattle.p2p_tracker_calls.specs.Quotas.{Rates, Passed, none_passed, verdict, passed_after}
+use Rattle.p2p_tracker_calls.specs.declared.gates.Reply.{Reply}
+use Rattle.p2p_tracker_calls.specs.declared.gates.Reply.TheVariants as reply
 
 -- whether addresses that aren't global may connect, and those that aren't registered; and the quotas
 pub record GateRules : Type 0 where

@@ -1,4 +1,4 @@
-//! `Reply`, what the gates tell a peer that connects.
+//! `Reply`, what the gates of a listener tell a peer that connects.
 
 /// What the gates tell an arrival: the first that refuses it, or that none does.
 #[derive(Clone, Copy, PartialEq, Eq, Debug)]

@@ -13,7 +13,7 @@ use Rattle.p2p_log.specs.declared.entry.Entry.{Entry}
 use Rattle.p2p_log.specs.Lines.{name_of, line}
 use Rattle.p2p_log_rules.specs.Rows.{mailbox_size_at}
 use Rattle.p2p_net_queues.specs.Matching.{Match}
-use Rattle.p2p_net_spawner.specs.declared.spawning.Spawning.{Spawning}
+use Rattle.p2p_net_connections.specs.declared.spawner.Spawning.{Spawning}
 
 -- the item asks for the connection that the message asks for
 abbrev pub IsSpawn : Item → Message Key → Type 0

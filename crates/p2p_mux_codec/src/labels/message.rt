@@ -1,7 +1,7 @@
 //! `Message`, the label of what is counted for each peer and kind of message.
 ghost use Rattle.std.specs.Prelude.{◌≡◌};
 
-use crate::MessageType;
+use crate::labels::MessageType;
 
 /// The label of what is counted for each peer and kind of message.
 ///

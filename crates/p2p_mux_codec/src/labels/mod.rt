@@ -1,6 +1,4 @@
 //! Labels by which what a node counts is told apart: by the peer, and by the kind of message.
-#![tactic(auto)]
-
 pub mod message;
 pub mod message_type;
 pub mod peer;

@@ -13,8 +13,8 @@ use Rattle.p2p_log.specs.declared.item.Item.TheVariants as item
 use Rattle.p2p_log_rules.specs.declared.row.Row.{Row}
 use Rattle.p2p_peer.specs.declared.spawner.message.Message.{Message}
 use Rattle.p2p_peer.specs.declared.spawner.message.Message.TheVariants as asked
-use Rattle.p2p_net_spawner.specs.declared.spawning.Spawning.{Spawning}
-use Rattle.p2p_net_spawner.specs.declared.spawning.Taken.{Taken}
+use Rattle.p2p_net_connections.specs.declared.spawner.Spawning.{Spawning}
+use Rattle.p2p_net_connections.specs.declared.spawner.Taken.{Taken}
 
 abbrev pub no_spawning : ℕ → Spawning
 no_spawning size = record { mailbox = empty_queue size; names = [] }

@@ -6,7 +6,7 @@ ghost use Rattle.p2p_log.specs.declared.item.Item.TheVariants as item;
 ghost use Rattle.p2p_tracker_directory.specs.Reserved.{peer_of};
 ghost use Rattle.p2p_tracker_mailbox.specs.Mailboxes.{with_message_in};
 ghost use Rattle.p2p_tracker_mailbox.specs.declared.message.Message.TheVariants as message;
-ghost use Rattle.p2p_net_spawner.specs.Spawning.{no_spawning, refuses, told_row, spawned, given_back, released, taken_by, without_first};
+ghost use Rattle.p2p_net_connections.specs.Spawner.{no_spawning, refuses, told_row, spawned, given_back, released, taken_by, without_first};
 
 use p2p_base::{Key, NoRoom, Sent};
 use p2p_log::{Item, Queue};

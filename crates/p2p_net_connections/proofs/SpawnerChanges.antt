@@ -18,11 +18,11 @@ use Rattle.p2p_log.specs.declared.entry.Entry.{Entry}
 use Rattle.p2p_log.specs.Lines.{name_of, live_from, line}
 use Rattle.p2p_log_rules.specs.Rows.{mailbox_size_at, is_spawner_full}
 use Rattle.p2p_net_queues.proofs.Matching.{Match-last, Match-long, Match-drop}
-use Rattle.p2p_net_spawner.specs.Spawning.{no_spawning, refuses, spawned, taken_by, without_first}
+use Rattle.p2p_net_connections.specs.Spawner.{no_spawning, refuses, spawned, taken_by, without_first}
 use Rattle.p2p_net_queues.specs.Matching.{Match}
-use Rattle.p2p_net_spawner.specs.Stands.{IsSpawn, SpawnerStands}
-use Rattle.p2p_net_spawner.specs.declared.spawning.Spawning.{Spawning}
-use Rattle.p2p_net_spawner.specs.declared.spawning.Taken.{Taken}
+use Rattle.p2p_net_connections.specs.SpawnerStands.{IsSpawn, SpawnerStands}
+use Rattle.p2p_net_connections.specs.declared.spawner.Spawning.{Spawning}
+use Rattle.p2p_net_connections.specs.declared.spawner.Taken.{Taken}
 use Rattle.p2p_base.specs.Queue.{oldest}
 
 -- ---- a node that is new
