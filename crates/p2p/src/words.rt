@@ -1,9 +1,9 @@
 //! The words of the command line.
 ghost use Rattle.std.specs.Prelude.{◌≡◌, ◌↔◌, ◌⊎◌, drop, IfOk, IfErr};
 ghost use Rattle.std.specs.declared.io.ErrorKind.TheVariants.{OutOfMemory};
-ghost use Rattle.p2p_sim_command.specs.declared.status.Status.TheVariants as status;
+ghost use Rattle.p2p_sim.specs.declared.status.Status.TheVariants as status;
 
-use p2p_sim_command::Status;
+use p2p_sim::Status;
 use std::alloc::{AllocError, Global};
 use std::env;
 use std::io::ErrorKind;

@@ -21,7 +21,6 @@ use std::marker::Model;
 /// dials at most once a `dial_frequency`, and asks one question at a time. Its answers wait in the tracker's mailbox.
 ///
 /// Ports `Actor` of commonware-p2p's dialer, whose questions wait for their answers.
-#[derive(Drop)]
 pub struct Dialer<P> {
     alloc: Global,
     cfg: Config,
@@ -30,6 +29,20 @@ pub struct Dialer<P> {
     asked_at: u64,
     is_asking: bool,
     has_failed: bool,
+}
+
+impl<P: Drop> Drop for Dialer<P> {
+    fn drop(self) {
+        let Dialer {
+            alloc: _alloc,
+            cfg: _cfg,
+            peers: _peers,
+            deadline: _deadline,
+            asked_at: _asked_at,
+            is_asking: _is_asking,
+            has_failed: _has_failed,
+        } = self;
+    }
 }
 
 impl<P> Model for Dialer<P> {

@@ -20,7 +20,6 @@ use std::marker::Model;
 /// waits for it stands in the tracker's mailbox, under its name.
 ///
 /// Ports `Actor::handshake` of commonware-p2p's listener.
-#[derive(Drop)]
 pub struct Handshake<P> {
     name: u64,
     arrival: Arrival<P>,
@@ -29,6 +28,20 @@ pub struct Handshake<P> {
     is_finished: bool,
     has_ended: bool,
     has_failed: bool,
+}
+
+impl<P: Drop> Drop for Handshake<P> {
+    fn drop(self) {
+        let Handshake {
+            name: _name,
+            arrival: _arrival,
+            deadline: _deadline,
+            is_accepted: _is_accepted,
+            is_finished: _is_finished,
+            has_ended: _has_ended,
+            has_failed: _has_failed,
+        } = self;
+    }
 }
 
 impl<P> Model for Handshake<P> {

@@ -80,11 +80,22 @@ pub enum Reply {
 }
 
 /// An event, its reply, the names of the items that it took, what it put in which queue, and what it ended.
-#[derive(Drop)]
 pub struct Entry {
     pub event: Event,
     pub reply: Reply,
     pub takes: List<(u64, u64)>,
     pub puts: List<(Queue, Item)>,
     pub ends: List<End>,
+}
+
+impl Drop for Entry {
+    fn drop(self) {
+        let Entry {
+            event: _event,
+            reply: _reply,
+            takes: _takes,
+            puts: _puts,
+            ends: _ends,
+        } = self;
+    }
 }

@@ -148,11 +148,20 @@ pub enum Act {
 }
 
 /// An act at a moment, in nanoseconds, with the seed of what it draws.
-#[derive(Drop)]
 pub struct Event {
     pub at: u64,
     pub seed: u64,
     pub act: Act,
+}
+
+impl Drop for Event {
+    fn drop(self) {
+        let Event {
+            at: _at,
+            seed: _seed,
+            act: _act,
+        } = self;
+    }
 }
 
 impl Recipients {

@@ -5,9 +5,14 @@ use crate::queue::Queue;
 use p2p_base::List;
 
 /// The log of a network: one entry for each event, in order.
-#[derive(Drop)]
 pub struct Report {
     pub log: List<Entry>,
+}
+
+impl Drop for Report {
+    fn drop(self) {
+        let Report { log: _log } = self;
+    }
 }
 
 /// Where a copy is, or what became of it at which entry.

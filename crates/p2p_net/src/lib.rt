@@ -23,9 +23,9 @@ pub use crate::configs::fits;
 pub use crate::error::{NodeError, RunError};
 pub use crate::node::Node;
 pub use crate::world::World;
-pub use p2p_tracker_calls::gates::Reply as GatesReply;
 pub use p2p_log::{
     Act, Asked, Cause, Config, End, Ended, Entry, Envelope, Event, Fate, Item, Outcome, Queue,
     Rate, Recipients, Reply, Report, Side,
 };
 pub use p2p_net_links::Links;
+pub use p2p_tracker_calls::gates::Reply as GatesReply;

@@ -24,18 +24,16 @@ use p2p_base::List;
 use p2p_log::{Act, Config, Entry, Event, Reply};
 use p2p_log_rules::Row;
 use p2p_net_channels::Channels;
-use p2p_net_connections::Connections;
+use p2p_net_connections::{Connections, Spawning};
 use p2p_net_dialer::{Dialing, gates_config};
 use p2p_net_links::Links;
 use p2p_net_listener::Listening;
 use p2p_net_queues::{Turn, only};
 use p2p_net_router::Router;
-use p2p_net_connections::Spawning;
 use p2p_net_tracker::Tracker;
 use std::alloc::{AllocError, Global};
 
 /// A node: what it is made of, and its parts.
-#[derive(Drop)]
 pub struct Node {
     /// What it is made of.
     pub config: Config,
@@ -57,6 +55,23 @@ pub struct Node {
     pub spawning: Spawning,
     /// Whether it found no memory.
     pub failed: bool,
+}
+
+impl Drop for Node {
+    fn drop(self) {
+        let Node {
+            config: _config,
+            retained: _retained,
+            router: _router,
+            channels: _channels,
+            connections: _connections,
+            tracker: _tracker,
+            dialing: _dialing,
+            listening: _listening,
+            spawning: _spawning,
+            failed: _failed,
+        } = self;
+    }
 }
 
 /// The list, which takes no more memory than it holds.

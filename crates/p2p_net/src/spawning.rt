@@ -8,8 +8,8 @@ use crate::node::Node;
 use p2p_base::Key;
 use p2p_log::{Item, Reply};
 use p2p_log_rules::Row;
-use p2p_net_queues::{Turn, only, taking};
 use p2p_net_connections::Taken;
+use p2p_net_queues::{Turn, only, taking};
 use p2p_tracker_directory::Reservation;
 use std::alloc::AllocError;
 

@@ -27,12 +27,22 @@ use std::marker::Model;
 /// The router: a map from peers to the relays of their connections, and the subscriptions that are told when the map's keys change.
 ///
 /// Ports `Actor` of commonware-p2p's router.
-#[derive(Drop)]
 pub struct Actor<P: Ord> {
     links: BTreeMap<P, Link>,
     peers: BTreeMap<u64, P>,
     subscriptions: Vec<u64>,
     failed: bool,
+}
+
+impl<P: Ord + Drop> Drop for Actor<P> {
+    fn drop(self) {
+        let Actor {
+            links: _links,
+            peers: _peers,
+            subscriptions: _subscriptions,
+            failed: _failed,
+        } = self;
+    }
 }
 
 impl<P: Ord> Model for Actor<P> {

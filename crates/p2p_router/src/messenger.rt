@@ -18,11 +18,20 @@ use std::marker::Model;
 /// For each subscription it keeps a ring of one list for good: the router puts the newest list there, and the subscriber takes it.
 ///
 /// Ports `Messenger` of commonware-p2p, as one value that senders are lent.
-#[derive(Drop)]
 pub struct Messenger<P> {
     binding: Binding<P>,
     waiting: Vec<u64>,
     lists: Vec<Ring<List<P>>>,
+}
+
+impl<P: Drop> Drop for Messenger<P> {
+    fn drop(self) {
+        let Messenger {
+            binding: _binding,
+            waiting: _waiting,
+            lists: _lists,
+        } = self;
+    }
 }
 
 impl<P> Model for Messenger<P> {

@@ -1,2 +1,11 @@
+pub mod Codes
+pub mod Commands
+pub mod Faults
+pub mod Input
+pub mod Judged
 pub mod Network
-pub mod Program
+pub mod Outcomes
+pub mod Taken
+pub mod ThreadText
+pub mod ThreadWords
+pub mod Words

@@ -25,8 +25,8 @@ use Rattle.p2p_sim_script.specs.Form.{script_of}
 use Rattle.p2p_sim_report.specs.ReportText.{report_text}
 use Rattle.p2p_net.specs.Stands.{WorldStands}
 use Rattle.p2p_net.specs.World.{WorldView}
-use Rattle.p2p_sim_command.specs.declared.program.Refusal.{Refusal}
-use Rattle.p2p_sim_command.specs.declared.program.Refusal.TheVariants as refusal
+use Rattle.p2p_sim.specs.declared.program.Refusal.{Refusal}
+use Rattle.p2p_sim.specs.declared.program.Refusal.TheVariants as refusal
 
 -- the first configuration that isn't valid, or else the first event
 abbrev pub first_fault : Option ℕ → Option ℕ → Option Refusal

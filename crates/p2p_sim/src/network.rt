@@ -8,8 +8,9 @@ ghost use Rattle.p2p_log.specs.declared.entry.Entry.{Entry};
 ghost use Rattle.p2p_log_rules.specs.Lawful.{IsLawful};
 ghost use Rattle.p2p_sim_script.specs.Form.{script_of};
 ghost use Rattle.p2p_sim.specs.Network.{fault_of, refusal_of as refusal_of_tree, HasRunScript, IsAccounted};
-ghost use Rattle.p2p_sim_command.specs.declared.program.RunError.TheVariants as run_error;
+ghost use Rattle.p2p_sim.specs.declared.program.RunError.TheVariants as run_error;
 
+use crate::program::{Program, Refusal, RunError};
 use p2p_base::List;
 use p2p_log::{Config, Event};
 use p2p_log_laws::{
@@ -19,7 +20,6 @@ use p2p_log_laws::{
     node_grants, one_end, only_sent_is_delivered, releases_are_timely, sends_are_admitted,
 };
 use p2p_net::{RunError as WorldError, World};
-use p2p_sim_command::{Program, Refusal, RunError};
 use p2p_sim_report::write_report;
 use p2p_sim_script::{ScriptError, read_script};
 use serde_json::Value;

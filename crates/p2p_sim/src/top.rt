@@ -3,19 +3,22 @@ ghost use Rattle.std.specs.Prelude.{◌≡◌, ℕ, ◌+◌, ◌≤◌, ◌↔�
 ghost use Rattle.std.specs.Option.{option_map};
 ghost use Rattle.serde_json.specs.Data.{Data};
 ghost use Rattle.p2p_runtime.specs.Streams.{Rose};
-ghost use Rattle.p2p_sim_command.specs.Input.{Takes, IsAllOf, json_of};
-ghost use Rattle.p2p_sim_command.specs.Judged.{judged, status_due};
-ghost use Rattle.p2p_sim_command.specs.Outcomes.{IsRefusal, IsSilent, HasRefused, HasStopped};
+ghost use Rattle.p2p_sim.specs.Input.{Takes, IsAllOf, json_of};
+ghost use Rattle.p2p_sim.specs.Judged.{judged, status_due};
+ghost use Rattle.p2p_sim.specs.Outcomes.{IsRefusal, IsSilent, HasRefused, HasStopped};
 ghost use Rattle.p2p_net.specs.World.{WorldView};
 ghost use Rattle.p2p_sim.specs.Network.{refusal_of, RunsTree};
-ghost use Rattle.p2p_sim_command.specs.Words.{IsRunCommand};
-ghost use Rattle.p2p_sim_command.specs.declared.program.Refusal.TheVariants as refusal;
-ghost use Rattle.p2p_sim_command.specs.declared.status.Status.TheVariants as status;
+ghost use Rattle.p2p_sim.specs.Words.{IsRunCommand};
+ghost use Rattle.p2p_sim.specs.declared.program.Refusal.TheVariants as refusal;
+ghost use Rattle.p2p_sim.specs.declared.status.Status.TheVariants as status;
 
+use crate::answering::answer;
 use crate::network::Network;
+use crate::reading::{LIMIT, ReadEnd, read_all};
+use crate::status::Status;
+use crate::words::is_run;
 use p2p_net::World;
 use p2p_runtime::{Sink, Source};
-use p2p_sim_command::{LIMIT, Status, sim_with};
 use std::alloc::Global;
 
 /// Does the command that the words name. `run` reads the source to its end, runs what it read, writes the report and
@@ -73,5 +76,13 @@ pub fn sim<S: Source, K: Sink>(
         → ¬ Rose (S.faults_of source.old) (S.faults_of source.new) → ¬ Rose (K.faults_of sink.old) (K.faults_of sink.new)
         → (result ≡ status_due (judged refusal_of input)) ⊎ (result ≡ status.Memory) }
 {
-    sim_with::<Network, S, K>(alloc, words, source, sink, end)
+    if !is_run(words) {
+        return Status::Usage;
+    }
+    match read_all(alloc, source) {
+        Ok(input) => answer::<Network, K>(alloc, &input, sink, end),
+        Err(ReadEnd::Fault) => Status::ReadFault,
+        Err(ReadEnd::TooLong) => Status::TooLong,
+        Err(ReadEnd::Memory) => Status::Memory,
+    }
 }

@@ -6,7 +6,7 @@ use p2p_runtime::{
     Failed, FailingSink, FailingSource, MemorySink, MemorySource, Sink, Source, StdSink,
 };
 use p2p_sim::sim;
-use p2p_sim_command::{Fault, LIMIT, Refusal, Status};
+use p2p_sim::{Fault, LIMIT, Refusal, Status};
 use std::alloc::{AllocError, Global};
 
 // A stream that moves at most so many bytes a call.

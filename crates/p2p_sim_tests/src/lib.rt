@@ -2,7 +2,7 @@
 //! of those crates once.
 //!
 //! Of `p2p_sim_script` are `scripts`, `tracker_scripts` and `tracker_events`, over `texts`; of `p2p_sim_report` are `reports`
-//! and `tracker_reports`, over logs that `entries` and `items` make of plain data; of `p2p_sim_command` and `p2p_sim` are
+//! and `tracker_reports`, over logs that `entries` and `items` make of plain data; of `p2p_sim` are
 //! `command` and `runs`, whose scripts and reports `rows` has.
 #![tactic(auto)]
 

@@ -5,7 +5,7 @@ use crate::rows::{
     HELLO, HELLO_REPORT, NO_CONNECTION, NO_CONNECTION_REPORT, NO_LINK, NO_LINK_REPORT, RELAY,
     RELAY_REPORT, SUBSCRIPTION, SUBSCRIPTION_REPORT, UNBOUND, UNBOUND_REPORT,
 };
-use p2p_sim_command::Status;
+use p2p_sim::Status;
 use std::alloc::{AllocError, Global};
 
 // Whether the command ends so with a script, of which nothing fails, leaves a world where that is `Ok` alone, and writes these lines.

@@ -2,7 +2,7 @@
 use crate::gates::{Meeting, Open};
 use p2p_runtime::{MemorySink, MemorySource};
 use p2p_sim::p2p_sim;
-use p2p_sim_command::Status;
+use p2p_sim::Status;
 use p2p_threads_shared::Gate;
 use std::alloc::{AllocError, Global};
 use std::sync::Wait;

@@ -16,7 +16,6 @@ use std::alloc::{AllocError, Global};
 /// All that waits for the tracker, and all that it answered.
 ///
 /// Ports `Mailbox` of commonware-p2p's lookup tracker, together with the channels on which the tracker answers.
-#[derive(Drop)]
 pub struct Mailbox<P: PublicKey> {
     /// What an oracle is lent: the messages, and what waits for those who asked by one.
     pub desk: Desk<P>,
@@ -26,6 +25,17 @@ pub struct Mailbox<P: PublicKey> {
     pub handshakes: Handshakes<P>,
     /// The addresses that peers may come from, where the listener was told of them and has not taken them.
     pub heard: Option<List<IpAddr>>,
+}
+
+impl<P: PublicKey> Drop for Mailbox<P> {
+    fn drop(self) {
+        let Mailbox {
+            desk: _desk,
+            dialer: _dialer,
+            handshakes: _handshakes,
+            heard: _heard,
+        } = self;
+    }
 }
 
 impl<P: PublicKey> Mailbox<P> {

@@ -28,7 +28,6 @@ use std::marker::Model;
 /// exchanged.
 ///
 /// Ports `Actor::dial_peer` of commonware-p2p's dialer.
-#[derive(Drop)]
 pub struct Attempt<P> {
     alloc: Global,
     name: u64,
@@ -40,6 +39,23 @@ pub struct Attempt<P> {
     allow_private_ips: bool,
     handshake_timeout: u64,
     has_failed: bool,
+}
+
+impl<P: Drop> Drop for Attempt<P> {
+    fn drop(self) {
+        let Attempt {
+            alloc: _alloc,
+            name: _name,
+            reservation: _reservation,
+            ingress: _ingress,
+            address: _address,
+            deadline: _deadline,
+            items: _items,
+            allow_private_ips: _allow_private_ips,
+            handshake_timeout: _handshake_timeout,
+            has_failed: _has_failed,
+        } = self;
+    }
 }
 
 impl<P> Model for Attempt<P> {

@@ -21,8 +21,8 @@ use crate::handshake::Handshake;
 use crate::stepped::{Input, Left, Outcome, Put, Stepped};
 use p2p_address::{IpAddr, SocketAddr, is_global};
 use p2p_base::{Deque, PublicKey};
-use p2p_tracker_calls::gates::Reply;
 use p2p_runtime::Limiter;
+use p2p_tracker_calls::gates::Reply;
 use p2p_tracker_mailbox::Mailbox;
 use quotas::Quotas;
 use std::alloc::{AllocError, Global};
@@ -38,7 +38,6 @@ use std::marker::Model;
 /// are kept.
 ///
 /// Ports `Actor` of commonware-p2p's listener.
-#[derive(Drop)]
 pub struct Listener<P> {
     alloc: Global,
     allow_private_ips: bool,
@@ -49,6 +48,22 @@ pub struct Listener<P> {
     quotas: Quotas,
     places: Limiter,
     has_failed: bool,
+}
+
+impl<P: Drop> Drop for Listener<P> {
+    fn drop(self) {
+        let Listener {
+            alloc: _alloc,
+            allow_private_ips: _allow_private_ips,
+            bypass_ip_check: _bypass_ip_check,
+            handshake_timeout: _handshake_timeout,
+            arrivals: _arrivals,
+            registered: _registered,
+            quotas: _quotas,
+            places: _places,
+            has_failed: _has_failed,
+        } = self;
+    }
 }
 
 impl<P> Model for Listener<P> {

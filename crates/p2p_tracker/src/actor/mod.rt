@@ -38,7 +38,6 @@ use std::marker::Model;
 /// The tracker: the directory of peers, who is told of its changes, and the connections that it may have to end.
 ///
 /// Ports `Actor` of commonware-p2p's lookup tracker.
-#[derive(Drop)]
 pub struct Actor<C: PublicKey> {
     alloc: Global,
     directory: Directory<C>,
@@ -47,6 +46,20 @@ pub struct Actor<C: PublicKey> {
     sets: Vec<u64>,
     controls: BTreeMap<C, u64>,
     has_failed: bool,
+}
+
+impl<C: PublicKey> Drop for Actor<C> {
+    fn drop(self) {
+        let Actor {
+            alloc: _alloc,
+            directory: _directory,
+            cooldown: _cooldown,
+            updates: _updates,
+            sets: _sets,
+            controls: _controls,
+            has_failed: _has_failed,
+        } = self;
+    }
 }
 
 impl<C: PublicKey> Model for Actor<C> {

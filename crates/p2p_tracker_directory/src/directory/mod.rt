@@ -61,7 +61,6 @@ use std::marker::Model;
 /// Which peers are known, tracked, held and blocked. It is answerable to the list of the calls so far.
 ///
 /// Ports `Directory` of commonware-p2p's lookup tracker.
-#[derive(Drop)]
 pub struct Directory<C: PublicKey> {
     local: C,
     cfg: Config,
@@ -70,6 +69,20 @@ pub struct Directory<C: PublicKey> {
     records: BTreeMap<C, Record>,
     blocks: PrioritySet<C>,
     alloc: Global,
+}
+
+impl<C: PublicKey> Drop for Directory<C> {
+    fn drop(self) {
+        let Directory {
+            local: _local,
+            cfg: _cfg,
+            sets: _sets,
+            latest: _latest,
+            records: _records,
+            blocks: _blocks,
+            alloc: _alloc,
+        } = self;
+    }
 }
 
 impl<C: PublicKey> Model for Directory<C> {

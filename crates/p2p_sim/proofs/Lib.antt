@@ -1,0 +1,5 @@
+pub mod JsonLaws
+pub mod Lines
+pub mod Messages
+pub mod Spelling
+pub mod TakesLaws

@@ -1,0 +1,48 @@
+//! What the command writes.
+ghost use Rattle.std.specs.Prelude.{◌≡◌, ℕ, ◌≤◌, List, ◌++◌, ◌⊎◌, IfSome, IfNone};
+ghost use Rattle.std.specs.Option.{option_map};
+ghost use Rattle.p2p_runtime.specs.Streams.{Rose};
+ghost use Rattle.p2p_sim.specs.Input.{Adds};
+ghost use Rattle.p2p_sim.specs.declared.status.Status.TheVariants as status;
+ghost use Rattle.p2p_sim.specs.ThreadText.{thread_text};
+
+use crate::status::Status;
+use crate::threads::running::run;
+pub use crate::threads::words::asked as asks_threads;
+use p2p_runtime::{Sink, write_all};
+use p2p_threads_shared::Gate;
+use std::alloc::Global;
+use std::sync::Wait;
+use std::thread::Threads;
+
+/// Runs `n` sender threads of `m` messages each, and writes a line for each sender: how many calls it made, and the
+/// numbers that were taken of it.
+///
+/// The status is `Ok`, `WriteFault` or `Memory`. The text is whole before the first write, so want of memory has written
+/// nothing.
+pub fn thread_report<R: Threads + Wait + Sync, K: Sink, G: Gate>(
+    rt: &R,
+    alloc: Global,
+    n: u32,
+    m: u32,
+    sink: &mut K,
+    gate: &G,
+) -> Status
+    requires n { (1 ≤ n) × (n ≤ 64) }
+    requires m { (1 ≤ m) × (m ≤ 10000) }
+    ensures status { (result ≡ status.Ok) ⊎ ((result ≡ status.WriteFault) ⊎ (result ≡ status.Memory)) }
+    ensures ok { result ≡ status.Ok → Adds (K.bytes_held sink.old) (thread_text n m) (K.bytes_held sink.new) }
+    ensures front { result ≡ status.WriteFault → (rest : List ℕ)
+        × (option_map (λ bytes. bytes ++ rest) (K.bytes_held sink.new) ≡ option_map (λ bytes. bytes ++ thread_text n m) (K.bytes_held sink.old)) }
+    ensures write_fault { result ≡ status.WriteFault → Rose (K.faults_of sink.old) (K.faults_of sink.new) }
+    ensures no_fault { ¬ (result ≡ status.WriteFault) → K.faults_of sink.new ≡ K.faults_of sink.old }
+    ensures unwritten { result ≡ status.Memory → sink.new ≡ sink.old }
+{
+    let Ok(text) = run(rt, alloc, n, m, gate) else {
+        return Status::Memory;
+    };
+    if write_all(sink, text.as_bytes()).is_err() {
+        return Status::WriteFault;
+    }
+    Status::Ok
+}

@@ -1,2 +1,0 @@
-pub mod JsonLaws
-pub mod TakesLaws

@@ -1,6 +1,0 @@
-pub mod Codes
-pub mod Faults
-pub mod Input
-pub mod Judged
-pub mod Outcomes
-pub mod Words
