@@ -4,14 +4,17 @@ import os
 SOURCES = ('src', 'specs', 'proofs')
 
 
+def crate_of_line(line):
+    """The crate that a line of crates.txt is for, or '', and what it uses."""
+    head, colon, tail = line.partition('#')[0].partition(':')
+    return (head.split()[0], tail.split()) if colon else ('', [])
+
+
 def read_graph(top):
     """The crates of crates.txt, each with the crates of the repository that it uses."""
-    uses = {}
     with open(os.path.join(top, 'crates.txt'), encoding='utf-8') as lines:
-        for line in lines:
-            head, colon, tail = line.partition('#')[0].partition(':')
-            if colon:
-                uses[head.split()[0]] = tail.split()
+        uses = dict(crate_of_line(line) for line in lines)
+    uses.pop('', None)
     return {name: [used for used in names if used in uses] for name, names in uses.items()}
 
 
@@ -35,11 +38,14 @@ def source_folders(top, crates):
     return [folder for folder in folders if os.path.isdir(os.path.join(top, folder))]
 
 
+def folder_size(folder):
+    """How many bytes the files of a folder have."""
+    return sum(os.path.getsize(os.path.join(place, name)) for place, _, names in os.walk(folder) for name in names)
+
+
 def code_size(top, crate):
     """How many bytes of code a crate has, by which what its proof takes can be guessed."""
-    return sum(os.path.getsize(os.path.join(place, name))
-               for place, _, names in os.walk(os.path.join(top, 'crates', crate, 'src'))
-               for name in names)
+    return folder_size(os.path.join(top, 'crates', crate, 'src'))
 
 
 def remaining_work(graph, crates, sizes):
