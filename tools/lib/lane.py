@@ -85,10 +85,15 @@ class Lane:
             os.rename(os.path.join(one, 'out'), os.path.join(other, 'out'))
 
 
-def close_left(top):
-    """Lays into the tree what the lanes of a run that was ended hard have built."""
+def lanes_left(top):
+    """The crates whose lanes stand: where no build runs, those of one that was ended hard."""
     lanes = os.path.join(top, 'build', 'lanes')
-    for crate in sorted(os.listdir(lanes)) if os.path.isdir(lanes) else []:
+    return sorted(os.listdir(lanes)) if os.path.isdir(lanes) else []
+
+
+def close_left(top):
+    """Lays into the tree what the lanes that are left have built, and waits for an rt that still works in one."""
+    for crate in lanes_left(top):
         if os.path.isdir(os.path.join(top, 'crates', crate)):
             Lane(top, crate).close()
-    shutil.rmtree(lanes, ignore_errors=True)
+    shutil.rmtree(os.path.join(top, 'build', 'lanes'), ignore_errors=True)
