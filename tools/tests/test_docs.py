@@ -18,6 +18,12 @@ def example_lines():
             for line in read_text(path).splitlines()}
 
 
+def part_of_the_promises(title):
+    """What stands under this title."""
+    text = read_text(os.path.join(TOP, 'docs', 'PROMISES.md'))
+    return re.split(r'^## ', text.split('## %s\n' % title)[1], flags=re.MULTILINE)[0]
+
+
 class Docs(unittest.TestCase):
 
     def test_what_the_format_quotes_stands_in_an_example(self):
@@ -46,7 +52,14 @@ class Docs(unittest.TestCase):
         self.assertEqual(sorted(listed), sorted(crates))
 
     def test_the_promises_have_each_edit(self):
-        edits = {tuple(path.split(os.sep)[-3::2]) for path in glob.glob(os.path.join(TOP, 'crates', '*', 'must-fail', '*.edit'))}
-        rows = re.findall(r'^\| `(p2p\w*)` \| (`[^|]*`) \|$', read_text(os.path.join(TOP, 'docs', 'PROMISES.md')), re.MULTILINE)
-        listed = {(crate, name + '.edit') for crate, names in rows for name in re.findall(r'`([\w-]+)`', names)}
-        self.assertEqual(listed, edits)
+        found = {'/'.join(path[:-len('.edit')].split(os.sep)[-3::2])
+                 for path in glob.glob(os.path.join(TOP, 'crates', '*', 'must-fail', '*.edit'))}
+        listed = re.findall(r'`(p2p\w*/\w+)`', part_of_the_promises('The must-fail edits'))
+        self.assertEqual(sorted(listed), sorted(found))
+
+    def test_the_promises_have_each_wrong_body(self):
+        found = {'/'.join(path[:-len('.edit')].split(os.sep)[-2:])
+                 for path in glob.glob(os.path.join(TOP, 'wrong-bodies', '*', '*.edit'))}
+        rows = re.findall(r'^\| `(p2p\w*)` \| (`[^|]*`) \| \d+ \w+ \d+ \|$', part_of_the_promises('The must-fail edits'), re.MULTILINE)
+        listed = {crate + '/' + name for crate, names in rows for name in re.findall(r'`(\w+)`', names)}
+        self.assertEqual(sorted(listed), sorted(found))
