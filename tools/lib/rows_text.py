@@ -83,7 +83,7 @@ class Row:
         self.at = None
 
     def read(self, line, text):
-        """Reads one line in the first column, and answers the part to which belongs what is indented under it, if it may have any."""
+        """Reads one line in the first column, and answers its part where anything may be indented under it."""
         for kind, form in HEADERS:
             match = form.fullmatch(text)
             if match:

@@ -52,6 +52,27 @@ MALFORMED = [
     ('status 8\n    {"error":"event","event":0}\n' + STEP, 8, 'an event stands before'),
     ('status 8\n', 7, 'this is not JSON'),
 ]
+# What rows show together: each reply, where its word has several meanings with its meaning, and how a copy ends.
+REPLIES = {
+    'ok', 'gone', 'idle', 'pending', 'capacity', 'sent', 'checked', 'retry', 'outcome: ok', 'outcome: rejected',
+    'message_too_large', 'message', 'feedback: ok', 'feedback: backoff', 'peer_set_too_large', 'peer_set', 'peer_set: null',
+    'update', 'blocked', 'ended: killed', 'ended: send_failed', 'ended: receive_failed', 'ended: decode_failed',
+    'ended: invalid_channel', 'private', 'unregistered', 'limited', 'too_many', 'admitted',
+}
+HOWS = {
+    'delivered', 'unbound', 'no_connection', 'relay_full', 'connection_ended', 'frame_refused', 'channel_unregistered',
+    'mailbox_full', 'receiver_closed',
+}
+
+
+def word_of(reply):
+    """The word of a reply, with its meaning where that is a word too."""
+    if isinstance(reply, str):
+        return reply
+    (word, meaning), = reply.items()
+    if meaning is None or isinstance(meaning, str) and word != 'retry':
+        return '%s: %s' % (word, 'null' if meaning is None else meaning)
+    return word
 
 
 class Directory(unittest.TestCase):
@@ -121,12 +142,27 @@ class Form(Directory):
         self.assertEqual(row.due[2:], [{'end': [], 'put': [], 'reply': 'ok', 'take': []},
                                        {'end': [], 'put': [['link:3:out', 1]], 'reply': 'ok', 'take': []}])
 
-    def test_the_rows_of_the_repository_are_well_formed(self):
+
+
+class Repository(unittest.TestCase):
+    """The rows of tests/, as they are written."""
+
+    def test_each_is_well_formed(self):
         rows = all_rows(os.path.join(TOP, 'tests'), [])
         self.assertTrue(rows)
         for path, row in rows:
             self.assertEqual(getattr(row, 'reason', ''), '', '%s:%d' % (path, row.line))
             self.assertLessEqual(read_text(path).count('\n'), 500, path)
+
+    def test_each_reply_each_reason_and_each_cause_is_due_in_one(self):
+        replies, hows = set(), set()
+        for _, row in all_rows(os.path.join(TOP, 'tests'), []):
+            for due in row.due:
+                if due:
+                    replies.add(word_of(due['reply']))
+                    hows.update(end[3] for end in due['end'] if end[0] == 'copy')
+        self.assertEqual(replies, REPLIES)
+        self.assertEqual(hows, HOWS)
 
 
 def hello_row(change=lambda number, due: None, fates='fate [36,0]: "delivered","channel:1:7",40\n'):
@@ -154,14 +190,14 @@ class Compared(Directory):
     def test_each_wrong_line_fails(self):
         for name, wrong in (('reply', 'gone'), ('put', [['router:0', True]]), ('take', [[1, 0]]), ('end', [['item', 0, 0]])):
             for which in (0, 29, 40):
-                row, found = self.differences(hello_row(lambda number, due: due.update({name: wrong} if number == which else {})))
+                _, found = self.differences(hello_row(lambda number, due: due.update({name: wrong} if number == which else {})))
                 self.assertEqual([(one.line, json.loads(one.due)[name]) for one in found], [(8 + 2 * which, wrong)])
                 self.assertEqual(json.loads(found[0].came)['n'], which)
 
     def test_a_number_is_no_flag(self):
-        _, found = self.differences(hello_row(lambda number, due: due.update({'reply': {'sent': [True]}} if number == 36 else {})),
-                                    written=read_bytes(beside(hello.PATH, '.report')).replace(b'"sent":[2]', b'"sent":[1]'))
-        self.assertEqual(len(found), 1)
+        body = hello_row(lambda number, due: due.update({'reply': {'sent': [True]}} if number == 36 else {}))
+        written = read_bytes(beside(hello.PATH, '.report')).replace(b'"sent":[2]', b'"sent":[1]')
+        self.assertEqual(len(self.differences(body, written=written)[1]), 1)
 
     def test_a_line_that_is_not_compared_may_be_any(self):
         body = hello_row(lambda number, due: due.update(reply='gone' if number == 36 else due['reply']))

@@ -1,5 +1,5 @@
 //! The link to a peer.
-ghost use Rattle.std.specs.Prelude.{◌≡◌, ℕ, Bool, ◌≤◌, List, [], ◌∷◌, ◌++◌, drop, slice_get, Option, Err, IfOk, OnOk, OnErr, IfSome, IsTrue, ◌↔◌, is_err};
+ghost use Rattle.std.specs.Prelude.{◌≡◌, ℕ, Bool, true, ◌≤◌, List, [], ◌∷◌, ◌++◌, drop, slice_get, Option, Some, Err, IfOk, OnOk, OnErr, IfSome, IsTrue, ◌↔◌, is_err};
 ghost use Rattle.p2p_runtime.specs.Streams.{Rose};
 ghost use Rattle.p2p_runtime.specs.declared.streams.link.LinkFault.TheVariants as fault;
 
@@ -68,11 +68,14 @@ pub trait Link {
         ensures write_fails { write_fails self.new ≡ write_fails self.old }
         ensures keeps { keeps self.old self.new };
 
-    /// Ends this side. What waits here is gone, and what is in flight stays.
+    /// Ends this side. What waits here is gone, and what is in flight stays. Each later write fails, and so does each later read of
+    /// a link that failed to be read before.
     fn close(&mut self)
         ensures count { faults_of self.old ≤ faults_of self.new }
         ensures waiting { waiting self.new ≡ [] }
-        ensures in_flight { in_flight self.new ≡ in_flight self.old };
+        ensures in_flight { in_flight self.new ≡ in_flight self.old }
+        ensures ended { IfSome (write_fails self.new) (λ b. b ≡ true) }
+        ensures mends_nothing { read_fails self.old ≡ Some true → read_fails self.new ≡ Some true };
 
     // A state has what it has itself.
     ghost keeps_itself: { (l : Self) → keeps l l };

@@ -61,7 +61,7 @@ impl MemoryLink {
         self.in_flight.pop_front()
     }
 
-    /// The link is cut.
+    /// The link is cut. A close of this side cuts it too.
     pub fn cut(&mut self)
         ensures { self.new ≡ record self.old { cut = true } }
     {
@@ -114,6 +114,7 @@ impl Link for MemoryLink {
 
     fn close(&mut self) {
         self.waiting.clear();
+        self.cut = true;
     }
 
     ghost keeps_itself = { λ l. (refl, refl) };

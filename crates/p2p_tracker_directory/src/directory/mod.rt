@@ -1,5 +1,5 @@
 //! `Directory`, which peers are known, tracked, held and blocked.
-ghost use Rattle.std.specs.Prelude.{◌≡◌, ℕ, ◌+◌, ◌&&◌, [], ◌∷◌, List, Some, None, true, false, not, is_some, IfOk, OnErr, IfSome};
+ghost use Rattle.std.specs.Prelude.{◌≡◌, ℕ, ◌+◌, ◌&&◌, [], ◌∷◌, List, Some, None, true, false, not, is_some, IsOk, IfOk, OnErr, IfSome};
 ghost use Rattle.std.specs.Map.{lookup};
 ghost use Rattle.std.specs.BTreeMap.{is_at};
 ghost use Rattle.p2p_tracker_calls.specs.Allows.{is_acceptable, allows_dial, allows_listen};
@@ -412,7 +412,7 @@ impl<C: PublicKey> Directory<C> {
         ensures answer { IfOk result (λ b. (calls : List (Call C)) → StandsFor C.cmp self.old calls → b ≡ is_overwritten C.cmp self.old.rules calls peer.now address) }
         ensures rules { self.new.rules ≡ self.old.rules }
         ensures stands { IfOk result (λ b. (calls : List (Call C)) → StandsFor C.cmp self.old calls → StandsFor C.cmp self.new (call.Overwrite peer.now address ∷ calls)) }
-        ensures memory { OnErr result (self.new ≡ self.old) }
+        ensures memory { IsOk result }
     {
         Ok(readdress(&mut self.records, peer, address))
     }
