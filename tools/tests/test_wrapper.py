@@ -1,5 +1,7 @@
 """The wrapper ./p2p, in a small tree with a `rt` and a program that only note how they are called."""
+import os
 import re
+import subprocess
 import tempfile
 import unittest
 
@@ -70,6 +72,13 @@ class Wrapper(unittest.TestCase):
             self.assertIn('standard input is a terminal', said)
             self.assertIn('./p2p %s < SCRIPT' % ' '.join(words), said)
         self.assertEqual(self.tree.noted('rt.calls'), [])
+
+    def test_a_folder_is_no_script(self):
+        folder = os.open(self.tree.folder, os.O_RDONLY)
+        self.addCleanup(os.close, folder)
+        ran = subprocess.run([os.path.join(self.tree.top, 'p2p'), 'run'], stdin=folder, capture_output=True, check=False, timeout=60)
+        self.assertEqual((ran.returncode, ran.stdout), (3, b''))
+        self.assertIn(b'standard input is a folder', ran.stderr)
 
     def test_the_usage_is_printed(self):
         status, usage, said = self.tree.run('help')
