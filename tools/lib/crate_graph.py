@@ -43,6 +43,12 @@ def folder_size(folder):
     return sum(os.path.getsize(os.path.join(place, name)) for place, _, names in os.walk(folder) for name in names)
 
 
+def is_newer(folders, moment):
+    """Whether one of these folders, or anything in them, was changed after this moment."""
+    return any(os.path.getmtime(os.path.join(place, name)) > moment
+               for folder in folders for place, _, names in os.walk(folder) for name in ['', *names])
+
+
 def code_size(top, crate):
     """How many bytes of code a crate has, by which what its proof takes can be guessed."""
     return folder_size(os.path.join(top, 'crates', crate, 'src'))

@@ -4,10 +4,9 @@ import os
 import subprocess
 import unittest
 
-from files import TOP
 from hello import BEFORE, LINK, RECEIVING, SENDING, beginning, configurations, lines_of_beginning
 
-PROGRAM = os.environ.get('P2P_PROGRAM', os.path.join(TOP, 'p2p'))
+PROGRAM = os.environ['P2P_PROGRAM']
 MESSAGES = 400
 EVENTS = BEFORE + 5 * MESSAGES
 CHANNEL = 7

@@ -4,12 +4,12 @@ import os
 import subprocess
 import unittest
 
-from files import TOP, broken_scripts, examples, read_bytes, read_text
+from files import broken_scripts, examples, read_bytes, read_text
 from judge import judge, status_now
 from spoil import spoil_bytes, spoil_value
 
 EACH = 20
-PROGRAM = os.environ.get('P2P_PROGRAM', os.path.join(TOP, 'p2p'))
+PROGRAM = os.environ['P2P_PROGRAM']
 
 
 class Program(unittest.TestCase):
@@ -18,10 +18,6 @@ class Program(unittest.TestCase):
         ran = subprocess.run([PROGRAM, 'run'], input=data, capture_output=True, check=False, timeout=60)
         with self.subTest(name):
             self.assertEqual((ran.returncode, ran.stderr), (status_now(judge(data)[1]), b''), data[:2000])
-
-    @classmethod
-    def setUpClass(cls):
-        subprocess.run([PROGRAM, 'run'], input=b'', stdout=subprocess.DEVNULL, check=False)
 
     def test_each_script_has_the_status_that_is_told(self):
         for path in examples() + broken_scripts():

@@ -257,7 +257,7 @@ class Run(Directory):
     def test_the_tool_fails_where_a_row_does_or_no_program_is_there(self):
         ran = run_tool('rows', '--program', os.path.join(self.path, 'absent'))
         self.assertEqual((ran.returncode, ran.stdout), (1, b''))
-        self.assertIn(b'is not built: ./p2p run', ran.stderr)
+        self.assertIn(b'is not built: ./p2p build', ran.stderr)
         ran = run_tool('rows', '--program', '/bin/false', 'refusing')
         self.assertEqual(ran.returncode, 1)
         self.assertRegex(ran.stdout.decode().splitlines()[-1], '^0 passed, [1-9][0-9]* failed$')
