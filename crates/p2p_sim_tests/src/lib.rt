@@ -1,30 +1,16 @@
-//! The tests of the program's crates, through their public names alone. They stand together so that the gate proves each
-//! of those crates once.
+//! The tests of the program's crates and of the world, through their public names alone. They stand together so that the gate proves
+//! each of those crates once.
 //!
-//! Of `p2p_sim_script` are `scripts`, `tracker_scripts` and `tracker_events`, over `texts`; of `p2p_sim_report` are `reports`
-//! and `tracker_reports`, over logs that `entries` and `items` make of plain data; of `p2p_sim` are
-//! `command` and `runs`, whose scripts and reports `rows` has.
+//! What scripts show stands in `tests` and `examples` at the top, so these have the rest: `command` is of the top call, over sources
+//! and sinks that fail and words that name no command; `reports` has the texts that no script reaches, `presets` the numbers that a
+//! preset stands for, and `worlds` the calls of a world.
 #![tactic(auto)]
 
 #[cfg(test)]
 mod command;
 #[cfg(test)]
-mod entries;
-#[cfg(test)]
-mod items;
+mod presets;
 #[cfg(test)]
 mod reports;
 #[cfg(test)]
-mod rows;
-#[cfg(test)]
-mod runs;
-#[cfg(test)]
-mod scripts;
-#[cfg(test)]
-mod texts;
-#[cfg(test)]
-mod tracker_events;
-#[cfg(test)]
-mod tracker_reports;
-#[cfg(test)]
-mod tracker_scripts;
+mod worlds;

@@ -1,17 +1,7 @@
-//! Gates of tests.
+//! The gate of the tests.
 use p2p_threads_shared::Gate;
 use std::sync::atomic::{AtomicU64, Ordering};
 use std::thread::yield_now;
-
-/// Does nothing.
-#[derive(Drop)]
-pub struct Open;
-
-impl Gate for Open {
-    fn pass(&self, _sender: u32, _call: u32) {}
-
-    fn answered(&self, _sender: u32, _call: u32) {}
-}
 
 // How often a sender looks for the other one.
 const TURNS: u32 = 2_000_000;

@@ -9,8 +9,6 @@ mod gates;
 #[cfg(test)]
 mod objects;
 #[cfg(test)]
-mod refusing;
-#[cfg(test)]
 mod senders;
 #[cfg(test)]
 mod shared;

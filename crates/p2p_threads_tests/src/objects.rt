@@ -55,70 +55,58 @@ fn outcome(feedback: Feedback) -> MessengerReply {
     MessengerReply::Outcome(Unreliable::Outcome(feedback))
 }
 
-// What three calls are told, in turn.
+// What five calls are told, in turn.
 fn told(
     rt: &impl Wait,
     shared: &SharedMessenger<Key>,
     pass: &mut Pass<MessengerObject<Key>>,
-    calls: [MessengerCall<Key>; 3],
-) -> Result<[MessengerReply; 3], AllocError>
+    calls: [MessengerCall<Key>; 5],
+) -> Result<[MessengerReply; 5], AllocError>
     requires { IsMadeBy shared.now pass.old }
 {
     let (_, first) = shared.call(rt, pass, calls[0])?;
     let (_, second) = shared.call(rt, pass, calls[1])?;
     let (_, third) = shared.call(rt, pass, calls[2])?;
-    Ok([first, second, third])
+    let (_, fourth) = shared.call(rt, pass, calls[3])?;
+    let (_, fifth) = shared.call(rt, pass, calls[4])?;
+    Ok([first, second, third, fourth, fifth])
 }
 
-// The same at this messenger.
-fn told_by(
-    rt: &impl Wait,
-    alloc: Global,
-    messenger: Messenger<Key>,
-    calls: [MessengerCall<Key>; 3],
-) -> Result<[MessengerReply; 3], AllocError> {
-    let (shared, mut pass) = Shared::new(alloc, MessengerObject::new(messenger))?;
-    told(rt, &shared, &mut pass, calls)
-}
-
-#[test]
-fn a_shared_messenger_that_is_unbound(rt: HostRuntime) {
-    let messenger = Messenger::unbound(rt.alloc());
-    let calls = [CONTENT, MessengerCall::Close, CONTENT];
-    let wanted = [
-        outcome(Feedback::Ok),
-        MessengerReply::Closed,
-        outcome(Feedback::Closed),
-    ];
-    assert_eq!(rt; told_by(&rt, rt.alloc(), messenger, calls), Ok(wanted));
-}
-
-// A messenger that is bound to this mailbox.
-fn bound_to(alloc: Global, mailbox: Mailbox<Key>) -> Result<Messenger<Key>, AllocError> {
+// A messenger that is bound to a mailbox of one place.
+fn bound(alloc: Global) -> Result<Messenger<Key>, AllocError> {
     let mut messenger = Messenger::unbound(alloc);
-    if messenger.bind(mailbox).is_err() {
+    if messenger.bind(Mailbox::new(alloc, 1)?).is_err() {
         return Err(AllocError);
     }
     Ok(messenger)
 }
 
-// What three calls are told at a messenger that is bound to a mailbox of one place.
+// What five calls are told there.
 fn told_by_bound(
     rt: &impl Wait,
     alloc: Global,
-    calls: [MessengerCall<Key>; 3],
-) -> Result<[MessengerReply; 3], AllocError> {
-    let messenger = bound_to(alloc, Mailbox::new(alloc, 1)?)?;
-    told_by(rt, alloc, messenger, calls)
+    calls: [MessengerCall<Key>; 5],
+) -> Result<[MessengerReply; 5], AllocError> {
+    let messenger = MessengerObject::new(bound(alloc)?);
+    let (shared, mut pass) = Shared::new(alloc, messenger)?;
+    told(rt, &shared, &mut pass, calls)
 }
 
 #[test]
-fn a_shared_messenger_that_is_bound(rt: HostRuntime) {
-    let calls = [CONTENT, CONTENT, MessengerCall::Subscribe];
+fn a_shared_messenger_answers_each_call(rt: HostRuntime) {
+    let calls = [
+        CONTENT,
+        CONTENT,
+        MessengerCall::Subscribe,
+        MessengerCall::Close,
+        CONTENT,
+    ];
     let wanted = [
         outcome(Feedback::Ok),
         MessengerReply::Outcome(Unreliable::Rejected),
         MessengerReply::Subscription(0),
+        MessengerReply::Closed,
+        outcome(Feedback::Closed),
     ];
     assert_eq!(rt; told_by_bound(&rt, rt.alloc(), calls), Ok(wanted));
 }

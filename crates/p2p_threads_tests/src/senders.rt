@@ -1,5 +1,5 @@
 //! Two senders at a mailbox of capacity 1.
-use crate::gates::Open;
+use crate::gates::Meeting;
 use p2p_base::Mailbox;
 use p2p_threads::Shared;
 use p2p_threads_shared::{MailboxCall, MailboxObject, MailboxReply, Numbered, senders};
@@ -38,7 +38,7 @@ fn told_to_two<R: Threads + Wait + Sync>(
 ) -> Result<Option<([MailboxReply<Numbered>; 2], [bool; 3])>, AllocError> {
     let mailbox = Mailbox::new(alloc, 1)?;
     let (shared, mut pass) = Shared::new(alloc, MailboxObject::new(mailbox))?;
-    senders(rt, &shared, &mut pass, 2, 1, &Open)?;
+    senders(rt, &shared, &mut pass, 2, 1, &Meeting::new())?;
     match shared.close(rt, pass) {
         Ok((object, history)) => Ok(told(object.into_inner(), history.as_slice())),
         Err(_) => Ok(None),

@@ -12,7 +12,7 @@ const CALLERS: usize = 4;
 
 const CALLS: u64 = 1000;
 
-/// A sum that wraps.
+/// A sum that wraps. It finds no memory to add the greatest number.
 #[derive(Drop)]
 struct Counter {
     sum: u64,
@@ -31,22 +31,27 @@ impl Served for Counter {
     ghost next = { λ o c. record { sum = (o.sum + c.0) % 2 ^ 64 } };
 
     fn serve(&mut self, _alloc: Global, call: Add) -> Result<u64, AllocError> {
+        if call.0 == u64::MAX {
+            return Err(AllocError);
+        }
         self.sum = self.sum.wrapping_add(call.0);
         Ok(self.sum)
     }
 }
 
-// The places and the replies of two calls.
+// The places and the replies of two calls, between which one was refused, or `None` where it wasn't.
 fn call_twice(
     rt: &impl Wait,
     shared: &Shared<Counter>,
     pass: &mut Pass<Counter>,
-) -> Result<[(u64, u64); 2], AllocError>
+) -> Result<Option<[(u64, u64); 2]>, AllocError>
     requires { IsMadeBy shared.now pass.old }
     ensures { IsAlike pass.old pass.new }
 {
     let first = shared.call(rt, pass, Add(2))?;
-    Ok([first, shared.call(rt, pass, Add(3))?])
+    let is_refused = shared.call(rt, pass, Add(u64::MAX)).is_err();
+    let second = shared.call(rt, pass, Add(3))?;
+    Ok(is_refused.then_some([first, second]))
 }
 
 // The sum once both passes are joined, and whether the history is that of the three calls.
@@ -85,7 +90,7 @@ fn closed(
 
 // The answers of two calls with one pass and of a third with another, and what both passes close with.
 type Called = (
-    Result<[(u64, u64); 2], AllocError>,
+    Result<Option<[(u64, u64); 2]>, AllocError>,
     Result<(u64, u64), AllocError>,
     Option<(u64, bool)>,
 );
@@ -102,8 +107,8 @@ fn called(rt: &impl Wait, alloc: Global) -> Result<Called, AllocError> {
 }
 
 #[test]
-fn two_passes_make_one_history(rt: HostRuntime) {
-    let twice = [(0, 2), (1, 5)];
+fn two_passes_make_one_history_without_the_call_that_was_refused(rt: HostRuntime) {
+    let twice = Some([(0, 2), (1, 5)]);
     let wanted = (Ok(twice), Ok((2, 9)), Some((9, true)));
     assert_eq!(rt; called(&rt, rt.alloc()), Ok(wanted));
 }

@@ -1,34 +1,25 @@
-//! The tests of the tracker's crates, through their public names alone. They stand together so that the gate proves each of
-//! those crates once.
+//! The tests of the tracker's crates and of the gates, through their public names alone. They stand together so that the gate proves
+//! each of those crates once.
 //!
-//! Of `p2p_tracker_mailbox` are `handshakes`, `oracle` and `tracking`, of `p2p_tracker_directory` is `directory`, and of `p2p_tracker` are
-//! `grants`, `polls` and `tracker`. Most are scripts, of which `mailboxes`, `directing` and `stand` do each step. `outcomes` has what a
-//! step of a tracker shows; `plain` and `taking` have keys, hosts and messages in plain data.
+//! Each test goes through the calls of one type, once with ample memory: of `p2p_tracker_directory` are `records` and `directories`,
+//! of `p2p_tracker_mailbox` `mailboxes` and `oracles`, of `p2p_tracker` is `trackers`, and of `p2p_gates` are `dialers` and
+//! `listeners`. `peers` has the peers that they speak of. What a tracker, a dialer or a listener does step by step is shown by
+//! scripts.
 #![tactic(auto)]
 
 #[cfg(test)]
-mod directing;
+mod dialers;
 #[cfg(test)]
-mod directory;
+mod directories;
 #[cfg(test)]
-mod grants;
-#[cfg(test)]
-mod handshakes;
+mod listeners;
 #[cfg(test)]
 mod mailboxes;
 #[cfg(test)]
-mod oracle;
+mod oracles;
 #[cfg(test)]
-mod outcomes;
+mod peers;
 #[cfg(test)]
-mod plain;
+mod records;
 #[cfg(test)]
-mod polls;
-#[cfg(test)]
-mod stand;
-#[cfg(test)]
-mod taking;
-#[cfg(test)]
-mod tracker;
-#[cfg(test)]
-mod tracking;
+mod trackers;

@@ -1,0 +1,102 @@
+//! Directories, by each of their calls.
+use crate::peers::{address, alone, directory, ip, socket, tracking};
+use p2p_address::Ingress;
+use p2p_base::{Feedback, Key};
+use p2p_tracker_directory::Metadata;
+use p2p_tracker_mailbox::{Mailbox, Message};
+
+// The set 3 has the key 7, and the set 5 the key 8.
+#[test]
+fn a_directory_tells_who_is_in_its_sets(rt: HostRuntime) {
+    let alloc = rt.alloc();
+    let mut directory = directory(alloc).expect(&rt, "memory");
+    assert!(rt; directory.latest_update().expect(&rt, "memory").is_none());
+    assert_eq!(rt; directory.latest_set_index(), None);
+    for (index, key) in [(3, 7), (5, 8)] {
+        let peers = alone(alloc, key, 7).expect(&rt, "memory");
+        let killed = directory.track(index, peers).expect(&rt, "memory");
+        assert!(rt; killed.expect(&rt, "a later set").is_empty());
+    }
+    let peers = alone(alloc, 9, 7).expect(&rt, "memory");
+    assert!(rt; directory.track(5, peers).expect(&rt, "memory").is_none());
+    assert_eq!(rt; directory.latest_set_index(), Some(5));
+    let all = directory.all().expect(&rt, "memory");
+    let update = directory
+        .latest_update()
+        .expect(&rt, "memory")
+        .expect(&rt, "a set");
+    let kept = directory
+        .get_peer_set(5)
+        .expect(&rt, "memory")
+        .expect(&rt, "it is kept");
+    assert_eq!(rt; all.primary.as_slice(), [Key(7), Key(8)].as_slice());
+    assert!(rt; all.secondary.is_empty());
+    assert!(rt; update.index == 5 && update.all == all && update.latest == kept);
+    assert_eq!(rt; kept.primary.as_slice(), [Key(8)].as_slice());
+    assert!(rt; directory.get_peer_set(4).expect(&rt, "memory").is_none());
+    assert!(rt; directory.eligible(&Key(7), 0) && !directory.eligible(&Key(9), 0));
+}
+
+#[test]
+fn a_directory_grants_a_peer_to_one_at_a_time(rt: HostRuntime) {
+    let alloc = rt.alloc();
+    let mut directory = tracking(alloc).expect(&rt, "memory");
+    assert!(rt; !directory.may_connect(&Key(7)) && !directory.may_release(&Key(7)));
+    let granted = directory.dial(&Key(7), 0, 0).expect(&rt, "memory");
+    let (reservation, ingress) = granted.expect(&rt, "it is tracked");
+    assert!(rt; ingress == Ingress::Socket(socket(7)));
+    assert_eq!(rt; *reservation.metadata(), Metadata::Dialer(Key(7)));
+    assert!(rt;
+        directory
+            .dial(&Key(7), u64::MAX, 0)
+            .expect(&rt, "memory")
+            .is_none()
+    );
+    assert!(rt; directory.may_connect(&Key(7)));
+    assert!(rt; directory.connect(&Key(7)));
+    assert!(rt; directory.may_release(&Key(7)));
+    directory.release(&Metadata::Dialer(Key(7)));
+    let other = directory
+        .listen(&Key(7), ip(8), 100, 0)
+        .expect(&rt, "memory");
+    assert!(rt; other.is_none());
+    let granted = directory
+        .listen(&Key(7), ip(7), 100, 0)
+        .expect(&rt, "memory");
+    let metadata = *granted.expect(&rt, "its cooldown is over").metadata();
+    assert_eq!(rt; metadata, Metadata::Listener(Key(7)));
+    assert_eq!(rt; *metadata.public_key(), Key(7));
+}
+
+#[test]
+fn a_reservation_goes_back_through_the_mailbox(rt: HostRuntime) {
+    let alloc = rt.alloc();
+    let mut directory = tracking(alloc).expect(&rt, "memory");
+    let granted = directory.dial(&Key(7), 0, 0).expect(&rt, "memory");
+    let (reservation, _) = granted.expect(&rt, "it is tracked");
+    let mut way = Mailbox::new(alloc, 1).expect(&rt, "memory");
+    assert!(rt; matches!(way.release(reservation), Ok(Feedback::Ok)));
+    let metadata = Metadata::Dialer(Key(7));
+    assert!(rt; way.take() == Some(Message::Release { metadata }));
+}
+
+#[test]
+fn a_directory_lists_a_peer_but_while_it_is_blocked(rt: HostRuntime) {
+    let mut directory = tracking(rt.alloc()).expect(&rt, "memory");
+    let whom = directory.dialable(0).expect(&rt, "memory");
+    assert_eq!(rt; whom.peers.as_slice(), [Key(7)].as_slice());
+    assert_eq!(rt; whom.next_query_at, None);
+    let heard = directory.listenable(0).expect(&rt, "memory");
+    assert_eq!(rt; heard.as_slice(), [ip(7)].as_slice());
+    assert_eq!(rt; directory.overwrite(&Key(7), address(8)), Ok(true));
+    assert_eq!(rt; directory.overwrite(&Key(7), address(8)), Ok(false));
+    assert!(rt; directory.acceptable(&Key(7), ip(8), 0));
+    assert_eq!(rt; directory.block(&Key(7), 0), Ok(true));
+    assert_eq!(rt; directory.block(&Key(7), 4), Ok(false));
+    assert!(rt; !directory.acceptable(&Key(7), ip(8), 4));
+    let blocked = directory.blocked_peers(4).expect(&rt, "memory");
+    assert_eq!(rt; blocked.as_slice(), [Key(7)].as_slice());
+    assert!(rt; !directory.unblock_expired(4));
+    assert!(rt; directory.unblock_expired(5));
+    assert!(rt; directory.acceptable(&Key(7), ip(8), 5));
+}
