@@ -1,102 +1,57 @@
-//! Lists, texts and keys: how they compare, and the bytes of a key.
-ghost use Rattle.std.specs.Prelude.{◌≡◌, IfOk, [], ◌∷◌};
-ghost use Rattle.p2p_base_tests.specs.declared.data.Sample.TheVariants as sample;
-
+//! Texts, lists and keys: each call once.
 use p2p_base::{Key, List, PublicKey, Text};
 use std::alloc::{AllocError, Global};
 
-#[derive(Drop, PartialEq, Eq)]
-enum Sample {
-    Numbers(List<u64>),
-    Named { name: Text, keys: List<Key> },
-}
-
-fn one_number(alloc: Global, n: u64) -> Result<Sample, AllocError>
-    ensures { IfOk result (λ s. s ≡ sample.Numbers (n ∷ [])) }
-{
-    Ok(Sample::Numbers(List::from_slice(alloc, &[n])?))
-}
-
-// A list named like this, of two keys.
-fn named_keys(alloc: Global, name: &str) -> Result<Sample, AllocError> {
-    let name = Text::from_str(alloc, name)?;
-    let keys = List::from_slice(alloc, &[Key(1), Key(2)])?;
-    Ok(Sample::Named { name, keys })
-}
-
-// Which sample.
-#[derive(Clone, Copy)]
-enum Which {
-    Number(u64),
-    Name(&'static str),
-}
-
-fn sample_of(alloc: Global, which: Which) -> Result<Sample, AllocError> {
-    match which {
-        Which::Number(n) => one_number(alloc, n),
-        Which::Name(name) => named_keys(alloc, name),
-    }
-}
-
-fn are_equal(alloc: Global, first: Which, second: Which) -> Result<bool, AllocError> {
-    let first = sample_of(alloc, first)?;
-    Ok(first == sample_of(alloc, second)?)
-}
-
-// Two samples, and whether they are equal.
-const COMPARED: &[(Which, Which, bool)] = &[
-    (Which::Number(7), Which::Number(7), true),
-    (Which::Number(7), Which::Number(8), false),
-    (Which::Name("a"), Which::Name("a"), true),
-    (Which::Name("a"), Which::Name("b"), false),
-    (Which::Name("a"), Which::Number(7), false),
-];
-
-// The place of the first two that compare otherwise. `None` where all compare so.
-fn first_other(alloc: Global) -> Result<Option<usize>, AllocError> {
-    for (i, row) in COMPARED.iter().enumerate() {
-        if are_equal(alloc, row.0, row.1)? != row.2 {
-            return Ok(Some(i));
-        }
-    }
-    Ok(None)
-}
-
-#[test]
-fn plain_data_compares(rt: HostRuntime) {
-    assert_eq!(rt; first_other(rt.alloc()), Ok(None));
-}
-
-// Whether copies of a text are equal to it.
-fn text_is_copied(alloc: Global) -> Result<[bool; 2], AllocError> {
+// Whether a text of one letter says so, it equals its copies and not an empty one, and it gives its letter.
+fn text(alloc: Global) -> Result<[bool; 6], AllocError> {
     let text = Text::from_str(alloc, "a")?;
-    let is_cloned = text.clone()? == text;
-    Ok([is_cloned, text.try_clone(alloc)? == text])
-}
-
-// Whether copies of a list are equal to it.
-fn list_is_copied(alloc: Global) -> Result<[bool; 2], AllocError> {
-    let list = List::from_slice(alloc, &[Key(1), Key(2)])?;
-    let is_cloned = list.clone()? == list;
-    Ok([is_cloned, list.try_clone(alloc)? == list])
+    let empty = Text::new(String::new(alloc));
+    let cloned = text.clone()? == text;
+    let copied = text.try_clone(alloc)? == text;
+    let told = (
+        text.as_str() == "a",
+        (text.len(), text.is_empty()) == (1, false),
+    );
+    let apart = empty != text && empty.is_empty();
+    let given = text.into_inner().as_str() == "a";
+    Ok([cloned, copied, told.0, told.1, apart, given])
 }
 
 #[test]
-fn a_text_and_a_list_equal_their_copies(rt: HostRuntime) {
-    assert!(rt; text_is_copied(rt.alloc()) == Ok([true, true]));
-    assert!(rt; list_is_copied(rt.alloc()) == Ok([true, true]));
+fn a_text_goes_through_its_calls(rt: HostRuntime) {
+    assert!(rt; text(rt.alloc()) == Ok([true; 6]));
 }
 
-// The bytes of the key 300.
+// Whether a list of two keys says so, it equals its copies and not a longer one, and it gives its keys.
+fn list(alloc: Global) -> Result<[bool; 6], AllocError> {
+    let list = List::from_slice(alloc, &[Key(1), Key(2)])?;
+    let cloned = list.clone()? == list;
+    let mut longer = list.try_clone(alloc)?;
+    let copied = longer == list;
+    longer.push(Key(3))?;
+    let apart = longer != list && longer.as_slice() == [Key(1), Key(2), Key(3)].as_slice();
+    let told = (list.len(), list.is_empty()) == (2, false);
+    let empty = List::<Key>::empty(alloc).is_empty();
+    let given = List::new(list.into_inner()).len() == 2;
+    Ok([cloned, copied, apart, told, empty, given])
+}
+
+#[test]
+fn a_list_goes_through_its_calls(rt: HostRuntime) {
+    assert!(rt; list(rt.alloc()) == Ok([true; 6]));
+}
+
+// The bytes of the key 300, the high one first.
 const BYTES: [u8; 8] = [0, 0, 0, 0, 0, 0, 1, 44];
 
-fn key_is_written(alloc: Global) -> Result<bool, AllocError> {
-    Ok(Key(300).to_bytes(alloc)?.as_slice() == BYTES.as_slice())
+// Whether the key 300 is written as these bytes, through the bound alone.
+fn is_written<P: PublicKey>(alloc: Global, key: P, bytes: &[u8]) -> Result<bool, AllocError> {
+    Ok(key.to_bytes(alloc)?.as_slice() == bytes)
 }
 
 #[test]
 fn a_key_has_eight_bytes_high_byte_first(rt: HostRuntime) {
-    assert_eq!(rt; key_is_written(rt.alloc()), Ok(true));
+    assert!(rt; is_written(rt.alloc(), Key(300), &BYTES) == Ok(true));
     let found = [Key::from_bytes(&BYTES), Key::from_bytes(&BYTES[1..])];
     assert!(rt; found == [Some(Key(300)), None]);
 }

@@ -2,16 +2,15 @@
 //! those crates once.
 //!
 //! Of `p2p_base` are `data`, `order` and `queues`; of `p2p_address` is `addresses`; of `p2p_runtime` are `draws`, `quotas`
-//! and `streams`; of `p2p_wire` is `frames`; of `p2p_flow` are `blocking`, `peers` and `relays`; and of `p2p_flow_connection` is
-//! `connection`. `texts` has how errors and values of all of them print.
+//! and `streams`; of `p2p_wire` is `frames`; and of `p2p_flow` are `peers` and `relays`. `texts` has how errors and values of all of them
+//! print.
+//!
+//! A test goes once through the calls of one type, each with ample memory, and compares what they answer: a contract says of each answer
+//! what it is, and not that it comes. Beside that stand values from outside, as of generators and ranges of addresses.
 #![tactic(auto)]
 
 #[cfg(test)]
 mod addresses;
-#[cfg(test)]
-mod blocking;
-#[cfg(test)]
-mod connection;
 #[cfg(test)]
 mod data;
 #[cfg(test)]

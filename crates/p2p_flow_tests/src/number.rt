@@ -10,7 +10,7 @@ pub struct Number(pub u32);
 
 impl Codec for Number {
     ghost use Rattle.std.specs.Int.{w32, to_be_bytes};
-    ghost use Rattle.p2p_mux_tests.specs.Numbers.{number_of, never_memory as number_never_memory};
+    ghost use Rattle.p2p_flow_tests.specs.Numbers.{number_of, never_memory as number_never_memory};
 
     type Cfg = ();
 

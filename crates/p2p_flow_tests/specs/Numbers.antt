@@ -3,7 +3,7 @@ use Rattle.std.specs.Prelude.{◌≡◌, ◌≢◌, ℕ, ◌-◌, Bool, true, fa
 use Rattle.std.specs.Int.{w32, from_be_bytes}
 use Rattle.p2p_wire.specs.declared.error.CodecError.{CodecError}
 use Rattle.p2p_wire.specs.declared.error.CodecError.TheVariants.{EndOfBuffer, ExtraData, Memory}
-use Rattle.p2p_mux_tests.specs.declared.number.Number.{Number}
+use Rattle.p2p_flow_tests.specs.declared.number.Number.{Number}
 
 -- what bytes mean: four of them a number, and fewer or more none
 abbrev pub number_of : List ℕ → Result Number CodecError
