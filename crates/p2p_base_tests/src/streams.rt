@@ -118,8 +118,8 @@ fn exchanged(alloc: Global) -> [Option<usize>; 4] {
 }
 
 // Whether a frame arrives before the other end leaves, nothing can be written then, the frame is read all the same, and the next read
-// fails; and whether a link that was closed has nothing to read.
-fn left(alloc: Global) -> [bool; 5] {
+// fails; and whether nothing can be written to a link that was closed, and nothing read.
+fn left(alloc: Global) -> [bool; 6] {
     let mut link = MemoryLink::new(alloc);
     let arrived = link.arrive(Bytes::from_static(b"def")).is_ok();
     link.leave();
@@ -133,12 +133,13 @@ fn left(alloc: Global) -> [bool; 5] {
         refused,
         read,
         ended,
-        matches!(closed.read(), Ok(None)),
+        closed.write(alloc, Bytes::from_static(b"i")).is_err(),
+        closed.read().is_err(),
     ]
 }
 
 #[test]
 fn a_link_carries_frames_both_ways_until_it_is_cut_or_left(rt: HostRuntime) {
     assert!(rt; exchanged(rt.alloc()) == [Some(0), Some(2), Some(1), None]);
-    assert!(rt; left(rt.alloc()) == [true; 5]);
+    assert!(rt; left(rt.alloc()) == [true; 6]);
 }
