@@ -7,8 +7,8 @@ import unittest
 from files import TOP, examples, read_text, reports
 
 DOCUMENTS = [os.path.join(TOP, 'README.md'), *sorted(glob.glob(os.path.join(TOP, 'docs', '*.md')))]
-ENDINGS = ('rt', 'antt', 'md', 'json', 'report', 'edit', 'svg', 'py')
-NAMED_FILE = re.compile(r'`((?:p2p\w*|examples|docs|tools|crates)/[\w./-]+\.(?:%s))`' % '|'.join(ENDINGS))
+ENDINGS = ('rt', 'antt', 'md', 'json', 'report', 'edit', 'svg', 'py', 'rows')
+NAMED_FILE = re.compile(r'`((?:p2p\w*|examples|docs|tools|crates|tests)/[\w./-]+\.(?:%s))`' % '|'.join(ENDINGS))
 LINK = re.compile(r'\]\(([^)#:]+)(?:#[^)]*)?\)')
 
 
