@@ -38,10 +38,16 @@ GIVEN_FORMS = {
     'dial_frequency': whole,
 }
 
-# What each preset gives, of what a verdict or a test asks for.
+# What each preset gives, of what a verdict, a test or the way to a connection asks for.
 PRESETS = {
-    'local': {'tracked_peer_sets': 4, 'ping_frequency': 5_000_000_000},
-    'recommended': {'tracked_peer_sets': 4, 'ping_frequency': 50_000_000_000},
+    'local': {
+        'tracked_peer_sets': 4, 'ping_frequency': 5_000_000_000, 'allow_private_ips': True,
+        'peer_connection_cooldown': 1_000_000_000, 'block_duration': 3_600_000_000_000, 'dial_frequency': 500_000_000,
+    },
+    'recommended': {
+        'tracked_peer_sets': 4, 'ping_frequency': 50_000_000_000, 'allow_private_ips': False,
+        'peer_connection_cooldown': 60_000_000_000, 'block_duration': 14_400_000_000_000, 'dial_frequency': 1_000_000_000,
+    },
 }
 
 

@@ -4,17 +4,17 @@ import os
 import re
 import unittest
 
-from files import TOP, read_text
+from files import TOP, examples, read_text, reports
 
 DOCUMENTS = [os.path.join(TOP, 'README.md'), *sorted(glob.glob(os.path.join(TOP, 'docs', '*.md')))]
-ENDINGS = ('rt', 'antt', 'md', 'json', 'report', 'edit', 'svg')
-NAMED_FILE = re.compile(r'`((?:p2p\w*|examples|docs|tools|crates)/[\w./-]+\.(?:%s))`' % '|'.join(ENDINGS))
+ENDINGS = ('rt', 'antt', 'md', 'json', 'report', 'edit', 'svg', 'py', 'rows')
+NAMED_FILE = re.compile(r'`((?:p2p\w*|examples|docs|tools|crates|tests)/[\w./-]+\.(?:%s))`' % '|'.join(ENDINGS))
 LINK = re.compile(r'\]\(([^)#:]+)(?:#[^)]*)?\)')
 
 
 def example_lines():
     """Each line of the examples, without its indent and comma."""
-    return {line.strip().rstrip(',') for path in glob.glob(os.path.join(TOP, 'examples', '*'))
+    return {line.strip().rstrip(',') for path in [*examples(), *reports()]
             for line in read_text(path).splitlines()}
 
 
