@@ -1,54 +1,15 @@
 """tools/check: what is told of each script of tables/broken.table, with the place and the way to mend it."""
-import json
 import os
 import unittest
 
 import hello
+from edits import edited, line_by_line, read_edits
 from files import TOP, examples, read_text, run_tool
 from json_text import Places
 from judge import judge, status_now
 from script_form import ACT_FORMS
 
-TABLE = os.path.join(TOP, 'tools', 'tests', 'tables', 'broken.table')
 ACTS = ', '.join('"%s"' % act for act in ACT_FORMS)
-
-
-def read_table():
-    """Each edit, with the lines that are told."""
-    found = []
-    for line in read_text(TABLE).splitlines():
-        if line.startswith('    '):
-            found[-1][1].append(line.strip().replace('ACTS', ACTS))
-        elif not line.startswith('#'):
-            found.append((line, []))
-    return found
-
-
-def edited(edit):
-    """The first example after an edit: `PATH = VALUE` or `PATH out`."""
-    script = {'configs': hello.configurations(), 'script': hello.events()}
-    path, mark, value = edit.partition(' = ')
-    steps = [int(step) if step.isdigit() else step for step in path.split() if mark or step != 'out']
-    holder = script
-    for step in steps[:-1]:
-        holder = holder[step]
-    if mark and isinstance(holder, list) and steps[-1] == len(holder):
-        holder.append(None)
-    if mark:
-        holder[steps[-1]] = json.loads(value)
-    else:
-        del holder[steps[-1]]
-    return script
-
-
-def line_by_line(script):
-    """The text of a script, with a configuration and an event a line."""
-    parts = []
-    for name, held in script.items():
-        rows = isinstance(held, list)
-        text = ',\n'.join(json.dumps(one, separators=(',', ':'), ensure_ascii=False) for one in held) if rows else json.dumps(held)
-        parts.append('%s:[\n%s\n]' % (json.dumps(name), text) if rows else '%s:%s' % (json.dumps(name), text))
-    return '{%s}' % ','.join(parts)
 
 
 def told_of(text):
@@ -62,13 +23,13 @@ def told_of(text):
 class Broken(unittest.TestCase):
 
     def test_each_is_told_with_its_place_and_the_way_to_mend_it(self):
-        table = read_table()
+        table = read_edits('broken')
         self.assertGreaterEqual(len(table), 50)
         for edit, due in table:
             with self.subTest(edit):
                 status, told = told_of(line_by_line(edited(edit)))
                 self.assertIn(status, (6, 7, 8))
-                self.assertEqual([reason for _, reason in told], [line.partition(' | ')[2] for line in due])
+                self.assertEqual([reason for _, reason in told], [line.partition(' | ')[2].replace('ACTS', ACTS) for line in due])
                 for (place, _), line in zip(told, due):
                     self.assertEqual(place[:len(line.partition(' | ')[0])], line.partition(' | ')[0])
 
