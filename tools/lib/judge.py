@@ -6,7 +6,7 @@ from script_form import read_script
 from valid_input import configuration_faults, event_faults
 
 LIMIT = 16_777_216
-SHOWN = 20
+SHOWN = 100
 CONCLUSIONS = {
     0: 'status 0: the program runs this script',
     4: 'status 4: the input is too long',

@@ -2,6 +2,7 @@
 import later
 from address_form import a_socket, some_peers, some_sockets
 from faults import Fault, listed, perhaps
+from presets import PRESETS
 from samples import FORMS, either
 from words import U32, Field, a_flag, a_text, an_array, an_object, some_bytes, whole
 
@@ -37,12 +38,6 @@ GIVEN_FORMS = {
     'handshake_timeout': whole,
     'dial_timeout': whole,
     'dial_frequency': whole,
-}
-
-# What each preset gives, of what a verdict or a test asks for.
-PRESETS = {
-    'local': {'tracked_peer_sets': 4, 'ping_frequency': 5_000_000_000},
-    'recommended': {'tracked_peer_sets': 4, 'ping_frequency': 50_000_000_000},
 }
 
 
