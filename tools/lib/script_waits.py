@@ -1,5 +1,6 @@
 """What may wait at a node, as far as its events show: it is no more than this. The ways of script_ways.py ask that."""
-from script_form import ACT_FORMS, PRESETS
+from presets import PRESETS
+from script_form import ACT_FORMS
 
 QUESTIONS = ('track', 'overwrite', 'block', 'peer_set', 'subscribe', 'blocked')
 # Those after which peers may come from other addresses, and connections may be killed.
