@@ -1,11 +1,12 @@
 """The forms of addresses, and of peers with theirs."""
+from samples import SOCKET
 from words import U16, a_text, an_array, an_object, whole
 
 
 def an_ip(field):
     numbers = an_array(field)
     if len(numbers) not in (4, 16):
-        raise field.fault('an address has 4 or 16 numbers; these are %d' % len(numbers))
+        raise field.fault('an address has 4 or 16 numbers, as [10,0,0,2]; these are %d' % len(numbers))
     for number in numbers:
         whole(number, 0, 255)
 
@@ -46,16 +47,16 @@ def an_address(field):
         a_socket(field.at_name('egress'))
         an_ingress(field.at_name('ingress'))
     else:
-        raise field.fault('either `symmetric` or both `egress` and `ingress` are due here')
+        raise field.due('either {"symmetric":%s} or {"egress":%s,"ingress":%s}' % (SOCKET, SOCKET, SOCKET))
 
 
 def some_peers(field):
     """A list of peers: their keys, of which none repeats."""
     keys = set()
     for pair in an_array(field):
-        parts = an_array(pair)
+        parts = an_array(pair) if pair.value.kind == 'array' else []
         if len(parts) != 2:
-            raise pair.fault('a key and an address are due here, as an array of two')
+            raise pair.due('an array of a key and an address', ', as [2,{"symmetric":%s}]' % SOCKET)
         key = whole(parts[0])
         an_address(parts[1])
         if key in keys:

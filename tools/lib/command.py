@@ -1,6 +1,17 @@
-"""How a tool ends: with its status, and in silence where nobody reads on."""
+"""How a tool reads its files, and how it ends: with its status, and in silence where nobody reads on."""
 import os
 import sys
+
+
+STANDARD_INPUT = '-'
+
+
+def read_file(path, most=-1):
+    """The bytes of a file, or of standard input where the path is `-`; as many as these at most."""
+    if path == STANDARD_INPUT:
+        return sys.stdin.buffer.read(most)
+    with open(path, 'rb') as source:
+        return source.read(most)
 
 
 def end_with(main):

@@ -13,14 +13,21 @@ class Fault(Exception):
 
 
 class Verdict:
-    """What is wrong with a script, in order, and the status. None: nothing is, but it is not built."""
+    """What is wrong with a script, in order, the status, and what may be meant otherwise. Status None: nothing is wrong, but it
+    is not built."""
 
-    def __init__(self, faults, status):
+    def __init__(self, faults, status, warnings=()):
         self.faults = faults
         self.status = status
+        self.warnings = list(warnings)
 
 
 def perhaps(word, known):
     """A hint at the known word that this one is nearest to."""
     near = difflib.get_close_matches(word, list(known), 1)
     return '; perhaps "%s" is meant' % near[0] if near else ''
+
+
+def listed(names):
+    """Names as they are told, each in quotes."""
+    return ', '.join('"%s"' % name for name in names)

@@ -20,7 +20,8 @@ def copies_carried(item):
         send, to = content.get('send'), content.get('to')
         return [(send, place) for place in range(len(to))] if isinstance(send, int) and isinstance(to, list) else []
     copy = item.get('copy')
-    return [tuple(copy)] if isinstance(copy, list) and all(isinstance(part, int) for part in copy) else []
+    is_name = isinstance(copy, list) and len(copy) == 2 and all(isinstance(part, int) for part in copy)
+    return [tuple(copy)] if is_name else []
 
 
 class Journey:

@@ -1,11 +1,12 @@
 """The verdict on a script: what is wrong with it, where, and with which status the program ends."""
 from faults import Fault, Verdict
 from json_text import BadJson, Places, read_json
+from repeated import repeated_names
 from script_form import read_script
-from valid_input import configuration_fault, event_fault
+from valid_input import configuration_faults, event_faults
 
 LIMIT = 16_777_216
-SHOWN = 20
+SHOWN = 100
 CONCLUSIONS = {
     0: 'status 0: the program runs this script',
     4: 'status 4: the input is too long',
@@ -24,11 +25,8 @@ def judge_tree(tree):
         return Verdict(script.faults, 6)
     if script.not_built:
         return Verdict(script.not_built, None)
-    fault = configuration_fault(script.configurations)
-    if fault:
-        return Verdict([fault], 7)
-    fault = event_fault(script)
-    return Verdict([fault], 8) if fault else Verdict([], 0)
+    configurations, events = configuration_faults(script.configurations), event_faults(script)
+    return Verdict(configurations + events, 7 if configurations else 8 if events else 0)
 
 
 def judge(data):
@@ -41,17 +39,24 @@ def judge(data):
         before = data[:error.start].decode('utf-8')
         return before, Verdict([Fault(len(before), 'the input', 'the bytes here are not UTF-8')], 5)
     try:
-        return text, judge_tree(read_json(text))
+        tree = read_json(text)
+        verdict = judge_tree(tree)
+        verdict.warnings.extend(repeated_names(tree))
+        return text, verdict
     except BadJson as bad:
         return text, Verdict([Fault(bad.at, 'the input', bad.reason)], 5)
 
 
+def some_lines(path, places, faults):
+    """A line for each of the first faults, and how many more there are."""
+    lines = ['%s:%d:%d: %s: %s' % (path, *places.of(fault.at), fault.what, fault.reason) for fault in faults[:SHOWN]]
+    return lines + (['%s: and %d more' % (path, len(faults) - SHOWN)] if len(faults) > SHOWN else [])
+
+
 def lines_of(path, text, verdict):
-    """What is told of a verdict: a line for each fault, and the conclusion."""
+    """What is told of a verdict: a line for each fault and each warning, and the conclusion."""
     places = Places(text)
-    lines = ['%s:%d:%d: %s: %s' % (path, *places.of(fault.at), fault.what, fault.reason) for fault in verdict.faults[:SHOWN]]
-    if len(verdict.faults) > SHOWN:
-        lines.append('%s: and %d more' % (path, len(verdict.faults) - SHOWN))
+    lines = some_lines(path, places, verdict.faults) + some_lines(path, places, verdict.warnings)
     return [*lines, '%s: %s' % (path, CONCLUSIONS[verdict.status])]
 
 

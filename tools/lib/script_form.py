@@ -1,7 +1,9 @@
 """The form of a script: its tree as configurations and events, with what is not built yet told apart."""
 import later
 from address_form import a_socket, some_peers, some_sockets
-from faults import Fault, perhaps
+from faults import Fault, listed, perhaps
+from presets import PRESETS
+from samples import FORMS, either
 from words import U32, Field, a_flag, a_text, an_array, an_object, some_bytes, whole
 
 CONFIGURATION_FORMS = {
@@ -38,29 +40,28 @@ GIVEN_FORMS = {
     'dial_frequency': whole,
 }
 
-# What each preset gives, of what a verdict or a test asks for.
-PRESETS = {
-    'local': {'tracked_peer_sets': 4, 'ping_frequency': 5_000_000_000},
-    'recommended': {'tracked_peer_sets': 4, 'ping_frequency': 50_000_000_000},
-}
-
 
 class NotBuilt(Fault):
     """A form that a script will have, but that is not built yet."""
+
+
+RECIPIENTS = either(FORMS['to'])
 
 
 def recipients(field):
     """Whom a message is for: a key for each copy, or 'all'."""
     if field.value.kind == 'text':
         if field.value.held != 'all':
-            raise field.fault('of texts only "all" is due here; else {"one":KEY}, or {"some":[KEY,KEY]}')
+            raise field.due(RECIPIENTS)
         return 'all'
+    if field.value.kind != 'object':
+        raise field.due(RECIPIENTS)
     an_object(field, ['one', 'some'])
     if field.has('one') and not field.has('some'):
         return [whole(field.at_name('one'))]
     if field.has('some') and not field.has('one'):
         return [whole(item) for item in an_array(field.at_name('some'))]
-    raise field.fault('either `one` or `some` is due here')
+    raise field.due(RECIPIENTS)
 
 
 ACT_FORMS = {
@@ -145,14 +146,15 @@ def read_configuration(number, field):
     an_object(field, ['preset', *CONFIGURATION_FORMS, *GIVEN_FORMS])
     preset = a_text(field.at_name('preset'))
     if preset not in PRESETS:
-        raise field.at_name('preset').fault('"%s" is no preset%s' % (preset, perhaps(preset, PRESETS)))
+        near = perhaps(preset, PRESETS)
+        raise field.at_name('preset').fault('"%s" is no preset%s; the presets are %s' % (preset, near, listed(PRESETS)))
     return Part(number, field, {**PRESETS[preset], **read_names(field, CONFIGURATION_FORMS, GIVEN_FORMS)})
 
 
 def read_event(number, field):
     field.what = 'event %d' % number
     if field.value.kind != 'object':
-        raise field.fault('an object is due here')
+        raise field.due('an object', ', as {"at":0,"do":"start","node":0}')
     at = whole(field.at_name('at'))
     if field.has('seed'):
         whole(field.at_name('seed'))
@@ -160,7 +162,8 @@ def read_event(number, field):
     if act in later.ACTS:
         raise NotBuilt(field.value.get('do').at, field.what, '"%s" is an act that is not built yet' % act)
     if act not in ACT_FORMS:
-        raise field.at_name('do').fault('"%s" is no act%s' % (act, perhaps(act, [*ACT_FORMS, *later.ACTS])))
+        near = perhaps(act, [*ACT_FORMS, *later.ACTS])
+        raise field.at_name('do').fault('"%s" is no act%s; the acts are %s' % (act, near, listed(ACT_FORMS)))
     field.what = 'event %d (%s)' % (number, act)
     return read_act(number, field, act, at)
 
@@ -168,7 +171,7 @@ def read_event(number, field):
 def read_act(number, field, act, at):
     forms, optional_forms = ACT_FORMS[act], OPTIONAL_FORMS.get(act, {})
     extra = later.START_NAMES if act == 'start' else ()
-    an_object(field, ['at', 'seed', 'do', *forms, *optional_forms, *extra])
+    an_object(field, ['at', 'seed', 'do', *forms, *optional_forms], extra)
     said = read_names(field, forms, optional_forms)
     for name, name_at, _ in field.value.held:
         if name in extra:

@@ -35,5 +35,6 @@ def beside(path, ending):
     return os.path.splitext(path)[0] + ending
 
 
-def run_tool(name, *words):
-    return subprocess.run([os.path.join(TOP, 'tools', name), *words], capture_output=True, check=False, timeout=60)
+def run_tool(name, *words, given=None):
+    """Runs a tool with these words, and with these bytes as its standard input."""
+    return subprocess.run([os.path.join(TOP, 'tools', name), *words], input=given, capture_output=True, check=False, timeout=60)

@@ -5,6 +5,7 @@ import tempfile
 import unittest
 import xml.dom.minidom
 
+from chart import Chart
 from copy_table import copy_table
 from files import TOP, beside, read_text, reports, run_tool
 from journey import journeys
@@ -153,15 +154,9 @@ class Show(unittest.TestCase):
             self.assertEqual(read_text(picture), read_text(os.path.join(TOP, 'docs', 'hello.svg')))
 
     def drawn(self, said, script_said):
-        """The picture of a report with its script."""
-        with tempfile.TemporaryDirectory() as folder:
-            report, script, picture = (os.path.join(folder, name) for name in ('report', 'script', 'picture.svg'))
-            for path, text in ((report, said), (script, script_said)):
-                with open(path, 'w', encoding='utf-8') as out:
-                    out.write(text)
-            told = run_tool('show', report, '--script', script, '--svg', picture)
-            self.assertEqual((told.returncode, told.stderr), (0, b''))
-            return read_text(picture)
+        """The picture of a report with its events."""
+        report, events = read_report(said), json.loads(script_said)['script']
+        return Chart(report, journeys(report, events), events, 0, len(report.entries) - 1).draw()
 
     def assert_drawn(self, report, script, lines):
         drawn = self.drawn(report, script)

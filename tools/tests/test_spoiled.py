@@ -6,12 +6,15 @@ import xml.dom.minidom
 
 from chart import Chart
 from copy_table import copy_table
-from files import examples, read_bytes, read_text, reports
+from copy_way import way_lines
+from files import beside, examples, read_bytes, read_text, reports
 from journey import journeys
 from judge import judge, lines_of, status_now
 from places import keys_of_nodes
 from report_form import BadReport, read_report
+from same_run import OtherRun, check_same_run
 from spoil import spoil_bytes, spoil_value
+from why import why_lines
 
 EACH = 60
 
@@ -53,3 +56,23 @@ class Spoiled(unittest.TestCase):
                 xml.dom.minidom.parseString(Chart(report, found, [], 0, len(report.entries) - 1).draw())
                 shown += 1
         self.assertGreater(min(told, shown), 50)
+
+    def test_a_spoiled_report_with_its_script_is_told_or_shown_with_causes(self):
+        other = shown = 0
+        for path in reports():
+            script = json.loads(read_text(beside(path, '.json')))
+            for text in spoiled_reports(path):
+                try:
+                    report = read_report(text)
+                    check_same_run(report, script['configs'], script['script'])
+                except BadReport:
+                    continue
+                except OtherRun as found:
+                    self.assertTrue(found.reason)
+                    other += 1
+                    continue
+                self.assertTrue(why_lines(report, script['configs'], script['script']))
+                for journey in journeys(report, script['script']):
+                    self.assertTrue(way_lines(report, journey, {}))
+                shown += 1
+        self.assertGreater(min(other, shown), 50)

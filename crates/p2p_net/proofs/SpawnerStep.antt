@@ -24,7 +24,7 @@ use Rattle.p2p_log_rules.proofs.Spawning.{connections_of-acted}
 use Rattle.p2p_net_queues.proofs.Going.{line-taken}
 use Rattle.p2p_net_queues.specs.Rows.{taken_row}
 use Rattle.p2p_net_connections.specs.Stands.{ConnectionsStand}
-use Rattle.p2p_net_connections.proofs.Spawning.{connections_spawned}
+use Rattle.p2p_net_connections.proofs.Spawned.{connections_spawned}
 use Rattle.p2p_net_links.specs.Stands.{LinksStand}
 use Rattle.p2p_net_links.specs.declared.links.Links.{Links}
 use Rattle.p2p_net_connections.specs.SpawnerStands.{SpawnerStands}

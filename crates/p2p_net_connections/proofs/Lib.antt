@@ -4,4 +4,4 @@ pub mod Ended
 pub mod Pings
 pub mod Receiving
 pub mod SpawnerChanges
-pub mod Spawning
+pub mod Spawned

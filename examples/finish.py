@@ -1,0 +1,66 @@
+"""How the exchange of keys over a link ends, and what both ends are told."""
+from script import SECOND, Script, arrive, dial
+
+script = Script(preset='local', max_peers_per_set=4, max_message_size=1024, mailbox_size=4)
+ann, bob = script.node(key=1), script.node(key=2)
+for node in (ann, bob):
+    node.start()
+ann.track(0, [bob])
+ann.tracker()
+bob.track(0, [ann])
+bob.tracker()
+bob.listener()
+
+# Keys are exchanged, once the handshake knows that its peer may connect.
+attempt = dial(ann)
+link = arrive(attempt, bob)
+handshake = bob.listener()
+script.finish(link)
+bob.tracker()
+bob.handshake(handshake)
+script.finish(link)
+script.finish(link)
+ann.attempt(attempt)
+ann.attempt(attempt)
+bob.handshake(handshake)
+script.at(6 * SECOND)
+bob.handshake(handshake)
+bob.tracker()
+bob.handshake(handshake)
+bob.handshake(handshake)
+
+# None are exchanged.
+ann.track(1, [(3, '10.0.0.3:3000')])
+ann.tracker()
+attempt = dial(ann)
+link = arrive(attempt, bob)
+handshake = bob.listener()
+script.finish(link, ok=False)
+ann.attempt(attempt)
+bob.handshake(handshake)
+bob.tracker()
+ann.tracker()
+
+# The link leads to another key than was dialed, and nobody has taken the arrival.
+script.at(9 * SECOND)
+attempt = dial(ann)
+link = ann.connect(attempt, to=bob)
+script.finish(link)
+ann.attempt(attempt)
+ann.attempt(attempt)
+handshake = bob.listener()
+script.finish(link)
+bob.tracker()
+bob.handshake(handshake)
+
+# The attempt has ended, at its deadline.
+script.at(12 * SECOND)
+ann.tracker()
+attempt = dial(ann)
+link = ann.connect(attempt, to=bob)
+handshake = bob.listener()
+ann.attempt(attempt)
+script.wait(seconds=5)
+ann.attempt(attempt)
+script.finish(link)
+bob.handshake(handshake)

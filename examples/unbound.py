@@ -1,0 +1,8 @@
+"""A message before the start is dropped."""
+from script import Script
+
+script = Script(preset='local', max_peers_per_set=2, max_message_size=1024, mailbox_size=4)
+ann = script.node(key=1)
+channel = script.channel(7)
+ann.register(channel)
+ann.send(channel, 'hello', to=2)
