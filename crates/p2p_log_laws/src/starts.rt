@@ -1,0 +1,13 @@
+//! A start puts the subscriptions that waited for it.
+ghost use Rattle.std.specs.Prelude.{List};
+ghost use Rattle.p2p_log.specs.declared.config.Config.{Config};
+ghost use Rattle.p2p_log.specs.declared.event.Event.{Event};
+ghost use Rattle.p2p_log.specs.declared.entry.Entry.{Entry};
+ghost use Rattle.p2p_log_rules.specs.Lawful.{IsLawful};
+ghost use Rattle.p2p_log_laws.specs.Subscribing.{EachStartSubscribes};
+
+/// States that a start that is accepted puts the subscription of each channel that was registered at its node before it, once for
+/// each registration and in the order of these, and puts nothing else. It does nothing.
+pub fn starts_subscribe()
+    ensures { (configs : List Config) (script : List Event) (log : List Entry) → IsLawful configs script log → EachStartSubscribes log }
+{}
