@@ -18,12 +18,14 @@ use Rattle.p2p_log_laws.proofs.FateLaws.{each_known, each_waiting, each_dropped,
 use Rattle.p2p_log_laws.proofs.HandshakeLaws.{one_answer}
 use Rattle.p2p_log_laws.proofs.KillCauses.{each_kill_has_its_cause}
 use Rattle.p2p_log_laws.proofs.Killing.{each_kill_shown}
+use Rattle.p2p_log_laws.proofs.Leaving.{leave_in_order}
 use Rattle.p2p_log_laws.proofs.Ledger.{each_delivered}
 use Rattle.p2p_log_laws.proofs.Listed.{lists_are_current}
 use Rattle.p2p_log_laws.proofs.NodeGrants.{each_node_turn}
 use Rattle.p2p_log_laws.proofs.OneConnection.{connections_are_one, ends_meet}
 use Rattle.p2p_log_laws.proofs.Ordering.{delivered_over_one, each_went_over}
 use Rattle.p2p_log_laws.proofs.OverLinks.{delivered_by_older}
+use Rattle.p2p_log_laws.proofs.RegisteredOnce.{each_registers_once}
 use Rattle.p2p_log_laws.proofs.Releasing.{each_is_released_as_it_ends}
 use Rattle.p2p_log_laws.proofs.Subscribing.{each_start_subscribes}
 use Rattle.p2p_log_laws.proofs.Turns.{alternates, one_holder, each_released}
@@ -33,11 +35,13 @@ module _ (configs : List Config) (script : List Event) (log : List Entry) (lawfu
   accounted = record {
     beginnings = λ asked it n. beginning_lawful configs asked log it n;
     starts = each_start_subscribes configs script log lawful;
+    registered_once = each_registers_once configs log;
     admitted = each_admitted configs script log lawful;
     checks = checks_are_admitted configs script log lawful;
     checked = each_checked configs script log lawful;
     spent = checks_are_spent_once configs script log lawful;
     lists = lists_are_current configs script log lawful;
+    in_order = leave_in_order configs script log lawful;
     one_end = each_has_one_end configs script log lawful;
     nothing_else = nothing_else_ends configs script log lawful;
     delivery = each_delivered configs script log lawful;

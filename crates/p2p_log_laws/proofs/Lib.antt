@@ -98,6 +98,7 @@ pub mod Prefixes
 pub mod Puts
 pub mod Reaching
 pub mod ReceiverShape
+pub mod RegisteredOnce
 pub mod Releasing
 pub mod Reserving
 pub mod RouterShape

@@ -14,16 +14,17 @@ use Rattle.p2p_log_laws.specs.Grants.{GrantsAlternate, HasOneHolder, EachIsRelea
 use Rattle.p2p_log_laws.specs.KilledSince.{EachKillHasItsCause}
 use Rattle.p2p_log_laws.specs.Kills.{EachKillShowsItsCause}
 use Rattle.p2p_log_laws.specs.Leading.{ConnectionsAreOne, ConnectionsLead, EndsMeet}
+use Rattle.p2p_log_laws.specs.Leaving.{LeaveInOrder}
 use Rattle.p2p_log_laws.specs.Listed.{ListsAreCurrent}
 use Rattle.p2p_log_laws.specs.NodeGrants.{granting}
 use Rattle.p2p_log_laws.specs.OneAnswer.{HasOneAnswer}
 use Rattle.p2p_log_laws.specs.OneEnd.{EachHasOneEnd, NothingElseEnds}
 use Rattle.p2p_log_laws.specs.Order.{AreDeliveredInOrderOverOne, AreDeliveredInOrderOfConnections, EachWentOver}
 use Rattle.p2p_log_laws.specs.Releasing.{EachIsReleasedAsItEnds}
-use Rattle.p2p_log_laws.specs.Subscribing.{EachStartSubscribes}
+use Rattle.p2p_log_laws.specs.Subscribing.{EachRegistersOnce, EachStartSubscribes}
 
 -- each beginning of the log is lawful too, so that each of these held at each earlier moment; each start puts the subscriptions of
--- the channels that were registered before it; each send is for those of the keys that it is offered to that its channel's quota
+-- the channels that were registered before it, of which none is so twice; items leave a queue in their order; each send is for those of the keys that it is offered to that its channel's quota
 -- admits, and each message for a check for those that this admitted, once; the newest list that a channel was told of, to which a
 -- message for all is offered, has the peers that are connected; each copy of each accepted send has exactly one end: delivered
 -- once, or waiting in a queue, or dropped; what is delivered was sent, is read, and in order; each drop shows its cause; the fate
@@ -36,11 +37,13 @@ use Rattle.p2p_log_laws.specs.Subscribing.{EachStartSubscribes}
 pub record IsAccounted (configs : List Config) (log : List Entry) : Type 0 where
   pub beginnings : EachBeginningIsLawful configs log
   pub starts : EachStartSubscribes log
+  pub registered_once : EachRegistersOnce configs log
   pub admitted : EachIsAdmitted configs log
   pub checks : ChecksAreAdmitted log
   pub checked : EachIsChecked configs log
   pub spent : ChecksAreSpentOnce log
   pub lists : ListsAreCurrent log
+  pub in_order : LeaveInOrder log
   pub one_end : EachHasOneEnd log
   pub nothing_else : NothingElseEnds log
   pub delivery : EachIsDelivery configs log
