@@ -39,7 +39,8 @@ class Broken(unittest.TestCase):
         script = {'configs': hello.configurations(), 'script': events}
         status, told = told_of(line_by_line(script))
         self.assertEqual((status, [reason.split(':')[0] for _, reason in told]),
-                         (8, ['event 1 (start), `at`', 'event 2 (start), `node`', 'event 3 (start), `node`', 'event 4 (start), `at`']))
+                         (8, ['event 1 (start), `at`', 'event 2 (start), `node`', 'event 3 (start), `node`',
+                              'event 4 (start), `at`']))
 
     def test_every_configuration_that_is_not_valid_is_told_and_before_each_event(self):
         configurations = [dict(hello.configurations()[0], key=key) for key in (1, 1, 2, 1)]
