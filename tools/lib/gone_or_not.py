@@ -1,4 +1,5 @@
-"""Whether an entry may be "gone", "idle" or "pending", by what the run has come to before it."""
+"""Whether an entry may have its reply, by what the run has come to before it."""
+from why_sends import admitted_of, full_router
 from why_words import reply_text
 
 STEPPED = ('router', 'tracker', 'dialer', 'listener', 'spawner')
@@ -29,18 +30,55 @@ def is_gone(state, event):
     return None
 
 
+def is_late(state, event):
+    """Whether the deadline has come of what an event steps, so that it is not idle; where it waits for an answer, it has none."""
+    one = {'dialer': state.dialers.get(event.get('node')), 'attempt': state.attempts.get(event.get('attempt')),
+           'handshake': state.handshakes.get(event.get('handshake'))}.get(event['do'])
+    if one is None or getattr(one, 'asking', None) is not None or getattr(one, 'finished', None) is not None:
+        return False
+    return one.deadline <= event['at']
+
+
+def waiting_misfit(state, entry, event):
+    """Why it is not idle, and nothing is pending."""
+    queue = QUEUES[event['do']] % event if event['do'] in QUEUES else None
+    if queue and state.queues.count(queue):
+        return 'the reply is "%s", and something waits in %s' % (entry.reply, queue)
+    if entry.reply == 'idle' and is_late(state, event):
+        return 'the reply is "idle", and its deadline had come'
+    if event['do'] in ('connect', 'refuse') and state.attempts[event['attempt']].has_address:
+        return 'the reply is "pending", and the attempt has an address'
+    return None
+
+
+def keys_misfit(state, entry, event):
+    """Why a send or a check is not told these keys."""
+    admitted = admitted_of(state, event, state.offered(event, event['channel'], event['node']))
+    if event['do'] == 'check':
+        told, may_be_none = entry.reply.get('checked', []), False
+    else:
+        told, may_be_none = entry.reply.get('sent', admitted), bool(full_router(state, event['node']))
+    if told == admitted or told == [] and may_be_none:
+        return None
+    return 'the reply is %s, and the quota admits the keys %s' % (reply_text(entry.reply), admitted)
+
+
+def start_misfit(state, entry, event):
+    """Why it does not subscribe to these channels."""
+    due = [channel for node, channel in state.channels if node == event['node']]
+    told = [item['subscribe'] for _, item in entry.puts]
+    if told == due:
+        return None
+    return 'it subscribes to the channels %s, and those of node %d are %s' % (told, event['node'], due)
+
+
 def misfit(state, entry, event):
     """Why an entry cannot have its reply, if it cannot."""
     gone = is_gone(state, event)
     if gone is not None and gone != (entry.reply == 'gone'):
         return 'the reply is %s, and %s due' % (reply_text(entry.reply), '"gone" is' if gone else 'another is')
-    if entry.reply in ('idle', 'pending') and event['do'] in QUEUES:
-        queue = QUEUES[event['do']] % event
-        if state.queues.count(queue):
-            return 'the reply is "%s", and something waits in %s' % (entry.reply, queue)
-    if event['do'] == 'start':
-        due = [channel for one, channel in state.channels if one == event['node']]
-        told = [item['subscribe'] for _, item in entry.puts]
-        if told != due:
-            return 'it subscribes to the channels %s, and those of node %d are %s' % (told, event['node'], due)
-    return None
+    if entry.reply in ('idle', 'pending'):
+        return waiting_misfit(state, entry, event)
+    if event['do'] in ('send', 'check') and entry.reply != 'gone':
+        return keys_misfit(state, entry, event)
+    return start_misfit(state, entry, event) if event['do'] == 'start' else None

@@ -81,9 +81,11 @@ def check_named(report, entry, event):
         if name in event and entry.reply != 'gone':
             made = [report.item(one)[0] for one in report.entries[event[name]].takes]
             if not any(one.split(':')[0] == queue for one in made):
-                raise OtherRun(entry.number, 'entry %d %s, so the reply is not %s' % (event[name], lacking, reply_text(entry.reply)))
+                raise OtherRun(entry.number, 'entry %d %s, so the reply is not %s'
+                               % (event[name], lacking, reply_text(entry.reply)))
     if event['do'] == 'finish' and entry.reply != 'gone' and len(report.entries[event['link']].puts) != 2:
-        raise OtherRun(entry.number, 'entry %d made no link, so the reply is not %s' % (event['link'], reply_text(entry.reply)))
+        raise OtherRun(entry.number, 'entry %d made no link, so the reply is not %s'
+                       % (event['link'], reply_text(entry.reply)))
 
 
 def check_send(report, events, entry, event):

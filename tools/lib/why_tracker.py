@@ -127,14 +127,30 @@ def why_nobody(state, node, at):
     keys = sorted({key for _, primary, secondary, _ in tracker.sets for key in primary + secondary} - {tracker.rules['key']})
     if not keys:
         return Cause('nobody is to be dialed: no set that is tracked has another key')
-    found = []
-    for key in keys:
-        cause = not_free(tracker, key, at) or (None if tracker.is_primary(key) else Cause('key %d is primary in no set' % key))
-        if cause is None and key in tracker.grants:
-            cause = Cause('key %d is listed again once the time since its grant at entry %d is over'
-                          % (key, tracker.grants[key][1]))
-        found.append((cause or undialable(tracker, key)).text)
-    return Cause('nobody is to be dialed: %s' % '; '.join(found))
+    return Cause('nobody is to be dialed: %s' % '; '.join(why_unlisted(tracker, key, at) for key in keys))
+
+
+def why_unlisted(tracker, key, at):
+    """Why a key of a set is not listed for a dial."""
+    cause = not_free(tracker, key, at) or (None if tracker.is_primary(key) else Cause('key %d is primary in no set' % key))
+    if cause:
+        return cause.text
+    granted, entry = tracker.grants.get(key, (None, None))
+    wait = tracker.rules['peer_connection_cooldown']
+    if granted is None or granted + wait + wait // 2 <= at or may_be_dialed(tracker, key) is False:
+        return undialable(tracker, key).text
+    if at < granted + wait or may_be_dialed(tracker, key):
+        return 'key %d is listed again once the time since its grant at entry %d is over' % (key, entry)
+    return 'of key %d no cause is told' % key
+
+
+def may_be_dialed(tracker, key):
+    """Whether the address of a key may be dialed; None, where that goes by whether it is global."""
+    address = tracker.addresses[key]
+    ingress = address.get('symmetric') or address['ingress']
+    if 'host' in ingress:
+        return tracker.rules['allow_dns']
+    return tracker.rules['allow_private_ips'] or None
 
 
 def why_answer(state, entry, event):

@@ -1,4 +1,5 @@
 """tools/check: what is told of each script of tables/broken.table, with the place and the way to mend it."""
+import json
 import os
 import unittest
 
@@ -6,7 +7,7 @@ import hello
 from edits import edited, line_by_line, read_edits
 from files import TOP, examples, read_text, run_tool
 from json_text import Places
-from judge import judge, status_now
+from judge import SHOWN, judge, lines_of, status_now
 from script_form import ACT_FORMS
 
 ACTS = ', '.join('"%s"' % act for act in ACT_FORMS)
@@ -38,7 +39,8 @@ class Broken(unittest.TestCase):
         script = {'configs': hello.configurations(), 'script': events}
         status, told = told_of(line_by_line(script))
         self.assertEqual((status, [reason.split(':')[0] for _, reason in told]),
-                         (8, ['event 1 (start), `at`', 'event 2 (start), `node`', 'event 3 (start), `node`', 'event 4 (start), `at`']))
+                         (8, ['event 1 (start), `at`', 'event 2 (start), `node`', 'event 3 (start), `node`',
+                              'event 4 (start), `at`']))
 
     def test_every_configuration_that_is_not_valid_is_told_and_before_each_event(self):
         configurations = [dict(hello.configurations()[0], key=key) for key in (1, 1, 2, 1)]
@@ -58,6 +60,14 @@ class Broken(unittest.TestCase):
     def test_no_example_has_a_warning(self):
         for path in examples():
             self.assertEqual(judge(read_text(path).encode())[1].warnings, [])
+
+
+    def test_of_many_faults_the_first_hundred_are_told_and_how_many_more_there_are(self):
+        for count, more in ((SHOWN, []), (SHOWN + 50, [': and 50 more'])):
+            events = [{'at': 0, 'do': 'start', 'node': 9}] * count
+            text, verdict = judge(json.dumps({'configs': [], 'script': events}).encode())
+            lines = lines_of('', text, verdict)
+            self.assertEqual((len(verdict.faults), len(lines), lines[SHOWN:-1]), (count, SHOWN + 1 + len(more), more))
 
 
 class Tool(unittest.TestCase):

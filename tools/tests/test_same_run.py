@@ -78,6 +78,17 @@ class SameRun(unittest.TestCase):
         self.assertEqual(other_run(report, {'configs': hello.configurations(), 'script': events}),
                          (1, 'entry 0 made no connection, so the reply is not "idle"'))
 
+    def test_another_moment_is_refused_where_a_quota_or_a_deadline_shows_it(self):
+        for name, number, at, reason in (
+                ('quotas', 10, 999_999_999, 'the reply is {"sent":[2]}, and the quota admits the keys []'),
+                ('attempts', 22, 15_500_000_000, 'the reply is "idle", and its deadline had come'),
+                ('handshakes', 24, 1_000_000_000, 'the reply is "idle", and its deadline had come')):
+            path = os.path.join(TOP, 'examples', name + '.json')
+            script, report = json.loads(read_text(path)), read_report(read_text(beside(path, '.report')))
+            script['script'][number]['at'] = at
+            with self.subTest(name):
+                self.assertEqual(other_run(report, script), (number, reason))
+
     def test_a_reply_that_is_not_due_is_refused(self):
         lines = [json.loads(line) for line in read_text(HELLO).splitlines()]
         for number, reply, reason in ((29, 'idle', 'the reply is "idle", and something waits in router:0'),

@@ -7,7 +7,6 @@ import unittest
 
 import script as words
 from files import TOP, beside, examples, read_text, run_tool
-from json_text import read_json
 from judge import judge
 from script import SECOND, BadSource, Script, address, begin, connect, dial, duration, name, quota, reach, socket, track_each_other
 from script_form import ACT_FORMS, OPTIONAL_FORMS
@@ -17,6 +16,8 @@ LIMITS = {'preset': 'local', 'max_peers_per_set': 4, 'max_message_size': 8, 'mai
 SCRIPTS = read_text(os.path.join(TOP, 'docs', 'SCRIPTS.md'))
 # What is no whole number of nanoseconds.
 NO_DURATIONS = [{'seconds': 0.0000000001}, {'milliseconds': '1/3'}, {'nanoseconds': 0.5}, {'seconds': -1}]
+# Methods that a source does not call.
+INNER = {'plain', 'text', 'does', 'outgoing'}
 NO_SOCKETS = ['10.0.0.2', '10.0.0:3000', 'two.example:3000', '10.0.0.2:', '::1:x']
 
 
@@ -227,17 +228,59 @@ class Ways(unittest.TestCase):
         script, (ann, bob, cat) = running(preset='recommended')
         self.refused('node 0, of key 1, may not dial key 2', ann, bob)
 
-    def test_a_way_again_is_asked_for(self):
+    def test_no_way_leads_past_one_who_waits(self):
         script, (ann, bob, cat) = running()
+        ann.track(0, [bob])
+        ann.tracker()
+        link = ann.connect(dial(ann), to=bob)
+        self.refused('node 1, of key 2, may have somebody who waits for its listener', cat, bob)
+        script.finish(link)
+        self.refused('node 0, of key 1, may have a peer that waits for its spawner', cat, ann)
+
+    def test_no_way_leads_to_another_address_or_to_a_name(self):
+        _, (ann, bob, _) = running()
+        ann.track(0, [(bob, address(egress='10.0.0.2:3000', ingress=name('two.example')))])
+        self.refused('knows key 2 by a name', ann, bob)
+        bob.track(0, [(ann, '10.0.0.9:3000')])
+        ann.overwrite([bob])
+        self.refused('node 1, of key 2, knows key 1 by another address', ann, bob)
+        script = Script(**LIMITS)
+        open_node, shut_node = script.node(key=1), script.node(key=2, allow_private_ips=False)
+        for node in (open_node, shut_node):
+            node.start()
+        self.refused('node 1, of key 2, may not listen to key 1', open_node, shut_node)
+
+    def ended(self, **limits):
+        """Three nodes, of which the first two were connected, and both those connections have ended; no router has taken that."""
+        script, (ann, bob, cat) = running(**limits)
         to_bob, to_ann = connect(ann, bob)
         ann.block(bob)
         ann.tracker()
         ann.send_step(to_bob)
         bob.recv_step(to_ann)
-        script.wait(seconds=3600)
-        ann.tracker()
+        return script, (ann, bob, cat)
+
+    def test_a_way_again_is_asked_for(self):
+        script, (ann, bob, _) = self.ended(block_duration=1000)
         self.refused('say again=True', ann, bob)
+        self.refused('may still block key 2', ann, bob, again=True)
+        script.wait(nanoseconds=1000)
         connect(ann, bob, again=True)
+
+    def test_a_way_again_waits_until_the_peer_is_listed(self):
+        """That is a cooldown and at most half of it after it was granted."""
+        for first in (0, 1):
+            script, nodes = self.ended(block_duration=1000)
+            script.wait(nanoseconds=1000)
+            connect(nodes[first], nodes[1 - first], again=True)
+            self.assertEqual(script.moment, 1_500_000_000)
+
+    def test_a_way_takes_the_release_of_a_connection_that_ended(self):
+        script, (ann, _, cat) = self.ended()
+        count = len(script.events)
+        connect(cat, ann)
+        steps = [event for event in said_of(script)[count:] if event['do'] in ('router', 'tracker') and event['node'] == 0]
+        self.assertEqual([event['do'] for event in steps], ['tracker'] * 4 + ['router'] * 2 + ['tracker'])
 
     def test_a_way_to_connections_that_have_not_begun_ends_before_their_first_step(self):
         (script, (ann, bob, _)), (whole, others) = running(), running()
@@ -258,9 +301,5 @@ class Page(unittest.TestCase):
 
     def test_it_has_each_word(self):
         listed = set(re.findall(r'^\| `(?:script\.|node\.)?(\w+)', SCRIPTS, re.MULTILINE))
-        methods = {name for kind in (Script, Node) for name in vars(kind) if not name.startswith('_')} - {'plain', 'text', 'does', 'outgoing'}
+        methods = {word for kind in (Script, Node) for word in vars(kind) if not word.startswith('_')} - INNER
         self.assertEqual(sorted(set(words.__all__) | methods), sorted(listed))
-
-
-if __name__ == '__main__':
-    unittest.main()

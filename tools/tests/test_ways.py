@@ -79,7 +79,3 @@ class Ways(unittest.TestCase):
                         self.assertEqual((line['reply'], line['put'], len(line['take'])), ('ok', [], 1))
             count += len(ends)
         self.assertGreater(count, SCRIPTS)
-
-
-if __name__ == '__main__':
-    unittest.main()

@@ -8,20 +8,12 @@ from files import TOP, beside, read_text, reports, run_tool
 from report_form import read_report
 from why import FALSE, REFUSALS, REFUSING, is_refusal, why_lines
 
-TABLE = os.path.join(TOP, 'tools', 'tests', 'tables', 'why.table')
 ANSWERS = os.path.join(TOP, 'examples', 'answers.report')
 
 
-def read_table():
-    """The lines that are told of each example."""
-    found = {}
-    for line in read_text(TABLE).splitlines():
-        if line.startswith('    '):
-            found[name].append(line.strip())
-        elif not line.startswith('#'):
-            name = line
-            found[name] = []
-    return found
+def due_of(path):
+    """The lines that are told of an example."""
+    return read_text(os.path.join(TOP, 'tools', 'tests', 'tables', os.path.basename(beside(path, '.why')))).splitlines()
 
 
 def read_example(path):
@@ -32,11 +24,9 @@ def read_example(path):
 class Why(unittest.TestCase):
 
     def test_each_example_has_its_causes(self):
-        table = read_table()
-        self.assertEqual(sorted(table), sorted(os.path.basename(beside(path, '')) for path in reports()))
         for path in reports():
             with self.subTest(os.path.basename(path)):
-                self.assertEqual(why_lines(*read_example(path)), table[os.path.basename(beside(path, ''))])
+                self.assertEqual(why_lines(*read_example(path)), due_of(path))
 
     def test_each_refusal_of_the_examples_is_told_once_with_a_cause(self):
         refused = 0
@@ -83,7 +73,7 @@ class Tool(unittest.TestCase):
 
     def test_either_file_may_be_standard_input_and_not_both(self):
         script = beside(ANSWERS, '.json')
-        due = read_table()['answers']
+        due = due_of(ANSWERS)
         for report, said, given in (('-', script, ANSWERS), (ANSWERS, '-', script), (ANSWERS, script, script)):
             ran = run_tool('show', report, '--script', said, '--why', given=read_text(given).encode())
             self.assertEqual((ran.returncode, ran.stdout.decode().splitlines(), ran.stderr), (0, due, b''))

@@ -1,4 +1,5 @@
 pub mod Charged
+pub mod Counted
 pub mod Emptied
 pub mod Orders
 pub mod Turning

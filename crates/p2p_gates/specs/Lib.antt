@@ -1,6 +1,7 @@
 pub mod AttemptTurns
 pub mod Attempting
 pub mod DialerTurns
+pub mod Counting
 pub mod Dialing
 pub mod Gates
 pub mod HandshakeTurns

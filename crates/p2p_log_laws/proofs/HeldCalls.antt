@@ -36,7 +36,7 @@ held_none configs n key = refl
 
 -- ---- calls that leave a key as it was
 
-held_overwritten : (es : List (Key × Address)) (calls : List (Call Key)) (key : Key) → is_held key_cmp (overwritten es calls) key ≡ is_held key_cmp calls key
+pub held_overwritten : (es : List (Key × Address)) (calls : List (Call Key)) (key : Key) → is_held key_cmp (overwritten es calls) key ≡ is_held key_cmp calls key
 unfolding overwritten is_held
 held_overwritten [] calls key = refl
 held_overwritten (e ∷ es) calls key = held_overwritten es (call.Overwrite e.0 e.1 ∷ calls) key

@@ -131,6 +131,7 @@ module _ (configs : List Config) (log : List Entry) (n at : ℕ) where
     later : List Envelope
     stood : line log (queue.Tracker n) ≡ oldest ∷ later
     takes : r.takes ≡ name_of oldest ∷ []
+    told : r.reply ≡ reply.Ok
     why : Killed oldest.item conn
 
   abbrev Shown : Row → Type 0
@@ -141,7 +142,7 @@ module _ (configs : List Config) (log : List Entry) (n at : ℕ) where
   oldest_shown (x ∷ rest) first =
       let r : Row = rows.served_row configs log n at (x ∷ rest) in
       Each-weaker (Kills n (Killed x.item)) (Kills n (RowKills r))
-      (λ p kills m conn is. let k = kills m conn is in (k.0, record { oldest = x; later = rest; stood = first; takes = refl; why = k.1 }))
+      (λ p kills m conn is. let k = kills m conn is in (k.0, record { oldest = x; later = rest; stood = first; takes = refl; told = refl; why = k.1 }))
       r.puts (Each-heeded (is_ended log n) (Kills n (Killed x.item)) (puts.item_puts rules n at us bs calls log x.item) (item_kills x.item))
 
   step_shown : Shown (rows.tracker_step configs log n at)
@@ -181,7 +182,12 @@ kill_shown configs log at seed a i n conn there =
     by_tracker here =
         (Each-get (Kills n (RowKills configs log n at (rows.tracker_row configs log n at))) (rows.tracker_row configs log n at).puts i (queue.Control n conn, item.Kill) (tracker_shown configs log n at) here n conn refl).1
 
-effect_shown : (configs : List Config) (log : List Entry) (ev : Event) (i n conn : ℕ) → slice_get (effect configs log ev).puts i ≡ Some (queue.Control n conn, item.Kill) → ShowsKill configs log (effect configs log ev) n conn
+-- the step of the tracker took something
+pub effect_told : (configs : List Config) (log : List Entry) (ev : Event) (i n conn : ℕ) → slice_get (effect configs log ev).puts i ≡ Some (queue.Control n conn, item.Kill) → (effect configs log ev).reply ≡ reply.Ok
+unfolding effect
+effect_told configs log ev i n conn there = (kill_shown configs log ev.at ev.seed ev.act i n conn there).1.told
+
+pub effect_shown : (configs : List Config) (log : List Entry) (ev : Event) (i n conn : ℕ) → slice_get (effect configs log ev).puts i ≡ Some (queue.Control n conn, item.Kill) → ShowsKill configs log (effect configs log ev) n conn
 unfolding effect
 effect_shown configs log ev i n conn there =
     let k = kill_shown configs log ev.at ev.seed ev.act i n conn there in

@@ -1,4 +1,5 @@
 pub mod Accepting
+pub mod AllLaws
 pub mod Admitting
 pub mod Answering
 pub mod Asking
@@ -6,12 +7,14 @@ pub mod AttemptGrants
 pub mod AttemptHolds
 pub mod AttemptShape
 pub mod Balance
+pub mod EarlierLogs
 pub mod BegunCalls
 pub mod BegunOnce
 pub mod BegunPuts
 pub mod Bulk
 pub mod CallShapes
 pub mod Carried
+pub mod CausesMet
 pub mod Checks
 pub mod CloseShape
 pub mod Comes
@@ -40,6 +43,7 @@ pub mod EndOver
 pub mod EndShown
 pub mod EndWays
 pub mod EndShape
+pub mod EndsOnce
 pub mod Entries
 pub mod Exchanges
 pub mod FateLaws
@@ -62,7 +66,10 @@ pub mod Heeded
 pub mod HeldCalls
 pub mod HeldPeers
 pub mod Holding
+pub mod KeptKnown
+pub mod KillCauses
 pub mod Killing
+pub mod KillKnown
 pub mod Leads
 pub mod Leaving
 pub mod Ledger
@@ -91,6 +98,8 @@ pub mod Prefixes
 pub mod Puts
 pub mod Reaching
 pub mod ReceiverShape
+pub mod RegisteredOnce
+pub mod Releasing
 pub mod Reserving
 pub mod RouterShape
 pub mod Routing
@@ -107,6 +116,7 @@ pub mod Spreads
 pub mod Stages
 pub mod StandingAttempts
 pub mod Sublists
+pub mod Subscribing
 pub mod Telling
 pub mod TrackerGrants
 pub mod TrackerMoves

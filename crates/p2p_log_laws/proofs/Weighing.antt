@@ -31,13 +31,13 @@ count_by-one p x = sum_by-cons (λ y. cond (p y) 1 0) x [] ∙ plus_none (one (p
     plus_none : (n : ℕ) → n + 0 ≡ n
     plus_none n = omega arith
 
-weight-placed : (p : Queue × Item → Bool) (n k : ℕ) (puts : List (Queue × Item)) → weight p (placed n k puts) ≡ count_by p puts
+pub weight-placed : (p : Queue × Item → Bool) (n k : ℕ) (puts : List (Queue × Item)) → weight p (placed n k puts) ≡ count_by p puts
 weight-placed p n k [] = refl
 weight-placed p n k (x ∷ xs) =
     sum_by-cons (λ y. cond (p (put_of y)) 1 0) (record { entry = n; place = k; queue = x.0; item = x.1 }) (placed n (k + 1) xs)
     ∙ (ap (λ m. cond (p x) 1 0 + m) (weight-placed p n (k + 1) xs) ∙ sym (sum_by-cons (λ y. cond (p y) 1 0) x xs))
 
-named_items : (log : List Entry) (xs : List Envelope) → Each (IsPut log) xs → flat_map (item_named log) (map name_of xs) ≡ map (λ x. x.item) xs
+pub named_items : (log : List Entry) (xs : List Envelope) → Each (IsPut log) xs → flat_map (item_named log) (map name_of xs) ≡ map (λ x. x.item) xs
 named_items log [] h = refl
 named_items log (x ∷ xs) h =
     let put : IsPut log x = h.0 in

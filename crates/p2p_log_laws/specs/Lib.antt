@@ -1,5 +1,7 @@
+pub mod Accounted
 pub mod Admitted
 pub mod Beginning
+pub mod Beginnings
 pub mod BulkEnds
 pub mod Causes
 pub mod ClosedPath
@@ -8,6 +10,7 @@ pub mod Endings
 pub mod Fates
 pub mod Flow
 pub mod Grants
+pub mod KilledSince
 pub mod Kills
 pub mod Leading
 pub mod Leaving
@@ -17,4 +20,6 @@ pub mod OneAnswer
 pub mod OneEnd
 pub mod Order
 pub mod PlainPath
+pub mod Releasing
+pub mod Subscribing
 pub mod Worked

@@ -10,11 +10,8 @@ use Rattle.p2p_log_rules.specs.Lawful.{IsLawful}
 use Rattle.p2p_log_rules.specs.Valid.{config_fault, event_fault, event_fault_from, is_valid_event}
 use Rattle.p2p_log_rules.proofs.Facts.{events_of-append}
 use Rattle.p2p_log_rules.proofs.Lawful.{IsLawful-nil, IsLawful-append, IsLawful-unique}
-use Rattle.p2p_base.specs.declared.key.Key.{Key}
-use Rattle.p2p_log_laws.specs.Grants.{HasOneHolder}
-use Rattle.p2p_log_laws.specs.NodeGrants.{granting}
-use Rattle.p2p_log_laws.proofs.NodeGrants.{each_node_turn}
-use Rattle.p2p_log_laws.proofs.Turns.{one_holder}
+use Rattle.p2p_log_laws.specs.Accounted.{IsAccounted}
+use Rattle.p2p_log_laws.proofs.AllLaws.{accounted}
 use Rattle.p2p_net.specs.declared.error.RunError.{RunError}
 use Rattle.p2p_net.specs.declared.error.RunError.TheVariants as error
 use Rattle.p2p_net.specs.World.{WorldView, Stands}
@@ -83,9 +80,9 @@ pub only_run :
     → (log : List Entry) → IsLawful configs script log → log ≡ w.log
 only_run configs script i w h le log k = IsLawful-unique configs script log w.log k (lawful_run configs script i w h le)
 
--- each key that is reserved at a node is held once, or its release waits
-pub grants_run : (configs : List Config) (script : List Event) (i : ℕ) (w : WorldView) → RanFirst configs script i w → length script ≤ i → (n : ℕ) (key : Key) → HasOneHolder (granting configs n key) w.log
-grants_run configs script i w h le n key = one_holder (granting configs n key) w.log (each_node_turn configs script w.log (lawful_run configs script i w h le) n key)
+-- the laws of lawful logs hold of its log
+pub accounted_run : (configs : List Config) (script : List Event) (i : ℕ) (w : WorldView) → RanFirst configs script i w → length script ≤ i → IsAccounted configs w.log
+accounted_run configs script i w h le = accounted configs script w.log (lawful_run configs script i w h le)
 
 pub stands_run : (configs : List Config) (script : List Event) (i : ℕ) (w : WorldView) → RanFirst configs script i w → WorldStands configs w.log w.nodes w.links
 stands_run configs script i w h = subst (λ c. WorldStands c w.log w.nodes w.links) h.same h.stands

@@ -1,18 +1,13 @@
 //! The world: all nodes and links, with the log of what was asked of them and what came of it.
-ghost use Rattle.std.specs.Prelude.{◌≡◌, ℕ, ◌+◌, ◌<◌, ◌≤◌, ◌++◌, ◌∷◌, [], List, length, slice_get, IfOk, OnOk, OnErr, IfErr, Err, true, false, Some, None};
+ghost use Rattle.std.specs.Prelude.{◌≡◌, ◌+◌, ◌<◌, ◌≤◌, ◌++◌, ◌∷◌, [], List, length, slice_get, IfOk, OnOk, OnErr, IfErr, Err, true, false, Some, None};
 ghost use Rattle.std.specs.Option.{option_copied};
-ghost use Rattle.p2p_base.specs.declared.key.Key.{Key};
 ghost use Rattle.p2p_log.specs.declared.config.Config.{Config};
 ghost use Rattle.p2p_log.specs.declared.entry.Entry.{Entry};
 ghost use Rattle.p2p_log_rules.specs.Facts.{events_of, latest_moment};
 ghost use Rattle.p2p_log_rules.specs.Effect.{effect};
 ghost use Rattle.p2p_log_rules.specs.Lawful.{IsLawful};
 ghost use Rattle.p2p_log_rules.specs.Valid.{config_fault as config_fault_of, event_fault, is_valid_event};
-ghost use Rattle.p2p_log_laws.specs.Endings.{EachEndShows, ReleasesAreTimely};
-ghost use Rattle.p2p_log_laws.specs.Grants.{HasOneHolder};
-ghost use Rattle.p2p_log_laws.specs.Kills.{EachKillShowsItsCause};
-ghost use Rattle.p2p_log_laws.specs.NodeGrants.{granting};
-ghost use Rattle.p2p_log_laws.specs.Order.{AreDeliveredInOrderOverOne, AreDeliveredInOrderOfConnections};
+ghost use Rattle.p2p_log_laws.specs.Accounted.{IsAccounted};
 ghost use Rattle.p2p_net_links.specs.Links.{no_links};
 ghost use Rattle.p2p_net.specs.Places.{node_of as node_of_act};
 ghost use Rattle.p2p_net.specs.Ready.{may_apply, MayPerform};
@@ -184,11 +179,9 @@ impl World {
     /// Asks for all events of a script, in order.
     ///
     /// The log of the world that comes back is the one log that is lawful for the configurations and the script, and its
-    /// nodes and links stand for it: every queue holds its line, and each key that is reserved at a node is held by one thing
-    /// there, or its one release waits. Of two messages of a node on one channel with one priority that went over one link, the
-    /// one that was accepted first is delivered first, and of two that came by two connections of their reader's node the one of
-    /// the older connection is; a connection ends for a reason that its entry shows, a kill of one shows its cause, and a router
-    /// hears that a connection has ended before it hears of the next one with its key.
+    /// nodes and links stand for it: every queue holds its line. Each law of lawful logs holds of it, as `IsAccounted` names
+    /// them: of who is sent what, of the one end of each copy, of order, of reservations, and of how connections begin, are
+    /// killed and end.
     ///
     /// Where a configuration is not valid, `RunError::Config` has the place of the first one; where each is, and an event may not
     /// be asked for, `RunError::Event` has the place of the first one. Where there is no memory, the answer is
@@ -198,12 +191,7 @@ impl World {
         ensures lawful { IfOk result (λ w. IsLawful configs.now script.now w.log) }
         ensures only { IfOk result (λ w. (log : List Entry) → IsLawful configs.now script.now log → log ≡ w.log) }
         ensures stands { IfOk result (λ w. WorldStands configs.now w.log w.nodes w.links) }
-        ensures grants { IfOk result (λ w. (n : ℕ) (key : Key) → HasOneHolder (granting configs.now n key) w.log) }
-        ensures order { IfOk result (λ w. AreDeliveredInOrderOverOne configs.now w.log) }
-        ensures connections { IfOk result (λ w. AreDeliveredInOrderOfConnections configs.now w.log) }
-        ensures ends { IfOk result (λ w. EachEndShows configs.now w.log) }
-        ensures kills { IfOk result (λ w. EachKillShowsItsCause configs.now w.log) }
-        ensures releases { IfOk result (λ w. ReleasesAreTimely w.log) }
+        ensures accounted { IfOk result (λ w. IsAccounted configs.now w.log) }
         ensures works { IfOk result (λ w. w.failed ≡ false) }
         ensures valid { OnOk result (config_fault_of configs.now ≡ None) }
         ensures allowed { OnOk result (event_fault configs.now script.now ≡ None) }

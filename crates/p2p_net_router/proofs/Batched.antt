@@ -49,6 +49,7 @@ over_kept configs log old new items more s kept h =
       bound = ap (λ m. is_bound m.binding) kept.messenger ∙ s.bound;
       places = subst (λ m. HasPlaces (router_capacity configs log n) m.binding) (sym kept.messenger) s.places;
       ended = kept.ended (is_ended log n) s.ended;
+      works = kept.works ∙ s.works;
     })
 
 batched :
@@ -68,7 +69,7 @@ batched configs log e old new batch taken s b kept is holds takes ends away =
     λ q own. line_after log e (map name_of batch) q gone (away q own)
     in
     subst (StandsFor configs (log ++ e ∷ [])) same
-    (stands_moved configs log e old new.messenger new.actor new.peers new.names (live log) s b kept.routes kept.subscriptions
+    (stands_moved configs log e old new.messenger new.actor new.peers new.names (live log) s b kept.routes kept.subscriptions kept.works
     (ap (λ m. is_bound m.binding) kept.messenger) (λ k places. subst (λ m. HasPlaces k m.binding) (sym kept.messenger) places)
     (kept.ended (is_ended log n) s.ended)
     (holds_same size moved (filter (stays (map name_of batch)) (live log)) (live (log ++ e ∷ [])) h lines))

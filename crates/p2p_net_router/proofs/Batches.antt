@@ -63,7 +63,7 @@ batch_beside n conn size items q apart high_away low_away =
     ∙ line_beside size (queue.High n conn) q items high apart refl high_away))
 
 pub AreKept-refl : (r : Router) → AreKept r r
-AreKept-refl r = record { number = refl; messenger = refl; channels = refl; peers = refl; numbers = refl; subscriptions = refl; routes = refl; ended = λ f h. h }
+AreKept-refl r = record { number = refl; messenger = refl; channels = refl; peers = refl; numbers = refl; subscriptions = refl; routes = refl; ended = λ f h. h; works = refl }
 
 pub AreKept-trans : (a b c : Router) → AreKept a b → AreKept b c → AreKept a c
 AreKept-trans a b c f g = record {
@@ -75,6 +75,7 @@ AreKept-trans a b c f g = record {
   subscriptions = g.subscriptions ∙ f.subscriptions;
   routes = g.routes ∙ f.routes;
   ended = λ t h. g.ended t (f.ended t h);
+  works = g.works ∙ f.works;
 }
 
 -- ---- one more frame
@@ -219,4 +220,5 @@ AreKept-taken old new rest links ends = record {
   subscriptions = ap (λ (r : Router). r.actor.subscriptions) rest;
   routes = links;
   ended = ends;
+  works = ap (λ (r : Router). r.actor.failed) rest;
 }

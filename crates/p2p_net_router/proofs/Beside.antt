@@ -54,12 +54,12 @@ holds_same size r items more h same = record {
 pub moved_over :
     (configs : List Config) (log : List Entry) (e : Entry) (r : Router) (desk : Desk Key) (actor : Routes Key) (peers : BTreeMap ℕ Key) (names : Board Name) (items more : List Envelope)
     → StandsOver configs log r items → routed_by r.number log e ≡ [] → registers_at configs r.number e.event.act ≡ [] → starts r.number e.event.act ≡ false
-    → routes_in actor.links ≡ routes_in r.actor.links → actor.subscriptions ≡ r.actor.subscriptions
+    → routes_in actor.links ≡ routes_in r.actor.links → actor.subscriptions ≡ r.actor.subscriptions → actor.failed ≡ r.actor.failed
     → is_bound desk.binding ≡ is_bound r.messenger.binding → ((k : ℕ) → HasPlaces k r.messenger.binding → HasPlaces k desk.binding)
     → AreEnded (is_ended (log ++ e ∷ []) r.number) peers actor.links
     → Holds (mailbox_size_at configs r.number) (moved_to r desk actor peers names) more
     → StandsOver configs (log ++ e ∷ []) (moved_to r desk actor peers names) more
-moved_over configs log e r desk actor peers names items more s no_step no_channel no_start links subs bound places ended h =
+moved_over configs log e r desk actor peers names items more s no_step no_channel no_start links subs works bound places ended h =
     let n = r.number in
     let same : channels configs (log ++ e ∷ []) n ≡ channels configs log n =
     ap (λ v. registered configs v n) (events_of-append log e)
@@ -80,18 +80,19 @@ moved_over configs log e r desk actor peers names items more s no_step no_channe
       places = subst (λ k. HasPlaces k desk.binding) (ap (λ l. mailbox_size_at configs n + sum_capacities l) (sym same))
           (places (router_capacity configs log n) s.places);
       ended = ended;
+      works = works ∙ s.works;
     }
 
 pub stands_moved :
     (configs : List Config) (log : List Entry) (e : Entry) (r : Router) (desk : Desk Key) (actor : Routes Key) (peers : BTreeMap ℕ Key) (names : Board Name) (items : List Envelope)
     → StandsOver configs log r items → IsBeside configs log e r.number
-    → routes_in actor.links ≡ routes_in r.actor.links → actor.subscriptions ≡ r.actor.subscriptions
+    → routes_in actor.links ≡ routes_in r.actor.links → actor.subscriptions ≡ r.actor.subscriptions → actor.failed ≡ r.actor.failed
     → is_bound desk.binding ≡ is_bound r.messenger.binding → ((k : ℕ) → HasPlaces k r.messenger.binding → HasPlaces k desk.binding)
     → AreEnded (is_ended log r.number) peers actor.links
     → Holds (mailbox_size_at configs r.number) (moved_to r desk actor peers names) (live (log ++ e ∷ []))
     → StandsFor configs (log ++ e ∷ []) (moved_to r desk actor peers names)
-stands_moved configs log e r desk actor peers names items s b links subs bound places ended h =
-    moved_over configs log e r desk actor peers names items (live (log ++ e ∷ [])) s b.no_step b.no_channel b.no_start links subs bound places
+stands_moved configs log e r desk actor peers names items s b links subs works bound places ended h =
+    moved_over configs log e r desk actor peers names items (live (log ++ e ∷ [])) s b.no_step b.no_channel b.no_start links subs works bound places
     (ended_beside log e r.number peers actor.links b.no_end ended) h
 
 -- what stands in the router's queues is what stood there
@@ -103,7 +104,7 @@ pub stands_beside :
     (configs : List Config) (log : List Entry) (e : Entry) (r : Router)
     → StandsFor configs log r → IsBeside configs log e r.number → LinesStay log e r.number → StandsFor configs (log ++ e ∷ []) r
 stands_beside configs log e r s b lines =
-    stands_moved configs log e r r.messenger r.actor r.peers r.names (live log) s b refl refl refl (λ k h. h) s.ended
+    stands_moved configs log e r r.messenger r.actor r.peers r.names (live log) s b refl refl refl refl (λ k h. h) s.ended
     (holds_same (mailbox_size_at configs r.number) r (live log) (live (log ++ e ∷ [])) s.holds lines)
 
 -- ---- lines that an entry leaves alone
@@ -173,5 +174,5 @@ readied_stands configs log e r desk peers names place conn key s b g bound place
     ap (filter (stands_in q)) whole
     ∙ line_readied q (live log) (length log) g.before g.after (queue.Router r.number, item.Ready conn key) place g.long (g.away q own).0 (g.away q own).1
     in
-    stands_moved configs log e r desk r.actor peers names (live log) s b refl refl bound places ended
+    stands_moved configs log e r desk r.actor peers names (live log) s b refl refl refl bound places ended
     (holds_same (mailbox_size_at configs r.number) (moved_to r desk r.actor peers names) (live log ++ x ∷ []) (live (log ++ e ∷ [])) h lines)

@@ -276,4 +276,5 @@ routed_content configs log entry old desk actor names row encoded rs s answered 
       binding = t.binding;
       ended = subst (AreEnded ended old.peers) (sym links_now) done.going.ends;
       adds = λ q other. copied_adds n entry x f.rest (live log) spread_now row q other apart f.is row_now (copies_ends n send 0 encoded.payload rs start);
+      works = ap (λ (r : Routes Key). r.failed) actor_now;
     }

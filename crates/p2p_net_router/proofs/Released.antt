@@ -132,4 +132,5 @@ routed_release configs log entry old desk actor names row peer told s answered a
       binding = t.binding;
       ended = subst (AreEnded (is_ended log n) old.peers) (sym links_now) (ends_remove (is_ended log n) old.peers old.actor.links peer rising s.ended);
       adds = λ q other. told_adds n entry x f.rest (live log) [] (keys_of links) (map (channel_of channels) subs) row q other step.distinct step.apart f.is row_now;
+      works = ap (λ (r : Routes Key). r.failed) actor_now;
     }

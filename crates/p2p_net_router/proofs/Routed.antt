@@ -126,6 +126,7 @@ pub record IsRouted (configs : List Config) (log : List Entry) (entry : ℕ) (ol
   pub binding : desk.binding ≡ in_mailbox without_oldest old.messenger.binding
   pub ended : AreEnded (is_ended log old.number) old.peers actor.links
   pub adds : (q : Queue) → is_routers old.number q ≡ false → Adds entry row (live log) q
+  pub works : actor.failed ≡ old.actor.failed
 
 pub routed_row :
     (configs : List Config) (log : List Entry) (entry : ℕ) (old : Router) (desk : Desk Key) (actor : Routes Key) (names : Board Name) (row : Row)
@@ -156,6 +157,7 @@ routed_stands configs log entry event old desk actor names row s at is h =
           (places_taken (router_capacity configs (log ++ e ∷ []) n) old.messenger.binding
           (subst (λ k. HasPlaces k old.messenger.binding) (ap (λ l. mailbox_size_at configs n + sum_capacities l) (sym same)) s.places));
       ended = ended_beside log e n old.peers actor.links (λ conn. ends_none-act e n conn (act.Router n) is refl) h.ended;
+      works = h.works ∙ s.works;
     }
 
 -- ---- a step that took nothing
@@ -181,4 +183,5 @@ idle_stands configs log entry event r row s is idle =
       bound = s.bound ∙ sym (up_kept log e n is);
       places = subst (λ k. HasPlaces k r.messenger.binding) (ap (λ l. mailbox_size_at configs n + sum_capacities l) (sym same)) s.places;
       ended = ended_beside log e n r.peers r.actor.links (λ conn. ends_none-act e n conn (act.Router n) is refl) s.ended;
+      works = s.works;
     }

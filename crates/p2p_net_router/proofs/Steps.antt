@@ -190,6 +190,7 @@ routed_ready configs log entry old desk actor names row peer conn replaced told 
       binding = t.binding;
       ended = subst (AreEnded (is_ended log n) old.peers) (sym links_now) (ends_insert size (is_ended log n) old.peers old.actor.links peer conn own.known s.ended);
       adds = λ q other. told_adds n entry x f.rest (live log) puts (keys_of links) (map (channel_of channels) subs) row q other step.distinct step.apart f.is row_now;
+      works = ap (λ (r : Routes Key). r.failed) actor_now;
     }
 
 -- ---- a subscription
@@ -277,6 +278,7 @@ routed_subscription configs log entry old desk actor names row number told s ans
       binding = t.binding;
       ended = subst (AreEnded (is_ended log n) old.peers) (sym links_now) s.ended;
       adds = λ q other. told_adds n entry x f.rest (live log) [] (keys_of links) (c ∷ []) row q other step.distinct step.apart f.is row_now;
+      works = ap (λ (r : Routes Key). r.failed) actor_now;
     }
 
 -- ---- nothing waits

@@ -85,6 +85,7 @@ fresh_stands configs r h = record {
     relays = λ k l at. absurd (let e : None ≡ Some l = sym (ap (λ (x : Routes Key). link_of key_cmp x.links k) h.actor) ∙ at in cc);
     known = λ c k at. absurd (let e : None ≡ Some k = sym (h.peers c) ∙ at in cc);
   };
+  works = ap (λ (x : Routes Key). x.failed) h.actor;
 }
 
 -- ---- one more channel
@@ -280,6 +281,7 @@ subscribed_stands configs log e r new d s g h absent =
           ∙ (sym (has_started-append (events_of log) e.event n) ∙ ap (λ v. has_started v n) (sym (events_of-append log e)))))));
       places = subst (λ (m : Desk Key). HasPlaces (router_capacity configs (log ++ e ∷ []) n) m.binding) (sym h.desk) tt;
       ended = ended_beside log e n r.peers r.actor.links (λ conn. ends_none-act e n conn (act.Register d n g.rate) g.is refl) s.ended;
+      works = s.works;
     })
 
 pub is_subscribed :

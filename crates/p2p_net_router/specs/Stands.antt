@@ -70,7 +70,7 @@ pub record IsEnding (configs : List Config) (log : List Entry) (e : Entry) (n co
   pub puts : e.puts ≡ (queue.Router n, item.Release key) ∷ rest
   pub away : (q : Queue) → is_routers n q ≡ true → AreAway q rest
 
--- a router has these items in its queues, and the rest is as the log says
+-- a router has these items in its queues, its actor has found memory so far, and the rest is as the log says
 pub record StandsOver (configs : List Config) (log : List Entry) (r : Router) (items : List Envelope) : Type 0 where
   pub holds : Holds (mailbox_size_at configs r.number) r items
   pub routes_are : routes_in r.actor.links ≡ routes log r.number
@@ -79,6 +79,7 @@ pub record StandsOver (configs : List Config) (log : List Entry) (r : Router) (i
   pub bound : is_bound r.messenger.binding ≡ is_up log r.number
   pub places : HasPlaces (router_capacity configs log r.number) r.messenger.binding
   pub ended : AreEnded (is_ended log r.number) r.peers r.actor.links
+  pub works : r.actor.failed ≡ false
 
 -- and these are what stands there by the log
 abbrev pub StandsFor : List Config → List Entry → Router → Type 0

@@ -46,11 +46,18 @@ fn attempt(alloc: Global, way: &mut Mailbox<Key>) -> Result<Option<Attempt<Key>>
     let granted = tracking(alloc)?.dial(&Key(7), 0, 0)?;
     let mut dialer = Dialer::new(alloc, settings()?, 0);
     way.answer_dialer(DialerAnswer::Dial(granted))?;
-    match dialer.step(way, 4, 0, 0)? {
-        Stepped::Served {
-            outcome: Outcome::Dialed(attempt),
-            ..
-        } => Ok(Some(attempt)),
+    let stepped = dialer.step(way, 4, 0, 0)?;
+    let Stepped::Served {
+        took: _,
+        put: _,
+        left: _,
+        outcome,
+    } = stepped
+    else {
+        return Ok(None);
+    };
+    match outcome {
+        Outcome::Dialed(attempt) => Ok(Some(attempt)),
         _ => Ok(None),
     }
 }

@@ -67,11 +67,18 @@ fn a_listener_admits_as_many_as_have_a_place(rt: HostRuntime) {
 fn handshake(alloc: Global, way: &mut Mailbox<Key>) -> Result<Option<Handshake<Key>>, AllocError> {
     let mut listener = Listener::new(alloc, settings()?)?;
     listener.arrive(socket(1), Key(2), 3)?;
-    match listener.step(way, 5, 0)? {
-        Stepped::Served {
-            outcome: Outcome::Admitted(handshake),
-            ..
-        } => Ok(Some(handshake)),
+    let stepped = listener.step(way, 5, 0)?;
+    let Stepped::Served {
+        took: _,
+        put: _,
+        left: _,
+        outcome,
+    } = stepped
+    else {
+        return Ok(None);
+    };
+    match outcome {
+        Outcome::Admitted(handshake) => Ok(Some(handshake)),
         _ => Ok(None),
     }
 }

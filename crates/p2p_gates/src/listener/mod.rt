@@ -1,5 +1,5 @@
 //! `Listener`, who takes arrivals through the gates.
-ghost use Rattle.std.specs.Prelude.{◌≡◌, ℕ, ◌<◌, ◌+◌, ◌∷◌, ◌++◌, max, true, false, [], Some, None, IfOk, OnOk, IfSome, IsErr, OnErr, drop};
+ghost use Rattle.std.specs.Prelude.{◌≡◌, ℕ, ◌<◌, ◌+◌, ◌∷◌, ◌++◌, max, true, false, [], Some, None, IfOk, OnOk, IfSome, IsErr, OnErr, drop, slice_get};
 ghost use Rattle.std.specs.BTreeSet.{IsFromIterResult};
 ghost use Rattle.p2p_address.specs.declared.ip.IpAddr.{IpAddr as Address};
 ghost use Rattle.p2p_runtime.specs.QuotaPlaces.{Places};
@@ -8,7 +8,8 @@ ghost use Rattle.p2p_tracker_calls.specs.Gates.{Known, is_registered, nothing_kn
 ghost use Rattle.p2p_tracker_calls.specs.Quotas.{verdict};
 ghost use Rattle.p2p_gates.specs.Listening.{StandsFor, with_arrival, with_rest, new_listener};
 ghost use Rattle.p2p_gates.specs.ListenerTurns.{begins, stepped_by, way_by, refused_over, receive_turn, listener_turn};
-ghost use Rattle.p2p_gates.specs.Quotas.{KeepsRates, rates_of};
+ghost use Rattle.p2p_gates.specs.Quotas.{KeepsRates, rates_of, IsCounted};
+ghost use Rattle.p2p_gates.specs.Counting.{CountsFrom, CountsOldest, Counts};
 ghost use Rattle.p2p_gates.specs.Stepping.{gone_on};
 ghost use Rattle.p2p_gates.specs.declared.stepped.Input.TheVariants as input;
 ghost use Rattle.p2p_tracker_calls.specs.declared.gates.Reply.TheVariants as reply;
@@ -176,6 +177,7 @@ impl<P: PublicKey> Listener<P> {
         ensures placed { IfOk result (λ s. begins s ≡ true → 0 < self.new.places.held) }
         ensures rest { OnOk result (self.new ≡ with_rest self.old self.new) }
         ensures rates { OnOk result (KeepsRates self.old.quotas self.new.quotas) }
+        ensures quotas { OnOk result (Counts self.old way.old self.new.quotas) }
         ensures memory { OnErr result (self.new.has_failed ≡ true) }
         ensures failed { self.old.has_failed ≡ true → IsErr result }
     {
@@ -206,6 +208,7 @@ impl<P: PublicKey> Listener<P> {
         ensures placed { IfOk result (λ s. begins s ≡ true → 0 < self.new.places.held) }
         ensures rest { OnOk result (self.new ≡ with_rest self.old self.new) }
         ensures rates { OnOk result (KeepsRates self.old.quotas self.new.quotas) }
+        ensures quotas { OnOk result (Counts self.old way.old self.new.quotas) }
     {
         match way.heard.take() {
             Some(addresses) => self.register(addresses.as_slice()),
@@ -244,6 +247,7 @@ impl<P: PublicKey> Listener<P> {
         ensures placed { IfOk result (λ s. begins s ≡ true → 0 < self.new.places.held) }
         ensures rest { OnOk result (self.new ≡ with_rest self.old self.new) }
         ensures rates { OnOk result (KeepsRates self.old.quotas self.new.quotas) }
+        ensures quotas { OnOk result (CountsOldest self.old self.new.quotas (slice_get self.old.arrivals 0)) }
     {
         match self.arrivals.pop() {
             Some(arrival) => self.pass(way, name, now, arrival),
@@ -272,6 +276,7 @@ impl<P: PublicKey> Listener<P> {
         ensures placed { IfOk result (λ s. begins s ≡ true → 0 < self.new.places.held) }
         ensures rest { self.new ≡ with_rest self.old self.new }
         ensures rates { KeepsRates self.old.quotas self.new.quotas }
+        ensures quotas { OnOk result (CountsFrom self.old self.new.quotas arrival.from.ip) }
     {
         let reply = self.judge(&arrival.from.ip, now)?;
         self.tell(way, name, now, arrival, reply)
@@ -287,6 +292,7 @@ impl<P: PublicKey> Listener<P> {
         ensures arrivals { self.new.arrivals ≡ self.old.arrivals }
         ensures rest { self.new ≡ with_rest self.old self.new }
         ensures rates { KeepsRates self.old.quotas self.new.quotas }
+        ensures quotas { OnOk result (CountsFrom self.old self.new.quotas ip.now) }
     {
         match self.turn_away(ip) {
             Some(reply) => Ok(reply),
@@ -296,6 +302,7 @@ impl<P: PublicKey> Listener<P> {
 
     // The first of the gates before the quotas that refuses an arrival from `ip`, where one does.
     fn turn_away(&self, ip: &IpAddr) -> Option<Reply>
+        ensures now { result ≡ turned_away (rules_of self.now) self.now.registered ip.now }
         ensures first { (k : Known) → StandsFor self.now k → result ≡ turned_away (rules_of self.now) k.addresses ip.now }
         ensures placeless { (p : Places) → IfSome result (λ r. places_after r p ≡ p) }
     {
@@ -318,6 +325,7 @@ impl<P: PublicKey> Listener<P> {
         ensures arrivals { self.new.arrivals ≡ self.old.arrivals }
         ensures rest { self.new ≡ with_rest self.old self.new }
         ensures rates { KeepsRates self.old.quotas self.new.quotas }
+        ensures quotas { OnOk result (IsCounted self.old.quotas self.new.quotas ip.now) }
     {
         let (ip, subnet) = self.quotas.check(ip, now)?;
         if ip || subnet {

@@ -1,10 +1,11 @@
 //! `Quotas`, how often peers may connect from one address and from one subnet.
-ghost use Rattle.std.specs.Prelude.{◌≡◌, ℕ, true, max, List, IfOk, OnOk};
+ghost use Rattle.std.specs.Prelude.{◌≡◌, ℕ, ◌+◌, true, false, max, List, IfOk, OnOk};
+ghost use Rattle.std.specs.BTreeMap.{is_at};
 ghost use Rattle.p2p_address.specs.declared.ip.IpAddr.{IpAddr as Address};
-ghost use Rattle.p2p_runtime.specs.QuotaKeys.{StandsForEach, KeepsOnlyRecent};
+ghost use Rattle.p2p_runtime.specs.QuotaKeys.{StandsForEach, KeepsOnlyRecent, found_arrival};
 ghost use Rattle.p2p_tracker_calls.specs.Heard.{ip_cmp};
 ghost use Rattle.p2p_tracker_calls.specs.Quotas.{Passed, none_passed, refuses, charged, verdict, passed_after};
-ghost use Rattle.p2p_gates.specs.Quotas.{StandsFor, KeepsRates, rates_of, is_pruned, counted_after};
+ghost use Rattle.p2p_gates.specs.Quotas.{StandsFor, KeepsRates, rates_of, is_pruned, counted_after, IsCounted};
 
 use p2p_address::{IpAddr, subnet};
 use p2p_runtime::{KeyedRateLimiter, Quota};
@@ -36,6 +37,7 @@ fn forget(limiter: &mut KeyedRateLimiter<IpAddr>)
     ensures stands { (past : Address → List ℕ) (latest : ℕ) → StandsForEach ip_cmp limiter.old past latest
         → StandsForEach ip_cmp limiter.new past latest }
     ensures forgets { KeepsOnlyRecent ip_cmp limiter.new }
+    ensures latest { limiter.new.latest ≡ limiter.old.latest }
 {
     limiter.retain_recent(0);
 }
@@ -51,6 +53,8 @@ fn refuses(
         IfOk result (λ b. b ≡ refuses limiter.old.rate past ip.now (max latest now)) }
     ensures stands { (past : Address → List ℕ) (latest : ℕ) → StandsForEach ip_cmp limiter.old past latest →
         OnOk result (StandsForEach ip_cmp limiter.new (charged limiter.old.rate past ip.now (max latest now)) (max latest now)) }
+    ensures others { OnOk result ((q : Address) → is_at (ip_cmp ip.now) q ≡ false →
+        found_arrival ip_cmp limiter.new q ≡ found_arrival ip_cmp limiter.old q) }
 {
     let answer = limiter.check_key(ip, now)?;
     Ok(answer.is_err())
@@ -78,6 +82,9 @@ impl Quotas {
         ensures counted { self.new.counted ≡ counted_after self.old.counted }
         ensures addresses { is_pruned self.old.counted ≡ true → KeepsOnlyRecent ip_cmp self.new.addresses }
         ensures subnets { is_pruned self.old.counted ≡ true → KeepsOnlyRecent ip_cmp self.new.subnets }
+        ensures latest_address { self.new.addresses.latest ≡ self.old.addresses.latest }
+        ensures latest_subnet { self.new.subnets.latest ≡ self.old.subnets.latest }
+        ensures unpruned { is_pruned self.old.counted ≡ false → self.new ≡ record self.old { counted = self.old.counted + 1 } }
     {
         if self.counted <= PRUNED_AFTER {
             self.counted += 1;
@@ -97,6 +104,7 @@ impl Quotas {
         ensures stands { (p : Passed) (latest : ℕ) → StandsFor self.old p latest
             → OnOk result (StandsFor self.new (passed_after (rates_of self.old) p ip.now (max latest now)) (max latest now)) }
         ensures counted { OnOk result (self.new.counted ≡ counted_after self.old.counted) }
+        ensures held { OnOk result (IsCounted self.old self.new ip.now) }
     {
         self.count();
         let address = refuses(&mut self.addresses, ip, now)?;

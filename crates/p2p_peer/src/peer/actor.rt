@@ -1,5 +1,5 @@
 //! `Actor`, one connection: its two halves take one input a step.
-ghost use Rattle.std.specs.Prelude.{◌≡◌, ◌≤◌, ◌++◌, [], not, None, Some, take as first_of, IfOk, IfErr, OnOk, OnErr, IsErr, IsTrue};
+ghost use Rattle.std.specs.Prelude.{◌≡◌, ◌≤◌, ◌++◌, [], length, false, not, None, Some, take as first_of, IfOk, IfErr, OnOk, OnErr, IsErr, IsTrue};
 ghost use Rattle.std.specs.Borrow.{sem};
 ghost use Rattle.p2p_runtime.specs.Streams.{Rose};
 ghost use Rattle.p2p_tracker_directory.specs.Reserved.{peer_of};
@@ -212,7 +212,9 @@ impl<P: PublicKey> Actor<P> {
         ensures in_flight { IfOk result (λ s. L.in_flight link.new ≡ L.in_flight link.old
             ++ first_of (written_in s) (frames_in s)) }
         ensures waiting { IfOk result (λ s. L.waiting link.new ≡ waiting_after s (L.waiting link.old)) }
+        ensures within { IfOk result (λ s. written_in s ≤ length (frames_in s)) }
         ensures fault { IfOk result (λ s. IsTrue (send_fails s) → Rose (L.faults_of link.old) (L.faults_of link.new)) }
+        ensures no_fault { IfOk result (λ s. send_fails s ≡ false → L.faults_of link.new ≡ L.faults_of link.old) }
         ensures memory { OnErr result (IsTrue self.new.failed) }
         ensures failed { IsTrue self.old.failed → IsErr result }
     {
@@ -243,7 +245,9 @@ impl<P: PublicKey> Actor<P> {
         ensures in_flight { IfOk result (λ s. L.in_flight link.new ≡ L.in_flight link.old
             ++ first_of (written_in s) (frames_in s)) }
         ensures waiting { IfOk result (λ s. L.waiting link.new ≡ waiting_after s (L.waiting link.old)) }
+        ensures within { IfOk result (λ s. written_in s ≤ length (frames_in s)) }
         ensures fault { IfOk result (λ s. IsTrue (send_fails s) → Rose (L.faults_of link.old) (L.faults_of link.new)) }
+        ensures no_fault { IfOk result (λ s. send_fails s ≡ false → L.faults_of link.new ≡ L.faults_of link.old) }
         ensures failed { self.new.failed ≡ self.old.failed }
     {
         let Some(mut live) = self.live.take() else {
@@ -293,6 +297,7 @@ impl<P: PublicKey> Actor<P> {
             ≡ waiting_after s (left_waiting (reads_from self.old.live) (L.waiting link.old))) }
         ensures fault { IfOk result (λ s. IsTrue (receive_fails s) →
             Rose (L.faults_of link.old) (L.faults_of link.new)) }
+        ensures no_fault { IfOk result (λ s. receive_fails s ≡ false → L.faults_of link.new ≡ L.faults_of link.old) }
         ensures memory { OnErr result (IsTrue self.new.failed) }
         ensures failed { IsTrue self.old.failed → IsErr result }
     {
@@ -330,6 +335,7 @@ impl<P: PublicKey> Actor<P> {
             ≡ waiting_after s (left_waiting (reads_from self.old.live) (L.waiting link.old))) }
         ensures fault { IfOk result (λ s. IsTrue (receive_fails s) →
             Rose (L.faults_of link.old) (L.faults_of link.new)) }
+        ensures no_fault { IfOk result (λ s. receive_fails s ≡ false → L.faults_of link.new ≡ L.faults_of link.old) }
         ensures failed { self.new.failed ≡ self.old.failed }
     {
         let Some(mut live) = self.live.take() else {
@@ -359,7 +365,7 @@ impl<P: PublicKey> Actor<P> {
         ensures way { OnOk result (way.new ≡ told_to_tracker self.old stepped.now live way.old) }
         ensures waiting { OnOk result (L.waiting link.new ≡ waiting_after stepped.now (L.waiting link.old)) }
         ensures in_flight { L.in_flight link.new ≡ L.in_flight link.old }
-        ensures count { L.faults_of link.old ≤ L.faults_of link.new }
+        ensures no_fault { L.faults_of link.new ≡ L.faults_of link.old }
         ensures failed { self.new.failed ≡ self.old.failed }
     {
         match stepped {
@@ -412,7 +418,7 @@ impl<P: PublicKey> Actor<P> {
         ensures way { OnOk result (way.new ≡ with_message_in way.old (tracker_message.Release live.reservation)) }
         ensures waiting { OnOk result (L.waiting link.new ≡ []) }
         ensures in_flight { L.in_flight link.new ≡ L.in_flight link.old }
-        ensures count { L.faults_of link.old ≤ L.faults_of link.new }
+        ensures no_fault { L.faults_of link.new ≡ L.faults_of link.old }
         ensures failed { self.new.failed ≡ self.old.failed }
     {
         close_relay(router, self.conn);

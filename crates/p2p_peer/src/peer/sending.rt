@@ -136,6 +136,7 @@ fn write_batch<P: PublicKey, L: Link>(
     ensures stepped { IfOk result (λ s. s ≡ wrote ping frames (written_in s)) }
     ensures in_flight { IfOk result (λ s. L.in_flight link.new ≡ L.in_flight link.old
         ++ first_of (written_in s) (frames_in s)) }
+    ensures within { IfOk result (λ s. written_in s ≤ length (frames_in s)) }
     ensures fault { IfOk result (λ s. IsTrue (send_fails s) → Rose (L.faults_of link.old) (L.faults_of link.new)) }
     ensures no_fault { IfOk result (λ s. send_fails s ≡ false → L.faults_of link.new ≡ L.faults_of link.old) }
     ensures count { L.faults_of link.old ≤ L.faults_of link.new }
@@ -176,6 +177,7 @@ impl<P: PublicKey> Live<P> {
             (relay_at P.cmp router.old conn) now) }
         ensures in_flight { IfOk result (λ s. L.in_flight link.new ≡ L.in_flight link.old
             ++ first_of (written_in s) (frames_in s)) }
+        ensures within { IfOk result (λ s. written_in s ≤ length (frames_in s)) }
         ensures fault { IfOk result (λ s. IsTrue (send_fails s) → Rose (L.faults_of link.old) (L.faults_of link.new)) }
         ensures no_fault { IfOk result (λ s. send_fails s ≡ false → L.faults_of link.new ≡ L.faults_of link.old) }
         ensures count { L.faults_of link.old ≤ L.faults_of link.new }
@@ -234,6 +236,7 @@ fn send_gathered<P: PublicKey, L: Link>(
     ensures stepped { IfOk result (λ s. s ≡ sent_as peer due (written_in s) gathered) }
     ensures in_flight { IfOk result (λ s. L.in_flight link.new ≡ L.in_flight link.old
         ++ first_of (written_in s) (frames_in s)) }
+    ensures within { IfOk result (λ s. written_in s ≤ length (frames_in s)) }
     ensures fault { IfOk result (λ s. IsTrue (send_fails s) → Rose (L.faults_of link.old) (L.faults_of link.new)) }
     ensures no_fault { IfOk result (λ s. send_fails s ≡ false → L.faults_of link.new ≡ L.faults_of link.old) }
     ensures count { L.faults_of link.old ≤ L.faults_of link.new }

@@ -68,10 +68,10 @@ pub trait Link {
         ensures write_fails { write_fails self.new ≡ write_fails self.old }
         ensures keeps { keeps self.old self.new };
 
-    /// Ends this side. What waits here is gone, and what is in flight stays. Each later write fails, and so does each later read of
-    /// a link that failed to be read before.
+    /// Ends this side, and meets no fault. What waits here is gone, and what is in flight stays. Each later write fails, and so does
+    /// each later read of a link that failed to be read before.
     fn close(&mut self)
-        ensures count { faults_of self.old ≤ faults_of self.new }
+        ensures count { faults_of self.new ≡ faults_of self.old }
         ensures waiting { waiting self.new ≡ [] }
         ensures in_flight { in_flight self.new ≡ in_flight self.old }
         ensures ended { IfSome (write_fails self.new) (λ b. b ≡ true) }

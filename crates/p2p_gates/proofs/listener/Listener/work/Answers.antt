@@ -1,7 +1,10 @@
-use Rattle.std.proofs.Common.{◌≡◌, IfOk, OnOk, sym, ◌∙◌, subst}
-use Rattle.p2p_gates.specs.Listening.{StandsFor}
+use Rattle.std.proofs.Common.{◌≡◌, IfOk, List, OnOk, Option, sym, ap, ◌∙◌, subst}
+use Rattle.p2p_gates.specs.Listening.{Listening, StandsFor}
 use Rattle.p2p_gates.specs.ListenerTurns.{ListenerTurn}
 use Rattle.p2p_gates.proofs.Turning.{listener-receives}
+use Rattle.p2p_address.specs.declared.ip.IpAddr.{IpAddr}
+use Rattle.p2p_gates.specs.Counting.{CountsAfter}
+use Rattle.p2p_gates.proofs.Counted.{always}
 use Rattle.p2p_gates.proofs.listener.Listener.work.Goals as goal
 
 pub returns-in-None-clause-answer : goal.returns-in-None-clause-answer
@@ -33,3 +36,14 @@ returns-in-None-clause-places g c = λ k s.
     subst (λ (t : ListenerTurn g.row.P.Denot). OnOk c.receive.result (c.receive.new.self.places ≡ t.places))
     (listener-receives c.args.self.now k c.args.way.now c.args.name c.args.now c.take.new.self c.take.ensures.after
     (sym c.take.ensures.value ∙ c.in-None.is)) (c.receive.ensures.places k s)
+
+pub returns-in-Some-clause-quotas : goal.returns-in-Some-clause-quotas
+returns-in-Some-clause-quotas g c =
+    subst (λ (h : Option (List IpAddr)). OnOk c.register.result (CountsAfter c.args.self.now c.register.new.self.quotas h))
+    (sym c.in-Some.is ∙ c.take.ensures.value)
+    (always c.register.result (ap (λ (l : Listening g.row.P.Denot). l.quotas) c.register.ensures.after))
+
+pub returns-in-None-clause-quotas : goal.returns-in-None-clause-quotas
+returns-in-None-clause-quotas g c =
+    subst (λ (h : Option (List IpAddr)). OnOk c.receive.result (CountsAfter c.args.self.now c.receive.new.self.quotas h))
+    (sym c.in-None.is ∙ c.take.ensures.value) c.receive.ensures.quotas

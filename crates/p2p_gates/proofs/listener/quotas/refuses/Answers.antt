@@ -1,5 +1,6 @@
 use Rattle.std.proofs.Common.{max, sym, ◌∙◌}
 use Rattle.p2p_gates.proofs.Charged.{negated, to-kept, charged-stands}
+use Rattle.p2p_gates.proofs.Counted.{check_others}
 use Rattle.p2p_gates.proofs.listener.quotas.refuses.Goals as goal
 
 pub returns-clause-answer : goal.returns-clause-answer
@@ -14,3 +15,6 @@ returns-clause-stands c = λ past latest s.
     (max latest c.args.now) c.in_ok-answer.answer
     (c.in_ok-answer.ensures.law past latest kept) (c.in_ok-answer.ensures.admitted past latest kept)
     (c.in_ok-answer.ensures.refused past latest kept)
+
+pub returns-clause-others : goal.returns-clause-others
+returns-clause-others c = check_others c.args.limiter.now c.check_key.new.self c.args.ip.now c.args.now c.in_ok-answer.ensures.after

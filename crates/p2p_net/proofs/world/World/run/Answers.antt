@@ -1,11 +1,7 @@
 use Rattle.std.proofs.Common.{rules}
-use Rattle.p2p_log_laws.proofs.EndShown.{each_end_shows, releases_timely}
-use Rattle.p2p_log_laws.proofs.Killing.{each_kill_shown}
-use Rattle.p2p_log_laws.proofs.Ordering.{delivered_over_one}
-use Rattle.p2p_log_laws.proofs.OverLinks.{delivered_by_older}
 use Rattle.p2p_net.specs.Refusals.{RunRefused}
 use Rattle.p2p_net.proofs.Nodes.{found}
-use Rattle.p2p_net.proofs.Running.{RanFirst-none, RanFirst-step, lawful_run, only_run, grants_run, stands_run, no_fault, refused_run}
+use Rattle.p2p_net.proofs.Running.{RanFirst-none, RanFirst-step, lawful_run, only_run, accounted_run, stands_run, no_fault, refused_run}
 use Rattle.p2p_net.proofs.world.World.run.Goals as goal
 
 pub returns-in_err-apply-clause-err : goal.returns-in_err-apply-clause-err
@@ -38,31 +34,5 @@ returns-clause-stands c = stands_run c.args.configs.now c.args.script.now c.loop
 pub returns-clause-allowed : goal.returns-clause-allowed
 returns-clause-allowed c = no_fault c.args.configs.now c.args.script.now c.loop-event.event-index c.loop-event.world c.loop-event.invariant c.loop-event-test.false
 
-pub returns-clause-grants : goal.returns-clause-grants
-returns-clause-grants c = λ n key.
-    grants_run c.args.configs.now c.args.script.now c.loop-event.event-index c.loop-event.world c.loop-event.invariant c.loop-event-test.false n key
-
-pub returns-clause-order : goal.returns-clause-order
-returns-clause-order c =
-    delivered_over_one c.args.configs.now c.args.script.now c.loop-event.world.log
-    (lawful_run c.args.configs.now c.args.script.now c.loop-event.event-index c.loop-event.world c.loop-event.invariant c.loop-event-test.false)
-
-pub returns-clause-connections : goal.returns-clause-connections
-returns-clause-connections c =
-    delivered_by_older c.args.configs.now c.args.script.now c.loop-event.world.log
-    (lawful_run c.args.configs.now c.args.script.now c.loop-event.event-index c.loop-event.world c.loop-event.invariant c.loop-event-test.false)
-
-pub returns-clause-ends : goal.returns-clause-ends
-returns-clause-ends c =
-    each_end_shows c.args.configs.now c.args.script.now c.loop-event.world.log
-    (lawful_run c.args.configs.now c.args.script.now c.loop-event.event-index c.loop-event.world c.loop-event.invariant c.loop-event-test.false)
-
-pub returns-clause-kills : goal.returns-clause-kills
-returns-clause-kills c =
-    each_kill_shown c.args.configs.now c.args.script.now c.loop-event.world.log
-    (lawful_run c.args.configs.now c.args.script.now c.loop-event.event-index c.loop-event.world c.loop-event.invariant c.loop-event-test.false)
-
-pub returns-clause-releases : goal.returns-clause-releases
-returns-clause-releases c =
-    releases_timely c.args.configs.now c.args.script.now c.loop-event.world.log
-    (lawful_run c.args.configs.now c.args.script.now c.loop-event.event-index c.loop-event.world c.loop-event.invariant c.loop-event-test.false)
+pub returns-clause-accounted : goal.returns-clause-accounted
+returns-clause-accounted c = accounted_run c.args.configs.now c.args.script.now c.loop-event.event-index c.loop-event.world c.loop-event.invariant c.loop-event-test.false

@@ -1,4 +1,5 @@
 use Rattle.std.proofs.Common.{◌∙◌, ap, subst}
+use Rattle.p2p_log_laws.specs.Accounted.{IsAccounted}
 use Rattle.p2p_sim_report.specs.ReportText.{report_text}
 use Rattle.p2p_sim.specs.Network.{HasRunScript}
 use Rattle.p2p_sim.proofs.network.NetworkProgram.run.Goals as goal
@@ -17,5 +18,5 @@ returns-in-Ok-clause-ok c =
       says = c.in_ok-configs.ensures.says;
       ran = ran;
       reports = c.in-Ok.ensures ∙ ap report_text c.report.ensures;
-      accounted = c.account.ensures configs script world.log ran.lawful;
+      accounted = subst (λ l. IsAccounted l world.log) c.as_slice.ensures c.in_ok-world.ensures.accounted;
     }

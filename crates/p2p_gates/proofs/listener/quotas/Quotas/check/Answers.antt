@@ -1,11 +1,12 @@
-use Rattle.std.proofs.Common.{max, sym, subst}
+use Rattle.std.proofs.Common.{◌≡◌, max, true, sym, ap, subst, ◌∙◌}
 use Rattle.p2p_address.specs.declared.ip.IpAddr.{IpAddr}
-use Rattle.p2p_runtime.specs.QuotaKeys.{StandsForEach}
+use Rattle.p2p_runtime.specs.QuotaKeys.{StandsForEach, KeepsOnlyRecent}
 use Rattle.p2p_runtime.specs.QuotaLaw.{Rate}
 use Rattle.p2p_tracker_calls.specs.Heard.{ip_cmp}
 use Rattle.p2p_tracker_calls.specs.Quotas.{charged}
-use Rattle.p2p_gates.specs.Quotas.{Quotas, StandsFor, KeepsRates}
+use Rattle.p2p_gates.specs.Quotas.{Quotas, StandsFor, KeepsRates, is_pruned}
 use Rattle.p2p_gates.proofs.Charged.{verdict-counted}
+use Rattle.p2p_gates.proofs.Counted.{counted_held}
 use Rattle.p2p_gates.proofs.listener.quotas.Quotas.check.Goals as goal
 
 pub returns-clause-answer : goal.returns-clause-answer
@@ -39,3 +40,21 @@ returns-clause-stands c = λ p latest s.
           (max latest c.args.now)) (max latest c.args.now)) rates.subnets
           (c.in_ok-subnet.ensures.stands p.subnets latest counted.subnets));
     }
+
+pub returns-clause-held : goal.returns-clause-held
+returns-clause-held c =
+    let old = c.args.self.now in
+    let view = c.self.view_is in
+    let Mid : Quotas = record {
+      addresses = c.self.inside.addresses;
+      subnets = c.self.inside.subnets;
+      counted = c.self.inside.counted;
+    } in
+    counted_held old Mid c.refuses.new.limiter c.refuses-2.new.limiter c.args.ip.now c.subnet.result
+    (ap (λ (q : Quotas). q.counted) view ∙ c.count.ensures.counted)
+    (λ no. view ∙ c.count.ensures.unpruned no)
+    (subst (λ (q : Quotas). is_pruned old.counted ≡ true → KeepsOnlyRecent ip_cmp q.addresses) (sym view) c.count.ensures.addresses)
+    (subst (λ (q : Quotas). is_pruned old.counted ≡ true → KeepsOnlyRecent ip_cmp q.subnets) (sym view) c.count.ensures.subnets)
+    (ap (λ (q : Quotas). q.addresses.latest) view ∙ c.count.ensures.latest_address)
+    (ap (λ (q : Quotas). q.subnets.latest) view ∙ c.count.ensures.latest_subnet)
+    c.subnet.ensures c.in_ok-address.ensures.others c.in_ok-subnet.ensures.others
