@@ -5,7 +5,7 @@ import re
 import unittest
 
 from calls import calls_of, names_of
-from crate_graph import closure, read_graph
+from crate_graph import closure, crate_of_line, read_graph
 from files import TOP, examples, read_text, reports
 from pages import anchor_of, anchors_of, fault_of, links_of, pages, reached_from
 
@@ -104,11 +104,14 @@ class Docs(unittest.TestCase):
 
     def test_the_library_has_what_each_crate_stands_on(self):
         graph, rows = read_graph(TOP), [row for row in rows_of_the_library('Into another repository') if len(row) == 3]
+        uses = dict(crate_of_line(line) for line in read_text(os.path.join(TOP, 'crates.txt')).splitlines())
         self.assertGreater(len(rows), 15)
-        for crate, below, _ in rows:
+        for crate, below, kit in rows:
             with self.subTest(crate):
                 name = crate.strip('`')
+                of_kit = {used for one in closure(graph, name) for used in uses[one]} - set(graph)
                 self.assertEqual(sorted(words_in_code(below)), sorted(set(closure(graph, name)) - {name}))
+                self.assertEqual(sorted(words_in_code(kit)), sorted(of_kit))
 
     def test_the_library_has_each_call_that_asks_something(self):
         listed = {}
