@@ -62,8 +62,8 @@ impl<S: Sender, V: Codec> WrappedSender<S, V> {
     /// Checks the recipients at the moment `now`, in nanoseconds, and sends the bytes of the value to those that are
     /// admitted. Gives them in order, as `Sender::send` does.
     ///
-    /// `MessageTooLarge` and `NoSubchannel` come as in `Sender::send`, and `Memory` where memory runs out. The cells of
-    /// a check that passed stay taken.
+    /// `MessageTooLarge` and `NoSubchannel` come as in `Sender::send`, and `Memory` where memory runs out: nothing is
+    /// handed in then. The cells of a check that passed stay taken.
     ///
     /// Ports `WrappedSender::send` of commonware-p2p.
     pub fn send(
