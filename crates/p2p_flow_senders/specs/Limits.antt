@@ -1,5 +1,5 @@
 -- The way of a node's senders, and what a check of one of them does there.
-use Rattle.std.specs.Prelude.{◌≡◌, ℕ, ◌<◌, List, [], ◌∷◌, Option, Some, None, slice_get, unwrap_or}
+use Rattle.std.specs.Prelude.{◌≡◌, ◌≢◌, ℕ, ◌<◌, List, [], ◌∷◌, Option, Some, None, slice_get, unwrap_or}
 use Rattle.std.specs.declared.cmp.Ordering.{Ordering}
 use Rattle.p2p_runtime.specs.QuotaLaw.{Rate, rate_of}
 use Rattle.p2p_runtime.specs.QuotaKeys.{KeptByKey, StandsForEach}
@@ -116,3 +116,12 @@ module _ {P M : Type 0} where
   -- a way with other content handed in
   abbrev pub with_messenger : Limits P M → M → Limits P M
   with_messenger w messenger = record { messenger = messenger; limits = w.limits }
+
+  -- what a check of these recipients leaves of a way, but for the admissions at its place: the limit there has its channel and its
+  -- subscription as before, and knows the list that was taken; every other limit is as it was
+  pub record IsAsked (waiting : M → ℕ → Option (List P)) (after_try_peers : M → ℕ → M) (old : Limits P M) (place : ℕ)
+      (recipients : Recipients P) (new : Limits P M) : Type 0 where
+    pub messenger : new.messenger ≡ messenger_in after_try_peers old.messenger (limit_at old place) recipients
+    pub named : named_in (limit_at new place) ≡ named_in (limit_at old place)
+    pub known : known_at (limit_at new place) ≡ known_in waiting old.messenger (limit_at old place) recipients
+    pub others : (other : ℕ) → other ≢ place → limit_at new other ≡ limit_at old other

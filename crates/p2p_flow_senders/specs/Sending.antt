@@ -30,6 +30,13 @@ UnlessMemory (Err send_error.Memory) fact = Unit {0}
 UnlessMemory (Err (send_error.MessageTooLarge size limit)) fact = fact
 UnlessMemory (Err send_error.NoSubchannel) fact = fact
 
+-- the fact holds where memory ran out
+abbrev pub OnMemory : {X : Type 0} → Result X SendError → Type 0 → Type 0
+OnMemory (Ok x) fact = Unit {0}
+OnMemory (Err send_error.Memory) fact = fact
+OnMemory (Err (send_error.MessageTooLarge size limit)) fact = Unit {0}
+OnMemory (Err send_error.NoSubchannel) fact = Unit {0}
+
 module _ {K : Type 0} where
   -- the keys of a checked value, or the moment from which a check passes
   abbrev pub keys_checked : {C : Type 0} → (C → List K) → Result C ℕ → Result (List K) ℕ

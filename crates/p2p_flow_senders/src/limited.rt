@@ -1,10 +1,10 @@
 //! `LimitedSender`, which sends on a channel as a quota for each peer admits.
-ghost use Rattle.std.specs.Prelude.{◌≡◌, ◌≢◌, ◌<◌, ◌∷◌, ◌++◌, [], ℕ, Bool, None, List as Seq, max, IfOk, IfErr, OnOk, OnErr, length, slice_get};
+ghost use Rattle.std.specs.Prelude.{◌≡◌, ◌≢◌, ◌<◌, ◌∷◌, ◌++◌, [], ℕ, List as Seq, max, IfOk, OnOk, OnErr, length, slice_get};
 ghost use Rattle.p2p_runtime.specs.QuotaKeys.{StandsForEach};
-ghost use Rattle.p2p_flow.specs.declared.plain.Recipients.TheVariants as to;
 ghost use Rattle.p2p_flow_senders.specs.Admission.{check_by_law, past_after, moment_after};
-ghost use Rattle.p2p_flow_senders.specs.Limits.{fresh_limit, known_of, offered_by, known_after, messenger_by, HasLimit, IsHeard, named_in, limit_at, rate_in, StandsIn, offered_in, messenger_in, known_in, known_at, with_messenger};
-ghost use Rattle.p2p_flow_senders.specs.Sending.{keys_checked, size_refusal, IsCause};
+ghost use Rattle.p2p_flow_senders.specs.Limits.{fresh_limit, known_of, offered_by, known_after, messenger_by, HasLimit, IsHeard, named_in, rate_in, StandsIn, offered_in, messenger_in, known_in, known_at};
+ghost use Rattle.p2p_flow_senders.specs.SenderAt.{sender_at};
+ghost use Rattle.p2p_flow_senders.specs.Senders.{IsCheckOf, IsSendCheckedOf};
 
 use crate::admission::admit_all;
 use crate::channels::UnlimitedSender;
@@ -218,7 +218,7 @@ impl<P: PublicKey, M: Carrier<P>> crate::LimitedSender for LimitedSender<P, M> {
     ghost use Rattle.std.specs.Prelude.{◌≡◌};
     ghost use Rattle.p2p_flow.specs.declared.plain.Recipients.TheVariants as to;
     ghost use Rattle.p2p_flow_senders.specs.Sending.{size_refusal};
-    ghost use Rattle.p2p_flow_senders.specs.Limits.{HasLimit, IsHeard, named_in, limit_at, rate_in, StandsIn, offered_in, messenger_in, with_messenger};
+    ghost use Rattle.p2p_flow_senders.specs.Limits.{HasLimit, limit_at, rate_in, StandsIn, offered_in, messenger_in, with_messenger, IsAsked};
 
     type PublicKey = P;
 
@@ -247,8 +247,7 @@ impl<P: PublicKey, M: Carrier<P>> crate::LimitedSender for LimitedSender<P, M> {
     ghost told = { λ s w keys message priority. M.content_answer w.messenger
         (to.Some keys) s.channel message priority };
 
-    ghost asked = { λ s w recipients v. v.messenger
-        ≡ messenger_in M.after_try_peers w.messenger (limit_at w s.place) recipients };
+    ghost asked = { λ s w recipients v. IsAsked M.waiting M.after_try_peers w s.place recipients v };
 
     ghost handed = { λ s w keys message priority v. v
         ≡ with_messenger w (M.after_content w.messenger (to.Some keys) s.channel message priority) };
@@ -264,37 +263,10 @@ impl<P: PublicKey, M: Carrier<P>> crate::LimitedSender for LimitedSender<P, M> {
         recipients: Recipients<P>,
         now: u64,
     ) -> Result<Result<CheckedSender<P>, u128>, AllocError>
-        requires serves { HasLimit M.subscriptions self.now way.old }
-        ensures law { (past : P → Seq ℕ) (latest : ℕ) → StandsIn P.cmp (limit_at way.old self.now.place) past latest →
-            IfOk result (λ r. keys_checked (λ c. c.recipients) r
-            ≡ check_by_law P.cmp (rate_in (limit_at way.old self.now.place)) past (max latest now)
-            (offered_in M.waiting way.old.messenger (limit_at way.old self.now.place) recipients)) }
-        ensures stands { (past : P → Seq ℕ) (latest : ℕ) →
-            StandsIn P.cmp (limit_at way.old self.now.place) past latest →
-            OnOk result (StandsIn P.cmp (limit_at way.new self.now.place)
-            (past_after P.cmp (rate_in (limit_at way.old self.now.place)) past (max latest now)
-            (offered_in M.waiting way.old.messenger (limit_at way.old self.now.place) recipients))
-            (moment_after (offered_in M.waiting way.old.messenger
-            (limit_at way.old self.now.place) recipients) latest now)) }
-        ensures memory { (past : P → Seq ℕ) (latest : ℕ) →
-            StandsIn P.cmp (limit_at way.old self.now.place) past latest →
-            OnErr result (StandsIn P.cmp (limit_at way.new self.now.place) past latest) }
-        ensures gave { IfOk result (λ r. IfOk r (λ c. c.channel ≡ self.now.channel)) }
-        ensures due { IfOk result (λ r. IfOk r
-            (λ _. (message : Seq ℕ) → size_refusal self.now.max_size message
-            ≡ size_refusal self.now.max_size message)) }
-        ensures content { IfOk result (λ r. IfOk r (λ _. (message : Seq ℕ) → message ≡ message)) }
-        ensures told { (keys : Seq P) (message : Seq ℕ) (priority : Bool) →
-            M.content_answer way.new.messenger (to.Some keys) self.now.channel message priority
-            ≡ M.content_answer (messenger_in M.after_try_peers way.old.messenger
-            (limit_at way.old self.now.place) recipients) (to.Some keys) self.now.channel message priority }
-        ensures rate { rate_in (limit_at way.new self.now.place) ≡ rate_in (limit_at way.old self.now.place) }
-        ensures serves { HasLimit M.subscriptions self.now way.new }
-        ensures asked { way.new.messenger ≡ messenger_in M.after_try_peers way.old.messenger
-            (limit_at way.old self.now.place) recipients }
-        ensures known { known_at (limit_at way.new self.now.place)
-            ≡ known_in M.waiting way.old.messenger (limit_at way.old self.now.place) recipients }
-        ensures others { (place : ℕ) → place ≢ self.now.place → limit_at way.new place ≡ limit_at way.old place }
+        requires { HasLimit M.subscriptions self.now way.old }
+        ensures { IsCheckOf (sender_at P.cmp ⟦<CheckedSender<P> as crate::CheckedSender>⟧.checked
+            ⟦<LimitedSender<P, M> as crate::LimitedSender>⟧ self.now)
+            way.old recipients now result way.new }
     {
         let limits = &mut way.limits;
         let messenger = &mut way.messenger;
@@ -317,19 +289,9 @@ impl<P: PublicKey, M: Carrier<P>> crate::LimitedSender for LimitedSender<P, M> {
     ) -> Result<Unreliable, SendError>
         requires serves { HasLimit M.subscriptions self.now way.old }
         requires gave { checked.channel ≡ self.now.channel }
-        ensures answer { IfOk result (λ u. u ≡ M.content_answer way.old.messenger
-            (to.Some checked.recipients) self.now.channel message priority) }
-        ensures fits { OnOk result (size_refusal self.now.max_size message ≡ None) }
-        ensures refused { IfErr result (λ e. IsCause (size_refusal self.now.max_size message) e) }
-        ensures handed { OnOk result (way.new
-            ≡ with_messenger way.old (M.after_content way.old.messenger
-            (to.Some checked.recipients) self.now.channel message priority)) }
-        ensures unchanged { OnErr result (way.new ≡ way.old) }
-        ensures stands { (past : P → Seq ℕ) (latest : ℕ) →
-            StandsIn P.cmp (limit_at way.old self.now.place) past latest →
-            StandsIn P.cmp (limit_at way.new self.now.place) past latest }
-        ensures rate { rate_in (limit_at way.new self.now.place) ≡ rate_in (limit_at way.old self.now.place) }
-        ensures serves { HasLimit M.subscriptions self.now way.new }
+        ensures { IsSendCheckedOf (sender_at P.cmp ⟦<CheckedSender<P> as crate::CheckedSender>⟧.checked
+            ⟦<LimitedSender<P, M> as crate::LimitedSender>⟧ self.now)
+            way.old checked message priority result way.new }
     {
         let CheckedSender { recipients, .. } = checked;
         let sender = UnlimitedSender::new(self.channel, self.max_size);

@@ -1,10 +1,10 @@
 //! The traits of senders.
-ghost use Rattle.std.specs.Prelude.{◌≡◌, ℕ, max, Bool, List as Seq, Option, None, is_ok, IfOk, IfErr, OnOk, OnErr};
+ghost use Rattle.std.specs.Prelude.{◌≡◌, ℕ, Bool, List as Seq, Option, None, IfOk, IfErr, OnOk, OnErr};
 ghost use Rattle.p2p_base.specs.declared.outcome.Unreliable.{Unreliable as Answer};
 ghost use Rattle.p2p_runtime.specs.QuotaLaw.{Rate};
 ghost use Rattle.p2p_flow.specs.declared.plain.Recipients.{Recipients as Whom};
-ghost use Rattle.p2p_flow_senders.specs.Admission.{check_by_law, past_after, moment_after};
-ghost use Rattle.p2p_flow_senders.specs.Sending.{IsCause, keys_checked};
+ghost use Rattle.p2p_flow_senders.specs.Senders.{sends, IsCheckOf, IsSendCheckedOf};
+ghost use Rattle.p2p_flow_senders.specs.Sending.{IsCause};
 ghost use Rattle.p2p_flow_senders.specs.declared.send_error.SendError.{SendError as Refusal};
 
 use crate::SendError;
@@ -138,27 +138,10 @@ pub trait LimitedSender: Copy {
         now: u64,
     ) -> Result<Result<Self::Checked, u128>, AllocError>
         requires { serves self.now way.old }
-        ensures law { (past : Self.PublicKey → Seq ℕ) (latest : ℕ) → stands self.now way.old past latest →
-            IfOk result (λ r. keys_checked Self.Checked.checked r
-            ≡ check_by_law Self.PublicKey.cmp (rate self.now way.old) past (max latest now)
-            (offered self.now way.old recipients)) }
-        ensures stands { (past : Self.PublicKey → Seq ℕ) (latest : ℕ) → stands self.now way.old past latest →
-            OnOk result (stands self.now way.new
-            (past_after Self.PublicKey.cmp (rate self.now way.old) past (max latest now)
-            (offered self.now way.old recipients))
-            (moment_after (offered self.now way.old recipients) latest now)) }
-        ensures memory { (past : Self.PublicKey → Seq ℕ) (latest : ℕ) → stands self.now way.old past latest →
-            OnErr result (stands self.now way.new past latest) }
-        ensures gave { IfOk result (λ r. IfOk r (λ c. gave self.now c)) }
-        ensures due { IfOk result (λ r. IfOk r
-            (λ c. (message : Seq ℕ) → refusal self.now c message ≡ due self.now message)) }
-        ensures content { IfOk result (λ r. IfOk r
-            (λ c. (message : Seq ℕ) → content self.now c message ≡ content_due self.now message)) }
-        ensures told { (keys : Seq Self.PublicKey) (message : Seq ℕ) (priority : Bool) →
-            told self.now way.new keys message priority ≡ told_after self.now way.old recipients keys message priority }
-        ensures rate { rate self.now way.new ≡ rate self.now way.old }
-        ensures asked { asked self.now way.old recipients way.new }
-        ensures serves { serves self.now way.new };
+        ensures { IsCheckOf (sends Self.PublicKey.cmp Self.Checked.checked (serves self.now) (gave self.now)
+            (rate self.now) (stands self.now) (offered self.now) (refusal self.now) (due self.now) (content self.now)
+            (content_due self.now) (told self.now) (asked self.now) (handed self.now) (told_after self.now))
+            way.old recipients now result way.new };
 
     /// Sends a message to the recipients that a check admitted; their cells stay taken. Where it is refused, or there is no memory,
     /// nothing is handed in.
@@ -172,15 +155,8 @@ pub trait LimitedSender: Copy {
     ) -> Result<Unreliable, SendError>
         requires serves { serves self.now way.old }
         requires gave { gave self.now checked }
-        ensures answer { IfOk result (λ u. u ≡ told self.now way.old (Self.Checked.checked checked)
-            (content self.now checked message) priority) }
-        ensures fits { OnOk result (refusal self.now checked message ≡ None) }
-        ensures refused { IfErr result (λ e. IsCause (refusal self.now checked message) e) }
-        ensures handed { OnOk result (handed self.now way.old (Self.Checked.checked checked)
-            (content self.now checked message) priority way.new) }
-        ensures unchanged { OnErr result (way.new ≡ way.old) }
-        ensures stands { (past : Self.PublicKey → Seq ℕ) (latest : ℕ) → stands self.now way.old past latest →
-            stands self.now way.new past latest }
-        ensures rate { rate self.now way.new ≡ rate self.now way.old }
-        ensures serves { serves self.now way.new };
+        ensures { IsSendCheckedOf (sends Self.PublicKey.cmp Self.Checked.checked (serves self.now) (gave self.now)
+            (rate self.now) (stands self.now) (offered self.now) (refusal self.now) (due self.now) (content self.now)
+            (content_due self.now) (told self.now) (asked self.now) (handed self.now) (told_after self.now))
+            way.old checked message priority result way.new };
 }

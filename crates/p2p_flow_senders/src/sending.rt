@@ -1,8 +1,9 @@
 //! `Sender`, which checks and sends in one call.
-ghost use Rattle.std.specs.Prelude.{◌≡◌, ◌⊎◌, [], ℕ, List as Seq, true, None, max, cond, is_ok, IfOk, IfErr, OnOk, OnErr};
+ghost use Rattle.std.specs.Prelude.{◌≡◌, [], ℕ, List as Seq, None, cond, IfOk, IfErr, OnOk, OnErr};
 ghost use Rattle.p2p_base.specs.Outcome.{is_accepted};
-ghost use Rattle.p2p_flow_senders.specs.Admission.{check_by_law, past_after, moment_after};
-ghost use Rattle.p2p_flow_senders.specs.Sending.{IsCause, IsCauseAfter, UnlessMemory, IsLeft, sent_to};
+ghost use Rattle.p2p_flow_senders.specs.SenderAt.{sender_at};
+ghost use Rattle.p2p_flow_senders.specs.Senders.{IsSendOf};
+ghost use Rattle.p2p_flow_senders.specs.Sending.{IsCause, OnMemory, sent_to};
 
 use crate::{CheckedSender, LimitedSender, SendError};
 use bytes::Bytes;
@@ -28,33 +29,9 @@ pub trait Sender: LimitedSender {
         now: u64,
     ) -> Result<Vec<Self::PublicKey>, SendError>
         requires { Self.serves self.now way.old }
-        ensures sent { (past : Self.PublicKey → Seq ℕ) (latest : ℕ) → Self.stands self.now way.old past latest →
-            IfOk result (λ r. r.items
-            ≡ sent_to (λ keys. Self.told_after self.now way.old recipients keys
-            (Self.content_due self.now message) priority)
-            (check_by_law Self.PublicKey.cmp (Self.rate self.now way.old) past (max latest now)
-            (Self.offered self.now way.old recipients))) }
-        ensures fits { (past : Self.PublicKey → Seq ℕ) (latest : ℕ) → Self.stands self.now way.old past latest →
-            OnOk result (
-            is_ok (check_by_law Self.PublicKey.cmp (Self.rate self.now way.old) past (max latest now)
-            (Self.offered self.now way.old recipients)) ≡ true →
-            Self.due self.now message ≡ None) }
-        ensures refused { (past : Self.PublicKey → Seq ℕ) (latest : ℕ) → Self.stands self.now way.old past latest →
-            IfErr result (IsCauseAfter
-            (is_ok (check_by_law Self.PublicKey.cmp (Self.rate self.now way.old) past (max latest now)
-            (Self.offered self.now way.old recipients)))
-            (Self.due self.now message)) }
-        ensures stands { (past : Self.PublicKey → Seq ℕ) (latest : ℕ) → Self.stands self.now way.old past latest →
-            UnlessMemory result (Self.stands self.now way.new
-            (past_after Self.PublicKey.cmp (Self.rate self.now way.old) past (max latest now)
-            (Self.offered self.now way.old recipients))
-            (moment_after (Self.offered self.now way.old recipients) latest now)) }
-        ensures left { (past : Self.PublicKey → Seq ℕ) (latest : ℕ) → Self.stands self.now way.old past latest →
-            IsLeft (Self.asked self.now way.old recipients)
-            (λ keys mid new. Self.handed self.now mid keys (Self.content_due self.now message) priority new)
-            (check_by_law Self.PublicKey.cmp (Self.rate self.now way.old) past (max latest now)
-            (Self.offered self.now way.old recipients)) result way.new }
-        ensures serves { Self.serves self.now way.new }
+        ensures send { IsSendOf (sender_at Self.PublicKey.cmp Self.Checked.checked Self.LimitedSender self.now)
+            (λ told check r. r.items ≡ sent_to told check) way.old recipients message priority now result way.new }
+        ensures unsent { OnMemory result (Self.asked self.now way.old recipients way.new) }
     {
         match self.check(alloc, way, recipients, now)? {
             Ok(checked) => send_to(self, alloc, way, checked, message, priority),
@@ -85,6 +62,7 @@ fn send_to<S: LimitedSender>(
     ensures unchanged { OnErr result (way.new ≡ way.old) }
     ensures stands { (past : S.PublicKey → Seq ℕ) (latest : ℕ) → S.stands sender.now way.old past latest →
         S.stands sender.now way.new past latest }
+    ensures rate { S.rate sender.now way.new ≡ S.rate sender.now way.old }
     ensures serves { S.serves sender.now way.new }
 {
     let keys = Vec::from_slice(alloc, checked.recipients())?;

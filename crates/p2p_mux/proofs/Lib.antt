@@ -1,1 +1,2 @@
+pub mod KeptRoutes
 pub mod PassedMessages

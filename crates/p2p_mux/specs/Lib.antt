@@ -1,5 +1,6 @@
 pub mod Built
 pub mod Muxed
+pub mod MuxerSteps
 pub mod MuxerTurns
 pub mod Passing
 pub mod Prefixed

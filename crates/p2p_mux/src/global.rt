@@ -1,9 +1,9 @@
 //! `GlobalSender`, which sends on any subchannel, and what a check of it gives.
-ghost use Rattle.std.specs.Prelude.{◌≡◌, ℕ, Bool, List as Seq, Some, None, max, is_ok, true, IfOk, IfErr, OnOk, OnErr};
-ghost use Rattle.p2p_flow_senders.specs.Admission.{check_by_law, past_after, moment_after};
-ghost use Rattle.p2p_flow_senders.specs.Sending.{IsCause, IsCauseAfter, UnlessMemory, IsLeft, keys_checked};
-ghost use Rattle.p2p_flow_senders.specs.declared.send_error.SendError.TheVariants as send_error;
-ghost use Rattle.p2p_mux.specs.Prefixed.{prefixed, refusal_on, content_on, outcome_by};
+ghost use Rattle.std.specs.Prelude.{◌≡◌, Some, IfOk};
+ghost use Rattle.p2p_flow_senders.specs.SenderAt.{sender_at};
+ghost use Rattle.p2p_flow_senders.specs.Senders.{IsCheckOf, IsSendCheckedOf, IsSendOf};
+ghost use Rattle.p2p_flow_senders.specs.Sending.{OnMemory};
+ghost use Rattle.p2p_mux.specs.Prefixed.{prefixed, outcome_by};
 
 use bytes::Bytes;
 use p2p_base::Unreliable;
@@ -103,34 +103,10 @@ impl<S: LimitedSender> GlobalSender<S> {
         now: u64,
     ) -> Result<Unreliable, SendError>
         requires { S.serves self.now way.old }
-        ensures answer { (past : S.PublicKey → Seq ℕ) (latest : ℕ) → S.stands self.now way.old past latest →
-            IfOk result (λ u. u
-            ≡ outcome_by (λ keys. S.told_after self.now way.old recipients keys
-            (S.content_due self.now (prefixed subchannel payload)) priority)
-            (check_by_law S.PublicKey.cmp (S.rate self.now way.old) past (max latest now)
-            (S.offered self.now way.old recipients))) }
-        ensures fits { (past : S.PublicKey → Seq ℕ) (latest : ℕ) → S.stands self.now way.old past latest →
-            OnOk result (
-            is_ok (check_by_law S.PublicKey.cmp (S.rate self.now way.old) past (max latest now)
-            (S.offered self.now way.old recipients)) ≡ true →
-            S.due self.now (prefixed subchannel payload) ≡ None) }
-        ensures refused { (past : S.PublicKey → Seq ℕ) (latest : ℕ) → S.stands self.now way.old past latest →
-            IfErr result (IsCauseAfter
-            (is_ok (check_by_law S.PublicKey.cmp (S.rate self.now way.old) past (max latest now)
-            (S.offered self.now way.old recipients)))
-            (S.due self.now (prefixed subchannel payload))) }
-        ensures stands { (past : S.PublicKey → Seq ℕ) (latest : ℕ) → S.stands self.now way.old past latest →
-            UnlessMemory result (S.stands self.now way.new
-            (past_after S.PublicKey.cmp (S.rate self.now way.old) past (max latest now)
-            (S.offered self.now way.old recipients))
-            (moment_after (S.offered self.now way.old recipients) latest now)) }
-        ensures left { (past : S.PublicKey → Seq ℕ) (latest : ℕ) → S.stands self.now way.old past latest →
-            IsLeft (S.asked self.now way.old recipients)
-            (λ keys mid new. S.handed self.now mid keys
-            (S.content_due self.now (prefixed subchannel payload)) priority new)
-            (check_by_law S.PublicKey.cmp (S.rate self.now way.old) past (max latest now)
-            (S.offered self.now way.old recipients)) result way.new }
-        ensures serves { S.serves self.now way.new }
+        ensures send { IsSendOf (sender_at S.PublicKey.cmp S.Checked.checked S.LimitedSender self.now)
+            (λ told check u. u ≡ outcome_by told check) way.old recipients (prefixed subchannel payload) priority now
+            result way.new }
+        ensures unsent { OnMemory result (S.asked self.now way.old recipients way.new) }
     {
         match self.sender.check(alloc, way, recipients, now)? {
             Ok(checked) => {
@@ -171,17 +147,8 @@ pub(crate) fn send_on<S: LimitedSender>(
 ) -> Result<Unreliable, SendError>
     requires serves { S.serves sender.now way.old }
     requires gave { S.gave sender.now checked }
-    ensures answer { IfOk result (λ u. u ≡ S.told sender.now way.old (S.Checked.checked checked)
-        (S.content sender.now checked (prefixed subchannel payload)) priority) }
-    ensures fits { OnOk result (S.refusal sender.now checked (prefixed subchannel payload) ≡ None) }
-    ensures refused { IfErr result (λ e. IsCause (S.refusal sender.now checked (prefixed subchannel payload)) e) }
-    ensures handed { OnOk result (S.handed sender.now way.old (S.Checked.checked checked)
-        (S.content sender.now checked (prefixed subchannel payload)) priority way.new) }
-    ensures unchanged { OnErr result (way.new ≡ way.old) }
-    ensures stands { (past : S.PublicKey → Seq ℕ) (latest : ℕ) → S.stands sender.now way.old past latest →
-        S.stands sender.now way.new past latest }
-    ensures rate { S.rate sender.now way.new ≡ S.rate sender.now way.old }
-    ensures serves { S.serves sender.now way.new }
+    ensures { IsSendCheckedOf (sender_at S.PublicKey.cmp S.Checked.checked S.LimitedSender sender.now)
+        way.old checked (prefixed subchannel payload) priority result way.new }
 {
     let message = prefix_of(alloc, subchannel, payload)?;
     sender.send_checked(alloc, way, checked, message, priority)
@@ -198,18 +165,9 @@ pub(crate) fn send_chosen<S: LimitedSender>(
 ) -> Result<Unreliable, SendError>
     requires serves { S.serves sender.now way.old }
     requires gave { S.gave sender.now chosen.checked }
-    ensures answer { IfOk result (λ u. u ≡ S.told sender.now way.old (S.Checked.checked chosen.checked)
-        (content_on chosen.subchannel (S.content sender.now chosen.checked) message) priority) }
-    ensures fits { OnOk result (refusal_on chosen.subchannel (S.refusal sender.now chosen.checked) message ≡ None) }
-    ensures refused { IfErr result
-        (λ e. IsCause (refusal_on chosen.subchannel (S.refusal sender.now chosen.checked) message) e) }
-    ensures handed { OnOk result (S.handed sender.now way.old (S.Checked.checked chosen.checked)
-        (content_on chosen.subchannel (S.content sender.now chosen.checked) message) priority way.new) }
-    ensures unchanged { OnErr result (way.new ≡ way.old) }
-    ensures stands { (past : S.PublicKey → Seq ℕ) (latest : ℕ) → S.stands sender.now way.old past latest →
-        S.stands sender.now way.new past latest }
-    ensures rate { S.rate sender.now way.new ≡ S.rate sender.now way.old }
-    ensures serves { S.serves sender.now way.new }
+    ensures { IsSendCheckedOf (sender_at S.PublicKey.cmp ⟦<CheckedGlobalSender<S::Checked> as CheckedSender>⟧.checked
+        ⟦<GlobalSender<S> as LimitedSender>⟧ sender.now)
+        way.old chosen message priority result way.new }
 {
     let CheckedGlobalSender {
         subchannel,
@@ -266,30 +224,9 @@ impl<S: LimitedSender> LimitedSender for GlobalSender<S> {
         now: u64,
     ) -> Result<Result<CheckedGlobalSender<S::Checked>, u128>, AllocError>
         requires serves { S.serves self.now way.old }
-        ensures law { (past : S.PublicKey → Seq ℕ) (latest : ℕ) → S.stands self.now way.old past latest →
-            IfOk result (λ r. keys_checked (λ c. S.Checked.checked c.checked) r
-            ≡ check_by_law S.PublicKey.cmp (S.rate self.now way.old) past (max latest now)
-            (S.offered self.now way.old recipients)) }
-        ensures stands { (past : S.PublicKey → Seq ℕ) (latest : ℕ) → S.stands self.now way.old past latest →
-            OnOk result (S.stands self.now way.new
-            (past_after S.PublicKey.cmp (S.rate self.now way.old) past (max latest now)
-            (S.offered self.now way.old recipients))
-            (moment_after (S.offered self.now way.old recipients) latest now)) }
-        ensures memory { (past : S.PublicKey → Seq ℕ) (latest : ℕ) → S.stands self.now way.old past latest →
-            OnErr result (S.stands self.now way.new past latest) }
-        ensures gave { IfOk result (λ r. IfOk r (λ c. S.gave self.now c.checked)) }
-        ensures due { IfOk result (λ r. IfOk r
-            (λ c. (message : Seq ℕ) → refusal_on c.subchannel (S.refusal self.now c.checked) message
-            ≡ Some send_error.NoSubchannel)) }
-        ensures content { IfOk result (λ r. IfOk r
-            (λ c. (message : Seq ℕ) → content_on c.subchannel (S.content self.now c.checked) message
-            ≡ S.content_due self.now message)) }
-        ensures told { (keys : Seq S.PublicKey) (message : Seq ℕ) (priority : Bool) →
-            S.told self.now way.new keys message priority
-            ≡ S.told_after self.now way.old recipients keys message priority }
-        ensures rate { S.rate self.now way.new ≡ S.rate self.now way.old }
-        ensures asked { S.asked self.now way.old recipients way.new }
-        ensures serves { S.serves self.now way.new }
+        ensures { IsCheckOf (sender_at S.PublicKey.cmp ⟦<CheckedGlobalSender<S::Checked> as CheckedSender>⟧.checked
+            ⟦<GlobalSender<S> as LimitedSender>⟧ self.now)
+            way.old recipients now result way.new }
     {
         match self.sender.check(alloc, way, recipients, now)? {
             Ok(checked) => Ok(Ok(CheckedGlobalSender {
@@ -310,18 +247,9 @@ impl<S: LimitedSender> LimitedSender for GlobalSender<S> {
     ) -> Result<Unreliable, SendError>
         requires serves { S.serves self.now way.old }
         requires gave { S.gave self.now checked.checked }
-        ensures answer { IfOk result (λ u. u ≡ S.told self.now way.old (S.Checked.checked checked.checked)
-            (content_on checked.subchannel (S.content self.now checked.checked) message) priority) }
-        ensures fits { OnOk result (refusal_on checked.subchannel (S.refusal self.now checked.checked) message ≡ None) }
-        ensures refused { IfErr result
-            (λ e. IsCause (refusal_on checked.subchannel (S.refusal self.now checked.checked) message) e) }
-        ensures handed { OnOk result (S.handed self.now way.old (S.Checked.checked checked.checked)
-            (content_on checked.subchannel (S.content self.now checked.checked) message) priority way.new) }
-        ensures unchanged { OnErr result (way.new ≡ way.old) }
-        ensures stands { (past : S.PublicKey → Seq ℕ) (latest : ℕ) → S.stands self.now way.old past latest →
-            S.stands self.now way.new past latest }
-        ensures rate { S.rate self.now way.new ≡ S.rate self.now way.old }
-        ensures serves { S.serves self.now way.new }
+        ensures { IsSendCheckedOf (sender_at S.PublicKey.cmp ⟦<CheckedGlobalSender<S::Checked> as CheckedSender>⟧.checked
+            ⟦<GlobalSender<S> as LimitedSender>⟧ self.now)
+            way.old checked message priority result way.new }
     {
         send_chosen(&self.sender, alloc, way, checked, message, priority)
     }

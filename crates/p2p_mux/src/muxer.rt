@@ -1,7 +1,8 @@
 //! `Muxer`, which puts each message of a receiver into the queue of its subchannel.
-ghost use Rattle.std.specs.Prelude.{◌≡◌, ℕ, List as Seq, true, IfOk, OnOk, OnErr, IsErr};
+ghost use Rattle.std.specs.Prelude.{◌≡◌, ℕ, List as Seq, true, false, None, IfOk, OnOk, OnErr, IsErr};
 ghost use Rattle.p2p_mux.specs.Built.{new_muxer};
-ghost use Rattle.p2p_mux.specs.MuxerTurns.{mux_turn, received_turn};
+ghost use Rattle.p2p_mux.specs.MuxerSteps.{found, IsStepOf, IsTurn, IsAtWork};
+ghost use Rattle.p2p_mux.specs.MuxerTurns.{received_turn};
 ghost use Rattle.p2p_mux.specs.Passing.{TakesMessage, IsPassed};
 
 use crate::{MuxQueues, MuxStepped};
@@ -53,7 +54,8 @@ where
     /// A route is made for a request where none of its subchannel stands, and it holds as many messages as the receiver
     /// does.
     ///
-    /// `Err` only where memory runs out: what was taken is lost then. Each later step answers so.
+    /// `Err` only where memory runs out: what was taken is lost then, and nothing else has changed. Each later step
+    /// answers so, and takes nothing.
     ///
     /// Ports a turn of `Muxer::run` of commonware-p2p.
     pub fn step(
@@ -62,12 +64,8 @@ where
         way: &mut R::Way,
     ) -> Result<MuxStepped, AllocError>
         requires { R.serves self.old.receiver way.old }
-        ensures answer { IfOk result (λ s. s ≡ (mux_turn (R.places self.old.receiver) queues.old way.old
-            (R.received self.old.receiver way.old) (R.after_recv self.old.receiver way.old)).stepped) }
-        ensures queues { OnOk result (queues.new ≡ (mux_turn (R.places self.old.receiver) queues.old way.old
-            (R.received self.old.receiver way.old) (R.after_recv self.old.receiver way.old)).queues) }
-        ensures way { OnOk result (way.new ≡ (mux_turn (R.places self.old.receiver) queues.old way.old
-            (R.received self.old.receiver way.old) (R.after_recv self.old.receiver way.old)).way) }
+        ensures step { IsStepOf (found R.places R.received R.after_recv self.old.has_failed self.old.receiver
+            queues.old way.old) result queues.new way.new }
         // What the turn makes of a message, told of each queue apart.
         ensures passed { (m : S.PublicKey × Seq ℕ) →
             TakesMessage queues.old (R.received self.old.receiver way.old) m →
@@ -100,12 +98,8 @@ where
     R::PublicKey: Drop,
     R::Error: Drop,
     requires { R.serves receiver.old way.old }
-    ensures answer { IfOk result (λ s. s ≡ (mux_turn (R.places receiver.old) queues.old way.old
-        (R.received receiver.old way.old) (R.after_recv receiver.old way.old)).stepped) }
-    ensures queues { OnOk result (queues.new ≡ (mux_turn (R.places receiver.old) queues.old way.old
-        (R.received receiver.old way.old) (R.after_recv receiver.old way.old)).queues) }
-    ensures way { OnOk result (way.new ≡ (mux_turn (R.places receiver.old) queues.old way.old
-        (R.received receiver.old way.old) (R.after_recv receiver.old way.old)).way) }
+    ensures step { IsStepOf (found R.places R.received R.after_recv false receiver.old queues.old way.old)
+        result queues.new way.new }
     ensures same { receiver.new ≡ receiver.old }
     ensures serves { R.serves receiver.new way.new }
 {
@@ -128,8 +122,8 @@ where
     R::PublicKey: Drop,
     R::Error: Drop,
     requires { R.serves receiver.old way.old }
-    ensures answer { IfOk result (λ s. s ≡ (received_turn (R.received receiver.old way.old) queues.old).stepped) }
-    ensures queues { OnOk result (queues.new ≡ (received_turn (R.received receiver.old way.old) queues.old).queues) }
+    ensures turn { IsTurn (received_turn (R.received receiver.old way.old) queues.old) queues.old result queues.new }
+    ensures taken { OnErr result (IsAtWork None (R.received receiver.old way.old)) }
     ensures way { way.new ≡ R.after_recv receiver.old way.old }
     ensures same { receiver.new ≡ receiver.old }
     ensures serves { R.serves receiver.new way.new }

@@ -87,6 +87,7 @@ pub(crate) fn put_on<P: Drop>(
         ≡ routed_as route.old.request subchannel (enqueue_answer keep.Refuse route.old.messages message)) }
     ensures after { OnOk result (route.new
         ≡ with_messages route.old (enqueued keep.Refuse route.old.messages message)) }
+    ensures memory { OnErr result (route.new ≡ route.old) }
 {
     let request = route.request;
     match refusing::put(&mut route.messages, message) {

@@ -1,15 +1,14 @@
 //! `SubSender`, which sends on one subchannel.
-ghost use Rattle.std.specs.Prelude.{◌≡◌, ℕ, Bool, List as Seq, None, max, IfOk, IfErr, OnOk, OnErr};
-ghost use Rattle.p2p_flow_senders.specs.Admission.{check_by_law, past_after, moment_after};
-ghost use Rattle.p2p_flow_senders.specs.Sending.{IsCause, keys_checked};
-ghost use Rattle.p2p_mux.specs.Prefixed.{prefixed, refusal_on, content_on};
+ghost use Rattle.std.specs.Prelude.{◌≡◌};
+ghost use Rattle.p2p_flow_senders.specs.SenderAt.{sender_at};
+ghost use Rattle.p2p_flow_senders.specs.Senders.{IsCheckOf, IsSendCheckedOf};
 
 use crate::CheckedGlobalSender;
 use crate::global::send_chosen;
 use bytes::Bytes;
 use p2p_base::Unreliable;
 use p2p_flow::{Channel, Recipients};
-use p2p_flow_senders::{LimitedSender, SendError, Sender};
+use p2p_flow_senders::{CheckedSender, LimitedSender, SendError, Sender};
 use std::alloc::{AllocError, Global};
 use std::marker::Model;
 
@@ -87,30 +86,9 @@ impl<S: LimitedSender> LimitedSender for SubSender<S> {
         now: u64,
     ) -> Result<Result<CheckedGlobalSender<S::Checked>, u128>, AllocError>
         requires serves { S.serves self.now.sender way.old }
-        ensures law { (past : S.PublicKey → Seq ℕ) (latest : ℕ) → S.stands self.now.sender way.old past latest →
-            IfOk result (λ r. keys_checked (λ c. S.Checked.checked c.checked) r
-            ≡ check_by_law S.PublicKey.cmp (S.rate self.now.sender way.old) past (max latest now)
-            (S.offered self.now.sender way.old recipients)) }
-        ensures stands { (past : S.PublicKey → Seq ℕ) (latest : ℕ) → S.stands self.now.sender way.old past latest →
-            OnOk result (S.stands self.now.sender way.new
-            (past_after S.PublicKey.cmp (S.rate self.now.sender way.old) past (max latest now)
-            (S.offered self.now.sender way.old recipients))
-            (moment_after (S.offered self.now.sender way.old recipients) latest now)) }
-        ensures memory { (past : S.PublicKey → Seq ℕ) (latest : ℕ) → S.stands self.now.sender way.old past latest →
-            OnErr result (S.stands self.now.sender way.new past latest) }
-        ensures gave { IfOk result (λ r. IfOk r (λ c. S.gave self.now.sender c.checked)) }
-        ensures due { IfOk result (λ r. IfOk r
-            (λ c. (message : Seq ℕ) → refusal_on c.subchannel (S.refusal self.now.sender c.checked) message
-            ≡ S.due self.now.sender (prefixed self.now.subchannel message))) }
-        ensures content { IfOk result (λ r. IfOk r
-            (λ c. (message : Seq ℕ) → content_on c.subchannel (S.content self.now.sender c.checked) message
-            ≡ S.content_due self.now.sender (prefixed self.now.subchannel message))) }
-        ensures told { (keys : Seq S.PublicKey) (message : Seq ℕ) (priority : Bool) →
-            S.told self.now.sender way.new keys message priority
-            ≡ S.told_after self.now.sender way.old recipients keys message priority }
-        ensures rate { S.rate self.now.sender way.new ≡ S.rate self.now.sender way.old }
-        ensures asked { S.asked self.now.sender way.old recipients way.new }
-        ensures serves { S.serves self.now.sender way.new }
+        ensures { IsCheckOf (sender_at S.PublicKey.cmp ⟦<CheckedGlobalSender<S::Checked> as CheckedSender>⟧.checked
+            ⟦<SubSender<S> as LimitedSender>⟧ self.now)
+            way.old recipients now result way.new }
     {
         match self.sender.check(alloc, way, recipients, now)? {
             Ok(checked) => Ok(Ok(CheckedGlobalSender {
@@ -131,19 +109,9 @@ impl<S: LimitedSender> LimitedSender for SubSender<S> {
     ) -> Result<Unreliable, SendError>
         requires serves { S.serves self.now.sender way.old }
         requires gave { S.gave self.now.sender checked.checked }
-        ensures answer { IfOk result (λ u. u ≡ S.told self.now.sender way.old (S.Checked.checked checked.checked)
-            (content_on checked.subchannel (S.content self.now.sender checked.checked) message) priority) }
-        ensures fits { OnOk result
-            (refusal_on checked.subchannel (S.refusal self.now.sender checked.checked) message ≡ None) }
-        ensures refused { IfErr result
-            (λ e. IsCause (refusal_on checked.subchannel (S.refusal self.now.sender checked.checked) message) e) }
-        ensures handed { OnOk result (S.handed self.now.sender way.old (S.Checked.checked checked.checked)
-            (content_on checked.subchannel (S.content self.now.sender checked.checked) message) priority way.new) }
-        ensures unchanged { OnErr result (way.new ≡ way.old) }
-        ensures stands { (past : S.PublicKey → Seq ℕ) (latest : ℕ) → S.stands self.now.sender way.old past latest →
-            S.stands self.now.sender way.new past latest }
-        ensures rate { S.rate self.now.sender way.new ≡ S.rate self.now.sender way.old }
-        ensures serves { S.serves self.now.sender way.new }
+        ensures { IsSendCheckedOf (sender_at S.PublicKey.cmp ⟦<CheckedGlobalSender<S::Checked> as CheckedSender>⟧.checked
+            ⟦<SubSender<S> as LimitedSender>⟧ self.now)
+            way.old checked message priority result way.new }
     {
         send_chosen(&self.sender, alloc, way, checked, message, priority)
     }

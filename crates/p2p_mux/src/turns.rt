@@ -1,9 +1,10 @@
 //! What a muxer does with its queues: what it was asked, and where messages go.
-ghost use Rattle.std.specs.Prelude.{◌≡◌, ◌≤◌, None, slice_get, IfOk, OnOk};
+ghost use Rattle.std.specs.Prelude.{◌≡◌, ◌≤◌, None, slice_get, IfOk, OnOk, OnErr};
 ghost use Rattle.p2p_base.specs.Queue.{enqueue_answer, enqueued};
 ghost use Rattle.p2p_base.specs.declared.policy.Keep.TheVariants as keep;
 ghost use Rattle.p2p_mux.specs.Muxed.{answer_at, route_in};
 ghost use Rattle.p2p_mux.specs.declared.request.Answer.TheVariants as answer;
+ghost use Rattle.p2p_mux.specs.MuxerSteps.{IsTurn};
 ghost use Rattle.p2p_mux.specs.MuxerTurns.{without_control, control_turn, register_turn, message_turn, route_turn, backed_up_as};
 
 use crate::queues::Backup;
@@ -30,8 +31,7 @@ impl<P: Drop> MuxQueues<P> {
         places: usize,
     ) -> Result<MuxStepped, AllocError>
         requires { 1 ≤ places }
-        ensures answer { IfOk result (λ s. s ≡ (control_turn control places self.old).stepped) }
-        ensures after { OnOk result (self.new ≡ (control_turn control places self.old).queues) }
+        ensures { IsTurn (control_turn control places self.old) self.old result self.new }
     {
         match control {
             Control::Register {
@@ -53,10 +53,9 @@ impl<P: Drop> MuxQueues<P> {
         places: usize,
     ) -> Result<MuxStepped, AllocError>
         requires { 1 ≤ places }
-        ensures answer { IfOk result (λ s. s ≡ (register_turn (answer_at self.old request)
-            (route_in self.old.routes subchannel) request subchannel places self.old).stepped) }
-        ensures after { OnOk result (self.new ≡ (register_turn (answer_at self.old request)
-            (route_in self.old.routes subchannel) request subchannel places self.old).queues) }
+        ensures { IsTurn (register_turn (answer_at self.old request)
+            (route_in self.old.routes subchannel) request subchannel places self.old)
+            self.old result self.new }
     {
         match answer_to(&self.requests, request) {
             Answer::Awaited => self.decide(request, subchannel, places),
@@ -75,10 +74,9 @@ impl<P: Drop> MuxQueues<P> {
         places: usize,
     ) -> Result<MuxStepped, AllocError>
         requires { 1 ≤ places }
-        ensures answer { IfOk result (λ s. s ≡ (register_turn answer.Awaited
-            (route_in self.old.routes subchannel) request subchannel places self.old).stepped) }
-        ensures after { OnOk result (self.new ≡ (register_turn answer.Awaited
-            (route_in self.old.routes subchannel) request subchannel places self.old).queues) }
+        ensures { IsTurn (register_turn answer.Awaited
+            (route_in self.old.routes subchannel) request subchannel places self.old)
+            self.old result self.new }
     {
         if routes::contains(&self.routes, subchannel) {
             note_answer(&mut self.requests, request, Answer::Refused);
@@ -97,8 +95,7 @@ impl<P: Drop> MuxQueues<P> {
 
     // Puts a message into the queue of its subchannel, or drops it where it begins with no prefix.
     pub(crate) fn pass(&mut self, message: Message<P>) -> Result<MuxStepped, AllocError>
-        ensures answer { IfOk result (λ s. s ≡ (message_turn message self.old).stepped) }
-        ensures after { OnOk result (self.new ≡ (message_turn message self.old).queues) }
+        ensures { IsTurn (message_turn message self.old) self.old result self.new }
     {
         let (from, bytes) = message;
         match parse(bytes) {
@@ -111,10 +108,8 @@ impl<P: Drop> MuxQueues<P> {
 
     // Puts a message on the route of its subchannel, or without one into the queue of the backup.
     fn route(&mut self, subchannel: Channel, message: Message<P>) -> Result<MuxStepped, AllocError>
-        ensures answer { IfOk result (λ s. s
-            ≡ (route_turn (route_in self.old.routes subchannel) subchannel message self.old).stepped) }
-        ensures after { OnOk result (self.new
-            ≡ (route_turn (route_in self.old.routes subchannel) subchannel message self.old).queues) }
+        ensures { IsTurn (route_turn (route_in self.old.routes subchannel) subchannel message self.old)
+            self.old result self.new }
     {
         match self.routes.get_mut(&subchannel) {
             Some(route) => routes::put_on(route, subchannel, message),
@@ -128,8 +123,7 @@ impl<P: Drop> MuxQueues<P> {
         subchannel: Channel,
         message: Message<P>,
     ) -> Result<MuxStepped, AllocError>
-        ensures answer { IfOk result (λ s. s ≡ (route_turn None subchannel message self.old).stepped) }
-        ensures after { OnOk result (self.new ≡ (route_turn None subchannel message self.old).queues) }
+        ensures { IsTurn (route_turn None subchannel message self.old) self.old result self.new }
     {
         match &mut self.backup {
             Some(backup) => put_last(backup, subchannel, message),
@@ -149,6 +143,7 @@ fn put_last<P: Drop>(
     ensures answer { IfOk result (λ s. s
         ≡ backed_up_as subchannel (enqueue_answer keep.Refuse backup.old (subchannel, message))) }
     ensures after { OnOk result (backup.new ≡ enqueued keep.Refuse backup.old (subchannel, message)) }
+    ensures memory { OnErr result (backup.new ≡ backup.old) }
 {
     match refusing::put(backup, (subchannel, message)) {
         Ok(Sent::Ok) => Ok(MuxStepped::BackedUp { subchannel }),

@@ -1,6 +1,7 @@
 //! `WrappedBackgroundReceiver`, which decodes messages and forwards them.
 ghost use Rattle.std.specs.Prelude.{◌≡◌, true, false, IfOk, IfErr, OnOk, OnErr, IsErr};
-ghost use Rattle.p2p_mux_codec.specs.Background.{nothing_forwarded, background_turn, decoded_as};
+ghost use Rattle.p2p_mux_codec.specs.Background.{nothing_forwarded, decoded_as};
+ghost use Rattle.p2p_mux_codec.specs.Stepping.{found, lent_of, IsStepOf, IsDecodedFrom};
 
 use crate::{BackgroundReceiver, Codec, Stepped};
 use p2p_base::NoRoom;
@@ -83,8 +84,8 @@ where
     /// full; of a message that is none it is asked that the sender be blocked. What became of it is answered: `Idle`
     /// where none waits, and `Ended` where the receiver had no more to give, in this call or before.
     ///
-    /// `Err` only where memory runs out: what was taken is lost then, and nobody is blocked for it. Each later step
-    /// answers so.
+    /// `Err` only where memory runs out: the message that was taken is lost then, nobody is blocked for it, and the
+    /// queue is as it was. Each later step answers so, and takes nothing.
     ///
     /// Ports a turn of `WrappedBackgroundReceiver::run` of commonware-p2p.
     pub fn step(
@@ -96,31 +97,14 @@ where
     ) -> Result<Stepped<B::PublicKey>, AllocError>
         requires receiver { R.serves self.old.receiver way.old }
         requires blocker { B.serves self.old.blocker blocker_way.old }
-        ensures answer { IfOk result (λ s. s ≡ (background_turn (V.decoding self.old.config)
-            (R.received self.old.receiver way.old) (B.told self.old.blocker blocker_way.old)
-            (B.after_block self.old.blocker blocker_way.old) out.old way.old
-            (R.after_recv self.old.receiver way.old) blocker_way.old).stepped) }
-        ensures out { OnOk result (out.new ≡ (background_turn (V.decoding self.old.config)
-            (R.received self.old.receiver way.old) (B.told self.old.blocker blocker_way.old)
-            (B.after_block self.old.blocker blocker_way.old) out.old way.old
-            (R.after_recv self.old.receiver way.old) blocker_way.old).out) }
-        ensures way { OnOk result (way.new ≡ (background_turn (V.decoding self.old.config)
-            (R.received self.old.receiver way.old) (B.told self.old.blocker blocker_way.old)
-            (B.after_block self.old.blocker blocker_way.old) out.old way.old
-            (R.after_recv self.old.receiver way.old) blocker_way.old).way) }
-        ensures blocker_way { OnOk result (blocker_way.new ≡ (background_turn (V.decoding self.old.config)
-            (R.received self.old.receiver way.old) (B.told self.old.blocker blocker_way.old)
-            (B.after_block self.old.blocker blocker_way.old) out.old way.old
-            (R.after_recv self.old.receiver way.old) blocker_way.old).blocker_way) }
+        ensures step { IsStepOf (found V.decoding R.received R.after_recv B.told B.after_block self.old
+            (lent_of out.old way.old blocker_way.old)) result (lent_of out.new way.new blocker_way.new) }
         ensures same { OnOk result (self.new ≡ self.old) }
         ensures memory { OnErr result (self.new ≡ record self.old { has_failed = true }) }
         ensures failed { self.old.has_failed ≡ true → IsErr result }
         ensures receiver { R.serves self.new.receiver way.new }
         ensures blocker { B.serves self.new.blocker blocker_way.new }
     {
-        if self.has_failed {
-            return Err(AllocError);
-        }
         match self.work(alloc, way, blocker_way, out) {
             Ok(stepped) => Ok(stepped),
             Err(_) => {
@@ -130,7 +114,7 @@ where
         }
     }
 
-    // What a step does.
+    // What a step does. It answers want of memory after one that found none.
     fn work(
         &mut self,
         alloc: Global,
@@ -140,26 +124,16 @@ where
     ) -> Result<Stepped<B::PublicKey>, AllocError>
         requires receiver { R.serves self.old.receiver way.old }
         requires blocker { B.serves self.old.blocker blocker_way.old }
-        ensures answer { IfOk result (λ s. s ≡ (background_turn (V.decoding self.old.config)
-            (R.received self.old.receiver way.old) (B.told self.old.blocker blocker_way.old)
-            (B.after_block self.old.blocker blocker_way.old) out.old way.old
-            (R.after_recv self.old.receiver way.old) blocker_way.old).stepped) }
-        ensures out { OnOk result (out.new ≡ (background_turn (V.decoding self.old.config)
-            (R.received self.old.receiver way.old) (B.told self.old.blocker blocker_way.old)
-            (B.after_block self.old.blocker blocker_way.old) out.old way.old
-            (R.after_recv self.old.receiver way.old) blocker_way.old).out) }
-        ensures way { OnOk result (way.new ≡ (background_turn (V.decoding self.old.config)
-            (R.received self.old.receiver way.old) (B.told self.old.blocker blocker_way.old)
-            (B.after_block self.old.blocker blocker_way.old) out.old way.old
-            (R.after_recv self.old.receiver way.old) blocker_way.old).way) }
-        ensures blocker_way { OnOk result (blocker_way.new ≡ (background_turn (V.decoding self.old.config)
-            (R.received self.old.receiver way.old) (B.told self.old.blocker blocker_way.old)
-            (B.after_block self.old.blocker blocker_way.old) out.old way.old
-            (R.after_recv self.old.receiver way.old) blocker_way.old).blocker_way) }
+        ensures step { IsStepOf (found V.decoding R.received R.after_recv B.told B.after_block self.old
+            (lent_of out.old way.old blocker_way.old)) result (lent_of out.new way.new blocker_way.new) }
         ensures same { self.new ≡ self.old }
+        ensures failed { self.old.has_failed ≡ true → IsErr result }
         ensures receiver { R.serves self.new.receiver way.new }
         ensures blocker { B.serves self.new.blocker blocker_way.new }
     {
+        if self.has_failed {
+            return Err(AllocError);
+        }
         if out.has_ended() {
             return Ok(Stepped::Ended);
         }
@@ -193,15 +167,9 @@ fn decode<B: Blocker, V: Codec>(
     out: &mut BackgroundReceiver<B::PublicKey, V>,
 ) -> Result<Stepped<B::PublicKey>, AllocError>
     requires { B.serves blocker.old blocker_way.old }
-    ensures answer { IfOk result (λ s. s ≡ (decoded_as message.0 (V.decoding config.now message.1)
+    ensures decoded { IsDecodedFrom (decoded_as message.0 (V.decoding config.now message.1)
         (B.told blocker.old blocker_way.old) (B.after_block blocker.old blocker_way.old)
-        out.old blocker_way.old).stepped) }
-    ensures out { OnOk result (out.new ≡ (decoded_as message.0 (V.decoding config.now message.1)
-        (B.told blocker.old blocker_way.old) (B.after_block blocker.old blocker_way.old)
-        out.old blocker_way.old).out) }
-    ensures blocker_way { OnOk result (blocker_way.new ≡ (decoded_as message.0 (V.decoding config.now message.1)
-        (B.told blocker.old blocker_way.old) (B.after_block blocker.old blocker_way.old)
-        out.old blocker_way.old).blocker_way) }
+        out.old blocker_way.old) out.old blocker_way.old result out.new blocker_way.new }
     ensures same { blocker.new ≡ blocker.old }
     ensures serves { B.serves blocker.new blocker_way.new }
 {

@@ -1,7 +1,8 @@
 //! `WrappedSender`, which sends values, and what a check of it gives.
-ghost use Rattle.std.specs.Prelude.{◌≡◌, ℕ, Bool, List as Seq, None, max, is_ok, true, IfOk, IfErr, OnOk, OnErr};
-ghost use Rattle.p2p_flow_senders.specs.Admission.{check_by_law, past_after, moment_after};
-ghost use Rattle.p2p_flow_senders.specs.Sending.{IsCause, IsCauseAfter, UnlessMemory, IsLeft, sent_to, keys_checked};
+ghost use Rattle.std.specs.Prelude.{◌≡◌, ◌⊎◌};
+ghost use Rattle.p2p_flow_senders.specs.SenderAt.{sender_at};
+ghost use Rattle.p2p_flow_senders.specs.Senders.{IsCheckOf, IsSendCheckedOf, IsSendOf};
+ghost use Rattle.p2p_flow_senders.specs.Sending.{OnMemory, sent_to};
 
 use crate::Codec;
 use p2p_base::Unreliable;
@@ -61,8 +62,8 @@ impl<S: Sender, V: Codec> WrappedSender<S, V> {
     /// Checks the recipients at the moment `now`, in nanoseconds, and sends the bytes of the value to those that are
     /// admitted. Gives them in order, as `Sender::send` does.
     ///
-    /// `MessageTooLarge` and `NoSubchannel` come as in `Sender::send`, and `Memory` where memory runs out. The cells of
-    /// a check that passed stay taken.
+    /// `MessageTooLarge` and `NoSubchannel` come as in `Sender::send`, and `Memory` where memory runs out: nothing is
+    /// handed in then. The cells of a check that passed stay taken.
     ///
     /// Ports `WrappedSender::send` of commonware-p2p.
     pub fn send(
@@ -75,33 +76,10 @@ impl<S: Sender, V: Codec> WrappedSender<S, V> {
         now: u64,
     ) -> Result<Vec<S::PublicKey>, SendError>
         requires { S.serves self.now way.old }
-        ensures sent { (past : S.PublicKey → Seq ℕ) (latest : ℕ) → S.stands self.now way.old past latest →
-            IfOk result (λ r. r.items
-            ≡ sent_to (λ keys. S.told_after self.now way.old recipients keys
-            (S.content_due self.now (V.encoding message)) priority)
-            (check_by_law S.PublicKey.cmp (S.rate self.now way.old) past (max latest now)
-            (S.offered self.now way.old recipients))) }
-        ensures fits { (past : S.PublicKey → Seq ℕ) (latest : ℕ) → S.stands self.now way.old past latest →
-            OnOk result (
-            is_ok (check_by_law S.PublicKey.cmp (S.rate self.now way.old) past (max latest now)
-            (S.offered self.now way.old recipients)) ≡ true →
-            S.due self.now (V.encoding message) ≡ None) }
-        ensures refused { (past : S.PublicKey → Seq ℕ) (latest : ℕ) → S.stands self.now way.old past latest →
-            IfErr result (IsCauseAfter
-            (is_ok (check_by_law S.PublicKey.cmp (S.rate self.now way.old) past (max latest now)
-            (S.offered self.now way.old recipients)))
-            (S.due self.now (V.encoding message))) }
-        ensures stands { (past : S.PublicKey → Seq ℕ) (latest : ℕ) → S.stands self.now way.old past latest →
-            UnlessMemory result (S.stands self.now way.new
-            (past_after S.PublicKey.cmp (S.rate self.now way.old) past (max latest now)
-            (S.offered self.now way.old recipients))
-            (moment_after (S.offered self.now way.old recipients) latest now)) }
-        ensures left { (past : S.PublicKey → Seq ℕ) (latest : ℕ) → S.stands self.now way.old past latest →
-            UnlessMemory result (IsLeft (S.asked self.now way.old recipients)
-            (λ keys mid new. S.handed self.now mid keys (S.content_due self.now (V.encoding message)) priority new)
-            (check_by_law S.PublicKey.cmp (S.rate self.now way.old) past (max latest now)
-            (S.offered self.now way.old recipients)) result way.new) }
-        ensures serves { S.serves self.now way.new }
+        ensures send { IsSendOf (sender_at S.PublicKey.cmp S.Checked.checked S.LimitedSender self.now)
+            (λ told check r. r.items ≡ sent_to told check) way.old recipients (V.encoding message) priority now
+            result way.new }
+        ensures unsent { OnMemory result ((way.new ≡ way.old) ⊎ S.asked self.now way.old recipients way.new) }
     {
         self.send_ref(alloc, way, recipients, &message, priority, now)
     }
@@ -119,33 +97,10 @@ impl<S: Sender, V: Codec> WrappedSender<S, V> {
         now: u64,
     ) -> Result<Vec<S::PublicKey>, SendError>
         requires { S.serves self.now way.old }
-        ensures sent { (past : S.PublicKey → Seq ℕ) (latest : ℕ) → S.stands self.now way.old past latest →
-            IfOk result (λ r. r.items
-            ≡ sent_to (λ keys. S.told_after self.now way.old recipients keys
-            (S.content_due self.now (V.encoding message.now)) priority)
-            (check_by_law S.PublicKey.cmp (S.rate self.now way.old) past (max latest now)
-            (S.offered self.now way.old recipients))) }
-        ensures fits { (past : S.PublicKey → Seq ℕ) (latest : ℕ) → S.stands self.now way.old past latest →
-            OnOk result (
-            is_ok (check_by_law S.PublicKey.cmp (S.rate self.now way.old) past (max latest now)
-            (S.offered self.now way.old recipients)) ≡ true →
-            S.due self.now (V.encoding message.now) ≡ None) }
-        ensures refused { (past : S.PublicKey → Seq ℕ) (latest : ℕ) → S.stands self.now way.old past latest →
-            IfErr result (IsCauseAfter
-            (is_ok (check_by_law S.PublicKey.cmp (S.rate self.now way.old) past (max latest now)
-            (S.offered self.now way.old recipients)))
-            (S.due self.now (V.encoding message.now))) }
-        ensures stands { (past : S.PublicKey → Seq ℕ) (latest : ℕ) → S.stands self.now way.old past latest →
-            UnlessMemory result (S.stands self.now way.new
-            (past_after S.PublicKey.cmp (S.rate self.now way.old) past (max latest now)
-            (S.offered self.now way.old recipients))
-            (moment_after (S.offered self.now way.old recipients) latest now)) }
-        ensures left { (past : S.PublicKey → Seq ℕ) (latest : ℕ) → S.stands self.now way.old past latest →
-            UnlessMemory result (IsLeft (S.asked self.now way.old recipients)
-            (λ keys mid new. S.handed self.now mid keys (S.content_due self.now (V.encoding message.now)) priority new)
-            (check_by_law S.PublicKey.cmp (S.rate self.now way.old) past (max latest now)
-            (S.offered self.now way.old recipients)) result way.new) }
-        ensures serves { S.serves self.now way.new }
+        ensures send { IsSendOf (sender_at S.PublicKey.cmp S.Checked.checked S.LimitedSender self.now)
+            (λ told check r. r.items ≡ sent_to told check) way.old recipients (V.encoding message.now) priority now
+            result way.new }
+        ensures unsent { OnMemory result ((way.new ≡ way.old) ⊎ S.asked self.now way.old recipients way.new) }
     {
         let bytes = message.encode(alloc)?;
         self.sender
@@ -165,28 +120,8 @@ impl<S: Sender, V: Codec> WrappedSender<S, V> {
         now: u64,
     ) -> Result<Result<CheckedWrappedSender<S, V>, u128>, AllocError>
         requires { S.serves self.now way.old }
-        ensures law { (past : S.PublicKey → Seq ℕ) (latest : ℕ) → S.stands self.now way.old past latest →
-            IfOk result (λ r. keys_checked S.Checked.checked r
-            ≡ check_by_law S.PublicKey.cmp (S.rate self.now way.old) past (max latest now)
-            (S.offered self.now way.old recipients)) }
-        ensures stands { (past : S.PublicKey → Seq ℕ) (latest : ℕ) → S.stands self.now way.old past latest →
-            OnOk result (S.stands self.now way.new
-            (past_after S.PublicKey.cmp (S.rate self.now way.old) past (max latest now)
-            (S.offered self.now way.old recipients))
-            (moment_after (S.offered self.now way.old recipients) latest now)) }
-        ensures memory { (past : S.PublicKey → Seq ℕ) (latest : ℕ) → S.stands self.now way.old past latest →
-            OnErr result (S.stands self.now way.new past latest) }
-        ensures gave { IfOk result (λ r. IfOk r (λ c. S.gave self.now c)) }
-        ensures due { IfOk result (λ r. IfOk r
-            (λ c. (message : Seq ℕ) → S.refusal self.now c message ≡ S.due self.now message)) }
-        ensures content { IfOk result (λ r. IfOk r
-            (λ c. (message : Seq ℕ) → S.content self.now c message ≡ S.content_due self.now message)) }
-        ensures told { (keys : Seq S.PublicKey) (message : Seq ℕ) (priority : Bool) →
-            S.told self.now way.new keys message priority
-            ≡ S.told_after self.now way.old recipients keys message priority }
-        ensures rate { S.rate self.now way.new ≡ S.rate self.now way.old }
-        ensures asked { S.asked self.now way.old recipients way.new }
-        ensures serves { S.serves self.now way.new }
+        ensures { IsCheckOf (sender_at S.PublicKey.cmp S.Checked.checked S.LimitedSender self.now)
+            way.old recipients now result way.new }
     {
         match self.sender.check(alloc, way, recipients, now)? {
             Ok(checked) => Ok(Ok(CheckedWrappedSender {
@@ -237,17 +172,8 @@ impl<S: LimitedSender, V: Codec> CheckedWrappedSender<S, V> {
     ) -> Result<Unreliable, SendError>
         requires serves { S.serves sender.now way.old }
         requires gave { S.gave sender.now self }
-        ensures answer { IfOk result (λ u. u ≡ S.told sender.now way.old (S.Checked.checked self)
-            (S.content sender.now self (V.encoding message)) priority) }
-        ensures fits { OnOk result (S.refusal sender.now self (V.encoding message) ≡ None) }
-        ensures refused { IfErr result (λ e. IsCause (S.refusal sender.now self (V.encoding message)) e) }
-        ensures handed { OnOk result (S.handed sender.now way.old (S.Checked.checked self)
-            (S.content sender.now self (V.encoding message)) priority way.new) }
-        ensures unchanged { OnErr result (way.new ≡ way.old) }
-        ensures stands { (past : S.PublicKey → Seq ℕ) (latest : ℕ) → S.stands sender.now way.old past latest →
-            S.stands sender.now way.new past latest }
-        ensures rate { S.rate sender.now way.new ≡ S.rate sender.now way.old }
-        ensures serves { S.serves sender.now way.new }
+        ensures { IsSendCheckedOf (sender_at S.PublicKey.cmp S.Checked.checked S.LimitedSender sender.now)
+            way.old self (V.encoding message) priority result way.new }
     {
         self.send_ref(alloc, sender, way, &message, priority)
     }
@@ -265,17 +191,8 @@ impl<S: LimitedSender, V: Codec> CheckedWrappedSender<S, V> {
     ) -> Result<Unreliable, SendError>
         requires serves { S.serves sender.now way.old }
         requires gave { S.gave sender.now self }
-        ensures answer { IfOk result (λ u. u ≡ S.told sender.now way.old (S.Checked.checked self)
-            (S.content sender.now self (V.encoding message.now)) priority) }
-        ensures fits { OnOk result (S.refusal sender.now self (V.encoding message.now) ≡ None) }
-        ensures refused { IfErr result (λ e. IsCause (S.refusal sender.now self (V.encoding message.now)) e) }
-        ensures handed { OnOk result (S.handed sender.now way.old (S.Checked.checked self)
-            (S.content sender.now self (V.encoding message.now)) priority way.new) }
-        ensures unchanged { OnErr result (way.new ≡ way.old) }
-        ensures stands { (past : S.PublicKey → Seq ℕ) (latest : ℕ) → S.stands sender.now way.old past latest →
-            S.stands sender.now way.new past latest }
-        ensures rate { S.rate sender.now way.new ≡ S.rate sender.now way.old }
-        ensures serves { S.serves sender.now way.new }
+        ensures { IsSendCheckedOf (sender_at S.PublicKey.cmp S.Checked.checked S.LimitedSender sender.now)
+            way.old self (V.encoding message.now) priority result way.new }
     {
         let bytes = message.encode(alloc)?;
         let CheckedWrappedSender { checked, .. } = self;

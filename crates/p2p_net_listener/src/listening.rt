@@ -11,10 +11,10 @@ ghost use Rattle.p2p_net_listener.specs.Listening.{IsNew, arrived, Steps, told_i
 use p2p_address::SocketAddr;
 use p2p_base::Key;
 use p2p_gates::{Arrival, Config as GatesConfig, Handshake, Listener, Outcome, Put, Stepped};
-use p2p_tracker_calls::gates::Reply;
 use p2p_log::{Item, Queue};
 use p2p_log_rules::{ListeningEnd, Row};
 use p2p_net_queues::{Deque, Table, Turn};
+use p2p_tracker_calls::gates::Reply;
 use p2p_tracker_mailbox::Mailbox;
 use std::alloc::{AllocError, Global};
 

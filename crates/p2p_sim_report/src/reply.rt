@@ -8,8 +8,8 @@ use crate::text::{ToText, put, put_flag, put_hex, put_list, put_number};
 use crate::tracker_item::put_digits;
 use p2p_base::{Feedback, Key, Unreliable};
 use p2p_flow::{PeerSetUpdate, TrackedPeers};
-use p2p_tracker_calls::gates::Reply as GatesReply;
 use p2p_log::{Ended, Reply};
+use p2p_tracker_calls::gates::Reply as GatesReply;
 use std::alloc::AllocError;
 
 fn put_capacity(out: &mut String, capacity: u64) -> Result<(), AllocError>

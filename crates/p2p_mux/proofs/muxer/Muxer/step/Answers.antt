@@ -9,6 +9,6 @@ returns-in-Ok-clause-passed g c = λ m h.
     step-passes (g.R.Receiver.places c.self.inside.receiver) c.args.queues.now c.args.way.now
     (g.R.Receiver.received c.self.inside.receiver c.args.way.now)
     (g.R.Receiver.after_recv c.self.inside.receiver c.args.way.now)
-    c.in-Ok.stepped c.work.new.queues c.in-Ok.ensures.answer c.in-Ok.ensures.queues m
+    c.in-Ok.stepped c.work.new.queues c.in-Ok.ensures.step.answer c.in-Ok.ensures.step.queues_then m
     (subst (λ (v : Wrapping g.row.S.Denot g.row.R.Denot). TakesMessage c.args.queues.now (g.R.Receiver.received v.receiver c.args.way.now) m)
     (sym c.self.view_is) h)
