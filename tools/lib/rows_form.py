@@ -10,7 +10,8 @@ MEMBERS = ('end', 'put', 'reply', 'take')
 
 
 class Script:
-    """What a row runs. `due` has a line for each event, or None where it is not compared; `where` the line of the file."""
+    """What a row runs. `due` has a line for each event, or None where it is not told; `where` the line of the file; `refused`
+    the status and the value of the one line, or None where the script is run."""
 
     def __init__(self, path, line, title):
         self.path = path
@@ -178,8 +179,7 @@ def read_ends(script, row):
     if row.status:
         if row.fates:
             raise BadRows(row.fates[0].line, 'a script that is refused has no fates')
-        script.refused = int(row.status.words[0]), json.dumps(
-            read_value(row.status.line + 1, row.status.text(), script.labels), separators=(',', ':'), sort_keys=True)
+        script.refused = int(row.status.words[0]), read_value(row.status.line + 1, row.status.text(), script.labels)
     elif row.fates:
         script.fates = []
         for fate in row.fates:

@@ -12,7 +12,7 @@
         "reply":"ok","put":[..]                    and under it the members of its line, without `n` and empty lists, with
                                                    the braces around them or without
     first: {"do":"router","node":0}                an event with a label: `$first` is its number, also within a text
-        ...                                        its line is not compared
+        ...                                        of its line the spelling alone is compared
     fate [$first,0]: "waiting","router:0"          the fates of all copies, in order, or none
     status 8                                       instead of lines and fates: the script is refused, and this is written
         {"error":"event","event":$first}

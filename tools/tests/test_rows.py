@@ -6,8 +6,9 @@ import unittest
 
 import hello
 from files import TOP, beside, read_bytes, read_text, run_tool
+from rows_compare import compare, tell
 from rows_form import BadRows, Preludes, read_rows
-from rows_run import all_rows, compare, run_rows, tell
+from rows_run import all_rows, run_rows
 
 CONFIGS = 'configs:\n    [{"key":1},{"key":2}]\n'
 REGISTER = '{"do":"register","node":%d,"channel":7,"quota":{"burst":1,"period":5}}'
@@ -238,13 +239,85 @@ class Compared(Directory):
         self.assertEqual(told[4], '    and 1 more lines are others')
 
 
+# A part of the report of the first example, and the same values in another spelling.
+SPELLINGS = [
+    (b'{"end":[],"n":2,', b'{"end": [],"n":2,'),
+    (b'{"end":[],"n":2,', b'{"n":2,"end":[],'),
+    (b'{"end":[],"n":2,', b'{"n":3,"end":[],"n":2,'),
+    (b'{"subscribe":7}', b'{"subscr\\u0069be":7}'),
+    (b'\n{"end":[],"n":39', b'\r\n{"end":[],"n":39'),
+    (b'\n{"end":[],"n":2,', b' \n{"end":[],"n":2,'),
+    (b'{"copy":[36,0],"fate"', b'{"copy":[36, 0],"fate"'),
+    (b'"delivered","channel:1:7",40]}', b'"delivered","channel:1:7",40]} '),
+    (b'{"copies":1,"entries":41}\n', b'{"copies":1, "entries":41}\n'),
+    (b'{"copies":1,"entries":41}\n', b'{"entries":41,"copies":1}\n'),
+    (b'{"copies":1,"entries":41}\n', b'{"copies":1,"entries":41}'),
+]
+
+
+class Spelled(Directory):
+    """A report has each of its values in one spelling alone."""
+
+    def test_the_values_that_are_due_in_another_spelling_fail(self):
+        right = read_bytes(beside(hello.PATH, '.report'))
+        for old, new in SPELLINGS:
+            written = right.replace(old, new, 1)
+            self.assertTrue(written != right, old)
+            for fates in ('', 'fate [36,0]: "delivered","channel:1:7",40\n'):
+                with self.subTest(new):
+                    self.assertEqual(len(compare(self.row(hello_row(fates=fates)), 0, written)), 1)
+
+    def test_so_do_they_where_no_line_is_told(self):
+        lines = hello_row(fates='').split('\n')
+        body = '\n'.join('    ...' if line.startswith('    {') and '"sent"' not in line else line for line in lines)
+        row, right = self.row(body), read_bytes(beside(hello.PATH, '.report'))
+        self.assertEqual((len([due for due in row.due if due]), compare(row, 0, right)), (1, []))
+        for old, new in [*SPELLINGS, (b'"n":2,', b'"n":3,'), (b'"n":1,', b'"n":true,'), (b'"reply":"ok","take":[[2,0]]', b'"reply":"ok"'),
+                         (b'"reply":"ok"', b'"reply":1.5'), (b'"reply":"ok"', b'"reply":"\xff"')]:
+            with self.subTest(new):
+                self.assertEqual(len(compare(row, 0, right.replace(old, new, 1))), 1)
+
+    def test_a_refusal_in_another_spelling_fails(self):
+        row = self.row('{"do":"start","node":0}\nstatus 8\n    {"event":0,"error":"event"}\n')
+        self.assertEqual(compare(row, 8, b'{"error":"event","event":0}\n'), [])
+        for written in (b'{"event":0,"error":"event"}\n', b'{"error":"event","event":0}', b'{"error":"event", "event":0}\n'):
+            found, = compare(row, 8, written)
+            self.assertTrue(found.is_spelling, written)
+
+    def test_what_is_told_shows_the_spelling(self):
+        right = read_bytes(beside(hello.PATH, '.report'))
+        row = self.row(hello_row())
+        told = list(tell(row, compare(row, 0, right.replace(b'\n', b'\r\n'))))
+        self.assertEqual(told[2][:30].replace('due ', 'came'), told[3][:30])
+        self.assertTrue(told[3].endswith('}\\r'), told[3])
+        self.assertEqual(told[4:], ['    which is the same value in another spelling', '    and 41 more lines are others'])
+        told = list(tell(row, compare(row, 0, right[:-1])))
+        self.assertEqual(told[3], '    came {"copies":1,"entries":41}   without a line end')
+
+
 class Run(Directory):
 
+    def program(self, said):
+        """A program of the shell that does this."""
+        path = os.path.join(self.path, 'program')
+        with open(path, 'w') as out:
+            out.write('#!/bin/sh\n' + said)
+        os.chmod(path, 0o755)
+        return path
+
+    def test_a_program_that_writes_one_space_more_fails(self):
+        report = os.path.join(self.path, 'report')
+        program = self.program('cat > /dev/null\ncat %s\n' % report)
+        self.write('topic', HEAD + hello_row())
+        right = read_bytes(beside(hello.PATH, '.report'))
+        for written in (right, right.replace(b'"reply":"ok"', b'"reply": "ok"', 1)):
+            with open(report, 'wb') as out:
+                out.write(written)
+            told, = run_rows(all_rows(self.path, ['topic']), program)
+            self.assertEqual(told == [], written == right, told)
+
     def test_each_row_is_run_with_its_own_script(self):
-        program = os.path.join(self.path, 'program')
-        with open(program, 'w') as out:
-            out.write('#!/bin/sh\nread script\ncase "$1 $script" in\nrun*start*) echo 1;;\nrun*) echo 2;;\nesac\nexit 6\n')
-        os.chmod(program, 0o755)
+        program = self.program('read script\ncase "$1 $script" in\nrun*start*) echo 1;;\nrun*) echo 2;;\nesac\nexit 6\n')
         self.write('topic', '# A topic\n## One\n{"do":"start"}\nstatus 6\n    1\n## Other\n{"do":"x"}\nstatus 6\n    1\n')
         first, second = run_rows(all_rows(self.path, ['topic']), program)
         self.assertEqual((first, second[-2:]), ([], ['    due  status 6: 1', '    came status 6: 2']))
