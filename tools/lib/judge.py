@@ -1,7 +1,10 @@
-"""The verdict on a script: what is wrong with it, where, and with which status the program ends."""
+"""The verdict on a script: what is wrong with it, where, and with which status and which line the program ends."""
+import re
+
 from faults import Fault, Verdict
 from json_text import BadJson, Places, read_json
 from repeated import repeated_names
+from report_text import line_of
 from script_form import read_script
 from valid_input import configuration_faults, event_faults
 
@@ -16,6 +19,8 @@ CONCLUSIONS = {
     8: 'status 8: an event is not valid',
     None: 'status 6: this is not built yet',
 }
+ERRORS = {5: 'json', 6: 'script', 7: 'config', 8: 'event'}
+PLACE = re.compile(r'(?:configuration|event) ([0-9]+)')
 
 
 def judge_tree(tree):
@@ -63,3 +68,13 @@ def lines_of(path, text, verdict):
 def status_now(verdict):
     """The status that the program ends with today, where it has memory and its streams do not fail."""
     return 6 if verdict.status is None else verdict.status
+
+
+def refusal_now(verdict):
+    """What the program writes today of a script that it refuses: one line, or nothing where this is too long; None of one that
+    it runs. The configuration or the event that it tells is the first that is not valid."""
+    status = status_now(verdict)
+    if status in (0, 4):
+        return b'' if status == 4 else None
+    place = PLACE.match(verdict.faults[0].what) if status in (7, 8) else None
+    return line_of({'error': ERRORS[status], **({ERRORS[status]: int(place.group(1))} if place else {})})

@@ -7,7 +7,7 @@ from itertools import product
 import hello
 from files import TOP, beside, broken_scripts, examples, read_bytes, read_text, run_tool
 from json_text import read_json
-from judge import LIMIT, judge, lines_of, status_now
+from judge import LIMIT, judge, lines_of, refusal_now, status_now
 from script_form import read_script
 from words import U64
 
@@ -170,6 +170,16 @@ class Check(unittest.TestCase):
     def test_a_long_input_is_status_4(self):
         self.assertEqual(status_now(judge(b' ' * (LIMIT + 1))[1]), 4)
         self.assertEqual(status_now(judge(b' ' * LIMIT)[1]), 5)
+
+    def test_what_the_program_writes_of_a_refusal(self):
+        again = {'configs': [hello.configurations()[0]] * 2, 'script': [{'at': 0, 'do': 'start', 'node': 2}]}
+        cases = [(b' ' * (LIMIT + 1), b''), (b'', b'{"error":"json"}\n'), (b'{}', b'{"error":"script"}\n'),
+                 (json.dumps(again).encode(), b'{"config":1,"error":"config"}\n')]
+        for data, due in cases:
+            self.assertEqual(refusal_now(judge(data)[1]), due)
+        for node, due in ((0, None), (2, b'{"error":"event","event":1}\n')):
+            self.assertEqual(refusal_now(judged([send('all'), {'do': 'start', 'node': node}])), due)
+        self.assertEqual(refusal_now(judged([{'do': 'stop', 'node': 0}])), b'{"error":"script"}\n')
 
     def test_the_status_of_the_tool_tells_whether_the_program_runs_it(self):
         good = run_tool('check', os.path.join(TOP, 'examples', 'hello.json'))
