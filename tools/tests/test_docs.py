@@ -42,11 +42,16 @@ class Docs(unittest.TestCase):
 
     def test_what_is_quoted_stands_in_an_example(self):
         lines = example_lines()
-        for name, least in (('README.md', 6), (os.path.join('docs', 'FORMAT.md'), 20)):
+        of_format = glob.glob(os.path.join(TOP, 'docs', 'FORMAT-*.md'))
+        self.assertEqual(len(of_format), 4)
+        for name, least in [(README, 6), *((path, 1) for path in of_format)]:
             with self.subTest(name):
-                quoted = [line.strip() for line in read_text(os.path.join(TOP, name)).splitlines() if line.startswith('    {')]
+                quoted = [line.strip() for line in read_text(name).splitlines() if line.startswith('    {')]
                 self.assertGreaterEqual(len(quoted), least)
                 self.assertEqual([line for line in quoted if line not in lines], [])
+
+    def test_a_page_has_at_most_500_lines(self):
+        self.assertEqual([path for path in pages() if len(read_text(path).splitlines()) > 500], [])
 
     def test_the_readme_is_short(self):
         self.assertLess(len(read_text(README).split()), 900)
