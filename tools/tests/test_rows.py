@@ -9,6 +9,7 @@ from files import TOP, beside, read_bytes, read_text, run_tool
 from rows_compare import compare, tell
 from rows_form import BadRows, Preludes, read_rows
 from rows_run import all_rows, run_rows
+from shown import word_of
 
 CONFIGS = 'configs:\n    [{"key":1},{"key":2}]\n'
 REGISTER = '{"do":"register","node":%d,"channel":7,"quota":{"burst":1,"period":5}}'
@@ -64,16 +65,6 @@ HOWS = {
     'delivered', 'unbound', 'no_connection', 'relay_full', 'connection_ended', 'frame_refused', 'channel_unregistered',
     'mailbox_full', 'receiver_closed',
 }
-
-
-def word_of(reply):
-    """The word of a reply, with its meaning where that is a word too."""
-    if isinstance(reply, str):
-        return reply
-    (word, meaning), = reply.items()
-    if meaning is None or isinstance(meaning, str) and word != 'retry':
-        return '%s: %s' % (word, 'null' if meaning is None else meaning)
-    return word
 
 
 class Directory(unittest.TestCase):
