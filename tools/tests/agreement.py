@@ -1,5 +1,7 @@
-"""Where what is read off a report before an entry disagrees with what that entry then does."""
+"""Where what is read off a report before an entry disagrees with what that entry then does, or a refusal has no cause."""
 from run_state import RunState
+from same_run import OtherRun, check_same_run
+from why import why_lines
 from why_sends import admitted_of
 from why_tracker import cooling, not_free, why_refused, why_tracker
 
@@ -84,3 +86,14 @@ def disagreements(report, configurations, events):
                 found.append((entry.number, event['do'], came, due))
         state.step(entry)
     return found, compared
+
+
+def differing(report, configurations, events):
+    """Where a report is not that of the script, or does another thing than is read off it, or refuses without a cause that is
+    told; and how much was compared."""
+    try:
+        check_same_run(report, configurations, events)
+    except OtherRun as other:
+        return [other.reason], 0
+    found, compared = disagreements(report, configurations, events)
+    return found + [line for line in why_lines(report, configurations, events) if 'no cause is told' in line], compared

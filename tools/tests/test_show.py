@@ -11,6 +11,7 @@ from files import TOP, beside, read_text, reports, run_tool
 from journey import journeys
 from places import keys_of_nodes, link_ends, link_writers, links_of
 from report_form import BadReport, read_report
+from several import of_each
 
 HELLO = os.path.join(TOP, 'examples', 'hello.report')
 PINGS = os.path.join(TOP, 'examples', 'pings.report')
@@ -132,20 +133,22 @@ BAD = {
 
 class Show(unittest.TestCase):
 
-    def test_each_example_has_its_table(self):
-        for path in reports():
-            with self.subTest(os.path.basename(path)):
-                told = run_tool('show', path, '--script', beside(path, '.json'))
-                expected = os.path.join(TOP, 'tools', 'tests', 'tables', os.path.basename(beside(path, '.table')))
-                self.assertEqual((told.returncode, told.stdout.decode()), (0, read_text(expected)))
+    def test_each_example_has_its_table_and_its_picture_is_xml(self):
+        with tempfile.TemporaryDirectory() as folder:
+            def picture(path):
+                return os.path.join(folder, os.path.basename(beside(path, '.svg')))
+            shown = of_each(lambda path: run_tool('show', path, '--script', beside(path, '.json'), '--svg', picture(path)), reports())
+            for path, told in zip(reports(), shown):
+                with self.subTest(os.path.basename(path)):
+                    expected = os.path.join(TOP, 'tools', 'tests', 'tables', os.path.basename(beside(path, '.table')))
+                    self.assertEqual((told.returncode, told.stdout.decode()), (0, read_text(expected)))
+                    xml.dom.minidom.parse(picture(path))
 
-    def test_each_picture_is_xml(self):
+    def test_a_picture_needs_no_script(self):
         with tempfile.TemporaryDirectory() as folder:
             picture = os.path.join(folder, 'picture.svg')
-            for path in reports():
-                with self.subTest(os.path.basename(path)):
-                    self.assertEqual(run_tool('show', path, '--svg', picture).returncode, 0)
-                    xml.dom.minidom.parse(picture)
+            self.assertEqual(run_tool('show', PINGS, '--svg', picture).returncode, 0)
+            xml.dom.minidom.parse(picture)
 
     def test_the_picture_of_the_readme_is_that_of_its_example(self):
         with tempfile.TemporaryDirectory() as folder:

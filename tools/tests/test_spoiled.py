@@ -16,7 +16,7 @@ from same_run import OtherRun, check_same_run
 from spoil import spoil_bytes, spoil_value
 from why import why_lines
 
-EACH = 60
+EACH = 20
 
 
 def spoiled_reports(path):

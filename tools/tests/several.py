@@ -1,0 +1,24 @@
+"""The program on many inputs, several at a time."""
+import os
+import subprocess
+from concurrent.futures import ThreadPoolExecutor
+
+from files import TOP
+
+PROGRAM = os.environ.get('P2P_PROGRAM', os.path.join(TOP, 'p2p'))
+
+
+def of_each(act, given):
+    """What the act comes to for each of these, in order; as many run at a time as there are processors."""
+    with ThreadPoolExecutor(max_workers=os.cpu_count() or 1) as pool:
+        yield from pool.map(act, given)
+
+
+def run_program(data):
+    """What comes of a script, given as bytes."""
+    return subprocess.run([PROGRAM, 'run'], input=data, capture_output=True, check=False, timeout=60)
+
+
+def run_each(scripts):
+    """Each of these scripts, given as bytes, with what comes of it."""
+    return zip(scripts, of_each(run_program, scripts))
