@@ -4,6 +4,7 @@ import re
 import unittest
 
 from files import TOP, read_text
+from pages import pages
 from shown import Shown
 
 ROWS = re.compile(r'`(?:tests/)?([\w-]+\.rows)`')
@@ -22,6 +23,11 @@ class Model(unittest.TestCase):
     @classmethod
     def setUpClass(cls):
         cls.shown = Shown()
+
+    def test_each_file_of_rows_that_a_page_names_is_there(self):
+        named = {(os.path.relpath(path, TOP), name) for path in pages() for name in ROWS.findall(read_text(path))}
+        self.assertGreater(len(named), 20)
+        self.assertEqual([one for one in sorted(named) if not os.path.exists(os.path.join(TOP, 'tests', one[1]))], [])
 
     def test_each_reply_has_rows_that_show_it_to_each_act_that_is_told_it(self):
         named = set()
