@@ -3,9 +3,10 @@ import os
 import subprocess
 from concurrent.futures import ThreadPoolExecutor
 
-from files import TOP
 
-PROGRAM = os.environ.get('P2P_PROGRAM', os.path.join(TOP, 'p2p'))
+def program():
+    """The program that tools/test --program names; ./p2p itself may begin to build, and so is not run several times at once."""
+    return os.environ['P2P_PROGRAM']
 
 
 def of_each(act, given):
@@ -16,7 +17,7 @@ def of_each(act, given):
 
 def run_program(data):
     """What comes of a script, given as bytes."""
-    return subprocess.run([PROGRAM, 'run'], input=data, capture_output=True, check=False, timeout=60)
+    return subprocess.run([program(), 'run'], input=data, capture_output=True, check=False, timeout=60)
 
 
 def run_each(scripts):

@@ -8,7 +8,7 @@ from report_form import read_report
 from rows_compare import compare, tell
 from rows_form import BadRows
 from rows_run import all_rows, run
-from several import PROGRAM, of_each
+from several import of_each, program
 
 
 class AllRows(unittest.TestCase):
@@ -20,7 +20,7 @@ class AllRows(unittest.TestCase):
         if bad:
             raise AssertionError('\n'.join(bad))
         scripts = [row for _, row in rows]
-        cls.ran = list(zip(scripts, of_each(lambda row: run(row, PROGRAM), scripts)))
+        cls.ran = list(zip(scripts, of_each(lambda row: run(row, program()), scripts)))
 
     def test_each_row_comes_as_it_is_due(self):
         self.assertTrue(self.ran)

@@ -5,6 +5,7 @@ import subprocess
 import unittest
 
 from hello import BEFORE, LINK, RECEIVING, SENDING, beginning, configurations, lines_of_beginning
+from report_text import line_of, lines_of
 
 PROGRAM = os.environ['P2P_PROGRAM']
 MESSAGES = 400
@@ -60,5 +61,4 @@ class Long(unittest.TestCase):
         ran = subprocess.run([PROGRAM, 'run'], input=json.dumps(long_script()).encode(), capture_output=True, check=False,
                              timeout=60)
         self.assertEqual((ran.returncode, ran.stderr), (0, b''))
-        due = [json.dumps(line, separators=(',', ':')) for line in due_lines()]
-        self.assertEqual(ran.stdout.decode().splitlines(), due)
+        self.assertEqual(lines_of(ran.stdout), list(map(line_of, due_lines())))
