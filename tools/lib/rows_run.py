@@ -12,10 +12,11 @@ SECONDS = 60
 
 
 def run(script, program):
-    """Runs a script: the status and what was written."""
+    """Runs a script: the status and what was written, to standard error too, where nothing is due."""
     text = json.dumps({'configs': script.configs, 'script': script.events})
     try:
-        ran = subprocess.run([program, 'run'], input=text.encode(), stdout=subprocess.PIPE, check=False, timeout=SECONDS)
+        ran = subprocess.run([program, 'run'], input=text.encode(), stdout=subprocess.PIPE, stderr=subprocess.STDOUT, check=False,
+                             timeout=SECONDS)
     except subprocess.TimeoutExpired:
         return -1, b'it had not ended after %d seconds' % SECONDS
     return ran.returncode, ran.stdout

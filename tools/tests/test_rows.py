@@ -307,6 +307,13 @@ class Run(Directory):
             told, = run_rows(all_rows(self.path, ['topic']), program)
             self.assertEqual(told == [], written == right, told)
 
+    def test_a_program_that_writes_to_standard_error_fails(self):
+        report = beside(hello.PATH, '.report')
+        self.write('topic', HEAD + hello_row())
+        for said, passes in (('cat %s' % report, True), ('cat %s; echo done >&2' % report, False), ('echo >&2; cat %s' % report, False)):
+            told, = run_rows(all_rows(self.path, ['topic']), self.program('cat > /dev/null\n%s\n' % said))
+            self.assertEqual(told == [], passes, told)
+
     def test_each_row_is_run_with_its_own_script(self):
         program = self.program('read script\ncase "$1 $script" in\nrun*start*) echo 1;;\nrun*) echo 2;;\nesac\nexit 6\n')
         self.write('topic', '# A topic\n## One\n{"do":"start"}\nstatus 6\n    1\n## Other\n{"do":"x"}\nstatus 6\n    1\n')
