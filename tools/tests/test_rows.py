@@ -263,7 +263,7 @@ class Spelled(Directory):
         body = '\n'.join('    ...' if line.startswith('    {') and '"sent"' not in line else line for line in lines)
         row, right = self.row(body), read_bytes(beside(hello.PATH, '.report'))
         self.assertEqual((len([due for due in row.due if due]), compare(row, 0, right)), (1, []))
-        for old, new in [*SPELLINGS, (b'"n":2,', b'"n":3,'), (b'"n":1,', b'"n":true,'), (b'"reply":"ok","take":[[2,0]]', b'"reply":"ok"'),
+        for old, new in [*SPELLINGS, (b'"n":2,', b'"n":3,'), (b'"n":1,', b'"n":true,'), (b',"take":[[2,0]]', b''),
                          (b'"reply":"ok"', b'"reply":1.5'), (b'"reply":"ok"', b'"reply":"\xff"')]:
             with self.subTest(new):
                 self.assertEqual(len(compare(row, 0, right.replace(old, new, 1))), 1)
@@ -310,8 +310,9 @@ class Run(Directory):
     def test_a_program_that_writes_to_standard_error_fails(self):
         report = beside(hello.PATH, '.report')
         self.write('topic', HEAD + hello_row())
-        for said, passes in (('cat %s' % report, True), ('cat %s; echo done >&2' % report, False), ('echo >&2; cat %s' % report, False)):
-            told, = run_rows(all_rows(self.path, ['topic']), self.program('cat > /dev/null\n%s\n' % said))
+        for said, passes in (('cat %s', True), ('cat %s; echo done >&2', False), ('echo >&2; cat %s', False)):
+            program = self.program('cat > /dev/null\n%s\n' % (said % report))
+            told, = run_rows(all_rows(self.path, ['topic']), program)
             self.assertEqual(told == [], passes, told)
 
     def test_each_row_is_run_with_its_own_script(self):
