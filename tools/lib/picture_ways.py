@@ -30,6 +30,16 @@ def names_text(names):
     return ' '.join('[%d,%d]' % name for name in names) if len(names) <= MOST_NAMED else '%d copies' % len(names)
 
 
+def lanes_of(journeys):
+    """How far beside the nodes' lines each copy goes: on the first lane that no earlier copy is on, and in turn, where none is free."""
+    free_from = [0] * len(LANES)
+    for place, journey in enumerate(journeys):
+        send, end = journey.name[0], journey.end_entry()
+        lane = next((lane for lane, free in enumerate(free_from) if free <= send), place % len(LANES))
+        free_from[lane] = float('inf') if end is None else max(free_from[lane], end + 1)
+        yield LANES[lane]
+
+
 class Ways:
     """Draws each copy: its way, and what it leaves at the rows of its entries."""
 
@@ -41,9 +51,9 @@ class Ways:
         self.labelled = set()
 
     def draw(self):
-        for place, journey in enumerate(self.chart.journeys):
-            if journey.sender in self.chart.places:
-                self.draw_journey(journey, COLOURS[place % len(COLOURS)], LANES[place % len(LANES)])
+        drawn = [journey for journey in self.chart.journeys if journey.sender in self.chart.places]
+        for place, (journey, lane) in enumerate(zip(drawn, lanes_of(drawn))):
+            self.draw_journey(journey, COLOURS[place % len(COLOURS)], lane)
         self.label_begun()
         self.label_ended()
 

@@ -10,6 +10,7 @@ from chart import Chart
 from files import TOP, beside, read_text, run_tool
 from journey import journeys
 from moments import duration_text, later_text
+from picture_ways import lanes_of
 from picture_words import CONTROL, DROPPED, REFUSED, item_label
 from report_form import read_report
 from set_up import connections_made, length_of_set_up
@@ -113,3 +114,8 @@ class Picture(unittest.TestCase):
         heights = re.findall(r'<text x="[^"]*" y="(\d+)" class="(?:small|control)"', ''.join(row.shapes))
         self.assertEqual(sorted(map(int, heights)), [4, 17, 30, 43])
         self.assertEqual(row.height, 24 + 3 * 13)
+
+    def test_copies_that_follow_each_other_are_on_the_line_and_others_beside_it(self):
+        for name, due in (('pings', [0, 0]), ('quotas', [0, 7, -7, 14, -14]), ('ended', [0, 7, -7, 14, -14, 0, 7, 0, 0, 0])):
+            report, events = example(name)
+            self.assertEqual((name, list(lanes_of(journeys(report, events)))), (name, due))
