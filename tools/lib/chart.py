@@ -40,7 +40,7 @@ class Chart:
         self.axis = self.axis_of_moments()
         self.left = self.axis + 10 + WORDS
         self.rows = {entry.number: self.row_of(entry) for entry in report.entries[first:last + 1]}
-        self.fold = self.folded_row() if folded and first > 0 else None
+        self.fold = self.folded_row(first) if folded and first > 0 else None
         self.foot = Row(None, '')
         self.draw_links()
         self.ways = Ways(self)
@@ -115,11 +115,11 @@ class Chart:
                 words = svg.text(x2 - 12, -4, 'link %d' % link, anchor='end', colour=LINK)
                 self.rows[link].below(svg.line(x1, 0, x2, 0, LINK, 1.4, '5,4') + words)
 
-    def folded_row(self):
-        """The row that stands for all entries before the first that is drawn, with the connections that they made."""
-        row = Row(None, 'Entries 0 to %d come before the first message.' % (self.first - 1), self.event_at(self.first - 1).get('at'))
-        row.add(svg.text(self.axis + 10, 4, '0 to %d  set-up, folded' % (self.first - 1), 'row', colour=CONTROL))
-        found = connections_made(self.report, self.report.entries[:self.first])
+    def folded_row(self, count):
+        """The row that stands for so many entries, with the connections that they made."""
+        row = Row(None, 'Entries 0 to %d come before the first message.' % (count - 1), self.event_at(count - 1).get('at'))
+        row.add(svg.text(self.axis + 10, 4, '0 to %d  set-up, folded' % (count - 1), 'row', colour=CONTROL))
+        found = connections_made(self.report, self.report.entries[:count])
         for node in self.nodes:
             made = [one for one in found if one[1] == node]
             for conn, _, key, link in made[:MOST_CONNECTIONS]:
