@@ -4,7 +4,7 @@ import svg
 ROW = 24
 LABEL = 13
 # How wide a letter is at most, of the two sizes in which labels are written.
-WIDE = {'small': 6.9, 'control': 6.2}
+WIDE = {'small': 6.4, 'control': 5.7}
 
 
 class Row:

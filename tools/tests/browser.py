@@ -1,4 +1,4 @@
-"""A browser without a window, where there is one: it opens a page, does what a script says, and tells what the page then is."""
+"""A browser without a window, where there is one: it opens a page, runs a script in it, and hands back what that answers."""
 import base64
 import json
 import os
@@ -17,6 +17,10 @@ DOING = '''<pre id="told"></pre><script>
 </script>'''
 
 
+class NoBrowser(Exception):
+    """The browser showed no page at all, and why."""
+
+
 def browser():
     """The path of a browser, or None."""
     return next(filter(None, map(shutil.which, NAMES)), None)
@@ -27,13 +31,13 @@ def told_by(page, folder, script, address=''):
     path = os.path.join(folder, 'page.html')
     with open(path, 'w', encoding='utf-8') as out:
         out.write(page.replace('</html>', DOING % script + '</html>'))
-    words = [browser(), '--headless', '--disable-gpu', '--window-size=1400,900', '--virtual-time-budget=2000',
+    words = [browser(), '--headless', '--disable-gpu', '--disable-dev-shm-usage', '--window-size=1400,900', '--virtual-time-budget=2000',
              '--user-data-dir=' + os.path.join(folder, 'profile'), '--dump-dom', 'file://' + path + address]
     if os.geteuid() == 0:
         # As root the browser starts in no other way; the page is one that this test wrote.
         words.insert(1, '--no-sandbox')
     ran = subprocess.run(words, capture_output=True, check=False, timeout=60)
-    found = TOLD.search(ran.stdout.decode('utf-8', 'replace'))
-    if not found:
-        raise AssertionError('the browser told nothing: %s' % ran.stderr.decode('utf-8', 'replace')[-600:])
-    return json.loads(base64.b64decode(found.group(1)).decode('utf-8'))
+    shown = ran.stdout.decode('utf-8', 'replace')
+    if '</html>' not in shown:
+        raise NoBrowser(ran.stderr.decode('utf-8', 'replace')[-600:])
+    return json.loads(base64.b64decode(TOLD.search(shown).group(1)).decode('utf-8'))

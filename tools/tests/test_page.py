@@ -5,7 +5,7 @@ import re
 import tempfile
 import unittest
 
-from browser import browser, told_by
+from browser import NoBrowser, browser, told_by
 from entry_tags import Tagger
 from files import TOP, beside, read_text, run_tool
 from hello import BEFORE
@@ -131,7 +131,10 @@ class InABrowser(unittest.TestCase):
 
     def told(self, report, events, script, address=''):
         with tempfile.TemporaryDirectory() as folder:
-            return told_by(page_of(report, events), folder, script, address)
+            try:
+                return told_by(page_of(report, events), folder, script, address)
+            except NoBrowser as why:
+                return self.skipTest('the page is not tried: the browser does not start here: %s' % why)
 
     def test_a_click_shows_an_entry_and_a_choice_those_that_it_is_about(self):
         told = self.told(*example('ended'), DOING)
@@ -145,7 +148,8 @@ class InABrowser(unittest.TestCase):
         self.assertEqual(told['both'], ['fold', 86, 88, 90, 92, 94, 98])
         self.assertTrue(set(told['both']) < set(told['node']) < set(told['before']))
         self.assertEqual((told['copy'], told['ways']), (['fold', 52, 59], 1))
-        self.assertIn('Copy [52,0]', told['way'])
+        for words in ('Copy [52,0]', 'entry 52: into router:1', 'entry 59: connection_ended'):
+            self.assertIn(words, told['way'])
         self.assertEqual(told['all'], 130)
 
     def test_ten_thousand_entries_answer_at_once(self):

@@ -56,8 +56,26 @@ function endText(end) {
 }
 
 function tagText(number) {
-  return KINDS.slice(0, 3).map((kind, place) => data.tags[number][place].map(name => `<a data-kind="${kind}" data-name="${name}">${kind} ${name}</a>`))
-    .flat().join(", ");
+  const links = KINDS.slice(0, 3).map((kind, place) => data.tags[number][place].map(name => toOnly(kind, name)));
+  return links.flat().join(", ");
+}
+
+function toOnly(kind, name) {
+  return `<a data-kind="${kind}" data-name="${plain(name)}">${kind} ${plain(name)}</a>`;
+}
+
+function carries(value, name) {
+  if (value === null || typeof value !== "object") return false;
+  if (Array.isArray(value.copy)) return value.copy.join() === name;
+  return Boolean(value.content) && name.startsWith(value.content.send + ",");
+}
+
+// What an entry did with a copy: into which queue it went there, how it ended, or that it was only taken.
+function stepText(number, name) {
+  const said = read(data.lines[number]);
+  const into = said.put.filter(([, value]) => carries(value, name)).map(([queue]) => `into <code>${plain(queue)}</code>`);
+  const ended = said.end.filter(end => end[0] === "copy" && end.slice(1, 3).join() === name).map(end => plain(end[3]));
+  return `${toEntry(number)}: ${[...into, ...ended].join(", ") || plain(write(said.reply))}`;
 }
 
 function tellEntry(number) {
@@ -74,9 +92,9 @@ function tellEntry(number) {
 
 function tellCopy(name) {
   const way = [];
-  data.tags.forEach((tags, number) => { if (tags[3].includes(name)) way.push(`${toEntry(number)}: <code>${plain(write(read(data.lines[number]).reply))}</code>`); });
-  detail.innerHTML = `<h2>Copy [${plain(name)}]</h2><pre>${plain(data.copies[name])}</pre>` + part("Its entries", way)
-    + `<h3>Show only</h3><a data-kind="copy" data-name="${plain(name)}">copy ${plain(name)}</a>`;
+  data.tags.forEach((tags, number) => { if (tags[3].includes(name)) way.push(stepText(number, name)); });
+  detail.innerHTML = `<h2>Copy [${plain(name)}]</h2><pre>${plain(data.copies[name])}</pre>` + part("Its way", way)
+    + `<h3>Show only</h3>${toOnly("copy", name)}`;
 }
 
 function choose(number) {
