@@ -18,12 +18,15 @@ DOING = '''<pre id="told"></pre><script>
 
 
 class NoBrowser(Exception):
-    """The browser showed no page at all, and why."""
+    """There is no browser here, or it showed no page at all, and why."""
 
 
 def browser():
-    """The path of a browser, or None."""
-    return next(filter(None, map(shutil.which, NAMES)), None)
+    """The path of a browser."""
+    found = next(filter(None, map(shutil.which, NAMES)), None)
+    if found is None:
+        raise NoBrowser('there is none here: %s' % ', '.join(NAMES))
+    return found
 
 
 def told_by(page, folder, script, address=''):
@@ -39,5 +42,5 @@ def told_by(page, folder, script, address=''):
     ran = subprocess.run(words, capture_output=True, check=False, timeout=60)
     shown = ran.stdout.decode('utf-8', 'replace')
     if '</html>' not in shown:
-        raise NoBrowser(ran.stderr.decode('utf-8', 'replace')[-600:])
+        raise NoBrowser('it does not start: %s' % ran.stderr.decode('utf-8', 'replace')[-600:])
     return json.loads(base64.b64decode(TOLD.search(shown).group(1)).decode('utf-8'))

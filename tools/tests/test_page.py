@@ -5,7 +5,7 @@ import re
 import tempfile
 import unittest
 
-from browser import NoBrowser, browser, told_by
+from browser import NoBrowser, told_by
 from entry_tags import Tagger
 from files import TOP, beside, read_text, run_tool
 from hello import BEFORE
@@ -126,15 +126,18 @@ class Page(unittest.TestCase):
             self.assertEqual(run_tool('show', ENDED, '--html', os.path.join(folder, 'none', 'page.html')).returncode, 1)
 
 
-@unittest.skipUnless(browser(), 'the page is not tried: there is no browser here, such as chromium')
 class InABrowser(unittest.TestCase):
 
+    def leave_out(self, why):
+        print('the page is not tried in a browser: %s' % why)
+        self.skipTest(why)
+
     def told(self, report, events, script, address=''):
-        with tempfile.TemporaryDirectory() as folder:
-            try:
+        try:
+            with tempfile.TemporaryDirectory() as folder:
                 return told_by(page_of(report, events), folder, script, address)
-            except NoBrowser as why:
-                return self.skipTest('the page is not tried: the browser does not start here: %s' % why)
+        except NoBrowser as why:
+            return self.leave_out(str(why))
 
     def test_a_click_shows_an_entry_and_a_choice_those_that_it_is_about(self):
         told = self.told(*example('ended'), DOING)
