@@ -9,7 +9,7 @@ from places import all_nodes, keys_of_nodes, link_ends, link_writers, links_of, 
 from set_up import connections_made
 from sheet import Sheet
 
-GAP = 260
+GAP = 300
 LANE_ROOM = 22
 BESIDE = 84
 LAST_WIDTH = 420

@@ -1,5 +1,6 @@
 """A row of a picture: what stands at one entry. Its heights count from the line of the entry."""
 import svg
+from picture_words import short
 
 ROW = 24
 LABEL = 13
@@ -32,8 +33,9 @@ class Row:
         self.shapes.insert(0, shape)
 
     def label(self, column, words, colour, kind='small'):
-        """Words in a column, given by its left end and its width; once for what is said there twice."""
+        """Words in a column, given by its left end and its width, cut where it ends; once for what is said there twice."""
         left, width = column
+        words = short(words, int(width / WIDE[kind]))
         if (left, words) in self.said:
             return
         self.said.add((left, words))

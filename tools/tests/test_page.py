@@ -6,6 +6,7 @@ import tempfile
 import unittest
 
 from browser import NoBrowser, told_by
+from chart import Chart
 from entry_tags import Tagger
 from files import TOP, beside, read_text, run_tool
 from hello import BEFORE
@@ -17,6 +18,7 @@ from set_up import length_of_set_up
 ENDED = os.path.join(TOP, 'examples', 'ended.report')
 DATA = re.compile(r'<script type="application/json" id="data">(.*?)</script>', re.DOTALL)
 SHIFTED = re.compile(r'"n":(\d+)|"send":(\d+)|\[(\d+),0\]|\["copy",(\d+),0')
+LEG = re.compile(r'<line x1="([^"]*)" y1="([^"]*)" x2="([^"]*)" y2="([^"]*)"')
 TIMES = 1993
 # At once, to a reader, and also on a machine that is busy with proofs.
 SOON = 1000
@@ -25,6 +27,10 @@ DOING = '''
   const click = one => one.dispatchEvent(new MouseEvent("click", { bubbles: true }));
   const shown = () => layout.items.map(one => one.number), told = { before: shown() };
   const choose = (kind, name) => { field(kind).value = name; field(kind).dispatchEvent(new Event("change")); return shown(); };
+  zoom(0.3);
+  const leg = one => ["x1", "y1", "x2", "y2"].map(name => Number(one.getAttribute(name)));
+  told.legs = [...document.querySelectorAll("#rows g[data-copy] line")].map(leg);
+  zoom(1 / 0.3);
   click(document.querySelector('#rows g[data-n="57"]'));
   told.entry = detail.innerText;
   told.links = [...detail.querySelectorAll("a[data-to]")].map(one => one.dataset.to);
@@ -67,6 +73,14 @@ def example(name):
 
 def page_of(report, events, name='a report'):
     return page(report, journeys(report, events), events, length_of_set_up(report, events), name)
+
+
+def legs_of_picture(name):
+    """Each line of a copy's way in the picture of an example: its two ends."""
+    report, events = example(name)
+    drawn = Chart(report, journeys(report, events), events, length_of_set_up(report, events), len(report.entries) - 1, True).draw()
+    copies = re.findall(r'<g><title>{"copy":.*?</g>', drawn)
+    return [tuple(map(float, ends)) for copy in copies for ends in LEG.findall(copy)]
 
 
 def shifted(line, by):
@@ -139,6 +153,14 @@ class InABrowser(unittest.TestCase):
         except NoBrowser as why:
             return self.leave_out(str(why))
 
+    def assert_same_legs(self, on_page, in_picture):
+        """That the copies go the same ways on both; the page has no legend above its rows, so all is higher by as much."""
+        self.assertEqual(len(on_page), len(in_picture))
+        higher = in_picture[0][1] - on_page[0][1]
+        for one, other in zip(on_page, in_picture):
+            for found, due in zip(one, (other[0], other[1] - higher, other[2], other[3] - higher)):
+                self.assertAlmostEqual(found, due, delta=0.2)
+
     def test_a_click_shows_an_entry_and_a_choice_those_that_it_is_about(self):
         told = self.told(*example('ended'), DOING)
         for words in ('Entry 57', 'at 0 s', '"reply":{"ended":"killed"}', 'control:1:26 "kill", put by entry 56',
@@ -154,6 +176,7 @@ class InABrowser(unittest.TestCase):
         for words in ('Copy [52,0]', 'entry 52: into router:1', 'entry 59: connection_ended'):
             self.assertIn(words, told['way'])
         self.assertEqual(told['all'], 130)
+        self.assert_same_legs(told['legs'], legs_of_picture('ended'))
 
     def test_ten_thousand_entries_answer_at_once(self):
         report = long_report()

@@ -10,11 +10,13 @@ from chart import Chart
 from files import TOP, beside, read_text, run_tool
 from journey import journeys
 from moments import duration_text, later_text
+from picture_row import WIDE, Row
 from picture_ways import lanes_of
 from picture_words import CONTROL, DROPPED, REFUSED, item_label
 from report_form import read_report
 from set_up import connections_made, length_of_set_up
 
+LABEL = re.compile(r'<text x="([^"]*)" y="(\d+)" class="(small|control)"(?: style="[^"]*")?>([^<]*)<')
 ITEMS = {
     ('router:0', '{"subscribe":7}'): ('subscribe 7 → router', CONTROL),
     ('tracker:0', '{"dial":3}'): ('dial 3 → tracker', CONTROL),
@@ -110,10 +112,20 @@ class Picture(unittest.TestCase):
         self.assertIn('>5 copies wait in router:0<', chart_of('quotas', True).draw())
 
     def test_labels_of_one_row_do_not_lie_on_each_other(self):
-        row = chart_of('ended', False).rows[64]
-        heights = re.findall(r'<text x="[^"]*" y="(\d+)" class="(?:small|control)"', ''.join(row.shapes))
-        self.assertEqual(sorted(map(int, heights)), [4, 17, 30, 43])
-        self.assertEqual(row.height, 24 + 3 * 13)
+        self.assertEqual(chart_of('ended', False).rows[64].height, 24 + 2 * 13)
+        for name in ('ended', 'three-nodes', 'recipients'):
+            rows = chart_of(name, False).rows.values()
+            for row in rows:
+                labels = sorted((int(y), float(x), kind, words) for x, y, kind, words in LABEL.findall(''.join(row.shapes)))
+                for (y, x, kind, words), (below, right, _, _) in zip(labels, labels[1:]):
+                    self.assertTrue(y < below or x + WIDE[kind] * len(words) < right, (name, row.number, words))
+                self.assertLess(max([y for y, *_ in labels], default=0), row.height - 6)
+
+    def test_a_label_that_is_wider_than_its_column_is_cut(self):
+        row = Row(0, '')
+        row.label((100, 64), 'ten marks.', CONTROL)
+        row.label((200, 64), 'eleven mark', CONTROL)
+        self.assertEqual(re.findall('>([^<]*)</text>', ''.join(row.shapes)), ['ten marks.', 'eleven ma…'])
 
     def test_copies_that_follow_each_other_are_on_the_line_and_others_beside_it(self):
         for name, due in (('pings', [0, 0]), ('quotas', [0, 7, -7, 14, -14]), ('ended', [0, 7, -7, 14, -14, 0, 7, 0, 0, 0])):
