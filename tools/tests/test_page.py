@@ -62,7 +62,8 @@ LONG_DOING = '''
     zoom: timed(() => { for (let times = 0; times < 6; times++) zoom(1 / 1.25); }),
     end: timed(() => { view.scrollTop = 1e9; draw(false); }),
   };
-  return { times, rows: document.querySelectorAll("#rows g[data-n]").length, last: !!document.querySelector('#rows g[data-n="10000"]'), text: detail.innerText };
+  const drawn = [...document.querySelectorAll("#rows g[data-n]")].map(one => one.dataset.n);
+  return { times, rows: drawn.length, last: drawn.includes("10000"), text: detail.innerText };
 '''
 
 

@@ -7,7 +7,8 @@ function plain(words) {
 }
 
 function line(x1, y1, x2, y2, colour, width, dash) {
-  return `<line x1="${x1}" y1="${y1}" x2="${x2}" y2="${y2}" stroke="${colour}" stroke-width="${width}"${dash ? ` stroke-dasharray="${dash}"` : ""}/>`;
+  const dashes = dash ? ` stroke-dasharray="${dash}"` : "";
+  return `<line x1="${x1}" y1="${y1}" x2="${x2}" y2="${y2}" stroke="${colour}" stroke-width="${width}"${dashes}/>`;
 }
 
 function arrow(x1, y1, x2, y2, colour, dash) {
