@@ -91,7 +91,7 @@ class Chart:
         event, refused = self.event_at(entry.number), refuses(entry.reply)
         row = Row(entry.number, entry.line, event.get('at'))
         words = '%d  %s%s' % (entry.number, event_text(event), reply_text(entry.reply))
-        row.add(svg.text(self.axis + 10, 4, short(words, MOST_OF_A_ROW), 'row', colour=REFUSED if refused else None))
+        row.words = svg.text(self.axis + 10, 4, short(words, MOST_OF_A_ROW), 'row', colour=REFUSED if refused else None)
         ended = isinstance(entry.reply, dict) and 'ended' in entry.reply
         for node in self.nodes_at(entry.number):
             row.add(svg.cross(self.x(node), 0, 5, DROPPED) if ended else svg.dot(self.x(node), 0, 2.2, REFUSED if refused else QUIET))
@@ -118,7 +118,7 @@ class Chart:
     def folded_row(self, count):
         """The row that stands for so many entries, with the connections that they made."""
         row = Row(None, 'Entries 0 to %d come before the first message.' % (count - 1), self.event_at(count - 1).get('at'))
-        row.add(svg.text(self.axis + 10, 4, '0 to %d  set-up, folded' % (count - 1), 'row', colour=CONTROL))
+        row.words = svg.text(self.axis + 10, 4, '0 to %d  set-up, folded' % (count - 1), 'row', colour=CONTROL)
         found = connections_made(self.report, self.report.entries[:count])
         for node in self.nodes:
             made = [one for one in found if one[1] == node]

@@ -25,8 +25,8 @@ def part(name):
 
 
 def row_data(row):
-    """A row for the page: its shapes, its height, and its moment in digits, since it may be beyond what a browser counts."""
-    return [''.join(row.shapes), row.height, None if row.at is None else str(row.at)]
+    """A row for the page: its shapes, its height, its moment in digits, since it may be beyond what a browser counts, and its words."""
+    return [''.join(row.shapes), row.height, None if row.at is None else str(row.at), row.words]
 
 
 def tag_data(tags):
@@ -40,7 +40,7 @@ def page_data(chart, set_up):
     shapes, height = legend(LEGEND_WIDTH)
     width = Sheet(chart).width
     return {
-        'width': width, 'axis': chart.axis, 'left': chart.left, 'nodes': [chart.x(node) for node in chart.nodes],
+        'width': width, 'axis': chart.axis, 'left': chart.left, 'nodes': {node: chart.x(node) for node in chart.nodes},
         'head': [''.join(chart.heads()), HEAD], 'legend': [''.join(shapes), LEGEND_WIDTH, height], 'row': ROW,
         'jump': [JUMP, band_shape(chart.axis, width), ''.join(gap_shapes(chart.axis, MARK))], 'mark': MARK,
         'setUp': set_up, 'fold': row_data(chart.folded_row(set_up)) if set_up else None, 'foot': row_data(chart.foot),

@@ -9,12 +9,13 @@ WIDE = {'small': 6.4, 'control': 5.7}
 
 
 class Row:
-    """The shapes of an entry, and its labels, which fill each column line by line."""
+    """The words of an entry, its shapes, and its labels, which fill each column line by line."""
 
     def __init__(self, number, title, at=None):
         self.number = number
         self.title = title
         self.at = at
+        self.words = ''
         self.shapes = []
         self.lines = 1
         self.ends = {}

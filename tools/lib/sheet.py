@@ -61,7 +61,7 @@ class Sheet:
             self.ground.append(svg.line(axis, self.bottom, axis, self.bottom + row.height, AXIS, 1.2))
             timed = moment_shapes(axis, row.at, before != row.at)
             self.last_moment = row.at
-        self.shapes.append(svg.group([*timed, *row.shapes], row.title, y))
+        self.shapes.append(svg.group([*timed, row.words, *row.shapes], row.title, y))
         self.bottom += row.height
         return y
 

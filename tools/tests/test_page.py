@@ -31,6 +31,7 @@ DOING = '''
   const leg = one => ["x1", "y1", "x2", "y2"].map(name => Number(one.getAttribute(name)));
   told.legs = [...document.querySelectorAll("#rows g[data-copy] line")].map(leg);
   zoom(1 / 0.3);
+  told.words = words.querySelector('g[data-n="57"] .row').textContent;
   click(document.querySelector('#rows g[data-n="57"]'));
   told.entry = detail.innerText;
   told.links = [...detail.querySelectorAll("a[data-to]")].map(one => one.dataset.to);
@@ -167,6 +168,7 @@ class InABrowser(unittest.TestCase):
         for words in ('Entry 57', 'at 0 s', '"reply":{"ended":"killed"}', 'control:1:26 "kill", put by entry 56',
                       'router:1 {"release":1}: taken by entry 60', 'copy [40,0]: connection_ended'):
             self.assertIn(words, told.get('entry', told))
+        self.assertEqual(told['words'], '57  node 1 send_step: killed')
         self.assertEqual(told['links'], ['56', '58', '56', '60', '68', '54', '53', '46', '44'])
         self.assertEqual(told['second'], ['Entry 60', '#entry=60'])
         self.assertEqual(told['channel'][0], '7')

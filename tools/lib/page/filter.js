@@ -36,7 +36,9 @@ function change(what) {
   Object.assign(state, what);
   tellState();
   drawAll();
+  const first = layout.items.find(item => typeof item.number === "number");
   if (state.chosen !== null && isShown(state.chosen)) reveal(state.chosen);
+  else if (isFiltered() && first) reveal(first.number);
 }
 
 function clearFilter() {

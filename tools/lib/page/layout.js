@@ -25,8 +25,8 @@ function durationText(digits) {
 function lay() {
   layout.items = [];
   let y = 4, moment = null;
-  const place = (number, [shapes, height, at]) => {
-    const item = { number, shapes, at: null, gap: null };
+  const place = (number, [shapes, height, at, words]) => {
+    const item = { number, shapes, words, at: null, gap: null };
     if (at !== null && moment !== null && at !== moment) {
       item.gap = { y, words: durationText(BigInt(at) - BigInt(moment)) + " later" };
       y += data.jump[0];

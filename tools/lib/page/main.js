@@ -29,14 +29,14 @@ function showLegend() {
 
 function open() {
   readState();
-  tellState();
-  drawAll();
+  change({});
   if (state.chosen !== null) choose(state.chosen);
   else if (state.copy in data.copies) tellCopy(state.copy);
   else detail.innerHTML = "<p>A click on a row shows its line, and what it took, put and ended; a click on a copy its way.</p>";
 }
 
 rows.addEventListener("click", onPicture);
+words.addEventListener("click", onPicture);
 detail.addEventListener("click", onDetail);
 view.addEventListener("scroll", () => requestAnimationFrame(() => draw(false)));
 view.addEventListener("wheel", onWheel, { passive: false });
