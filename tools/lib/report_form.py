@@ -13,7 +13,8 @@ class BadReport(Exception):
 class Entry:
     """What an event did. Queues are texts, items and replies plain values, and an item is named by entry and place."""
 
-    def __init__(self, number, reply, takes, puts, ends):
+    def __init__(self, line, number, reply, takes, puts, ends):
+        self.line = line
         self.number = number
         self.reply = reply
         self.takes = takes
@@ -22,11 +23,15 @@ class Entry:
 
 
 class Report:
-    """The entries, and the copies with their fates, in order."""
+    """The entries, and the copies with their fates, in order; of both the lines too."""
 
     def __init__(self):
         self.entries = []
         self.copies = {}
+        self.lines_of_copies = {}
+
+    def line_of_copy(self, name):
+        return self.lines_of_copies[name]
 
     def item(self, name):
         """The queue and the item that have this name."""
@@ -99,7 +104,7 @@ def a_fate(value):
     return 'dropped', value[1], value[2]
 
 
-def read_entry(said, report):
+def read_entry(said, report, line):
     number = said['n']
     need(number == len(report.entries) and is_number(number), 'entry %d is due here' % len(report.entries))
     takes = [a_name(one, 'a take') for one in a_list(said['take'], '`take`')]
@@ -109,16 +114,17 @@ def read_entry(said, report):
     for _, (send, place), *how in ends:
         need(not how or send <= number, 'copy [%d,%d] is of a later entry' % (send, place))
     puts = [a_put(one) for one in a_list(said['put'], '`put`')]
-    report.entries.append(Entry(number, said['reply'], takes, puts, ends))
+    report.entries.append(Entry(line, number, said['reply'], takes, puts, ends))
 
 
-def read_copy(said, report):
+def read_copy(said, report, line):
     name = a_name(said['copy'], '`copy`')
     need(name[0] < len(report.entries), 'there is no entry %d' % name[0])
     need(name not in report.copies, 'copy [%d,%d] has a line already' % name)
     fate = a_fate(said['fate'])
     need(len(fate) == 2 or fate[2] < len(report.entries), 'there is no entry %s' % fate[-1])
     report.copies[name] = fate
+    report.lines_of_copies[name] = line
 
 
 def read_counts(said, report):
@@ -136,9 +142,9 @@ def read_line(text, report, ended):
     need(not ended, 'the line with the counts is the last')
     if set(said) == {'end', 'n', 'put', 'reply', 'take'}:
         need(not report.copies, 'entries come before copies')
-        read_entry(said, report)
+        read_entry(said, report, text)
     elif set(said) == {'copy', 'fate'}:
-        read_copy(said, report)
+        read_copy(said, report, text)
     elif set(said) == {'copies', 'entries'}:
         read_counts(said, report)
         return True

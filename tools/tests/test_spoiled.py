@@ -10,13 +10,17 @@ from copy_way import way_lines
 from files import beside, examples, read_bytes, read_text, reports
 from journey import journeys
 from judge import judge, lines_of, status_now
+from page import page
 from places import keys_of_nodes
 from report_form import BadReport, read_report
 from same_run import OtherRun, check_same_run
+from set_up import length_of_set_up
 from spoil import spoil_bytes, spoil_value
 from why import why_lines
 
 EACH = 20
+# A page takes longer than a picture, and is tried for one of so many reports.
+PAGE_OF_EACH = 4
 
 
 def spoiled_reports(path):
@@ -54,6 +58,8 @@ class Spoiled(unittest.TestCase):
                 found = journeys(report, [])
                 self.assertTrue(copy_table(found, keys_of_nodes(report, found)))
                 xml.dom.minidom.parseString(Chart(report, found, [], 0, len(report.entries) - 1).draw())
+                if shown % PAGE_OF_EACH == 0:
+                    self.assertIn('"lines":', page(report, found, [], length_of_set_up(report, []), 'a report'))
                 shown += 1
         self.assertGreater(min(told, shown), 50)
 
