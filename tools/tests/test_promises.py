@@ -31,8 +31,8 @@ def calls_in(part, text, owner):
     found = {}
     for word in WORD.findall(text):
         if kind_of(word) == 'call':
-            owner = word.rpartition('::')[0]
-        if kind_of(word) in ('call', 'small'):
+            owner, found[word] = word.rpartition('::')[0], part.calls_named(word)
+        elif kind_of(word) == 'small':
             found[word] = owner and part.calls_named('%s::%s' % (owner, word)) or part.calls_named(word)
     return {word: calls for word, calls in found.items() if calls}, owner
 
@@ -138,7 +138,8 @@ class Promises(unittest.TestCase):
                ('`World::runs`: `lawful`', ['World::runs']), ('`World::new`, `World::run`: `lawful`', ['lawful']),
                ('`lawful` of `World::new` and `run`', ['lawful']), ('`Router::take_all`: `peers`; `release`: `over`', ['peers']),
                ('`Sender::send`: `over` of `IsSendOf`, and `unsent`', ['over']), ('`World::run`, over `IsNowhere`', ['IsNowhere']),
-               ('`p2p_net/src/worlds.rt`', ['p2p_net/src/worlds.rt']), ('`fits` in `p2p_net/src/world.rt`', ['fits in p2p_net/src/world.rt'])]
+               ('`p2p_net/src/worlds.rt`', ['p2p_net/src/worlds.rt']),
+               ('`fits` in `p2p_net/src/world.rt`', ['fits in p2p_net/src/world.rt'])]
         self.assertEqual(lacking_in([cell for cell, _ in due]), due)
 
     def test_a_clause_that_goes_is_told(self):
