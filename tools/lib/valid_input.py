@@ -25,7 +25,7 @@ def configuration_fault(one, numbers):
         return one.fault('max_peers_per_set', 'the peers of %d retained sets cannot be counted in 64 bits' % sets)
     key = one.said['key']
     if key in numbers:
-        return one.fault('key', 'key %d is that of configuration %d too' % (key, numbers[key]))
+        return one.fault('key', 'key %d is that of configuration %d too; each node has a key of its own' % (key, numbers[key]))
     return None
 
 
@@ -64,7 +64,7 @@ class Past:
                                % (node, self.started[node]))
         held = self.capacities[node]
         if channel in held:
-            return event.fault('channel', 'channel %d is registered at node %d already' % (channel, node))
+            return event.fault('channel', 'channel %d is registered at node %d already; once is enough' % (channel, node))
         configuration = self.configurations[node].said
         capacity = configuration['max_peers_per_set'] * configuration['tracked_peer_sets'] * event.said['quota']
         if capacity > U64 or configuration['mailbox_size'] + sum(held.values()) + capacity > U64:
@@ -75,7 +75,7 @@ class Past:
     def start_fault(self, event):
         node = event.said['node']
         if node in self.started:
-            return event.fault('node', 'node %d was started before, by event %d' % (node, self.started[node]))
+            return event.fault('node', 'node %d was started before, by event %d; a node starts once' % (node, self.started[node]))
         self.started[node] = event.number
         return None
 
@@ -138,7 +138,7 @@ class Past:
         at, before = event.said['at'], self.moment
         self.moment = at
         if at < before:
-            return event.fault('at', 'the moment %d is before that of the event before, %d' % (at, before))
+            return event.fault('at', 'the moment %d is before that of the event before, %d; moments never go back' % (at, before))
         return None
 
     def node_faults(self, event):
