@@ -118,6 +118,11 @@ class Docs(unittest.TestCase):
                 self.assertEqual(sorted(words_in_code(below)), sorted(set(closure(graph, name)) - {name}))
                 self.assertEqual(sorted(words_in_code(kit)), sorted(of_kit))
 
+    def test_the_commands_of_the_library_copy_all_that_two_crates_stand_on(self):
+        listed = re.search(r'for crate in ([\w\s\\]+); do', read_text(LIBRARY)).group(1).replace('\\', '').split()
+        graph = read_graph(TOP)
+        self.assertEqual(sorted(listed), sorted({*closure(graph, 'p2p_mux'), *closure(graph, 'p2p_tracker_directory')}))
+
     def test_the_library_has_each_call_that_asks_something(self):
         listed = {}
         for crate, calls, _, _ in rows_of_the_library('What a call asks of its caller'):
