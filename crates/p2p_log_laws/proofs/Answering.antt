@@ -36,7 +36,8 @@ use Rattle.p2p_log_rules.specs.Connections.{is_ended}
 use Rattle.p2p_log_rules.specs.declared.row.Row.{Row}
 use Rattle.p2p_log_rules.specs.Attempting.{Attempt, dial_rules_at, attempts_of, resolved, given_up_row, resolved_row, ready_row, link_of, took_row as attempt_took_row, attempt_turn, attempt_by, attempt_row}
 use Rattle.p2p_log_rules.specs.Dialing.{Dials, dials_of, in_drawn_order, last_key, dial_puts, answered_row, due_row, dialer_turn, dialer_row}
-use Rattle.p2p_log_rules.specs.Dropping.{LinkEnd, gave_up, dialing_end, dropping, attempt_step_row}
+use Rattle.p2p_log_rules.specs.Dropping.{LinkEnd, dialing_end, dropping, attempt_step_row}
+use Rattle.p2p_log_rules.specs.Puts.{gave_up}
 use Rattle.p2p_log_rules.specs.Effect.{entry_of, row, send_step_row, recv_step_row}
 use Rattle.p2p_log_rules.specs.Facts.{is_up, taken}
 use Rattle.p2p_log_rules.specs.Handshakes.{is_handshaking, is_accepted, source_at, steps_handshake, takes_acceptance}
@@ -266,7 +267,7 @@ module _ (w : Words) (n name : ℕ) where
     pub attempt_silent : (e m : ℕ) → Each Silent (attempt_step_row configs log e m at seed).puts
     attempt_silent e m =
         let r : Row = attempt_row configs log e m at seed in
-        each_dropping Silent log (cond (gave_up r.puts) (dialing_end (attempts_of configs log m e)) None) r (by (attempts_of configs log m e))
+        each_dropping Silent log (cond (gave_up r.puts) (dialing_end log m e) None) r (by (attempts_of configs log m e))
       where
         by : (o : Option Attempt) → Each Silent (attempt_by o m at seed (is_spawner_full configs log m) (dial_rules_at configs m).private (line log (queue.Attempt m e))).puts
         by None = tt

@@ -72,7 +72,7 @@ pub ends_away : (configs : List Config) (log : List Entry) (n : â„•) (a : Act) â
 ends_away configs log n (act.SendStep conn m) written = connection_away n (half_at log m conn) m conn
 ends_away configs log n (act.RecvStep conn m) written = connection_away n (half_at log m conn) m conn
 ends_away configs log n (act.Attempt e m) written =
-    let far = flying_away n (dialing_end (attempts_of configs log m e)) in record { dialer = far.dialer; handshakes = far.handshakes; spawner = far.spawner; tracker = far.tracker }
+    let far = flying_away n (dialing_end log m e) in record { dialer = far.dialer; handshakes = far.handshakes; spawner = far.spawner; tracker = far.tracker }
 ends_away configs log n (act.Handshake e m) written =
     let over : Option LinkEnd = Some ((peer_at log e).link, side.In) in
     let far = flying_away n over in

@@ -58,7 +58,7 @@ writes configs log a q = touches.writes configs log a q
 abbrev pub ends_in : List Config → List Entry → Act → Queue → Bool
 ends_in configs log (act.SendStep conn n) q = in_connection (half_at log n conn) n conn q
 ends_in configs log (act.RecvStep conn n) q = in_connection (half_at log n conn) n conn q
-ends_in configs log (act.Attempt e n) q = same_queue (queue.Attempt n e) q || in_flight (dialing_end (attempts_of configs log n e)) q
+ends_in configs log (act.Attempt e n) q = same_queue (queue.Attempt n e) q || in_flight (dialing_end log n e) q
 ends_in configs log (act.Handshake e n) q = same_queue (queue.Handshake n e) q || in_flight (Some ((peer_at log e).link, side.In)) q
 ends_in configs log a q = touches.writes configs log a q
 

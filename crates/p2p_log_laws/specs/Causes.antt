@@ -22,7 +22,7 @@ use Rattle.p2p_log_rules.specs.declared.row.Half.{Half}
 use Rattle.p2p_log.specs.Lines.{name_of, line}
 use Rattle.p2p_log_rules.specs.Closing.{is_closed}
 use Rattle.p2p_log_rules.specs.Connections.{half_at, live_half, ends_connection, is_ended}
-use Rattle.p2p_log_rules.specs.Dropping.{LinkEnd, acted_drops, frames_towards}
+use Rattle.p2p_log_rules.specs.Dropping.{LinkEnd, drops_of, frames_towards}
 use Rattle.p2p_log_rules.specs.Ending.{queues_with}
 use Rattle.p2p_log_rules.specs.Facts.{is_up, channels, capacity_in, key_at, taken, routes, route_to}
 use Rattle.p2p_log_rules.specs.Frames.{message_in, is_ping_in}
@@ -91,7 +91,7 @@ StepsBeginner a = (name : ℕ) × (node : ℕ) × ((a ≡ act.Attempt name node)
 pub record IsCutOff (configs : List Config) (before : List Entry) (e : Entry) (copy : ℕ × ℕ) : Type 0 where
   pub steps : StepsBeginner e.event.act
   pub cut : LinkEnd
-  pub drops : acted_drops configs before e.reply (taken before e) e.puts e.event.act ≡ Some cut
+  pub drops : IsAmong (drops_of before e) cut
   pub place : ℕ
   pub left : Envelope
   pub stood : slice_get (frames_towards before cut) place ≡ Some left

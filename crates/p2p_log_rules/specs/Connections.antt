@@ -13,7 +13,7 @@ use Rattle.p2p_log.specs.declared.event.Act.{Act}
 use Rattle.p2p_log.specs.declared.event.Act.TheVariants as act
 use Rattle.p2p_log_rules.specs.declared.row.Half.{Half}
 use Rattle.p2p_log_rules.specs.Facts.{taken, history}
-use Rattle.p2p_log_rules.specs.Links.{dialer_of}
+use Rattle.p2p_log_rules.specs.Dialed.{dialer_of}
 use Rattle.p2p_log_rules.specs.Spawning.{Spawned, connections_of}
 
 -- ---- halves

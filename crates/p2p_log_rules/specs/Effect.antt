@@ -284,7 +284,7 @@ abbrev pub running_row : List Config → List Entry → ℕ → ℕ → Half →
 running_row configs log n conn half due =
     let most = beside_ping due (batch_size_at configs n) in
     told_row log n conn half (line log (queue.Control n conn)) (nat_lt 0 most)
-    (written_row log n conn half (is_dropped configs log half.link (other_side half.writes)) due (batch log n conn most))
+    (written_row log n conn half (is_dropped log half.link (other_side half.writes)) due (batch log n conn most))
 
 -- it begins: the tracker and the router are told whom it is with
 abbrev pub begin_row : ℕ → ℕ → Key → Row
@@ -357,7 +357,7 @@ module _ (configs : List Config) (log : List Entry) (n conn at : ℕ) (half : Ha
   -- where no frame is in flight and the other end was dropped, none will come
   abbrev pub receive_row : List Envelope → Row
   receive_row [] =
-      cond (is_dropped configs log half.link (other_side half.writes))
+      cond (is_dropped log half.link (other_side half.writes))
       (end_row log n conn half ended.ReceiveFailed cause.ConnectionEnded [])
       (only reply.Idle)
   receive_row (x ∷ _) = frame_row x x.item

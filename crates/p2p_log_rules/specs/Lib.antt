@@ -3,11 +3,13 @@ pub mod Attempting
 pub mod Checking
 pub mod Closing
 pub mod Connections
+pub mod Dialed
 pub mod Dialing
 pub mod Dropping
 pub mod Effect
 pub mod Ending
 pub mod Facts
+pub mod First
 pub mod Frames
 pub mod Handshakes
 pub mod Handshaking
@@ -17,10 +19,13 @@ pub mod Listening
 pub mod Metering
 pub mod Moves
 pub mod Pings
+pub mod Puts
 pub mod Reading
 pub mod Rows
 pub mod Spawning
 pub mod TrackerPuts
 pub mod TrackerRows
+pub mod Tellings
+pub mod Told
 pub mod Tracking
 pub mod Valid

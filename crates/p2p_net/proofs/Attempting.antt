@@ -25,7 +25,8 @@ use Rattle.p2p_log.specs.QueueCode.{same_queue}
 use Rattle.p2p_log.specs.Lines.{name_of, placed, ended_item, stays, live, stands_in, line}
 use Rattle.p2p_log.proofs.Queues.{same_queue-refl}
 use Rattle.p2p_log_rules.specs.declared.row.Row.{Row}
-use Rattle.p2p_log_rules.specs.Attempting.{Attempt, dial_rules_at, acted_attempts, attempts_of, told_row}
+use Rattle.p2p_log_rules.specs.Attempting.{Attempt, dial_rules_at, attempts_of, told_row}
+use Rattle.p2p_log_rules.proofs.Attempts.{acted_attempts}
 use Rattle.p2p_log_rules.specs.Dialing.{Pace, pace_at, Dials, acted_dials, dials_of}
 use Rattle.p2p_log_rules.specs.Effect.{only, row, effect, entry_of}
 use Rattle.p2p_log_rules.specs.Connections.{half_at}
@@ -82,7 +83,7 @@ ends_of : (configs : List Config) (log : List Entry) (n k : ℕ) (a : Act) → w
 ends_of configs log n k (act.SendStep conn m) h = unflown (half_end (half_at log m conn)) n k
 ends_of configs log n k (act.RecvStep conn m) h = unflown (half_end (half_at log m conn)) n k
 ends_of configs log n k (act.Attempt e m) h =
-    ap (λ b. same_queue (queue.Attempt m e) (queue.Attempt n k) || b) (unflown (dialing_end (attempts_of configs log m e)) n k)
+    ap (λ b. same_queue (queue.Attempt m e) (queue.Attempt n k) || b) (unflown (dialing_end log m e) n k)
     ∙ (or_none (same_queue (queue.Attempt m e) (queue.Attempt n k)) ∙ h)
   where
     or_none : (b : Bool) → (b || false) ≡ b

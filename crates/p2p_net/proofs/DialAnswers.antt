@@ -17,7 +17,8 @@ use Rattle.p2p_log.specs.declared.event.Act.{Act}
 use Rattle.p2p_log.specs.declared.event.Act.TheVariants as act
 use Rattle.p2p_log.specs.Lines.{line}
 use Rattle.p2p_log_rules.specs.declared.row.Row.{Row}
-use Rattle.p2p_log_rules.specs.Attempting.{Attempt, dial_rules_at, told_answer, acted_attempts, attempts_of, link_item, answered_row}
+use Rattle.p2p_log_rules.specs.Attempting.{Attempt, dial_rules_at, attempts_of, link_item, answered_row}
+use Rattle.p2p_log_rules.proofs.Attempts.{told_answer, acted_attempts}
 use Rattle.p2p_log_rules.specs.Dialing.{Pace, Dials, acted_dials}
 use Rattle.p2p_log_rules.specs.Effect.{only, row, effect}
 use Rattle.p2p_log_rules.specs.Facts.{starts, with_named}

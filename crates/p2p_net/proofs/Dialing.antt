@@ -36,7 +36,8 @@ use Rattle.p2p_log.proofs.Queues.{same_queue-refl}
 use Rattle.p2p_log_rules.specs.declared.row.Row.{Row}
 use Rattle.p2p_log_rules.specs.Facts.{is_up, taken}
 use Rattle.p2p_log_rules.specs.Effect.{only, row, effect, entry_of}
-use Rattle.p2p_log_rules.specs.Attempting.{DialRules, dial_rules_at, begun_of}
+use Rattle.p2p_log_rules.specs.Attempting.{DialRules, dial_rules_at}
+use Rattle.p2p_log_rules.proofs.Attempts.{begun_of}
 use Rattle.p2p_log_rules.specs.Dialing.{Pace, pace_at, next_deadline, Dials, dials_of, in_drawn_order, last_key, without_last, stepped_dials, dial_puts, dials_row, answered_row, due_row, dialer_turn}
 use Rattle.p2p_log_laws.proofs.Untouched.{line-untouched}
 use Rattle.p2p_net_queues.proofs.Going.{put_in}

@@ -36,7 +36,8 @@ use Rattle.p2p_log.specs.Lines.{name_of, placed, goes, live, line, stays, stands
 use Rattle.p2p_log.proofs.QueueNames.{queue_from_same}
 use Rattle.p2p_log_rules.specs.declared.row.Row.{Row}
 use Rattle.p2p_log_rules.specs.Facts.{taken}
-use Rattle.p2p_log_rules.specs.Dropping.{LinkEnd, is_spawn, broke_off, handshake_drops}
+use Rattle.p2p_log_rules.specs.Dropping.{LinkEnd, handshake_drops}
+use Rattle.p2p_log_rules.specs.Puts.{is_spawn, broke_off}
 use Rattle.p2p_log_rules.specs.Effect.{only, entry_of}
 use Rattle.p2p_log_rules.specs.Attempting.{left_ends, gone_on_row, ready_row}
 use Rattle.p2p_log_rules.specs.Handshakes.{ends_handshake, is_handshaking, is_finished, Peer, peer_at, source_at}

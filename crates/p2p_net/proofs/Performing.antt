@@ -13,7 +13,8 @@ use Rattle.p2p_log.specs.declared.event.Act.{Act}
 use Rattle.p2p_log.specs.declared.event.Act.TheVariants as act
 use Rattle.p2p_log.specs.Lines.{line, placed, ended_item, stands_in}
 use Rattle.p2p_log_rules.specs.declared.row.Row.{Row}
-use Rattle.p2p_log_rules.specs.Attempting.{Attempt, DialRules, dial_rules_at, acted_attempts, attempts_of}
+use Rattle.p2p_log_rules.specs.Attempting.{Attempt, DialRules, dial_rules_at, attempts_of}
+use Rattle.p2p_log_rules.proofs.Attempts.{acted_attempts}
 use Rattle.p2p_log_rules.specs.Dialing.{Pace, pace_at, Dials, acted_dials, dials_of}
 use Rattle.p2p_net_dialer.proofs.Changes.{dialer_frame}
 use Rattle.p2p_net_listener.proofs.Changes.{listener_frame}

@@ -19,7 +19,8 @@ use Rattle.p2p_log.specs.declared.event.Act.{Act}
 use Rattle.p2p_log.specs.declared.event.Act.TheVariants as act
 use Rattle.p2p_log.specs.Lines.{line}
 use Rattle.p2p_log_rules.specs.declared.row.Row.{Row}
-use Rattle.p2p_log_rules.specs.Attempting.{Attempt, dial_rules_at, told_addresses, acted_attempts, attempts_of, told_row, resolve_by}
+use Rattle.p2p_log_rules.specs.Attempting.{Attempt, dial_rules_at, attempts_of, told_row, resolve_by}
+use Rattle.p2p_log_rules.proofs.Attempts.{told_addresses, acted_attempts}
 use Rattle.p2p_log_rules.specs.Effect.{only, row}
 use Rattle.p2p_net_queues.specs.Tables as table
 use Rattle.p2p_net_queues.specs.Tables.{AreBut}

@@ -302,7 +302,7 @@ ends-named configs log (act.SendStep conn n) q h = connection_kinds (half_at log
 ends-named configs log (act.RecvStep conn n) q h = connection_kinds (half_at log n conn) n conn q (off_receiver log conn n q h)
 ends-named configs log (act.Attempt e n) q h =
     let off = off_attempt log e n q h in
-    let towards = dialing_end (attempts_of configs log n e) in
+    let towards = dialing_end log n e in
     both_false (same_queue (queue.Attempt n e) q) (in_flight towards q) (attempt_queue n e q off.third) (flight_kinds towards q off.first)
 ends-named configs log (act.Handshake e n) q h =
     let off = off_handshake log e n q h in

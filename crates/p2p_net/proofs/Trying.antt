@@ -33,8 +33,10 @@ use Rattle.p2p_log.specs.QueueCode.{same_queue}
 use Rattle.p2p_log.specs.Lines.{name_of, goes, stays, stands_in, live, line}
 use Rattle.p2p_log.proofs.Queues.{same_queue-refl}
 use Rattle.p2p_log_rules.specs.declared.row.Row.{Row}
-use Rattle.p2p_log_rules.specs.Attempting.{Attempt, DialRules, dial_rules_at, linked, stepped_attempt, drawn_address, dialing, resolved, and_then, attempts_of, left_ends, given_up_row, gone_on_row, resolved_row, ready_row, link_of, took_row, attempt_turn, attempt_by, attempt_row}
-use Rattle.p2p_log_rules.specs.Dropping.{LinkEnd, gave_up, dialing_end, attempt_drops, attempt_step_row}
+use Rattle.p2p_log_rules.specs.Attempting.{Attempt, DialRules, dial_rules_at, drawn_address, dialing, resolved, attempts_of, left_ends, given_up_row, gone_on_row, resolved_row, ready_row, link_of, took_row, attempt_turn, attempt_by, attempt_row}
+use Rattle.p2p_log_rules.proofs.Attempts.{linked, stepped_attempt, and_then}
+use Rattle.p2p_log_rules.specs.Dropping.{LinkEnd, dialing_end, attempt_drops, attempt_step_row}
+use Rattle.p2p_log_rules.specs.Puts.{gave_up}
 use Rattle.p2p_log_rules.specs.Effect.{only, row, entry_of}
 use Rattle.p2p_log_rules.specs.Facts.{taken, with_named}
 use Rattle.p2p_log_rules.specs.Rows.{is_spawner_full}
@@ -43,7 +45,7 @@ use Rattle.p2p_net_queues.specs.Rows.{item_ends}
 use Rattle.p2p_net_queues.specs.Tables as table
 use Rattle.p2p_net_queues.proofs.Going.{first_left}
 use Rattle.p2p_net_queues.specs.Tables.{AreBut}
-use Rattle.p2p_net_dialer.specs.Attempts.{answer_of, tried, after_turn, unless_ended, Tries}
+use Rattle.p2p_net_dialer.specs.Attempts.{link_at, tried, after_turn, unless_ended, Tries}
 use Rattle.p2p_net_dialer.specs.Stands.{gates_at, told_item, attempt_of, AttemptStands, DialerStands}
 use Rattle.p2p_net_dialer.specs.declared.attempt.RunningAttempt.{RunningAttempt}
 use Rattle.p2p_net_dialer.specs.declared.attempt.Tried.{Tried}
@@ -408,8 +410,8 @@ attempt_performs configs log moment seed name n x y l ls r s t d =
     let did : DidBeside configs log (asked moment seed (act.Attempt name n)) n x y named lost (attempt_row configs log name n moment seed) d.row =
     by_attempt configs log moment seed name n x y d.row s d.steps lost o b refl refl (stood.attempts name) d.steps.tries
     in
-    performs_beside configs log (asked moment seed (act.Attempt name n)) n x y l ls named lost (attempt_row configs log name n moment seed) d.row r (not (gave_up d.row.puts)) (answer_of o) side.Out s t refl refl
+    performs_beside configs log (asked moment seed (act.Attempt name n)) n x y l ls named lost (attempt_row configs log name n moment seed) d.row r (not (gave_up d.row.puts)) (link_at o) side.Out s t refl refl
     (λ p out. not_among-links named p n out) did d.drops
-    (dropped_end (gave_up d.row.puts) (answer_of o) (dialing_end b) (attempt_end configs log n x.dialing stood name))
+    (dropped_end (gave_up d.row.puts) (link_at o) (dialing_end b) (attempt_end configs log n x.dialing stood name))
     refl
     (step_row configs log moment seed name n ∙ ap (attempt_drops log b) (sym did.row_is))

@@ -16,7 +16,7 @@ use Rattle.p2p_log.specs.declared.event.Act.TheVariants as act
 use Rattle.p2p_log.specs.QueueCode.{same_queue}
 use Rattle.p2p_log_rules.specs.declared.row.Row.{Row}
 use Rattle.p2p_log.specs.Drained.{all_end}
-use Rattle.p2p_log_rules.specs.Dropping.{gave_up, is_spawn}
+use Rattle.p2p_log_rules.specs.Puts.{gave_up, is_spawn}
 use Rattle.p2p_log_rules.specs.Effect.{only, oldest_read, other_side}
 use Rattle.p2p_log_rules.specs.Listening.{quota_of}
 use Rattle.p2p_net_queues.specs.Board.{held}
@@ -29,7 +29,7 @@ use Rattle.p2p_net_links.specs.declared.links.Links.{Links}
 use Rattle.p2p_net_links.specs.Dropping.{end_dropped}
 use Rattle.p2p_net_links.specs.Links.{way_of}
 use Rattle.p2p_gates.specs.Handshaking.{Handshaking}
-use Rattle.p2p_net_dialer.specs.Attempts.{answer_of, Tries, Resolves, AnswersDial}
+use Rattle.p2p_net_dialer.specs.Attempts.{link_at, Tries, Resolves, AnswersDial}
 use Rattle.p2p_net_dialer.specs.Dialing as dialing
 use Rattle.p2p_net_dialer.specs.Dialing.{started}
 use Rattle.p2p_net_dialer.specs.declared.attempt.Tried.{Tried}
@@ -225,7 +225,7 @@ pub record TriesAttempt (k n name at seed : ℕ) (old new : Node) (r : Row) : Ty
 pub record AttemptSteps (k n name at seed : ℕ) (old new : Node) (l links : Links) (r : Row) : Type 0 where
   pub row : Row
   pub steps : TriesAttempt k n name at seed old new row
-  pub drops : DropsUnless (not (gave_up row.puts)) (answer_of (table.at old.dialing.attempts name)) side.Out l links row r
+  pub drops : DropsUnless (not (gave_up row.puts)) (link_at (table.at old.dialing.attempts name)) side.Out l links row r
 
 -- ---- the spawner
 

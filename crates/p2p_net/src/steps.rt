@@ -2,7 +2,7 @@
 ghost use Rattle.std.specs.Prelude.{◌≡◌, ◌<◌, ℕ, true, is_some, IfOk, OnOk, IfSome, Option};
 ghost use Rattle.p2p_net_queues.specs.Tables as table;
 ghost use Rattle.std.specs.List.{list_any};
-ghost use Rattle.p2p_log_rules.specs.Dropping.{gave_up, is_spawn};
+ghost use Rattle.p2p_log_rules.specs.Puts.{gave_up, is_spawn};
 ghost use Rattle.p2p_log_rules.specs.Tracking.{key_cmp};
 ghost use Rattle.p2p_tracker_mailbox.specs.Desk.{next_message};
 ghost use Rattle.p2p_tracker.specs.Serving.{MayTake};
@@ -225,7 +225,7 @@ impl Node {
         ensures does { IfOk result (λ r. AttemptSteps turn.entry turn.node attempt at seed self.old self.new links.old links.new r) }
         ensures failed { OnOk result (self.new.failed ≡ self.old.failed) }
     {
-        let link = self.dialing.answer(attempt);
+        let link = self.dialing.link(attempt);
         let mut row = self.try_attempt(turn, attempt, at, seed)?;
         let kept = !gives_up(row.puts.as_slice());
         drop_unless(turn.alloc, links, kept, link, Side::Out, &mut row)?;

@@ -5,7 +5,7 @@ use Rattle.p2p_log_rules.specs.Closing.{is_closed}
 use Rattle.p2p_log_rules.specs.Connections.{half_at, is_begun, is_running, is_ended}
 use Rattle.p2p_log_rules.specs.Effect.{effect, row}
 use Rattle.p2p_log_rules.specs.Facts.{has_started, registered, rates, taken, taken_at, history_from, state_from}
-use Rattle.p2p_log_rules.specs.Links.{dialer_of}
+use Rattle.p2p_log_rules.specs.Dialed.{dialer_of}
 use Rattle.p2p_log_rules.specs.Metering.{admitted}
 use Rattle.p2p_log_rules.specs.Spawning.{connections_of}
 use Rattle.p2p_runtime.specs.QuotaLaw.{admits}
