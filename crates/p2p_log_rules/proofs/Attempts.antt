@@ -3,6 +3,7 @@ use Rattle.std.proofs.Common.{◌≡◌, ℕ, ◌+◌, suc, ◌≤◌, Bool, tru
 use Rattle.std.specs.Prelude.{◌==◌, ◌&&◌, ◌||◌, min, unwrap_or, is_some, not}
 use Rattle.std.specs.List.{list_any}
 use Rattle.std.specs.Option.{option_map}
+use Rattle.std.proofs.lemmas.Option.{same_Some}
 use Rattle.p2p_address.specs.declared.ip.SocketAddr.{SocketAddr}
 use Rattle.p2p_log.specs.declared.config.Config.{Config}
 use Rattle.p2p_log.specs.declared.queue.Queue.{Queue}
@@ -213,6 +214,7 @@ module _ (rules : DialRules) (n k : ℕ) where
   tries_none name at (act.Dialer m) h = none_dialed m name at (ap (λ b. b && (k == name)) h)
   tries_none name at (act.Listener m) h = λ link. refl
   tries_none name at (act.Handshake e m) h = λ link. refl
+  tries_none name at (act.Spawner m) h = λ key link. refl
   tries_none name at (act.Attempt e m) h = none_tried m e at (ap (λ b. b && (k == e)) h)
   tries_none name at (act.Resolve addresses e m) h = ap (λ b. b && (k == e)) h
   tries_none name at (act.Connect e from m to) h = (ap (λ b. b && (k == e)) h, ap (λ b. b && (k == e)) h)
@@ -495,3 +497,24 @@ link_is configs log n k = by (last_told (begins n k) (told log))
         go : (b : Bool) → cond b None (last_or None (opens n k) l.since) ≡ link_of_attempt (cond b None (Some (attempt_since n k (dial_rules_at configs n) l.told l.since)))
         go true = refl
         go false = refl
+
+-- ---- by what is told, whatever the act
+
+module _ (rules : DialRules) (n k : ℕ) where
+  abbrev is_begun : Telling → Bool
+  is_begun t = is_some (begins n k t)
+
+  -- one that stands after these stood before them, with its key, unless they begin it
+  pub stood_before : (ts : List Telling) (o : Option Attempt) (a : Attempt) → list_any is_begun ts ≡ false → attempt_told rules n k ts o ≡ Some a → (b : Attempt) × (o ≡ Some b) × (a.key ≡ b.key)
+  stood_before [] o a none is = (a, is, refl)
+  stood_before (t ∷ ts) o a none is =
+      go (stood_before ts (attempt_after rules n k t o) a (or_right (is_begun t) (list_any is_begun ts) none) is)
+    where
+      one : (new : Option Begun) (ended : Bool) (o : Option Attempt) (c : Attempt) → is_some new ≡ false → begun_or rules n k new (cond ended None (option_map (attempt_one rules n k t) o)) ≡ Some c → (b : Attempt) × (o ≡ Some b) × (c.key ≡ b.key)
+      one (Some b) ended o c none is = cc
+      one None true o c none is = cc
+      one None false None c none is = cc
+      one None false (Some b) c none is = (b, refl, ap (λ (x : Attempt). x.key) (sym (same_Some (attempt_one rules n k t b) c is)))
+
+      go : (b : Attempt) × (attempt_after rules n k t o ≡ Some b) × (a.key ≡ b.key) → (b : Attempt) × (o ≡ Some b) × (a.key ≡ b.key)
+      go h = let h0 = one (begins n k t) (ends n k t) o h.0 (or_left (is_begun t) (list_any is_begun ts) none) h.1 in (h0.0, h0.1, h.2 ∙ h0.2)

@@ -17,6 +17,7 @@ use Rattle.p2p_log_rules.specs.Facts.{starts, taken}
 use Rattle.p2p_log_rules.specs.Tellings.{Telling, Last, last_told, last_or}
 use Rattle.p2p_log_rules.specs.Tellings as telling
 use Rattle.p2p_log_rules.specs.Told.{done_tells, asks_list, answer_tells, ask_tells, act_tells, tells, told}
+use Rattle.p2p_log_rules.proofs.Families.{kind, kinds_of, has, are_apart, untold_of}
 use Rattle.p2p_log_rules.proofs.Told.{NoneDialed, NoneTried, NoneTold, quiet_act}
 use Rattle.p2p_log_rules.proofs.Tellings.{told-append, or_left, or_right, last_or-append, with_last, last_told-one}
 
@@ -121,6 +122,7 @@ none_dialed pace n name at (act.RecvStep conn m) h = λ link s. refl
 none_dialed pace n name at (act.Dialer m) h = record { list = λ asked seed next peers. h; answer = h; begun = λ key ingress. refl; due = h; dials = h; asks = h }
 none_dialed pace n name at (act.Listener m) h = λ link. refl
 none_dialed pace n name at (act.Handshake e m) h = λ link. refl
+none_dialed pace n name at (act.Spawner m) h = λ key link. refl
 none_dialed pace n name at (act.Attempt e m) h = record { addresses = λ seed addresses. refl; link = refl; ended = refl; drops = λ link. refl }
 none_dialed pace n name at (act.Resolve addresses e m) h = refl
 none_dialed pace n name at (act.Connect e from m to) h = (refl, refl)
@@ -228,3 +230,23 @@ dials_of-stepped configs log e n is h =
     ∙ (told_append pace n (length log) e.event.at e.event.seed (answer_tells n d.asked_at (length log) e.event.at e.event.seed (taken log e)) (ask_tells n e.event.at (taken log e) e.puts) d
     ∙ (ap (dials_told pace n (ask_tells n e.event.at (taken log e) e.puts)) (answer_told pace n (length log) e.event.at e.event.seed (taken log e) d)
     ∙ ask_told pace n (length log) e.event.at e.event.seed (taken log e) e.puts d h)))
+
+-- ---- the kinds that tell of it
+
+abbrev pub dialer_kinds : List ℕ
+dialer_kinds = 0 ∷ 2 ∷ 3 ∷ 4 ∷ 5 ∷ 6 ∷ []
+
+of_kinds : (pace : Pace) (n : ℕ) (t : Telling) → has dialer_kinds (kind t) ≡ false → of_dialer pace n t ≡ false
+of_kinds pace n (telling.node_started m at) h = cc
+of_kinds pace n (telling.list_asked m at) h = cc
+of_kinds pace n (telling.list_taken m asked seed next peers) h = cc
+of_kinds pace n (telling.answer_taken m) h = cc
+of_kinds pace n (telling.dial_asked m) h = cc
+of_kinds pace n (telling.dial_due m at) h = cc
+of_kinds pace n _ h = refl
+
+-- an entry whose act tells none of these
+pub dials_of-apart : (configs : List Config) (log : List Entry) (e : Entry) (n : ℕ) → are_apart (kinds_of e.event.act) dialer_kinds ≡ true → dials_of configs (log ++ e ∷ []) n ≡ dials_of configs log n
+dials_of-apart configs log e n h =
+    dials_of-append configs log e n
+    ∙ others_dialed (pace_at configs n) n (tells (told log) log e) (dials_of configs log n) (untold_of (of_dialer (pace_at configs n) n) dialer_kinds (of_kinds (pace_at configs n) n) (told log) log e h)

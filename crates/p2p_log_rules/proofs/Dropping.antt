@@ -21,6 +21,7 @@ use Rattle.p2p_log_rules.specs.Dropping.{LinkEnd, is_side, drops, is_dropped, dr
 use Rattle.p2p_log_rules.specs.Facts.{taken, state_from}
 use Rattle.p2p_log_rules.specs.Handshakes.{peer_at}
 use Rattle.p2p_log_rules.specs.Puts.{is_spawn, gave_up, broke_off}
+use Rattle.p2p_log_rules.specs.Spawning.{connections_of}
 use Rattle.p2p_log_rules.specs.Tellings.{Telling}
 use Rattle.p2p_log_rules.specs.Tellings as telling
 use Rattle.p2p_log_rules.specs.Told.{when, link_in, dialing_dropped, half_tells, gates_tell, took_tells, left_tells, act_tells, tells, told}
@@ -109,9 +110,11 @@ module _ (log : List Entry) (e : Entry) where
   drops_of-handshake h n is = tells_act (act.Handshake h n) is ∙ broke_drops (broke_off e.reply (taken log e) e.puts) (peer_at log h).link
 
   pub drops_of-send : (conn n : ℕ) → e.event.act ≡ act.SendStep conn n → drops_of log e ≡ all_of (cond (is_end e.reply) (half_end (half_at log n conn)) None)
+  unfolding half_at connections_of
   drops_of-send conn n is = tells_act (act.SendStep conn n) is ∙ half_drops e.reply (half_at log n conn)
 
   pub drops_of-receive : (conn n : ℕ) → e.event.act ≡ act.RecvStep conn n → drops_of log e ≡ all_of (cond (is_end e.reply) (half_end (half_at log n conn)) None)
+  unfolding half_at connections_of
   drops_of-receive conn n is = tells_act (act.RecvStep conn n) is ∙ half_drops e.reply (half_at log n conn)
 
   -- a step that does not admit an arrival drops its end
@@ -141,6 +144,7 @@ none_told name at (act.RecvStep conn n) h = cc
 none_told name at (act.Listener n) h = cc
 none_told name at (act.Start n) h = refl
 none_told name at (act.Dialer n) h = record { list = λ asked seed next peers. refl; answer = refl; begun = λ key ingress. refl; due = refl; dials = refl; asks = refl }
+none_told name at (act.Spawner n) h = λ key link. refl
 none_told name at (act.Resolve addresses k n) h = refl
 none_told name at (act.Connect k from n to) h = (refl, refl)
 none_told name at (act.Refuse k n) h = refl

@@ -6,6 +6,7 @@ pub mod Connections
 pub mod Dialing
 pub mod Dropping
 pub mod Facts
+pub mod Families
 pub mod First
 pub mod Handshakes
 pub mod Lawful

@@ -18,12 +18,11 @@ use Rattle.p2p_log.specs.declared.entry.Reply.TheVariants as reply
 use Rattle.p2p_log.specs.declared.event.Act.{Act}
 use Rattle.p2p_log.specs.declared.event.Act.TheVariants as act
 use Rattle.p2p_log_rules.specs.declared.row.Half.{Half}
-use Rattle.p2p_log_rules.specs.Connections.{half_at}
 use Rattle.p2p_log_rules.specs.Handshakes.{peer_at}
 use Rattle.p2p_log_rules.specs.Puts.{gave_up, ends_attempt, broke_off}
 use Rattle.p2p_log_rules.specs.Tellings.{Telling, last_or}
 use Rattle.p2p_log_rules.specs.Tellings as telling
-use Rattle.p2p_log_rules.specs.Told.{when, done_tells, asks_list, link_in, dialing_dropped, half_dropped, half_tells, turned_away, gates_tell, answer_tells, due_tells, ask_tells, took_tells, left_tells, link_tells, act_tells}
+use Rattle.p2p_log_rules.specs.Told.{half_in, spawn_tells, when, done_tells, asks_list, link_in, dialing_dropped, half_dropped, half_tells, turned_away, gates_tell, answer_tells, due_tells, ask_tells, took_tells, left_tells, link_tells, act_tells}
 use Rattle.p2p_log_rules.proofs.Tellings.{append_quiet, when_quiet, done_quiet}
 
 -- a test holds of nothing that a step of a node's dialer may tell
@@ -50,6 +49,7 @@ module _ (test : Telling → Bool) (name at : ℕ) where
   NoneTold (act.Dialer m) = NoneDialed test m name at
   NoneTold (act.Listener m) = (link : ℕ) → test (telling.end_dropped link side.In) ≡ false
   NoneTold (act.Handshake h m) = (link : ℕ) → test (telling.end_dropped link side.In) ≡ false
+  NoneTold (act.Spawner m) = (key : Key) (link : ℕ) → test (telling.connection_made m name key link) ≡ false
   NoneTold (act.Attempt e m) = NoneTried test m e at
   NoneTold (act.Resolve addresses e m) = test (telling.addresses_told m e) ≡ false
   NoneTold (act.Connect e from m to) = (test (telling.dial_answered m e name) ≡ false) × (test (telling.link_opened m e name) ≡ false)
@@ -98,6 +98,10 @@ module _ (test : Telling → Bool) (name at : ℕ) where
   cut_quiet None h = refl
   cut_quiet (Some link) h = one (telling.end_dropped link side.Out) (h link)
 
+  spawn_quiet : (m : ℕ) (items : List Item) → ((key : Key) (link : ℕ) → test (telling.connection_made m name key link) ≡ false) → list_any test (spawn_tells m name items) ≡ false
+  spawn_quiet m (item.Spawn key link ∷ items) h = one (telling.connection_made m name key link) (h key link)
+  spawn_quiet m _ h = refl
+
   left_quiet : (m e : ℕ) (link : Option ℕ) (puts : List (Queue × Item)) → NoneTried test m e at → list_any test (left_tells m e link puts) ≡ false
   left_quiet m e link puts h =
       when_quiet test (ends_attempt puts) (telling.attempt_ended m e ∷ when (gave_up puts) (dialing_dropped link))
@@ -118,13 +122,14 @@ module _ (test : Telling → Bool) (name at : ℕ) where
   pub quiet_act : (ts : List Telling) (before : List Entry) (seed : ℕ) (r : Reply) (items : List Item) (puts : List (Queue × Item)) (a : Act) → NoneTold a
       → list_any test (act_tells ts before name at seed r items puts a) ≡ false
   quiet_act ts before seed r items puts (act.Start m) h = done_quiet test r (telling.node_started m at ∷ []) (one (telling.node_started m at) h)
-  quiet_act ts before seed r items puts (act.SendStep conn m) h = half_quiet r (half_at before m conn) h
-  quiet_act ts before seed r items puts (act.RecvStep conn m) h = half_quiet r (half_at before m conn) h
+  quiet_act ts before seed r items puts (act.SendStep conn m) h = half_quiet r (half_in ts before m conn) h
+  quiet_act ts before seed r items puts (act.RecvStep conn m) h = half_quiet r (half_in ts before m conn) h
   quiet_act ts before seed r items puts (act.Dialer m) h =
       append_quiet test (answer_tells m (last_or 0 (asks_list m) ts) name at seed items) (ask_tells m at items puts) (answer_quiet m (last_or 0 (asks_list m) ts) seed items h) (ask_quiet m items puts h.due h.dials h.asks)
   quiet_act ts before seed r items puts (act.Listener m) h = gates_quiet r items h
   quiet_act ts before seed r items puts (act.Handshake e m) h =
       when_quiet test (broke_off r items puts) (telling.end_dropped (peer_at before e).link side.In ∷ []) (one (telling.end_dropped (peer_at before e).link side.In) (h (peer_at before e).link))
+  quiet_act ts before seed r items puts (act.Spawner m) h = spawn_quiet m items h
   quiet_act ts before seed r items puts (act.Attempt e m) h = step_quiet m e seed items (link_in ts m e) puts h
   quiet_act ts before seed r items puts (act.Resolve addresses e m) h = done_quiet test r (telling.addresses_told m e ∷ []) (one (telling.addresses_told m e) h)
   quiet_act ts before seed r items puts (act.Connect e from m to) h = connect_quiet m e r puts h.0 h.1

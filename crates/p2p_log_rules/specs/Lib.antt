@@ -11,6 +11,7 @@ pub mod Ending
 pub mod Facts
 pub mod First
 pub mod Frames
+pub mod Halves
 pub mod Handshakes
 pub mod Handshaking
 pub mod Lawful

@@ -34,6 +34,8 @@ pub data Telling : Type 0 where
   link_taken : (node attempt at : ℕ) → Telling
   -- it ended: its reservation was given back, or went into a connection
   attempt_ended : (node attempt : ℕ) → Telling
+  -- a connection was made, of this name: with whom, and over which link
+  connection_made : (node conn : ℕ) (key : Key) (link : ℕ) → Telling
   -- the end of a link that writes in this direction was dropped
   end_dropped : (link : ℕ) (side : Side) → Telling
 

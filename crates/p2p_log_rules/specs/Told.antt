@@ -15,7 +15,7 @@ use Rattle.p2p_log.specs.declared.entry.Reply.TheVariants as reply
 use Rattle.p2p_log.specs.declared.event.Act.{Act}
 use Rattle.p2p_log.specs.declared.event.Act.TheVariants as act
 use Rattle.p2p_log_rules.specs.declared.row.Half.{Half}
-use Rattle.p2p_log_rules.specs.Connections.{half_at}
+use Rattle.p2p_log_rules.specs.Halves.{connection_in, half_of}
 use Rattle.p2p_log_rules.specs.Facts.{taken, state_from}
 use Rattle.p2p_log_rules.specs.Handshakes.{ends_handshake, peer_at}
 use Rattle.p2p_log_rules.specs.Puts.{gave_up, ends_attempt, broke_off}
@@ -125,6 +125,15 @@ abbrev pub gates_tell : Reply → List Item → List Telling
 gates_tell (reply.Gates g) items = turned_away g items
 gates_tell r items = []
 
+-- the connection that a spawner made of what it took, in an entry of this name
+abbrev pub spawn_tells : ℕ → ℕ → List Item → List Telling
+spawn_tells n name (item.Spawn key link ∷ items) = telling.connection_made n name key link ∷ []
+spawn_tells n name _ = []
+
+-- a node's half of a connection
+abbrev pub half_in : List Telling → List Entry → ℕ → ℕ → Option Half
+half_in ts before n conn = half_of before n (connection_in ts n conn)
+
 -- after these tellings and entries, with this name, at a moment and with a seed; of this reply, which took and put these
 module _ (ts : List Telling) (before : List Entry) (name at seed : ℕ) (r : Reply) (items : List Item) (puts : List (Queue × Item)) where
   abbrev pub act_tells : Act → List Telling
@@ -134,8 +143,8 @@ module _ (ts : List Telling) (before : List Entry) (name at seed : ℕ) (r : Rep
   act_tells (act.Check c n to) = []
   act_tells (act.SendChecked bytes check priority) = []
   act_tells (act.Router n) = []
-  act_tells (act.SendStep conn n) = half_tells r (half_at before n conn)
-  act_tells (act.RecvStep conn n) = half_tells r (half_at before n conn)
+  act_tells (act.SendStep conn n) = half_tells r (half_in ts before n conn)
+  act_tells (act.RecvStep conn n) = half_tells r (half_in ts before n conn)
   act_tells (act.Recv c n) = []
   act_tells (act.Close c n) = []
   act_tells (act.Ask what n) = []
@@ -145,7 +154,7 @@ module _ (ts : List Telling) (before : List Entry) (name at seed : ℕ) (r : Rep
   act_tells (act.Dialer n) = answer_tells n (last_or 0 (asks_list n) ts) name at seed items ++ ask_tells n at items puts
   act_tells (act.Listener n) = gates_tell r items
   act_tells (act.Handshake h n) = when (broke_off r items puts) (telling.end_dropped (peer_at before h).link side.In ∷ [])
-  act_tells (act.Spawner n) = []
+  act_tells (act.Spawner n) = spawn_tells n name items
   act_tells (act.Attempt k n) = took_tells n k at seed items ++ left_tells n k (link_in ts n k) puts
   act_tells (act.Resolve addresses k n) = done_tells r (telling.addresses_told n k ∷ [])
   act_tells (act.Connect k from n to) = done_tells r (telling.dial_answered n k name ∷ link_tells n k name puts)
