@@ -18,7 +18,6 @@ use Rattle.p2p_log_rules.proofs.Tellings.{or_left, or_right}
 -- each kind of telling has a number
 abbrev pub kind : Telling → ℕ
 kind (telling.node_started m at) = 0
-kind (telling.node_stopped m) = 1
 kind (telling.list_asked m at) = 2
 kind (telling.list_taken m asked seed next peers) = 3
 kind (telling.answer_taken m) = 4
@@ -37,7 +36,6 @@ kind (telling.connection_made m k key link) = 15
 -- the kinds that an act may tell: one line for an act
 abbrev pub kinds_of : Act → List ℕ
 kinds_of (act.Start m) = 0 ∷ []
-kinds_of (act.Stop m) = 1 ∷ 14 ∷ []
 kinds_of (act.SendStep conn m) = 14 ∷ []
 kinds_of (act.RecvStep conn m) = 14 ∷ []
 kinds_of (act.Dialer m) = 2 ∷ 3 ∷ 4 ∷ 5 ∷ 6 ∷ 7 ∷ []
@@ -59,7 +57,6 @@ are_apart ks js = not (list_any (has js) ks)
 -- it tells no other: one line for an act
 within : (name at : ℕ) (a : Act) → NoneTold (λ t. not (has (kinds_of a) (kind t))) name at a
 within name at (act.Start m) = refl
-within name at (act.Stop m) = (refl, λ link. refl)
 within name at (act.SendStep conn m) = λ link s. refl
 within name at (act.RecvStep conn m) = λ link s. refl
 within name at (act.Dialer m) = record { list = λ asked seed next peers. refl; answer = refl; begun = λ key ingress. refl; due = refl; dials = refl; asks = refl }
