@@ -206,9 +206,9 @@ module _ (configs : List Config) (log : List Entry) (moment seed n : ℕ) (x y :
         ∙ (ap (λ xs. xs ++ []) (first_left log (queue.Update n) z [] one p) ∙ append-nil (cond (same_queue (queue.Update n) p) [] (line log p)))
 
     -- the only one is the first
-    dropped : (p : Queue) (b : Bool) → same_queue (queue.Update n) p ≡ b → cond b [] (line log p) ≡ cond b (drop 1 (line log p)) (line log p)
-    dropped p true same = sym (ap (drop 1) (ap (line log) (queue_from_same (queue.Update n) p same) ∙ one))
-    dropped p false other = refl
+    only_first : (p : Queue) (b : Bool) → same_queue (queue.Update n) p ≡ b → cond b [] (line log p) ≡ cond b (drop 1 (line log p)) (line log p)
+    only_first p true same = sym (ap (drop 1) (ap (line log) (queue_from_same (queue.Update n) p same) ∙ one))
+    only_first p false other = refl
 
     updated : Tracks (Some takes.Update) → Done
     updated tracks =
@@ -225,7 +225,7 @@ module _ (configs : List Config) (log : List Entry) (moment seed n : ℕ) (x y :
           no_admission = ap (λ b. cond b hs hs) (eq-eqb n n refl);
           rest = tracks.1.1 ∙ ap (λ w. record x.tracker { mailbox = w; told = y.tracker.told }) (way_is T_update turn_update);
           mailbox = line_update (queue.Tracker n);
-          lines = λ p own. line_update p ∙ dropped p (same_queue (queue.Update n) p) refl;
+          lines = λ p own. line_update p ∙ only_first p (same_queue (queue.Update n) p) refl;
           told = tracks.1.0;
         }))
         (hears_by due_update T_update (item.Addresses ips ∷ []) turn_update took_is

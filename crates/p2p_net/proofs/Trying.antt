@@ -426,4 +426,4 @@ attempt_performs configs log moment seed name n x y l ls r s t d =
     (λ p out. not_among-links named p n out) did d.drops
     (dropped_end (gave_up d.row.puts) (link_at o) (dialing_end log n name) (attempt_end configs log n x.dialing stood name))
     (drops_of-attempt log (entry_of (asked moment seed (act.Attempt name n)) (dropped log lost d.row)) name n refl)
-    (step_row configs log moment seed name n ∙ ap (attempt_drops log n name) (sym did.row_is))
+    (step_row configs log moment seed name n ∙ ap (attempt_drops log name n) (sym did.row_is))
