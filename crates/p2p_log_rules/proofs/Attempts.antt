@@ -209,6 +209,19 @@ module _ (rules : DialRules) (n k : ℕ) where
   -- an act of another node, or of none, tells nothing of it
   tries_none : (name at : ℕ) (a : Act) → tries n a ≡ false → NoneTold about name at a
   tries_none name at (act.Start m) h = refl
+  tries_none name at (act.Router m) h = record { wants = λ c. refl; ready = λ conn key. refl; release = λ key. refl; list = λ m c keys. refl }
+  tries_none name at (act.Tracker m) h = record {
+    unblocks = refl;
+    set = λ index primary secondary. refl;
+    addresses = λ peers. refl;
+    block = λ key. refl;
+    connection = λ conn key. refl;
+    dial = λ seed key granted. refl;
+    listen = λ seed key granted. refl;
+    release = λ key. refl;
+    sets = λ e. refl;
+    blocks = λ e. refl;
+  }
   tries_none name at (act.SendStep conn m) h = λ link s. refl
   tries_none name at (act.RecvStep conn m) h = λ link s. refl
   tries_none name at (act.Dialer m) h = none_dialed m name at (ap (λ b. b && (k == name)) h)

@@ -117,6 +117,19 @@ dials_by n _ = false
 
 none_dialed : (pace : Pace) (n name at : ℕ) (a : Act) → dials_by n a ≡ false → NoneTold (of_dialer pace n) name at a
 none_dialed pace n name at (act.Start m) h = h
+none_dialed pace n name at (act.Router m) h = record { wants = λ c. refl; ready = λ conn key. refl; release = λ key. refl; list = λ m c keys. refl }
+none_dialed pace n name at (act.Tracker m) h = record {
+  unblocks = refl;
+  set = λ index primary secondary. refl;
+  addresses = λ peers. refl;
+  block = λ key. refl;
+  connection = λ conn key. refl;
+  dial = λ seed key granted. refl;
+  listen = λ seed key granted. refl;
+  release = λ key. refl;
+  sets = λ e. refl;
+  blocks = λ e. refl;
+}
 none_dialed pace n name at (act.SendStep conn m) h = λ link s. refl
 none_dialed pace n name at (act.RecvStep conn m) h = λ link s. refl
 none_dialed pace n name at (act.Dialer m) h = record { list = λ asked seed next peers. h; answer = h; begun = λ key ingress. refl; due = h; dials = h; asks = h }

@@ -143,6 +143,19 @@ none_told name at (act.SendStep conn n) h = cc
 none_told name at (act.RecvStep conn n) h = cc
 none_told name at (act.Listener n) h = cc
 none_told name at (act.Start n) h = refl
+none_told name at (act.Router n) h = record { wants = λ c. refl; ready = λ conn key. refl; release = λ key. refl; list = λ m c keys. refl }
+none_told name at (act.Tracker n) h = record {
+  unblocks = refl;
+  set = λ index primary secondary. refl;
+  addresses = λ peers. refl;
+  block = λ key. refl;
+  connection = λ conn key. refl;
+  dial = λ seed key granted. refl;
+  listen = λ seed key granted. refl;
+  release = λ key. refl;
+  sets = λ e. refl;
+  blocks = λ e. refl;
+}
 none_told name at (act.Dialer n) h = record { list = λ asked seed next peers. refl; answer = refl; begun = λ key ingress. refl; due = refl; dials = refl; asks = refl }
 none_told name at (act.Spawner n) h = λ key link. refl
 none_told name at (act.Resolve addresses k n) h = refl

@@ -32,12 +32,28 @@ kind (telling.link_taken m k at) = 12
 kind (telling.attempt_ended m k) = 13
 kind (telling.end_dropped link s) = 14
 kind (telling.connection_made m k key link) = 15
+kind (telling.blocks_ended m at) = 60
+kind (telling.set_asked m index primary secondary) = 61
+kind (telling.addresses_asked m peers) = 62
+kind (telling.block_asked m at key) = 63
+kind (telling.connection_heard m at conn key) = 64
+kind (telling.dial_weighed m at seed key granted) = 65
+kind (telling.listen_weighed m at seed key granted) = 66
+kind (telling.release_heard m key) = 67
+kind (telling.sets_wanted m event) = 68
+kind (telling.blocks_wanted m event) = 69
+kind (telling.lists_wanted m c) = 70
+kind (telling.ready_routed m conn key) = 71
+kind (telling.release_routed m key) = 72
+kind (telling.peers_listed m c keys) = 73
 
 -- the kinds that an act may tell: one line for an act
 abbrev pub kinds_of : Act → List ℕ
 kinds_of (act.Start m) = 0 ∷ []
+kinds_of (act.Router m) = 70 ∷ 71 ∷ 72 ∷ 73 ∷ []
 kinds_of (act.SendStep conn m) = 14 ∷ []
 kinds_of (act.RecvStep conn m) = 14 ∷ []
+kinds_of (act.Tracker m) = 60 ∷ 61 ∷ 62 ∷ 63 ∷ 64 ∷ 65 ∷ 66 ∷ 67 ∷ 68 ∷ 69 ∷ []
 kinds_of (act.Dialer m) = 2 ∷ 3 ∷ 4 ∷ 5 ∷ 6 ∷ 7 ∷ []
 kinds_of (act.Listener m) = 14 ∷ []
 kinds_of (act.Handshake h m) = 14 ∷ []
@@ -57,8 +73,21 @@ are_apart ks js = not (list_any (has js) ks)
 -- it tells no other: one line for an act
 within : (name at : ℕ) (a : Act) → NoneTold (λ t. not (has (kinds_of a) (kind t))) name at a
 within name at (act.Start m) = refl
+within name at (act.Router m) = record { wants = λ c. refl; ready = λ conn key. refl; release = λ key. refl; list = λ n c keys. refl }
 within name at (act.SendStep conn m) = λ link s. refl
 within name at (act.RecvStep conn m) = λ link s. refl
+within name at (act.Tracker m) = record {
+  unblocks = refl;
+  set = λ index primary secondary. refl;
+  addresses = λ peers. refl;
+  block = λ key. refl;
+  connection = λ conn key. refl;
+  dial = λ seed key granted. refl;
+  listen = λ seed key granted. refl;
+  release = λ key. refl;
+  sets = λ e. refl;
+  blocks = λ e. refl;
+}
 within name at (act.Dialer m) = record { list = λ asked seed next peers. refl; answer = refl; begun = λ key ingress. refl; due = refl; dials = refl; asks = refl }
 within name at (act.Listener m) = λ link. refl
 within name at (act.Handshake e m) = λ link. refl

@@ -14,9 +14,14 @@ pub mod Links
 pub mod Moves
 pub mod Named
 pub mod Recorded
+pub mod Rising
+pub mod Routed
+pub mod Routing
 pub mod Spawning
 pub mod TakenAt
+pub mod Taking
 pub mod Tellings
 pub mod Told
+pub mod Tracked
 pub mod Touches
 pub mod Trying

@@ -23,7 +23,9 @@ use Rattle.p2p_log_rules.specs.Puts.{gave_up, ends_attempt, broke_off}
 use Rattle.p2p_log_rules.specs.Tellings.{Telling, last_or}
 use Rattle.p2p_log_rules.specs.Tellings as telling
 use Rattle.p2p_log_rules.specs.Told.{half_in, spawn_tells, when, done_tells, asks_list, link_in, dialing_dropped, half_dropped, half_tells, turned_away, gates_tell, answer_tells, due_tells, ask_tells, took_tells, left_tells, link_tells, act_tells}
+use Rattle.p2p_log_rules.proofs.Routed.{NoneRouted, router_quiet}
 use Rattle.p2p_log_rules.proofs.Tellings.{append_quiet, when_quiet, done_quiet}
+use Rattle.p2p_log_rules.proofs.Tracked.{NoneTracked, tracker_quiet}
 
 -- a test holds of nothing that a step of a node's dialer may tell
 pub record NoneDialed (test : Telling → Bool) (m name at : ℕ) : Type 0 where
@@ -44,8 +46,10 @@ pub record NoneTried (test : Telling → Bool) (m e at : ℕ) : Type 0 where
 module _ (test : Telling → Bool) (name at : ℕ) where
   abbrev pub NoneTold : Act → Type 0
   NoneTold (act.Start m) = test (telling.node_started m at) ≡ false
+  NoneTold (act.Router m) = NoneRouted test m
   NoneTold (act.SendStep conn m) = (link : ℕ) (s : Side) → test (telling.end_dropped link s) ≡ false
   NoneTold (act.RecvStep conn m) = (link : ℕ) (s : Side) → test (telling.end_dropped link s) ≡ false
+  NoneTold (act.Tracker m) = NoneTracked test m at
   NoneTold (act.Dialer m) = NoneDialed test m name at
   NoneTold (act.Listener m) = (link : ℕ) → test (telling.end_dropped link side.In) ≡ false
   NoneTold (act.Handshake h m) = (link : ℕ) → test (telling.end_dropped link side.In) ≡ false
@@ -122,8 +126,10 @@ module _ (test : Telling → Bool) (name at : ℕ) where
   pub quiet_act : (ts : List Telling) (before : List Entry) (seed : ℕ) (r : Reply) (items : List Item) (puts : List (Queue × Item)) (a : Act) → NoneTold a
       → list_any test (act_tells ts before name at seed r items puts a) ≡ false
   quiet_act ts before seed r items puts (act.Start m) h = done_quiet test r (telling.node_started m at ∷ []) (one (telling.node_started m at) h)
+  quiet_act ts before seed r items puts (act.Router m) h = router_quiet test m h items puts
   quiet_act ts before seed r items puts (act.SendStep conn m) h = half_quiet r (half_in ts before m conn) h
   quiet_act ts before seed r items puts (act.RecvStep conn m) h = half_quiet r (half_in ts before m conn) h
+  quiet_act ts before seed r items puts (act.Tracker m) h = tracker_quiet test m at h before seed r items puts
   quiet_act ts before seed r items puts (act.Dialer m) h =
       append_quiet test (answer_tells m (last_or 0 (asks_list m) ts) name at seed items) (ask_tells m at items puts) (answer_quiet m (last_or 0 (asks_list m) ts) seed items h) (ask_quiet m items puts h.due h.dials h.asks)
   quiet_act ts before seed r items puts (act.Listener m) h = gates_quiet r items h

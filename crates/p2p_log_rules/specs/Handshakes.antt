@@ -11,7 +11,7 @@ use Rattle.p2p_log.specs.declared.entry.Reply.{Reply}
 use Rattle.p2p_log.specs.declared.entry.Reply.TheVariants as reply
 use Rattle.p2p_log.specs.declared.event.Act.{Act}
 use Rattle.p2p_log.specs.declared.event.Act.TheVariants as act
-use Rattle.p2p_log_rules.specs.Facts.{taken, taken_at, state_from}
+use Rattle.p2p_log_rules.specs.Taking.{taken, taken_at, state_from}
 
 -- with the handshake of this name, where a step admitted the arrival that it took
 abbrev pub with_admitted : ℕ → Reply → List ℕ → List ℕ

@@ -22,11 +22,14 @@ pub mod Moves
 pub mod Pings
 pub mod Puts
 pub mod Reading
+pub mod Routed
 pub mod Rows
 pub mod Spawning
+pub mod Taking
 pub mod TrackerPuts
 pub mod TrackerRows
 pub mod Tellings
 pub mod Told
+pub mod Tracked
 pub mod Tracking
 pub mod Valid

@@ -3,6 +3,7 @@ use Rattle.std.specs.Prelude.{ℕ, Bool, ◌||◌, min, List, [], ◌∷◌, Opt
 use Rattle.std.specs.Option.{option_map}
 use Rattle.p2p_base.specs.declared.key.Key.{Key}
 use Rattle.p2p_address.specs.declared.ip.SocketAddr.{SocketAddr}
+use Rattle.p2p_address.specs.declared.peer.Address.{Address}
 use Rattle.p2p_address.specs.declared.peer.Ingress.{Ingress}
 use Rattle.p2p_log.specs.declared.queue.Side.{Side}
 
@@ -38,6 +39,34 @@ pub data Telling : Type 0 where
   connection_made : (node conn : ℕ) (key : Key) (link : ℕ) → Telling
   -- the end of a link that writes in this direction was dropped
   end_dropped : (link : ℕ) (side : Side) → Telling
+  -- a node's tracker took at this moment that blocks had ended
+  blocks_ended : (node at : ℕ) → Telling
+  -- it took a set to track, of this index and these peers
+  set_asked : (node index : ℕ) (primary secondary : List (Key × Address)) → Telling
+  -- it took these addresses, each in place of the one that its key had
+  addresses_asked : (node : ℕ) (peers : List (Key × Address)) → Telling
+  -- it took at this moment whom to block
+  block_asked : (node at : ℕ) (key : Key) → Telling
+  -- it took at this moment that a connection had begun, and with whom
+  connection_heard : (node at conn : ℕ) (key : Key) → Telling
+  -- it took at this moment whom to reserve for a dial, with the seed of the time that is added to its wait, and granted it or not
+  dial_weighed : (node at seed : ℕ) (key : Key) (granted : Bool) → Telling
+  -- and for a handshake
+  listen_weighed : (node at seed : ℕ) (key : Key) (granted : Bool) → Telling
+  -- it took that a reservation was given back
+  release_heard : (node : ℕ) (key : Key) → Telling
+  -- it took the question of this event, which wants peer sets
+  sets_wanted : (node event : ℕ) → Telling
+  -- or the blocked keys
+  blocks_wanted : (node event : ℕ) → Telling
+  -- a node's router took that a channel wants lists of peers
+  lists_wanted : (node channel : ℕ) → Telling
+  -- it took that a connection is ready, and with whom
+  ready_routed : (node conn : ℕ) (key : Key) → Telling
+  -- it took that a key has no connection
+  release_routed : (node : ℕ) (key : Key) → Telling
+  -- it put a list of peers for a channel
+  peers_listed : (node channel : ℕ) (keys : List Key) → Telling
 
 -- ---- words
 

@@ -16,11 +16,13 @@ use Rattle.p2p_log.specs.declared.event.Act.{Act}
 use Rattle.p2p_log.specs.declared.event.Act.TheVariants as act
 use Rattle.p2p_log_rules.specs.declared.row.Half.{Half}
 use Rattle.p2p_log_rules.specs.Halves.{connection_in, half_of}
-use Rattle.p2p_log_rules.specs.Facts.{taken, state_from}
+use Rattle.p2p_log_rules.specs.Taking.{taken, state_from}
 use Rattle.p2p_log_rules.specs.Handshakes.{ends_handshake, peer_at}
 use Rattle.p2p_log_rules.specs.Puts.{gave_up, ends_attempt, broke_off}
+use Rattle.p2p_log_rules.specs.Routed.{router_tells}
 use Rattle.p2p_log_rules.specs.Tellings.{Telling, Last, last_told, last_or}
 use Rattle.p2p_log_rules.specs.Tellings as telling
+use Rattle.p2p_log_rules.specs.Tracked.{tracker_tells}
 
 -- ---- what is asked of what was told before
 
@@ -142,7 +144,7 @@ module _ (ts : List Telling) (before : List Entry) (name at seed : ℕ) (r : Rep
   act_tells (act.Send bytes c n priority to) = []
   act_tells (act.Check c n to) = []
   act_tells (act.SendChecked bytes check priority) = []
-  act_tells (act.Router n) = []
+  act_tells (act.Router n) = router_tells n items puts
   act_tells (act.SendStep conn n) = half_tells r (half_in ts before n conn)
   act_tells (act.RecvStep conn n) = half_tells r (half_in ts before n conn)
   act_tells (act.Recv c n) = []
@@ -150,7 +152,7 @@ module _ (ts : List Telling) (before : List Entry) (name at seed : ℕ) (r : Rep
   act_tells (act.Ask what n) = []
   act_tells (act.Answer question) = []
   act_tells (act.Next question) = []
-  act_tells (act.Tracker n) = []
+  act_tells (act.Tracker n) = tracker_tells before n at seed r items puts
   act_tells (act.Dialer n) = answer_tells n (last_or 0 (asks_list n) ts) name at seed items ++ ask_tells n at items puts
   act_tells (act.Listener n) = gates_tell r items
   act_tells (act.Handshake h n) = when (broke_off r items puts) (telling.end_dropped (peer_at before h).link side.In ∷ [])
