@@ -11,6 +11,7 @@ pub mod Ending
 pub mod Facts
 pub mod First
 pub mod Frames
+pub mod Full
 pub mod Halves
 pub mod Handshakes
 pub mod Handshaking
@@ -24,6 +25,7 @@ pub mod Puts
 pub mod Reading
 pub mod Routed
 pub mod Rows
+pub mod Serving
 pub mod Spawning
 pub mod Taking
 pub mod TrackerPuts
