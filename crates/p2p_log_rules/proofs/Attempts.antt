@@ -25,7 +25,7 @@ use Rattle.p2p_log_rules.specs.Facts.{taken, with_named, with_begun}
 use Rattle.p2p_log_rules.specs.Tellings.{Telling, Last, last_told, last_or, or_new, first_or, any_or, least_by, least_or}
 use Rattle.p2p_log_rules.specs.Tellings as telling
 use Rattle.p2p_log_rules.specs.Puts.{gave_up, ends_attempt, broke_off}
-use Rattle.p2p_log_rules.specs.Told.{Begun, begins, ends, opens, opened_since, link_in, dialing_dropped, when, done_tells, asks_list, half_tells, turned_away, gates_tell, answer_tells, ask_tells, took_tells, left_tells, link_tells, act_tells, tells, told}
+use Rattle.p2p_log_rules.specs.Told.{Begun, begins, ends, opens, opened_since, link_in, dialing_dropped, when, done_tells, asks_list, half_tells, gates_tell, answer_tells, ask_tells, took_tells, left_tells, link_tells, act_tells, tells, told}
 use Rattle.p2p_log_rules.proofs.Facts.{list_any-last}
 use Rattle.p2p_log_rules.proofs.Named.{NoneFrom, either_none, named_none, begun_none}
 use Rattle.p2p_log_rules.proofs.Told.{NoneDialed, NoneTried, NoneTold, one, ask_quiet, cut_quiet, link_quiet, step_quiet, connect_quiet, quiet_act}
@@ -486,7 +486,7 @@ late_each rules n before e ts k past none =
     attempt_in-more rules n k ts (tells ts before e)
     ∙ (ap (attempt_told rules n k (tells ts before e)) none
     ∙ (acted_told rules n (length before) e.event.at e.event.seed e.reply (taken before e) e.puts ts before e.event.act (λ j. None) k
-       (no_attempt rules n (length before) e.event.at e.event.seed e.reply (taken before e) e.puts e.event.act)
+    (no_attempt rules n (length before) e.event.at e.event.seed e.reply (taken before e) e.puts e.event.act)
     ∙ acted_none rules n (length before) e.event.at e.event.seed e.reply (taken before e) e.puts e.event.act (λ j. None) (λ j h. refl) k past))
 
 pub attempts_of-late : (configs : List Config) (log : List Entry) (n k : ℕ) → length log ≤ k → attempts_of configs log n k ≡ None

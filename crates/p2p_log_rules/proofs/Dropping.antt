@@ -17,14 +17,14 @@ use Rattle.p2p_log.specs.declared.event.Act.{Act}
 use Rattle.p2p_log.specs.declared.event.Act.TheVariants as act
 use Rattle.p2p_log_rules.specs.declared.row.Half.{Half}
 use Rattle.p2p_log_rules.specs.Connections.{half_at, is_end}
-use Rattle.p2p_log_rules.specs.Dropping.{LinkEnd, is_side, drops, is_dropped, drop_in, drops_in, drops_of, dialing_end, half_end}
+use Rattle.p2p_log_rules.specs.Dropping.{LinkEnd, is_side, drops, is_dropped, drop_in, drops_in, drops_of, dialing_end, arrival_end, half_end}
 use Rattle.p2p_log_rules.specs.Facts.{taken, state_from}
 use Rattle.p2p_log_rules.specs.Handshakes.{peer_at}
-use Rattle.p2p_log_rules.specs.Puts.{is_spawn, gave_up, broke_off}
+use Rattle.p2p_log_rules.specs.Puts.{is_spawn, gave_up, broke_off, turns_away, arrival_link}
 use Rattle.p2p_log_rules.specs.Spawning.{connections_of}
 use Rattle.p2p_log_rules.specs.Tellings.{Telling}
 use Rattle.p2p_log_rules.specs.Tellings as telling
-use Rattle.p2p_log_rules.specs.Told.{when, link_in, dialing_dropped, half_tells, gates_tell, took_tells, left_tells, act_tells, tells, told}
+use Rattle.p2p_log_rules.specs.Told.{when, link_in, dialing_dropped, listening_dropped, half_tells, took_tells, left_tells, act_tells, tells, told}
 use Rattle.p2p_log_rules.proofs.Tellings.{told-append}
 use Rattle.p2p_log_rules.proofs.Told.{NoneTold, quiet_act}
 
@@ -92,6 +92,11 @@ broke_drops : (b : Bool) (link : ℕ) → drops_in (when b (telling.end_dropped 
 broke_drops true link = refl
 broke_drops false link = refl
 
+heard_drops : (b : Bool) (o : Option ℕ) → drops_in (when b (listening_dropped o)) ≡ all_of (cond b (option_map (λ l. (l, side.In)) o) None)
+heard_drops true None = refl
+heard_drops true (Some link) = refl
+heard_drops false o = refl
+
 module _ (log : List Entry) (e : Entry) where
   abbrev acts_tell : Act → List Telling
   acts_tell a = act_tells (told log) log (length log) e.event.at e.event.seed e.reply (taken log e) e.puts a
@@ -117,9 +122,9 @@ module _ (log : List Entry) (e : Entry) where
   unfolding half_at connections_of
   drops_of-receive conn n is = tells_act (act.RecvStep conn n) is ∙ half_drops e.reply (half_at log n conn)
 
-  -- a step that does not admit an arrival drops its end
-  pub drops_of-listener : (n : ℕ) → e.event.act ≡ act.Listener n → drops_of log e ≡ drops_in (gates_tell e.reply (taken log e))
-  drops_of-listener n is = tells_act (act.Listener n) is
+  -- a step that turns an arrival away drops its end
+  pub drops_of-listener : (n : ℕ) → e.event.act ≡ act.Listener n → drops_of log e ≡ all_of (cond (turns_away e.reply) (arrival_end (taken log e)) None)
+  drops_of-listener n is = tells_act (act.Listener n) is ∙ heard_drops (turns_away e.reply) (arrival_link (taken log e))
 
 -- where no end is told of, none is dropped
 none_dropped : (ts : List Telling) → list_any is_drop ts ≡ false → drops_in ts ≡ []

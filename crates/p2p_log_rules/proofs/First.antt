@@ -22,7 +22,7 @@ use Rattle.p2p_log_rules.specs.declared.row.Row.{Row}
 use Rattle.p2p_log_rules.specs.Attempting.{Attempt, dial_rules_at, attempts_of, given_up_row, attempt_by, attempt_row}
 use Rattle.p2p_log_rules.specs.Connections.{live_half, is_begun, is_running}
 use Rattle.p2p_log_rules.specs.Dialing.{Dials, dials_of, due_row, dialer_turn, dialer_row}
-use Rattle.p2p_log_rules.specs.Dropping.{LinkEnd, other_side, is_dropped, dropping, dialing_end}
+use Rattle.p2p_log_rules.specs.Dropping.{LinkEnd, other_side, is_dropped, dropping, dialing_end, arriving_end}
 use Rattle.p2p_log_rules.specs.Effect.{route_oldest, router_row, batch_size_at, batch, written_row, half_row, sender_row, send_step_row, retry_row, held_row, receiving_row, recv_step_row, row}
 use Rattle.p2p_log_rules.specs.Effect as effect
 use Rattle.p2p_log_rules.specs.Ending.{end_row}
@@ -33,7 +33,7 @@ use Rattle.p2p_log_rules.specs.Handshaking.{handshake_deadline, is_due, ended_ro
 use Rattle.p2p_log_rules.specs.Listening.{gate_rules_at, known_of, has_place, listener_turn, listener_row}
 use Rattle.p2p_log_rules.specs.Metering.{pings, messages, may_pass}
 use Rattle.p2p_log_rules.specs.Pings.{ping_is_due}
-use Rattle.p2p_log_rules.specs.Puts.{gave_up, broke_off}
+use Rattle.p2p_log_rules.specs.Puts.{gave_up, broke_off, turns_away}
 use Rattle.p2p_log_rules.specs.Rows.{only, is_spawner_full, takes_oldest}
 use Rattle.p2p_log_rules.specs.Serving.{tracker_serves, router_serves, spawner_serves, dialer_serves, listener_serves, attempt_serves, handshake_serves, sender_serves, receiver_serves, actor_row}
 use Rattle.p2p_log_rules.specs.Spawning.{spawner_row}
@@ -304,7 +304,10 @@ row_reply-first configs log at seed a x is = by a is
     by (act.Router n) h = reply_of (router_row configs log n) (actor_row configs log at seed (router n)) (router_row-first configs log at seed n) ∙ of (router n) h
     by (act.Spawner n) h = reply_of (spawner_row log n) (actor_row configs log at seed (spawner n)) (spawner_row-first configs log at seed n) ∙ of (spawner n) h
     by (act.Dialer n) h = reply_of (dialer_row configs log n at seed) (actor_row configs log at seed (dialer n)) (dialer_row-first configs log at seed n) ∙ of (dialer n) h
-    by (act.Listener n) h = reply_of (listener_row configs log n at) (actor_row configs log at seed (listener n)) (listener_row-first configs log at seed n) ∙ of (listener n) h
+    by (act.Listener n) h =
+        let r : Row = listener_row configs log n at in
+        dropping-reply log (cond (turns_away r.reply) (arriving_end log n) None) r
+        ∙ (reply_of r (actor_row configs log at seed (listener n)) (listener_row-first configs log at seed n) ∙ of (listener n) h)
     by (act.Attempt k n) h =
         dropping-reply log (cond (gave_up (attempt_row configs log k n at seed).puts) (dialing_end log n k) None) (attempt_row configs log k n at seed)
         ∙ (reply_of (attempt_row configs log k n at seed) (actor_row configs log at seed (attempt n k)) (attempt_row-first configs log at seed n k) ∙ of (attempt n k) h)

@@ -5,8 +5,6 @@ use Rattle.std.specs.List.{list_any}
 use Rattle.p2p_base.specs.declared.key.Key.{Key}
 use Rattle.p2p_address.specs.declared.ip.SocketAddr.{SocketAddr}
 use Rattle.p2p_address.specs.declared.peer.Ingress.{Ingress}
-use Rattle.p2p_tracker_calls.specs.declared.gates.Reply.{Reply as Gates}
-use Rattle.p2p_tracker_calls.specs.declared.gates.Reply.TheVariants as gates
 use Rattle.p2p_log.specs.declared.queue.Queue.{Queue}
 use Rattle.p2p_log.specs.declared.queue.Side.{Side}
 use Rattle.p2p_log.specs.declared.queue.Side.TheVariants as side
@@ -19,10 +17,10 @@ use Rattle.p2p_log.specs.declared.event.Act.{Act}
 use Rattle.p2p_log.specs.declared.event.Act.TheVariants as act
 use Rattle.p2p_log_rules.specs.declared.row.Half.{Half}
 use Rattle.p2p_log_rules.specs.Handshakes.{peer_at}
-use Rattle.p2p_log_rules.specs.Puts.{gave_up, ends_attempt, broke_off}
+use Rattle.p2p_log_rules.specs.Puts.{gave_up, ends_attempt, broke_off, turns_away, arrival_link}
 use Rattle.p2p_log_rules.specs.Tellings.{Telling, last_or}
 use Rattle.p2p_log_rules.specs.Tellings as telling
-use Rattle.p2p_log_rules.specs.Told.{half_in, spawn_tells, when, done_tells, asks_list, link_in, dialing_dropped, half_dropped, half_tells, turned_away, gates_tell, answer_tells, due_tells, ask_tells, took_tells, left_tells, link_tells, act_tells}
+use Rattle.p2p_log_rules.specs.Told.{half_in, spawn_tells, when, done_tells, asks_list, link_in, dialing_dropped, listening_dropped, half_dropped, half_tells, gates_tell, answer_tells, due_tells, ask_tells, took_tells, left_tells, link_tells, act_tells}
 use Rattle.p2p_log_rules.proofs.Routed.{NoneRouted, router_quiet}
 use Rattle.p2p_log_rules.proofs.Tellings.{append_quiet, when_quiet, done_quiet}
 use Rattle.p2p_log_rules.proofs.Tracked.{NoneTracked, tracker_quiet}
@@ -71,14 +69,12 @@ module _ (test : Telling → Bool) (name at : ℕ) where
   half_quiet (reply.Ended why) (Some half) h = one (telling.end_dropped half.link half.writes) (h half.link half.writes)
   half_quiet _ o h = refl
 
-  turned_quiet : (g : Gates) (items : List Item) → ((link : ℕ) → test (telling.end_dropped link side.In) ≡ false) → list_any test (turned_away g items) ≡ false
-  turned_quiet gates.Admitted items h = refl
-  turned_quiet _ (item.Arrival from key link ∷ items) h = one (telling.end_dropped link side.In) (h link)
-  turned_quiet _ _ h = refl
+  heard_quiet : (o : Option ℕ) → ((link : ℕ) → test (telling.end_dropped link side.In) ≡ false) → list_any test (listening_dropped o) ≡ false
+  heard_quiet None h = refl
+  heard_quiet (Some link) h = one (telling.end_dropped link side.In) (h link)
 
   gates_quiet : (r : Reply) (items : List Item) → ((link : ℕ) → test (telling.end_dropped link side.In) ≡ false) → list_any test (gates_tell r items) ≡ false
-  gates_quiet (reply.Gates g) items h = turned_quiet g items h
-  gates_quiet _ items h = refl
+  gates_quiet r items h = when_quiet test (turns_away r) (listening_dropped (arrival_link items)) (heard_quiet (arrival_link items) h)
 
   answer_quiet : (m asked seed : ℕ) (items : List Item) → NoneDialed test m name at → list_any test (answer_tells m asked name at seed items) ≡ false
   answer_quiet m asked seed (item.Dialable next peers ∷ items) h = more (telling.list_taken m asked seed next peers) (telling.answer_taken m ∷ []) (h.list asked seed next peers) (one (telling.answer_taken m) h.answer)

@@ -3,8 +3,6 @@ use Rattle.std.specs.Prelude.{ℕ, Bool, true, false, ◌==◌, ◌&&◌, cond, 
 use Rattle.std.specs.List.{list_any}
 use Rattle.p2p_base.specs.declared.key.Key.{Key}
 use Rattle.p2p_address.specs.declared.peer.Ingress.{Ingress}
-use Rattle.p2p_tracker_calls.specs.declared.gates.Reply.{Reply as Gates}
-use Rattle.p2p_tracker_calls.specs.declared.gates.Reply.TheVariants as gates
 use Rattle.p2p_log.specs.declared.queue.Queue.{Queue}
 use Rattle.p2p_log.specs.declared.queue.Side.TheVariants as side
 use Rattle.p2p_log.specs.declared.item.Item.{Item}
@@ -18,7 +16,7 @@ use Rattle.p2p_log_rules.specs.declared.row.Half.{Half}
 use Rattle.p2p_log_rules.specs.Halves.{connection_in, half_of}
 use Rattle.p2p_log_rules.specs.Taking.{taken, state_from}
 use Rattle.p2p_log_rules.specs.Handshakes.{ends_handshake, peer_at}
-use Rattle.p2p_log_rules.specs.Puts.{gave_up, ends_attempt, broke_off}
+use Rattle.p2p_log_rules.specs.Puts.{gave_up, ends_attempt, broke_off, turns_away, arrival_link}
 use Rattle.p2p_log_rules.specs.Routed.{router_tells}
 use Rattle.p2p_log_rules.specs.Tellings.{Telling, Last, last_told, last_or}
 use Rattle.p2p_log_rules.specs.Tellings as telling
@@ -75,6 +73,10 @@ abbrev pub dialing_dropped : Option ℕ → List Telling
 dialing_dropped None = []
 dialing_dropped (Some link) = telling.end_dropped link side.Out ∷ []
 
+abbrev pub listening_dropped : Option ℕ → List Telling
+listening_dropped None = []
+listening_dropped (Some link) = telling.end_dropped link side.In ∷ []
+
 abbrev pub half_dropped : Option Half → List Telling
 half_dropped None = []
 half_dropped (Some half) = telling.end_dropped half.link half.writes ∷ []
@@ -117,15 +119,9 @@ abbrev pub link_tells : ℕ → ℕ → ℕ → List (Queue × Item) → List Te
 link_tells n k name (told ∷ arrival ∷ puts) = telling.link_opened n k name ∷ []
 link_tells n k name _ = []
 
--- an arrival that a listener did not admit
-abbrev pub turned_away : Gates → List Item → List Telling
-turned_away gates.Admitted items = []
-turned_away g (item.Arrival from key link ∷ items) = telling.end_dropped link side.In ∷ []
-turned_away g _ = []
-
+-- that a listener dropped the end of an arrival, where it turned it away
 abbrev pub gates_tell : Reply → List Item → List Telling
-gates_tell (reply.Gates g) items = turned_away g items
-gates_tell r items = []
+gates_tell r items = when (turns_away r) (listening_dropped (arrival_link items))
 
 -- the connection that a spawner made of what it took, in an entry of this name
 abbrev pub spawn_tells : ℕ → ℕ → List Item → List Telling
