@@ -6,7 +6,7 @@ use Rattle.p2p_log.specs.declared.config.Config.{Config}
 use Rattle.p2p_log.specs.declared.event.Event.{Event}
 use Rattle.p2p_log.specs.declared.entry.Entry.{Entry}
 use Rattle.p2p_log_rules.specs.Facts.{events_of, starts, has_started, registers_at, registered}
-pub use Rattle.p2p_log_rules.proofs.Taking.{list_any-last, history_from-append, state_from-append}
+pub use Rattle.p2p_log_rules.proofs.Taking.{or-false, list_any-last, history_from-append, state_from-append}
 use Rattle.p2p_log_rules.proofs.Taking.{flat_map-last}
 pub use Rattle.p2p_log_rules.proofs.Routing.{subscribers-append, routes-append}
 

@@ -1,14 +1,17 @@
 pub mod Attempts
 pub mod Calls
+pub mod Channels
 pub mod Checking
 pub mod Closing
 pub mod Connections
+pub mod Dialed
 pub mod Dialing
 pub mod Dropping
 pub mod Facts
 pub mod Families
 pub mod First
 pub mod Handshakes
+pub mod Ignoring
 pub mod Lawful
 pub mod Links
 pub mod Moves
@@ -18,6 +21,7 @@ pub mod Rising
 pub mod Routed
 pub mod Routing
 pub mod Spawning
+pub mod Standing
 pub mod TakenAt
 pub mod Taking
 pub mod Tellings

@@ -13,7 +13,10 @@ use Rattle.p2p_log.specs.declared.event.Event.{Event}
 use Rattle.p2p_log.specs.declared.event.Rate.{Rate}
 use Rattle.p2p_log.specs.declared.event.Act.{Act}
 use Rattle.p2p_log.specs.declared.event.Act.TheVariants as act
-unfoldable pub use Rattle.p2p_log_rules.specs.Taking.{item_put, item_in, item_named, taken, taken_in, taken_at, history_from, state_from, with_named, with_begun, history}
+pub use Rattle.p2p_log_rules.specs.Asked.{events_of, starts, capacity_for, registers_at, rates_by}
+unfoldable pub use Rattle.p2p_log_rules.specs.Asked.{has_started, registered}
+pub use Rattle.p2p_log_rules.specs.Taking.{item_put, item_in, item_named, taken_in, with_named, with_begun, history}
+unfoldable pub use Rattle.p2p_log_rules.specs.Taking.{taken, taken_at, history_from, state_from}
 use Rattle.p2p_log_rules.specs.Routed.{peers_in}
 use Rattle.p2p_log_rules.specs.Tellings.{Telling, last_or}
 use Rattle.p2p_log_rules.specs.Tellings as telling
@@ -21,21 +24,14 @@ use Rattle.p2p_log_rules.specs.Told.{told}
 
 -- ---- nodes
 
--- what was asked, in order
-abbrev pub events_of : List Entry → List Event
-events_of log = map (λ e. e.event) log
-
-abbrev pub starts : ℕ → Act → Bool
-starts n (act.Start m) = m == n
-starts n _ = false
-
--- whether a node was asked to start
-unfoldable pub has_started : List Event → ℕ → Bool
-has_started events n = list_any (λ v. starts n v.act) events
+-- whether it is told that the node runs
+abbrev pub runs_node : ℕ → Telling → Bool
+runs_node n (telling.node_started m at) = m == n
+runs_node n _ = false
 
 -- whether the node has started
-abbrev pub is_up : List Entry → ℕ → Bool
-is_up log n = has_started (events_of log) n
+unfoldable pub is_up : List Entry → ℕ → Bool
+is_up log n = list_any (runs_node n) (told log)
 
 -- the latest of the moments of these
 abbrev pub latest_moment : List Event → ℕ
@@ -52,37 +48,26 @@ moment_at log name = moment_of (slice_get log name)
 
 -- ---- channels
 
--- the retained peers' bursts
-abbrev pub capacity_for : Option Config → Rate → ℕ
-capacity_for None rate = 0
-capacity_for (Some c) rate = (c.max_peers_per_set * c.tracked_peer_sets) * rate.burst
-
-abbrev pub registers_at : List Config → ℕ → Act → List (ℕ × ℕ)
-registers_at configs n (act.Register c m rate) = cond (m == n) ((c, capacity_for (slice_get configs n) rate) ∷ []) []
-registers_at configs n _ = []
-
--- the channels that were registered at a node, in order, each with its capacity
-unfoldable pub registered : List Config → List Event → ℕ → List (ℕ × ℕ)
-registered configs events n = flat_map (λ v. registers_at configs n v.act) events
-
-abbrev pub channels : List Config → List Entry → ℕ → List (ℕ × ℕ)
-channels configs log n = registered configs (events_of log) n
-
--- the capacity of a channel, where it is registered
-abbrev pub capacity_in : List (ℕ × ℕ) → ℕ → Option ℕ
-capacity_in channels c = lookup (λ k. c == k) channels
-
-abbrev pub rates_by : ℕ → Act → List (ℕ × Rate)
-rates_by n (act.Register c m rate) = cond (m == n) ((c, rate) ∷ []) []
-rates_by n _ = []
+-- the channel that is told of, with its rate
+abbrev pub rate_told : ℕ → Telling → List (ℕ × Rate)
+rate_told n (telling.channel_registered m c rate) = cond (m == n) ((c, rate) ∷ []) []
+rate_told n _ = []
 
 -- the channels that were registered at a node, in order, each with its rate
-unfoldable pub rates : List Event → ℕ → List (ℕ × Rate)
-rates events n = flat_map (λ v. rates_by n v.act) events
+unfoldable pub rates : List Entry → ℕ → List (ℕ × Rate)
+rates log n = flat_map (rate_told n) (told log)
 
 -- the rate of a channel, where it is registered
 abbrev pub rate_in : List (ℕ × Rate) → ℕ → Option Rate
 rate_in rates c = lookup (λ k. c == k) rates
+
+-- and each with its capacity
+unfoldable pub channels : List Config → List Entry → ℕ → List (ℕ × ℕ)
+channels configs log n = map (λ c. (c.0, capacity_for (slice_get configs n) c.1)) (rates log n)
+
+-- the capacity of a channel, where it is registered
+abbrev pub capacity_in : List (ℕ × ℕ) → ℕ → Option ℕ
+capacity_in channels c = lookup (λ k. c == k) channels
 
 abbrev pub sum_capacities : List (ℕ × ℕ) → ℕ
 sum_capacities [] = 0

@@ -1,7 +1,9 @@
 pub mod Admitting
+pub mod Asked
 pub mod Attempting
 pub mod Checking
 pub mod Closing
+pub mod ConnectionEntries
 pub mod Connections
 pub mod Dialed
 pub mod Dialing
@@ -13,9 +15,13 @@ pub mod First
 pub mod Frames
 pub mod Full
 pub mod Halves
+pub mod HandshakeEntries
+pub mod HandshakeSteps
 pub mod Handshakes
 pub mod Handshaking
+pub mod Holders
 pub mod Lawful
+pub mod LinkEntries
 pub mod Links
 pub mod Listening
 pub mod Metering
@@ -27,6 +33,7 @@ pub mod Routed
 pub mod Rows
 pub mod Serving
 pub mod Spawning
+pub mod Standing
 pub mod Taking
 pub mod TrackerPuts
 pub mod TrackerRows
