@@ -88,7 +88,6 @@ within name at (act.Start m) = refl
 within name at (act.Router m) = record { wants = λ c. refl; ready = λ conn key. refl; release = λ key. refl; list = λ n c keys. refl }
 within name at (act.SendStep conn m) = record { step = refl; answer = refl; ends = record { over = refl; drops = λ link s. refl } }
 within name at (act.RecvStep conn m) = record { over = refl; drops = λ link s. refl }
-within name at (act.RecvStep conn m) = λ link s. refl
 within name at (act.Tracker m) = record {
   unblocks = refl;
   set = λ index primary secondary. refl;
