@@ -16,6 +16,7 @@ use Rattle.p2p_log_laws.proofs.EndShown.{each_end_shows, each_ends_one, each_is_
 use Rattle.p2p_log_laws.proofs.EndsOnce.{each_has_one_end, nothing_else_ends}
 use Rattle.p2p_log_laws.proofs.FateLaws.{each_known, each_waiting, each_dropped, each_delivered as each_told_delivered}
 use Rattle.p2p_log_laws.proofs.HandshakeLaws.{one_answer}
+use Rattle.p2p_log_laws.proofs.Idling.{each_step_serves_first}
 use Rattle.p2p_log_laws.proofs.KillCauses.{each_kill_has_its_cause}
 use Rattle.p2p_log_laws.proofs.Killing.{each_kill_shown}
 use Rattle.p2p_log_laws.proofs.Leaving.{leave_in_order}
@@ -34,6 +35,7 @@ module _ (configs : List Config) (script : List Event) (log : List Entry) (lawfu
   pub accounted : IsAccounted configs log
   accounted = record {
     beginnings = λ asked it n. beginning_lawful configs asked log it n;
+    serves = each_step_serves_first configs script log lawful;
     starts = each_start_subscribes configs script log lawful;
     registered_once = each_registers_once configs log;
     admitted = each_admitted configs script log lawful;

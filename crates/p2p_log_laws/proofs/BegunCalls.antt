@@ -28,7 +28,8 @@ use Rattle.p2p_log_rules.specs.declared.row.Row.{Row}
 use Rattle.p2p_log_rules.specs.Effect.{entry_of}
 use Rattle.p2p_log_rules.specs.Facts.{taken}
 use Rattle.p2p_log_rules.specs.Moves.{Moves}
-use Rattle.p2p_log_rules.specs.Tracking.{rules_at, asked_by, steps_tracker, asked_calls, item_calls, step_calls, grants_peer, calls_by, calls_of}
+use Rattle.p2p_log_rules.specs.Tracking.{rules_at, asked_by, steps_tracker, grants_peer, calls_of}
+use Rattle.p2p_log_rules.proofs.Calls.{asked_calls, item_calls, step_calls, calls_by}
 use Rattle.p2p_log_laws.proofs.Reaching.{Reach, reads}
 use Rattle.p2p_log_laws.specs.Grants.{one}
 use Rattle.p2p_log_laws.specs.NodeGrants.{put_of}

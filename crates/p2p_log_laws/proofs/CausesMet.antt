@@ -21,7 +21,8 @@ use Rattle.p2p_tracker_calls.proofs.Eligible.{tracked-is_kept, not_stale-is_kept
 use Rattle.p2p_log.specs.declared.asked.Asked.TheVariants as ask
 use Rattle.p2p_log.specs.declared.event.Act.{Act}
 use Rattle.p2p_log.specs.declared.event.Act.TheVariants as act
-use Rattle.p2p_log_rules.specs.Tracking.{key_cmp, asked_calls}
+use Rattle.p2p_log_rules.specs.Tracking.{key_cmp}
+use Rattle.p2p_log_rules.proofs.Calls.{asked_calls}
 use Rattle.p2p_log_laws.specs.KilledSince.{is_cause, has_cause}
 use Rattle.p2p_log_laws.specs.Kills.{IsOverwritten, IsEndedBy}
 use Rattle.p2p_log_laws.proofs.HeldCalls.{at_key, held_overwritten}

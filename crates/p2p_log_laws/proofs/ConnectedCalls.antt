@@ -19,7 +19,8 @@ use Rattle.p2p_log.specs.declared.entry.Reply.{Reply}
 use Rattle.p2p_log.specs.declared.entry.Reply.TheVariants as reply
 use Rattle.p2p_log.specs.declared.event.Act.{Act}
 use Rattle.p2p_log.specs.declared.event.Act.TheVariants as act
-use Rattle.p2p_log_rules.specs.Tracking.{key_cmp, asked_by, asked_calls, item_calls, step_calls}
+use Rattle.p2p_log_rules.specs.Tracking.{key_cmp, asked_by}
+use Rattle.p2p_log_rules.proofs.Calls.{asked_calls, item_calls, step_calls}
 use Rattle.p2p_log_laws.proofs.HeldCalls.{at_key}
 
 module _ (rules : Rules Key) (key : Key) where

@@ -25,13 +25,15 @@ use Rattle.p2p_log.specs.declared.asked.Asked.TheVariants as ask
 use Rattle.p2p_log.specs.declared.event.Act.{Act}
 use Rattle.p2p_log.specs.declared.event.Act.TheVariants as act
 use Rattle.p2p_log_rules.specs.Facts.{state_from}
-use Rattle.p2p_log_rules.specs.Tracking.{key_cmp, asked_calls, calls_of}
+use Rattle.p2p_log_rules.specs.Told.{told}
+use Rattle.p2p_log_rules.specs.Tracking.{key_cmp, calls_of}
+use Rattle.p2p_log_rules.proofs.Calls.{asked_calls}
 use Rattle.p2p_log_rules.specs.TrackerPuts.{dial_grant}
 use Rattle.p2p_log_laws.specs.Grants.{held_after}
 
 -- before the first entry no key is held
 pub held_none : (configs : List Config) (n : ℕ) (key : Key) → is_held key_cmp (calls_of configs [] n) key ≡ false
-unfolding calls_of state_from is_held
+unfolding calls_of told state_from is_held
 held_none configs n key = refl
 
 -- ---- calls that leave a key as it was

@@ -21,8 +21,8 @@ use Rattle.p2p_log.specs.Lines.{name_of, line}
 use Rattle.p2p_log_rules.specs.Effect.{effect}
 use Rattle.p2p_log_rules.specs.Facts.{item_named, taken}
 use Rattle.p2p_log_rules.specs.Lawful.{IsLawful}
-use Rattle.p2p_log_rules.specs.Tracking.{key_cmp, rules_at, asked_by, steps_tracker, item_calls, step_calls, grants_peer, calls_of}
-use Rattle.p2p_log_rules.proofs.Calls.{calls_of-append}
+use Rattle.p2p_log_rules.specs.Tracking.{key_cmp, rules_at, asked_by, steps_tracker, grants_peer, calls_of}
+use Rattle.p2p_log_rules.proofs.Calls.{item_calls, step_calls, calls_of-append}
 use Rattle.p2p_log_rules.proofs.Moves.{first_has}
 use Rattle.p2p_log_laws.specs.KilledSince.{has_cause, IsKilledSince, EachKillHasItsCause}
 use Rattle.p2p_log_laws.specs.Kills.{IsEndedFor, ShowsKill}

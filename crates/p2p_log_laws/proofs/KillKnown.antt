@@ -45,11 +45,12 @@ use Rattle.p2p_log_rules.specs.Handshakes.{is_handshaking, source_at}
 use Rattle.p2p_log_rules.specs.Lawful.{IsLawful}
 use Rattle.p2p_log_rules.specs.Rows.{only}
 use Rattle.p2p_log_rules.specs.Spawning.{Spawned, connections_of}
-use Rattle.p2p_log_rules.specs.Tracking.{key_cmp, rules_at, asked_by, steps_tracker, asked_calls, item_calls, step_calls, grants_peer, calls_by, calls_of, update_subscriptions, blocked_subscriptions}
+use Rattle.p2p_log_rules.specs.Told.{told}
+use Rattle.p2p_log_rules.specs.Tracking.{key_cmp, rules_at, asked_by, steps_tracker, grants_peer, calls_of, update_subscriptions, blocked_subscriptions}
 use Rattle.p2p_log_rules.specs.TrackerPuts as puts
 use Rattle.p2p_log_rules.specs.TrackerPuts.{Put}
 use Rattle.p2p_log_rules.specs.TrackerRows as rows
-use Rattle.p2p_log_rules.proofs.Calls.{calls_of-append}
+use Rattle.p2p_log_rules.proofs.Calls.{asked_calls, item_calls, step_calls, calls_by, calls_of-append}
 use Rattle.p2p_log_rules.proofs.Moves.{one_taken}
 use Rattle.p2p_log_rules.proofs.Spawning.{connections_of-longer}
 use Rattle.p2p_log_laws.proofs.Connecting.{connect_is_reserved}
@@ -287,7 +288,7 @@ module _ (configs : List Config) (n : ℕ) (key : Key) where
   is_step _ h = absurd (cc)
 
   known_first : Known configs n key []
-  unfolding calls_of state_from
+  unfolding calls_of told state_from
   known_first = knows_none (rules configs n) key (IsMade [] n key)
 
   abbrev Stepped : List Entry → Event → ℕ → Row → Type 0

@@ -66,6 +66,7 @@ pub mod Heeded
 pub mod HeldCalls
 pub mod HeldPeers
 pub mod Holding
+pub mod Idling
 pub mod KeptKnown
 pub mod KillCauses
 pub mod Killing

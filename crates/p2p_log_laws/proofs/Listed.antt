@@ -21,12 +21,13 @@ use Rattle.p2p_log_rules.specs.declared.row.Opening.{Opening}
 use Rattle.p2p_log_rules.specs.declared.row.Row.{Row}
 use Rattle.p2p_log_rules.specs.Connections.{is_ended}
 use Rattle.p2p_log_rules.specs.Effect.{effect, entry_of, row, router_row, route_oldest, route_row, only, peers_put, spread, mailbox_size_at}
-use Rattle.p2p_log_rules.specs.Facts.{is_up, item_named, taken, steps_router, routed_by, subscriber_of, routed, history_from, subscribers, with_route, routes_after, routes, keys_in, list_put, lists_put, newest, peers_told}
+use Rattle.p2p_log_rules.specs.Facts.{is_up, item_named, taken, state_from, steps_router, routed_by, subscribers, with_route, routes, keys_in, peers_told}
 use Rattle.p2p_log_rules.specs.Lawful.{IsLawful}
 use Rattle.p2p_log_rules.specs.Links.{openings_of}
-use Rattle.p2p_log_rules.proofs.Checking.{newest-last, peers_told-after, peers_told-kept, peers_told-none}
-use Rattle.p2p_log_rules.proofs.Facts.{subscribers-append, routes-append, list_any-last}
+use Rattle.p2p_log_rules.specs.Told.{told}
+use Rattle.p2p_log_rules.proofs.Facts.{list_any-last}
 use Rattle.p2p_log_rules.proofs.Recorded.{item_named-first}
+use Rattle.p2p_log_rules.proofs.Routing.{subscriber_of, subscribers-append, routes_after, routes-append, list_put, lists_put, newest, peers_told-routed, peers_told-kept, peers_told-none}
 use Rattle.p2p_log_rules.proofs.Touches.{in_ends, away}
 use Rattle.p2p_log_laws.proofs.Reaching.{writes}
 use Rattle.p2p_log_laws.specs.Listed.{ListsAreCurrent}
@@ -80,25 +81,21 @@ module _ (n c : ℕ) where
   -- ---- a router's step that takes an item
 
   -- the newest list, once the same was put for each of these
-  newest-puts : (keys : List Key) (cs : List ℕ) (lists : List (List Key)) → newest (lists ++ flat_map (list_put n c) (map (peers_put n keys) cs)) ≡ cond (hears cs) keys (newest lists)
-  newest-puts keys [] lists = ap newest (append-nil lists)
-  newest-puts keys (d ∷ cs) lists = by (newest-puts keys cs) (d == c) (same_queue (queue.Peers n c) (queue.Peers n d)) (same d)
+  newest-puts : (keys : List Key) (cs : List ℕ) (old : List Key) → newest old (flat_map (list_put n c) (map (peers_put n keys) cs)) ≡ cond (hears cs) keys old
+  newest-puts keys [] old = refl
+  newest-puts keys (d ∷ cs) old = by (λ l. newest-puts keys cs l) (d == c) (same_queue (queue.Peers n c) (queue.Peers n d)) (same d)
     where
       same : (d : ℕ) → same_queue (queue.Peers n c) (queue.Peers n d) ≡ (d == c)
       same d = grind (arith, nat_tests)
 
-      either : (b : Bool) (x : List Key) → x ≡ keys → cond b keys x ≡ keys
-      either true x e = refl
-      either false x e = e
+      either : (b : Bool) → cond b keys keys ≡ keys
+      either true = refl
+      either false = refl
 
-      by : ((ls : List (List Key)) → newest (ls ++ flat_map (list_put n c) (map (peers_put n keys) cs)) ≡ cond (hears cs) keys (newest ls))
-          → (b t : Bool) → t ≡ b → newest (lists ++ (cond t (keys ∷ []) [] ++ flat_map (list_put n c) (map (peers_put n keys) cs))) ≡ cond (b || hears cs) keys (newest lists)
-      by more true t is =
-          ap (λ u. newest (lists ++ (cond u (keys ∷ []) [] ++ flat_map (list_put n c) (map (peers_put n keys) cs)))) is
-          ∙ (ap newest (sym (append_assoc lists (keys ∷ []) (flat_map (list_put n c) (map (peers_put n keys) cs))))
-          ∙ (more (lists ++ keys ∷ []) ∙ either (hears cs) (newest (lists ++ keys ∷ [])) (newest-last lists keys)))
-      by more false t is =
-          ap (λ u. newest (lists ++ (cond u (keys ∷ []) [] ++ flat_map (list_put n c) (map (peers_put n keys) cs)))) is ∙ more lists
+      by : ((l : List Key) → newest l (flat_map (list_put n c) (map (peers_put n keys) cs)) ≡ cond (hears cs) keys l)
+          → (b t : Bool) → t ≡ b → newest old (cond t (keys ∷ []) [] ++ flat_map (list_put n c) (map (peers_put n keys) cs)) ≡ cond (b || hears cs) keys old
+      by more true t is = ap (λ u. newest old (cond u (keys ∷ []) [] ++ flat_map (list_put n c) (map (peers_put n keys) cs))) is ∙ (more keys ∙ either (hears cs))
+      by more false t is = ap (λ u. newest old (cond u (keys ∷ []) [] ++ flat_map (list_put n c) (map (peers_put n keys) cs))) is ∙ more old
 
   module _ (configs : List Config) (log : List Entry) (ev : Event) (is : ev.act ≡ act.Router n) (x : Envelope) (rest : List Envelope) (first : line log (queue.Router n) ≡ x ∷ rest) (current : IsCurrent log) where
     abbrev left : List Envelope
@@ -138,12 +135,13 @@ module _ (n c : ℕ) where
     subscribed : (d : ℕ) → x.item ≡ item.Subscribe d → IsCurrent (log ++ after (item.Subscribe d) ∷ [])
     subscribed d item_is =
         let keys = keys_in (routes log n) in
-        peers_told-after log (after (item.Subscribe d)) n c (map (peers_put n keys) (d ∷ [])) (λ l. cond (hears (d ∷ [])) keys l) refl (λ lists. newest-puts keys (d ∷ []) lists)
+        peers_told-routed log (after (item.Subscribe d)) n c n is
+        ∙ (newest-puts keys (d ∷ []) (peers_told log n c)
         ∙ (ap (λ l. cond (hears (d ∷ [])) keys l) current
         ∙ (by (hears (subscribers log n)) (d == c) keys
         ∙ (ap (λ b. cond b keys []) (sym (list_any-last (λ k. k == c) (subscribers log n) d))
         ∙ (ap (λ cs. cond (hears cs) keys []) (sym (subscribers_then (item.Subscribe d) item_is (route_row configs log n (name_of x) (item.Subscribe d) left) refl))
-        ∙ ap (λ rs. cond (hears (subscribers (log ++ after (item.Subscribe d) ∷ []) n)) (keys_in rs) []) (sym (routes_then (item.Subscribe d) item_is (route_row configs log n (name_of x) (item.Subscribe d) left) refl))))))
+        ∙ ap (λ rs. cond (hears (subscribers (log ++ after (item.Subscribe d) ∷ []) n)) (keys_in rs) []) (sym (routes_then (item.Subscribe d) item_is (route_row configs log n (name_of x) (item.Subscribe d) left) refl)))))))
       where
         by : (heard one : Bool) (keys : List Key) → cond (one || false) keys (cond heard keys []) ≡ cond (heard || one) keys []
         by true true keys = refl
@@ -159,10 +157,12 @@ module _ (n c : ℕ) where
         let keys = keys_in (with_route (routes log n) i) in
         let cs = subscribers log n in
         let r = route_row configs log n (name_of x) i left in
-        peers_told-after log (after i) n c r.puts (λ l. cond (hears cs) keys l) refl (λ lists. ap (λ ls. newest (lists ++ ls)) told ∙ newest-puts keys cs lists)
+        peers_told-routed log (after i) n c n is
+        ∙ (ap (newest (peers_told log n c)) told
+        ∙ (newest-puts keys cs (peers_told log n c)
         ∙ (by (hears cs) keys (keys_in (routes log n)) (peers_told log n c) current
         ∙ (ap (λ l. cond (hears l) keys []) (sym (subscribers_then i item_is r takes ∙ (ap (λ l. cs ++ l) no_channel ∙ append-nil cs)))
-        ∙ ap (λ rs. cond (hears (subscribers (log ++ after i ∷ []) n)) (keys_in rs) []) (sym (routes_then i item_is r takes))))
+        ∙ ap (λ rs. cond (hears (subscribers (log ++ after i ∷ []) n)) (keys_in rs) []) (sym (routes_then i item_is r takes))))))
       where
         by : (heard : Bool) (keys old told : List Key) → told ≡ cond heard old [] → cond heard keys told ≡ cond heard keys []
         by true keys old told h = refl
@@ -225,7 +225,7 @@ module _ (n c : ℕ) where
         of_router is = subst (λ (a : Act). IsCurrent (log ++ entry_of ev (row configs log ev.at ev.seed a) ∷ [])) (sym is) (of_row is)
 
 current_first : (n c : ℕ) → IsCurrent n c []
-unfolding subscribers routed history_from
+unfolding subscribers told state_from
 current_first n c = peers_told-none n c
 
 pub lists_are_current : (configs : List Config) (script : List Event) (log : List Entry) → IsLawful configs script log → ListsAreCurrent log

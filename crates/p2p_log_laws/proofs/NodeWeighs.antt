@@ -43,7 +43,8 @@ use Rattle.p2p_log_rules.specs.Facts.{taken, with_named, with_begun}
 use Rattle.p2p_log_rules.specs.Moves.{Moves}
 use Rattle.p2p_log_rules.specs.Rows.{only, is_spawner_full}
 use Rattle.p2p_log_rules.specs.Spawning.{steps_spawner, spawned_of, spawner_row}
-use Rattle.p2p_log_rules.specs.Tracking.{key_cmp, rules_at, asked_by, steps_tracker, step_calls, grants_peer, calls_of}
+use Rattle.p2p_log_rules.specs.Tracking.{key_cmp, rules_at, asked_by, steps_tracker, grants_peer, calls_of}
+use Rattle.p2p_log_rules.proofs.Calls.{step_calls}
 use Rattle.p2p_log_rules.specs.TrackerRows as rows
 use Rattle.p2p_log_rules.proofs.Touches.{is_told_to}
 use Rattle.p2p_log_laws.proofs.Reaching.{in_connection, reads, ends_in}

@@ -21,9 +21,10 @@ use Rattle.p2p_log_rules.specs.declared.row.Half.{Half}
 use Rattle.p2p_log_rules.specs.declared.row.Row.{Row}
 use Rattle.p2p_log.specs.Lines.{name_of, stands_in, live, line}
 use Rattle.p2p_log_rules.specs.Connections.{half_at}
-use Rattle.p2p_log_rules.specs.Facts.{steps_router, item_named, taken, routed_by, routed, history_from, with_route, routes_after, routes, route_to}
+use Rattle.p2p_log_rules.specs.Facts.{steps_router, item_named, taken, state_from, routed_by, with_route, routes, route_to}
 use Rattle.p2p_log_rules.specs.Effect.{entry_of}
-use Rattle.p2p_log_rules.proofs.Facts.{routes-append}
+use Rattle.p2p_log_rules.specs.Told.{told}
+use Rattle.p2p_log_rules.proofs.Routing.{routes_after, routes-append}
 use Rattle.p2p_log.proofs.Queues.{same_queue-refl}
 use Rattle.p2p_log_rules.proofs.Recorded.{AreRecorded, AreRecorded-line}
 use Rattle.p2p_log.proofs.Each.{Each-has, Each-from_has, Each-map, Each-weaker}
@@ -164,5 +165,5 @@ module _ (configs : List Config) (log : List Entry) (ev : Event) (r : Row) (m : 
       (with_all configs log n (routes log n) (routed_by n log (entry_of ev r)) (holds n) (routed_cases n (steps_router n ev.act) refl)))
 
 pub routes_none : (configs : List Config) → RoutesHold configs []
-unfolding routes routed history_from
+unfolding routes told state_from
 routes_none configs n = tt

@@ -31,7 +31,8 @@ use Rattle.p2p_log_rules.specs.declared.row.Row.{Row}
 use Rattle.p2p_log_rules.specs.Facts.{is_up}
 use Rattle.p2p_log_rules.specs.Moves.{Moves}
 use Rattle.p2p_log_rules.specs.Rows.{only}
-use Rattle.p2p_log_rules.specs.Tracking.{key_cmp, rules_at, asked_by, item_calls, step_calls, grants_peer, calls_of, update_subscriptions, blocked_subscriptions}
+use Rattle.p2p_log_rules.specs.Tracking.{key_cmp, rules_at, asked_by, grants_peer, calls_of, update_subscriptions, blocked_subscriptions}
+use Rattle.p2p_log_rules.proofs.Calls.{item_calls, step_calls}
 use Rattle.p2p_log_rules.specs.TrackerPuts as puts
 use Rattle.p2p_tracker_calls.specs.Allows.{is_acceptable, allows_listen}
 use Rattle.p2p_log_rules.specs.Handshakes.{is_handshaking, source_at}

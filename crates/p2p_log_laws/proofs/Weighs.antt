@@ -34,7 +34,8 @@ use Rattle.p2p_log_rules.proofs.Spawning.{connections_of-acted}
 use Rattle.p2p_log_rules.specs.Facts.{taken, with_begun}
 use Rattle.p2p_log_rules.specs.Moves.{Moves}
 use Rattle.p2p_log_rules.specs.Spawning.{steps_spawner, spawned_of, connections_of}
-use Rattle.p2p_log_rules.specs.Tracking.{key_cmp, rules_at, steps_tracker, step_calls, grants_peer, calls_by, calls_of}
+use Rattle.p2p_log_rules.specs.Tracking.{key_cmp, rules_at, steps_tracker, grants_peer, calls_of}
+use Rattle.p2p_log_rules.proofs.Calls.{step_calls, calls_by}
 use Rattle.p2p_log_laws.proofs.Reaching.{reads, writes}
 use Rattle.p2p_log_laws.specs.Grants.{one, Granting, turn_by, held_after}
 use Rattle.p2p_log_laws.specs.NodeGrants.{count_below, releases_key, is_attempt_of, is_connection_of, beginners_of, puts_grant, puts_release, granting}

@@ -35,8 +35,9 @@ use Rattle.p2p_log_rules.specs.Facts.{taken, state_from}
 use Rattle.p2p_log_rules.specs.Lawful.{IsLawful}
 use Rattle.p2p_log_rules.specs.Moves.{Moves}
 use Rattle.p2p_log_rules.specs.Spawning.{Spawned, connections_of}
-use Rattle.p2p_log_rules.specs.Tracking.{key_cmp, rules_at, steps_tracker, step_calls, grants_peer, calls_of}
-use Rattle.p2p_log_rules.proofs.Calls.{calls_of-append}
+use Rattle.p2p_log_rules.specs.Told.{told as all_told}
+use Rattle.p2p_log_rules.specs.Tracking.{key_cmp, rules_at, steps_tracker, grants_peer, calls_of}
+use Rattle.p2p_log_rules.proofs.Calls.{step_calls, calls_of-append}
 use Rattle.p2p_log_rules.proofs.Connections.{half_parts, is_live}
 use Rattle.p2p_log_rules.proofs.Lawful.{IsLawful-append}
 use Rattle.p2p_log_rules.proofs.Moves.{taken_stood}
@@ -165,7 +166,7 @@ module _ (configs : List Config) (n : ℕ) where
     pub current : (key : Key) → is_linked log key ≡ true → holds log key ≡ true → IsCurrent log key ⊎ (1 ≤ waits key log)
 
   pub reserved_first : Reserved []
-  unfolding live_from calls_of state_from is_connected
+  unfolding live_from calls_of all_told state_from is_connected
   reserved_first = record {
     later = λ x conn key w. absurd w.has;
     behind = λ x y conn key w has is. absurd has;

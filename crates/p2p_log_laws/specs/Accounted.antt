@@ -11,6 +11,7 @@ use Rattle.p2p_log_laws.specs.Delivered.{EachIsDelivery, EachDeliveredIsRead}
 use Rattle.p2p_log_laws.specs.Endings.{EachEndShows, EachEndsOne, EachIsEndedOnce, ReleasesAreTimely}
 use Rattle.p2p_log_laws.specs.Fates.{EachHasFate, WaitingIsTrue, DroppedIsTrue, DeliveredIsTrue}
 use Rattle.p2p_log_laws.specs.Grants.{GrantsAlternate, HasOneHolder, EachIsReleased}
+use Rattle.p2p_log_laws.specs.Idling.{EachStepServesFirst}
 use Rattle.p2p_log_laws.specs.KilledSince.{EachKillHasItsCause}
 use Rattle.p2p_log_laws.specs.Kills.{EachKillShowsItsCause}
 use Rattle.p2p_log_laws.specs.Leading.{ConnectionsAreOne, ConnectionsLead, EndsMeet}
@@ -23,7 +24,8 @@ use Rattle.p2p_log_laws.specs.Order.{AreDeliveredInOrderOverOne, AreDeliveredInO
 use Rattle.p2p_log_laws.specs.Releasing.{EachIsReleasedAsItEnds}
 use Rattle.p2p_log_laws.specs.Subscribing.{EachRegistersOnce, EachStartSubscribes}
 
--- each beginning of the log is lawful too, so that each of these held at each earlier moment; each start puts the subscriptions of
+-- each beginning of the log is lawful too, so that each of these held at each earlier moment; each step of an actor that acts is idle
+-- exactly where none of its inputs is ready; each start puts the subscriptions of
 -- the channels that were registered before it, of which none is so twice; items leave a queue in their order; each send is for those of the keys that it is offered to that its channel's quota
 -- admits, and each message for a check for those that this admitted, once; the newest list that a channel was told of, to which a
 -- message for all is offered, has the peers that are connected; each copy of each accepted send has exactly one end: delivered
@@ -36,6 +38,7 @@ use Rattle.p2p_log_laws.specs.Subscribing.{EachRegistersOnce, EachStartSubscribe
 -- of one shows its reason, comes once, and is heard of before the next with its peer
 pub record IsAccounted (configs : List Config) (log : List Entry) : Type 0 where
   pub beginnings : EachBeginningIsLawful configs log
+  pub serves : EachStepServesFirst configs log
   pub starts : EachStartSubscribes log
   pub registered_once : EachRegistersOnce configs log
   pub admitted : EachIsAdmitted configs log

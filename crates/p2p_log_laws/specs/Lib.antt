@@ -10,6 +10,7 @@ pub mod Endings
 pub mod Fates
 pub mod Flow
 pub mod Grants
+pub mod Idling
 pub mod KilledSince
 pub mod Kills
 pub mod Leading

@@ -7,10 +7,10 @@ use Rattle.std.proofs.lemmas.List.Folds.{list_any-append}
 use Rattle.p2p_log.specs.declared.entry.Entry.{Entry}
 use Rattle.p2p_log.specs.declared.entry.Reply.{Reply}
 use Rattle.p2p_log.specs.declared.entry.Reply.TheVariants as reply
-use Rattle.p2p_log_rules.specs.Facts.{state_from}
+use Rattle.p2p_log_rules.specs.Taking.{state_from}
 use Rattle.p2p_log_rules.specs.Tellings.{Telling, Last, or_last, last_told, last_or, or_new, first_or, any_or, least_by, least_or}
 use Rattle.p2p_log_rules.specs.Told.{when, done_tells, tells, told_by, told}
-use Rattle.p2p_log_rules.proofs.Facts.{state_from-append}
+use Rattle.p2p_log_rules.proofs.Taking.{state_from-append}
 
 pub told-append : (log : List Entry) (e : Entry) → told (log ++ e ∷ []) ≡ told log ++ tells (told log) log e
 unfolding told

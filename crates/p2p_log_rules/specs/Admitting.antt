@@ -9,7 +9,7 @@ use Rattle.p2p_log.specs.declared.event.Act.{Act}
 use Rattle.p2p_log.specs.declared.event.Act.TheVariants as act
 use Rattle.p2p_log.specs.declared.event.Recipients.{Recipients}
 use Rattle.p2p_log.specs.Copies.{keys_of_recipients}
-use Rattle.p2p_log_rules.specs.Facts.{events_of, rates, rate_in, state_from, peers_told}
+use Rattle.p2p_log_rules.specs.Facts.{rates, rate_in, state_from, peers_told}
 use Rattle.p2p_log_rules.specs.Listening.{quota_of}
 use Rattle.p2p_log_rules.specs.Tracking.{key_cmp}
 
@@ -47,7 +47,7 @@ moments_by (Some rate) at keys past k = moments_after (quota_of rate) at keys pa
 
 -- the rate of a channel of a node
 abbrev pub rate_at : List Entry → ℕ → ℕ → Option Rate
-rate_at log n c = rate_in (rates (events_of log) n) c
+rate_at log n c = rate_in (rates log n) c
 
 -- for whom an act asks the quota of a channel of a node, where it does
 abbrev pub asked_for : ℕ → ℕ → Act → Option Recipients

@@ -31,12 +31,14 @@ use Rattle.p2p_log.specs.declared.event.Recipients.TheVariants as recipients
 use Rattle.p2p_log.specs.declared.event.Event.{Event}
 use Rattle.p2p_log.specs.QueueCode.{same_queue}
 use Rattle.p2p_log.specs.Lines.{line, live, name_of, stands_in, stays}
-use Rattle.p2p_log_rules.specs.Facts.{is_up, channels, capacity_in, capacity_for, sum_capacities, subscribers, routes, with_route, keys_in, route_to}
+use Rattle.p2p_log_rules.specs.Facts.{is_up, channels, capacity_in, capacity_for, subscribers, routes, with_route, keys_in, route_to}
 use Rattle.p2p_log_rules.specs.Connections.{live_half, is_begun, is_running, is_ended}
 pub use Rattle.p2p_log_rules.specs.Dropping.{other_side}
 use Rattle.p2p_log_rules.specs.Dropping.{is_dropped, attempt_step_row, handshake_step_row, listener_step_row}
 use Rattle.p2p_log_rules.specs.Ending.{end_row}
 use Rattle.p2p_log_rules.specs.Frames.{frame_of, message_in, is_ping_in}
+pub use Rattle.p2p_log_rules.specs.Full.{router_capacity}
+use Rattle.p2p_log_rules.specs.Full.{is_full}
 pub use Rattle.p2p_log_rules.specs.Metering.{limit_at}
 use Rattle.p2p_log_rules.specs.Metering.{pings, messages, may_pass}
 use Rattle.p2p_log_rules.specs.Pings.{ping_frame, ping_is_due}
@@ -65,10 +67,6 @@ start_row configs log n =
 abbrev pub copies_end : ℕ → ℕ → List Key → How → List End
 copies_end send p [] o = []
 copies_end send p (k ∷ ks) o = end.Copy send p o ∷ copies_end send (p + 1) ks o
-
--- the router's mailbox holds `mailbox_size` messages and the bursts of the node's channels
-abbrev pub router_capacity : List Config → List Entry → ℕ → ℕ
-router_capacity configs log n = mailbox_size_at configs n + sum_capacities (channels configs log n)
 
 -- what a message comes to that is accepted with one reply and refused with another, by whether the node has started and the
 -- router's mailbox is full
@@ -102,7 +100,7 @@ admitted_row to keys sent = sent
 abbrev pub send_to_row : List Config → List Entry → Reply → Reply → List ℕ → ℕ → ℕ → Bool → List Key → Row
 send_to_row configs log accepted refused bytes c n priority keys =
     fitting_row (nat_lt (limit_at configs n) (length bytes)) (length bytes) (limit_at configs n)
-    (sent_row accepted refused (is_up log n) (nat_le (router_capacity configs log n) (length (line log (queue.Router n)))) n (length log) c priority (frame_of c bytes) keys)
+    (sent_row accepted refused (is_up log n) (is_full configs log (queue.Router n)) n (length log) c priority (frame_of c bytes) keys)
 
 -- send to these keys of those that it is for
 abbrev pub send_keys_row : List Config → List Entry → List ℕ → ℕ → ℕ → Bool → List Key → List Key → Row

@@ -1,14 +1,11 @@
 -- What stands of nodes, channels and routers, by the log.
-use Rattle.std.specs.Prelude.{ℕ, ◌+◌, ◌*◌, max, Bool, false, ◌==◌, cond, List, [], ◌∷◌, ◌++◌, map, flat_map, take, Option, Some, None, slice_get}
+use Rattle.std.specs.Prelude.{ℕ, ◌+◌, ◌*◌, max, Bool, false, ◌==◌, ◌&&◌, cond, List, [], ◌∷◌, map, flat_map, Option, Some, None, slice_get}
 use Rattle.std.specs.List.{list_any}
 use Rattle.std.specs.BTreeMap.{insert_entry, is_at}
 use Rattle.std.specs.Map.{lookup, remove_entry}
 use Rattle.std.specs.Ordering.{nat_cmp}
 use Rattle.p2p_base.specs.declared.key.Key.{Key}
 use Rattle.p2p_log.specs.declared.config.Config.{Config}
-use Rattle.p2p_log.specs.QueueCode.{same_queue}
-use Rattle.p2p_log.specs.declared.queue.Queue.{Queue}
-use Rattle.p2p_log.specs.declared.queue.Queue.TheVariants as queue
 use Rattle.p2p_log.specs.declared.item.Item.{Item}
 use Rattle.p2p_log.specs.declared.item.Item.TheVariants as item
 use Rattle.p2p_log.specs.declared.entry.Entry.{Entry}
@@ -16,24 +13,25 @@ use Rattle.p2p_log.specs.declared.event.Event.{Event}
 use Rattle.p2p_log.specs.declared.event.Rate.{Rate}
 use Rattle.p2p_log.specs.declared.event.Act.{Act}
 use Rattle.p2p_log.specs.declared.event.Act.TheVariants as act
+pub use Rattle.p2p_log_rules.specs.Asked.{events_of, starts, capacity_for, registers_at, rates_by}
+unfoldable pub use Rattle.p2p_log_rules.specs.Asked.{has_started, registered}
+pub use Rattle.p2p_log_rules.specs.Taking.{item_put, item_in, item_named, taken_in, with_named, with_begun, history}
+unfoldable pub use Rattle.p2p_log_rules.specs.Taking.{taken, taken_at, history_from, state_from}
+use Rattle.p2p_log_rules.specs.Routed.{peers_in}
+use Rattle.p2p_log_rules.specs.Tellings.{Telling, last_or}
+use Rattle.p2p_log_rules.specs.Tellings as telling
+use Rattle.p2p_log_rules.specs.Told.{told}
 
 -- ---- nodes
 
--- what was asked, in order
-abbrev pub events_of : List Entry → List Event
-events_of log = map (λ e. e.event) log
-
-abbrev pub starts : ℕ → Act → Bool
-starts n (act.Start m) = m == n
-starts n _ = false
-
--- whether a node was asked to start
-unfoldable pub has_started : List Event → ℕ → Bool
-has_started events n = list_any (λ v. starts n v.act) events
+-- whether it is told that the node runs
+abbrev pub runs_node : ℕ → Telling → Bool
+runs_node n (telling.node_started m at) = m == n
+runs_node n _ = false
 
 -- whether the node has started
-abbrev pub is_up : List Entry → ℕ → Bool
-is_up log n = has_started (events_of log) n
+unfoldable pub is_up : List Entry → ℕ → Bool
+is_up log n = list_any (runs_node n) (told log)
 
 -- the latest of the moments of these
 abbrev pub latest_moment : List Event → ℕ
@@ -50,89 +48,30 @@ moment_at log name = moment_of (slice_get log name)
 
 -- ---- channels
 
--- the retained peers' bursts
-abbrev pub capacity_for : Option Config → Rate → ℕ
-capacity_for None rate = 0
-capacity_for (Some c) rate = (c.max_peers_per_set * c.tracked_peer_sets) * rate.burst
-
-abbrev pub registers_at : List Config → ℕ → Act → List (ℕ × ℕ)
-registers_at configs n (act.Register c m rate) = cond (m == n) ((c, capacity_for (slice_get configs n) rate) ∷ []) []
-registers_at configs n _ = []
-
--- the channels that were registered at a node, in order, each with its capacity
-unfoldable pub registered : List Config → List Event → ℕ → List (ℕ × ℕ)
-registered configs events n = flat_map (λ v. registers_at configs n v.act) events
-
-abbrev pub channels : List Config → List Entry → ℕ → List (ℕ × ℕ)
-channels configs log n = registered configs (events_of log) n
-
--- the capacity of a channel, where it is registered
-abbrev pub capacity_in : List (ℕ × ℕ) → ℕ → Option ℕ
-capacity_in channels c = lookup (λ k. c == k) channels
-
-abbrev pub rates_by : ℕ → Act → List (ℕ × Rate)
-rates_by n (act.Register c m rate) = cond (m == n) ((c, rate) ∷ []) []
-rates_by n _ = []
+-- the channel that is told of, with its rate
+abbrev pub rate_told : ℕ → Telling → List (ℕ × Rate)
+rate_told n (telling.channel_registered m c rate) = cond (m == n) ((c, rate) ∷ []) []
+rate_told n _ = []
 
 -- the channels that were registered at a node, in order, each with its rate
-unfoldable pub rates : List Event → ℕ → List (ℕ × Rate)
-rates events n = flat_map (λ v. rates_by n v.act) events
+unfoldable pub rates : List Entry → ℕ → List (ℕ × Rate)
+rates log n = flat_map (rate_told n) (told log)
 
 -- the rate of a channel, where it is registered
 abbrev pub rate_in : List (ℕ × Rate) → ℕ → Option Rate
 rate_in rates c = lookup (λ k. c == k) rates
 
+-- and each with its capacity
+unfoldable pub channels : List Config → List Entry → ℕ → List (ℕ × ℕ)
+channels configs log n = map (λ c. (c.0, capacity_for (slice_get configs n) c.1)) (rates log n)
+
+-- the capacity of a channel, where it is registered
+abbrev pub capacity_in : List (ℕ × ℕ) → ℕ → Option ℕ
+capacity_in channels c = lookup (λ k. c == k) channels
+
 abbrev pub sum_capacities : List (ℕ × ℕ) → ℕ
 sum_capacities [] = 0
 sum_capacities (c ∷ cs) = c.1 + sum_capacities cs
-
--- ---- what was taken
-
-abbrev pub item_put : Option (Queue × Item) → List Item
-item_put None = []
-item_put (Some x) = x.1 ∷ []
-
-abbrev pub item_in : Option Entry → ℕ → List Item
-item_in None p = []
-item_in (Some e) p = item_put (slice_get e.puts p)
-
--- the item of this name
-abbrev pub item_named : List Entry → ℕ × ℕ → List Item
-item_named log name = item_in (slice_get log name.0) name.1
-
--- the items that an entry took, with the entries before it
-unfoldable pub taken : List Entry → Entry → List Item
-taken before e = flat_map (item_named before) e.takes
-
-abbrev pub taken_in : List Entry → Option Entry → List Item
-taken_in before None = []
-taken_in before (Some e) = taken before e
-
--- the items that the entry of this name took
-unfoldable pub taken_at : List Entry → ℕ → List Item
-taken_at log name = taken_in (take name log) (slice_get log name)
-
--- what each entry adds to a history, given the entries before it
-unfoldable pub history_from : {X : Type 0} → (List Entry → Entry → List X) → List Entry → List Entry → List X
-history_from adds before [] = []
-history_from adds before (e ∷ es) = adds before e ++ history_from adds (before ++ e ∷ []) es
-
--- what stands after a log, by what each entry makes of it, given the entries before it
-unfoldable pub state_from : {X : Type 0} → (List Entry → Entry → X → X) → List Entry → List Entry → X → X
-state_from by before [] x = x
-state_from by before (e ∷ es) x = state_from by (before ++ e ∷ []) es (by before e x)
-
--- what has a name, with this in its place
-abbrev pub with_named : {X : Type 0} → ℕ → Option X → (ℕ → Option X) → ℕ → Option X
-with_named name o xs k = cond (k == name) o (xs k)
-
--- once the entry of this name may have begun something
-abbrev pub with_begun : {X : Type 0} → Option X → ℕ → (ℕ → Option X) → ℕ → Option X
-with_begun None name xs k = xs k
-with_begun (Some x) name xs k = with_named name (Some x) xs k
-
-abbrev pub history : {X : Type 0} → (List Entry → Entry → List X) → List Entry → List X
-history adds log = history_from adds [] log
 
 -- ---- the router
 
@@ -140,34 +79,51 @@ abbrev pub steps_router : ℕ → Act → Bool
 steps_router n (act.Router m) = m == n
 steps_router n _ = false
 
+-- the items that a node's router takes by an entry
 abbrev pub routed_by : ℕ → List Entry → Entry → List Item
 routed_by n before e = cond (steps_router n e.event.act) (taken before e) []
 
--- the items that the node's router took, in order
-unfoldable pub routed : List Entry → ℕ → List Item
-routed log n = history (routed_by n) log
+abbrev pub wants_lists : ℕ → Telling → List ℕ
+wants_lists n (telling.lists_wanted m c) = cond (m == n) (c ∷ []) []
+wants_lists n _ = []
 
-abbrev pub subscriber_of : Item → List ℕ
-subscriber_of (item.Subscribe c) = c ∷ []
-subscriber_of _ = []
-
--- the channels that want lists of peers, in order
+-- the channels that want lists of peers, in the order in which the node's router took it
 unfoldable pub subscribers : List Entry → ℕ → List ℕ
-subscribers log n = flat_map subscriber_of (routed log n)
+subscribers log n = flat_map (wants_lists n) (told log)
 
--- the connection of each key that has one, with one more routed item
+-- the connection of each key that has one, once a connection is ready, or a key has none
+abbrev pub with_ready : List (ℕ × ℕ) → ℕ → Key → List (ℕ × ℕ)
+with_ready routes conn key = insert_entry nat_cmp routes key.0 conn
+
+abbrev pub without_key : List (ℕ × ℕ) → Key → List (ℕ × ℕ)
+without_key routes key = remove_entry (is_at (nat_cmp key.0)) routes
+
+-- with one more routed item
 abbrev pub with_route : List (ℕ × ℕ) → Item → List (ℕ × ℕ)
-with_route routes (item.Ready conn key) = insert_entry nat_cmp routes key.0 conn
-with_route routes (item.Release key) = remove_entry (is_at (nat_cmp key.0)) routes
+with_route routes (item.Ready conn key) = with_ready routes conn key
+with_route routes (item.Release key) = without_key routes key
 with_route routes _ = routes
 
-abbrev pub routes_after : List (ℕ × ℕ) → List Item → List (ℕ × ℕ)
-routes_after routes [] = routes
-routes_after routes (x ∷ xs) = routes_after (with_route routes x) xs
+-- after this was told
+abbrev pub routes_told : ℕ → List (ℕ × ℕ) → List Telling → List (ℕ × ℕ)
+routes_told n routes [] = routes
+routes_told n routes (telling.ready_routed m conn key ∷ ts) = routes_told n (cond (m == n) (with_ready routes conn key) routes) ts
+routes_told n routes (telling.release_routed m key ∷ ts) = routes_told n (cond (m == n) (without_key routes key) routes) ts
+routes_told n routes (_ ∷ ts) = routes_told n routes ts
 
 -- the connection of each key's last routed `ready`, while it was not released, in key order
 unfoldable pub routes : List Entry → ℕ → List (ℕ × ℕ)
-routes log n = routes_after [] (routed log n)
+routes log n = routes_told n [] (told log)
+
+-- what is told of the connection to a key
+abbrev pub routes_key : ℕ → Key → Telling → Option (Option ℕ)
+routes_key n k (telling.ready_routed m conn key) = cond ((m == n) && (key.0 == k.0)) (Some (Some conn)) None
+routes_key n k (telling.release_routed m key) = cond ((m == n) && (key.0 == k.0)) (Some None) None
+routes_key n k _ = None
+
+-- the connection of the last routed `ready` of a key, while no release of the key was routed since
+unfoldable pub routed : List Entry → ℕ → Key → Option ℕ
+routed log n k = last_or None (routes_key n k) (told log)
 
 abbrev pub keys_in : List (ℕ × ℕ) → List Key
 keys_in routes = map (λ r. record { 0 = r.0 }) routes
@@ -178,23 +134,9 @@ route_to routes key = lookup (λ k. key.0 == k) routes
 
 -- ---- lists of peers
 
-abbrev pub list_put : ℕ → ℕ → Queue × Item → List (List Key)
-list_put n c (q, item.Peers keys) = cond (same_queue (queue.Peers n c) q) (keys ∷ []) []
-list_put n c _ = []
-
--- the lists of peers that an entry puts for a channel, in order
-abbrev pub lists_put : ℕ → ℕ → Entry → List (List Key)
-lists_put n c e = flat_map (list_put n c) e.puts
-
--- the last of these: empty where there is none
-abbrev pub newest : List (List Key) → List Key
-newest [] = []
-newest (keys ∷ []) = keys
-newest (keys ∷ more ∷ lists) = newest (more ∷ lists)
-
--- the newest list of peers that was put for a channel of a node
+-- the newest list of peers that was put for a channel of a node: empty where there is none
 unfoldable pub peers_told : List Entry → ℕ → ℕ → List Key
-peers_told log n c = newest (flat_map (lists_put n c) log)
+peers_told log n c = peers_in (told log) n c
 
 -- ---- keys
 

@@ -1,4 +1,4 @@
--- What becomes of a reservation, by what is put, of a handshake, and of an arrival.
+-- What becomes of a reservation, by what is put, of a handshake, of an arrival, and of a half of a connection.
 use Rattle.std.specs.Prelude.{ℕ, Bool, true, false, ◌&&◌, ◌||◌, not, List, ◌∷◌, Option, Some, None}
 use Rattle.std.specs.List.{list_any}
 use Rattle.p2p_tracker_calls.specs.declared.gates.Reply.TheVariants as gates
@@ -7,7 +7,7 @@ use Rattle.p2p_log.specs.declared.item.Item.{Item}
 use Rattle.p2p_log.specs.declared.item.Item.TheVariants as item
 use Rattle.p2p_log.specs.declared.entry.Reply.{Reply}
 use Rattle.p2p_log.specs.declared.entry.Reply.TheVariants as reply
-use Rattle.p2p_log_rules.specs.Handshakes.{ends_handshake}
+use Rattle.p2p_log_rules.specs.HandshakeSteps.{ends_handshake}
 
 abbrev pub is_release : Queue × Item → Bool
 is_release (q, item.Release key) = true
@@ -39,3 +39,7 @@ turns_away _ = false
 abbrev pub arrival_link : List Item → Option ℕ
 arrival_link (item.Arrival from key link ∷ items) = Some link
 arrival_link _ = None
+-- whether it is a router's answer to a connection
+abbrev pub is_answer : Item → Bool
+is_answer item.Answer = true
+is_answer _ = false

@@ -3,8 +3,11 @@ use Rattle.std.specs.Prelude.{ℕ, Bool, ◌||◌, min, List, [], ◌∷◌, Opt
 use Rattle.std.specs.Option.{option_map}
 use Rattle.p2p_base.specs.declared.key.Key.{Key}
 use Rattle.p2p_address.specs.declared.ip.SocketAddr.{SocketAddr}
+use Rattle.p2p_address.specs.declared.peer.Address.{Address}
 use Rattle.p2p_address.specs.declared.peer.Ingress.{Ingress}
 use Rattle.p2p_log.specs.declared.queue.Side.{Side}
+use Rattle.p2p_log.specs.declared.item.Item.{Item}
+use Rattle.p2p_log.specs.declared.event.Rate.{Rate}
 
 -- one thing that an entry tells: each names the thing that it is of, and has what it tells of it
 pub data Telling : Type 0 where
@@ -26,8 +29,8 @@ pub data Telling : Type 0 where
   addresses_told : (node attempt : ℕ) → Telling
   -- its dial was answered by the event of this name
   dial_answered : (node attempt event : ℕ) → Telling
-  -- it has the dialing end of the link of this name
-  link_opened : (node attempt link : ℕ) → Telling
+  -- it has the dialing end of the link of this name, which leads to that node
+  link_opened : (node attempt link to : ℕ) → Telling
   -- it took these addresses, one of which is drawn with this seed
   addresses_taken : (node attempt seed : ℕ) (addresses : List SocketAddr) → Telling
   -- it took at this moment that it is linked
@@ -38,6 +41,52 @@ pub data Telling : Type 0 where
   connection_made : (node conn : ℕ) (key : Key) (link : ℕ) → Telling
   -- the end of a link that writes in this direction was dropped
   end_dropped : (link : ℕ) (side : Side) → Telling
+  -- a channel was registered at a node, with its rate
+  channel_registered : (node channel : ℕ) (rate : Rate) → Telling
+  -- the exchange of keys over a link ended
+  exchange_ended : (link : ℕ) → Telling
+  -- a node's listener took the arrival over a link, for the handshake of this name where it admitted it
+  arrival_taken : (node link : ℕ) (handshake : Option ℕ) → Telling
+  -- a handshake began, of this name
+  handshake_begun : (node handshake : ℕ) → Telling
+  -- it took these
+  handshake_took : (node handshake : ℕ) (items : List Item) → Telling
+  -- it ended, and has the listening end of this link no more
+  handshake_ended : (node handshake link : ℕ) → Telling
+  -- the sending half of a connection did a step
+  half_stepped : (node conn : ℕ) → Telling
+  -- it took its router's answer
+  answer_heard : (node conn : ℕ) → Telling
+  -- a connection ended
+  connection_ended : (node conn : ℕ) → Telling
+  -- a node's tracker took at this moment that blocks had ended
+  blocks_ended : (node at : ℕ) → Telling
+  -- it took a set to track, of this index and these peers
+  set_asked : (node index : ℕ) (primary secondary : List (Key × Address)) → Telling
+  -- it took these addresses, each in place of the one that its key had
+  addresses_asked : (node : ℕ) (peers : List (Key × Address)) → Telling
+  -- it took at this moment whom to block
+  block_asked : (node at : ℕ) (key : Key) → Telling
+  -- it took at this moment that a connection had begun, and with whom
+  connection_heard : (node at conn : ℕ) (key : Key) → Telling
+  -- it took at this moment whom to reserve for a dial, with the seed of the time that is added to its wait, and granted it or not
+  dial_weighed : (node at seed : ℕ) (key : Key) (granted : Bool) → Telling
+  -- and for a handshake
+  listen_weighed : (node at seed : ℕ) (key : Key) (granted : Bool) → Telling
+  -- it took that a reservation was given back
+  release_heard : (node : ℕ) (key : Key) → Telling
+  -- it took the question of this event, which wants peer sets
+  sets_wanted : (node event : ℕ) → Telling
+  -- or the blocked keys
+  blocks_wanted : (node event : ℕ) → Telling
+  -- a node's router took that a channel wants lists of peers
+  lists_wanted : (node channel : ℕ) → Telling
+  -- it took that a connection is ready, and with whom
+  ready_routed : (node conn : ℕ) (key : Key) → Telling
+  -- it took that a key has no connection
+  release_routed : (node : ℕ) (key : Key) → Telling
+  -- it put a list of peers for a channel
+  peers_listed : (node channel : ℕ) (keys : List Key) → Telling
 
 -- ---- words
 

@@ -16,7 +16,8 @@ use Rattle.p2p_log.specs.declared.queue.Queue.TheVariants as queue
 use Rattle.p2p_log.specs.QueueCode.{same_queue}
 use Rattle.p2p_log.specs.Lines.{name_of, ended_item, stays, placed, live, stands_in}
 use Rattle.p2p_log_rules.specs.Connections.{is_ended}
-use Rattle.p2p_log_rules.specs.Facts.{events_of, starts, has_started, registers_at, registered, channels, routed_by, subscriber_of, subscribers, routes_after, routes, sum_capacities}
+use Rattle.p2p_log_rules.specs.Facts.{events_of, starts, has_started, registers_at, registered, channels, routed_by, subscribers, routes, sum_capacities}
+use Rattle.p2p_log_rules.proofs.Routing.{subscriber_of, routes_after}
 use Rattle.p2p_log_rules.specs.Effect.{mailbox_size_at, router_capacity}
 use Rattle.p2p_log_rules.proofs.Facts.{events_of-append, has_started-append, registered-append, subscribers-append, routes-append}
 use Rattle.p2p_log.proofs.Lines.{live-append, filter_stays-nil}

@@ -30,7 +30,8 @@ use Rattle.p2p_log_rules.specs.declared.row.Row.{Row}
 use Rattle.p2p_log.specs.QueueCode.{same_queue}
 use Rattle.p2p_log.specs.Lines.{name_of, ended_item, stays, placed, live, stands_in}
 use Rattle.p2p_log_rules.specs.Connections.{is_ended}
-use Rattle.p2p_log_rules.specs.Facts.{subscriber_of, subscribers, with_route, routes}
+use Rattle.p2p_log_rules.specs.Facts.{subscribers, with_route, routes}
+use Rattle.p2p_log_rules.proofs.Routing.{subscriber_of}
 use Rattle.p2p_log_rules.specs.Effect.{mailbox_size_at, route_row, Spread, goes_to, relay_queue, spread, row_of_spread}
 use Rattle.p2p_log.specs.Apart.{AreApart}
 use Rattle.p2p_log.proofs.Names.{AreApart-live_from, filter_stays-first}

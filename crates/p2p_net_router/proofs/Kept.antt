@@ -10,7 +10,8 @@ use Rattle.p2p_log.specs.declared.event.Act.{Act}
 use Rattle.p2p_log_rules.specs.declared.row.Row.{Row}
 use Rattle.p2p_log.specs.Lines.{stays, placed, live}
 use Rattle.p2p_log_rules.specs.Connections.{steps_sender, steps_receiver}
-use Rattle.p2p_log_rules.specs.Facts.{events_of, starts, has_started, is_up, registers_at, registered, channels, taken, steps_router, routed_by, subscriber_of, subscribers, routes_after, routes, sum_capacities}
+use Rattle.p2p_log_rules.specs.Facts.{events_of, starts, has_started, is_up, registers_at, registered, channels, taken, steps_router, routed_by, subscribers, routes, sum_capacities}
+use Rattle.p2p_log_rules.proofs.Routing.{subscriber_of, routes_after}
 use Rattle.p2p_log_rules.specs.Effect.{entry_of, mailbox_size_at, router_capacity}
 use Rattle.p2p_log_rules.proofs.Facts.{events_of-append, has_started-append, registered-append, subscribers-append, routes-append}
 use Rattle.p2p_log.proofs.Lines.{live-append}

@@ -28,7 +28,6 @@ pub mod Readying
 pub mod Released
 pub mod Releasing
 pub mod Rings
-pub mod Rising
 pub mod Routed
 pub mod Sent
 pub mod Silent

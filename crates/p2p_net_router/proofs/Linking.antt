@@ -14,7 +14,7 @@ use Rattle.p2p_log_rules.specs.Facts.{route_to, keys_in}
 use Rattle.p2p_net_router.specs.Items.{key_cmp}
 use Rattle.p2p_net_router.specs.Holds.{routes_in}
 use Rattle.p2p_net_router.proofs.Rings.{two_choices}
-use Rattle.p2p_net_router.proofs.Rising.{IsRising, route_removed}
+use Rattle.p2p_log_rules.proofs.Rising.{IsRising, route_removed}
 
 is_key : (k e : Key) → is_at (key_cmp k) e ≡ (k.0 == e.0)
 is_key k e = grind (arith, nat_tests)

@@ -22,7 +22,8 @@ use Rattle.p2p_log.specs.declared.entry.Entry.{Entry}
 use Rattle.p2p_log_rules.specs.declared.row.Row.{Row}
 use Rattle.p2p_log.specs.Lines.{name_of, stays, live}
 use Rattle.p2p_log_rules.specs.Connections.{is_ended}
-use Rattle.p2p_log_rules.specs.Facts.{subscriber_of, subscribers, with_route, routes, keys_in}
+use Rattle.p2p_log_rules.specs.Facts.{subscribers, with_route, routes, keys_in}
+use Rattle.p2p_log_rules.proofs.Routing.{subscriber_of}
 use Rattle.p2p_log_rules.specs.Effect.{mailbox_size_at, route_row}
 use Rattle.p2p_log.proofs.Names.{AreApart-live_from}
 use Rattle.p2p_net_queues.specs.declared.board.Board.{Board}
@@ -44,7 +45,7 @@ use Rattle.p2p_net_router.proofs.Numbers.{distinct_told}
 use Rattle.p2p_net_router.proofs.Releasing.{released_turn, turns_remove, ends_remove, frames_remove}
 use Rattle.p2p_net_router.proofs.Rings.{IsTold, told_all-told, heard_all}
 use Rattle.p2p_net_router.proofs.Routed.{IsRouted, sound_stepped}
-use Rattle.p2p_net_router.proofs.Rising.{IsRising, rising_routes}
+use Rattle.p2p_log_rules.proofs.Rising.{IsRising, rising_routes}
 use Rattle.p2p_net_router.proofs.Standing.{nothing}
 use Rattle.p2p_net_router.proofs.Steps.{later_messages, oldest_item, is_oldest, proper_first, turns_first, subscriptions_first, told_within}
 use Rattle.p2p_net_router.proofs.Told.{IsStep, each_told}

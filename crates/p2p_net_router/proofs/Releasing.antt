@@ -14,7 +14,7 @@ use Rattle.p2p_net_router.specs.Items.{key_cmp, link_with, link_to, frames_in, f
 use Rattle.p2p_net_router.specs.Sound.{IsInTurn}
 use Rattle.p2p_net_router.proofs.Copying.{key_from}
 use Rattle.p2p_net_router.proofs.Linking.{link_of-other, link_of-removed}
-use Rattle.p2p_net_router.proofs.Rising.{IsRising}
+use Rattle.p2p_log_rules.proofs.Rising.{IsRising}
 use Rattle.p2p_net_router.proofs.Turns.{IsFirstRelease, first_release, spent_lane, empty_link}
 
 same_key : (k : Key) → (k.0 == k.0) ≡ true

@@ -30,7 +30,8 @@ use Rattle.p2p_log.specs.declared.event.Event.{Event}
 use Rattle.p2p_log.specs.declared.event.Act.TheVariants as act
 use Rattle.p2p_log.specs.Lines.{name_of, stays, live, line, stands_in}
 use Rattle.p2p_log_rules.specs.Connections.{is_ended}
-use Rattle.p2p_log_rules.specs.Facts.{subscriber_of, subscribers, with_route, routes, keys_in}
+use Rattle.p2p_log_rules.specs.Facts.{subscribers, with_route, routes, keys_in}
+use Rattle.p2p_log_rules.proofs.Routing.{subscriber_of}
 use Rattle.p2p_log_rules.specs.Effect.{only, entry_of, mailbox_size_at, route_row}
 use Rattle.p2p_log.proofs.Names.{AreApart-live_from}
 use Rattle.p2p_net_queues.specs.declared.board.Board.{Board}

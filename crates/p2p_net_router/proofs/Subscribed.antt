@@ -20,7 +20,9 @@ use Rattle.p2p_log.specs.declared.queue.Queue.{Queue}
 use Rattle.p2p_log.specs.declared.queue.Queue.TheVariants as queue
 use Rattle.p2p_log.specs.declared.item.Item.TheVariants as item
 use Rattle.p2p_log.specs.Lines.{live_from, live, ended_item, stays, placed}
-use Rattle.p2p_log_rules.specs.Facts.{events_of, starts, has_started, capacity_for, registers_at, registered, channels, capacity_in, taken, steps_router, routed_by, routed, history_from, subscriber_of, subscribers, routes_after, routes}
+use Rattle.p2p_log_rules.specs.Facts.{events_of, starts, has_started, capacity_for, registers_at, registered, channels, capacity_in, taken, steps_router, state_from, routed_by, subscribers, routes}
+use Rattle.p2p_log_rules.specs.Told.{told}
+use Rattle.p2p_log_rules.proofs.Routing.{subscriber_of, routes_after}
 use Rattle.p2p_log_rules.specs.Effect.{mailbox_size_at, router_capacity}
 use Rattle.p2p_log_rules.proofs.Facts.{events_of-append, has_started-append, registered-append, subscribers-append, routes-append}
 use Rattle.p2p_log.proofs.Lines.{live-append, filter_stays-nil}
@@ -69,7 +71,7 @@ sound_fresh size r h = record {
 }
 
 pub fresh_stands : (configs : List Config) (r : Router) → IsFresh r → StandsFor configs [] r
-unfolding live_from has_started registered subscribers routed routes history_from
+unfolding live_from has_started registered subscribers routes told state_from
 fresh_stands configs r h = record {
   holds = record {
     sound = sound_fresh (mailbox_size_at configs r.number) r h;

@@ -32,8 +32,9 @@ use Rattle.p2p_log.specs.declared.item.Item.TheVariants as item
 use Rattle.p2p_log.specs.declared.item.Envelope.{Envelope}
 use Rattle.p2p_log.specs.declared.entry.Entry.{Entry}
 use Rattle.p2p_log.specs.Lines.{name_of, live_from, line}
-use Rattle.p2p_log_rules.specs.Facts.{history_from, state_from}
+use Rattle.p2p_log_rules.specs.Facts.{state_from}
 use Rattle.p2p_log_rules.specs.Handshakes.{handshakes_of, is_handshaking}
+use Rattle.p2p_log_rules.specs.Told.{told}
 use Rattle.p2p_log_rules.specs.Tracking.{key_cmp, rules_of, no_rules, rules_at, calls_of, update_subscriptions, blocked_subscriptions}
 use Rattle.p2p_log_rules.specs.TrackerRows.{was_answered}
 use Rattle.p2p_net_queues.specs.Board.{held}
@@ -47,7 +48,7 @@ use Rattle.p2p_net_tracker.proofs.Ended.{is_ended-none}
 use Rattle.p2p_net_tracker.proofs.Serving.{MayRelease, MayConnect, item-may_take}
 
 no_calls : (configs : List Config) (n : ℕ) → calls_of configs [] n ≡ []
-unfolding calls_of state_from
+unfolding calls_of told state_from
 no_calls configs n = refl
 
 no_line : (q : Queue) → line [] q ≡ []
@@ -55,11 +56,11 @@ unfolding line live_from
 no_line q = refl
 
 no_updates : (n : ℕ) → update_subscriptions [] n ≡ []
-unfolding update_subscriptions history_from
+unfolding update_subscriptions told state_from
 no_updates n = refl
 
 no_sets : (n : ℕ) → blocked_subscriptions [] n ≡ []
-unfolding blocked_subscriptions history_from
+unfolding blocked_subscriptions told state_from
 no_sets n = refl
 
 no_handshakes : (n : ℕ) → handshakes_of [] n ≡ []

@@ -12,9 +12,8 @@ use Rattle.p2p_log.specs.declared.queue.Queue.TheVariants as queue
 use Rattle.p2p_log.specs.Lines.{line}
 use Rattle.p2p_log_rules.specs.Facts.{taken}
 use Rattle.p2p_log_rules.specs.Handshakes.{handshakes_by, handshakes_of, is_handshaking, source_of, source_at}
-use Rattle.p2p_log_rules.specs.Tracking.{asked_by, steps_tracker, rules_at, step_calls, grants_peer, call_where, calls_of, calls_taken, subscribes, subscribes_blocked, update_subscriptions, blocked_subscriptions}
-use Rattle.p2p_log_rules.proofs.Calls.{calls_of-append}
-use Rattle.p2p_log_rules.proofs.Facts.{history_from-append}
+use Rattle.p2p_log_rules.specs.Tracking.{asked_by, steps_tracker, rules_at, grants_peer, calls_of, update_subscriptions, blocked_subscriptions}
+use Rattle.p2p_log_rules.proofs.Calls.{step_calls, call_where, calls_taken, subscribes, subscribes_blocked, calls_of-append, update_subscriptions-append, blocked_subscriptions-append}
 use Rattle.p2p_log_rules.specs.TrackerRows.{answers, was_answered}
 use Rattle.p2p_log_rules.proofs.Handshakes.{handshakes_of-kept}
 use Rattle.p2p_log_rules.proofs.TakenAt.{taken_at-longer, taken_at-late}
@@ -32,14 +31,6 @@ calls-kept configs log e n no_step =
     let calls = calls_of configs log n in
     calls_of-append configs log e n
     ∙ ap (λ b. cond b (step_calls log e.reply (taken log e) e.event.at (jitter_of (rules_at configs n).cooldown e.event.seed) (list_any grants_peer e.puts) calls) calls) no_step
-
-pub update_subscriptions-append : (log : List Entry) (e : Entry) (n : ℕ) → update_subscriptions (log ++ e ∷ []) n ≡ update_subscriptions log n ++ calls_taken subscribes n log e
-unfolding update_subscriptions
-update_subscriptions-append log e n = history_from-append (calls_taken subscribes n) [] log e
-
-pub blocked_subscriptions-append : (log : List Entry) (e : Entry) (n : ℕ) → blocked_subscriptions (log ++ e ∷ []) n ≡ blocked_subscriptions log n ++ calls_taken subscribes_blocked n log e
-unfolding blocked_subscriptions
-blocked_subscriptions-append log e n = history_from-append (calls_taken subscribes_blocked n) [] log e
 
 none_taken : (test : Act → Bool) (n : ℕ) (log : List Entry) (e : Entry) → steps_tracker n e.event.act ≡ false → calls_taken test n log e ≡ []
 none_taken test n log e no_step = ap (λ b. cond b (flat_map (call_where test log) (taken log e)) []) no_step

@@ -29,7 +29,8 @@ use Rattle.p2p_log.specs.declared.asked.Asked.TheVariants as ask
 use Rattle.p2p_log.specs.declared.event.Act.{Act}
 use Rattle.p2p_log.specs.declared.event.Act.TheVariants as act
 use Rattle.p2p_log_rules.specs.Handshakes.{is_handshaking, source_at}
-use Rattle.p2p_log_rules.specs.Tracking.{key_cmp, asked_calls, item_calls, grants_peer, call_where, subscribes, subscribes_blocked}
+use Rattle.p2p_log_rules.specs.Tracking.{key_cmp, grants_peer}
+use Rattle.p2p_log_rules.proofs.Calls.{asked_calls, item_calls, call_where, subscribes, subscribes_blocked}
 use Rattle.p2p_log_rules.specs.TrackerPuts as puts
 use Rattle.p2p_log_rules.specs.TrackerPuts.{dial_grant, listen_grant}
 use Rattle.p2p_net_tracker.specs.Asking.{message_of}
