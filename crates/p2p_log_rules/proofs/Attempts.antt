@@ -209,10 +209,14 @@ module _ (rules : DialRules) (n k : ℕ) where
   -- an act of another node, or of none, tells nothing of it
   tries_none : (name at : ℕ) (a : Act) → tries n a ≡ false → NoneTold about name at a
   tries_none name at (act.Start m) h = refl
-  tries_none name at (act.SendStep conn m) h = λ link s. refl
-  tries_none name at (act.RecvStep conn m) h = λ link s. refl
+  tries_none name at (act.Send bytes c m priority to) h = λ keys. refl
+  tries_none name at (act.Check c m to) h = (λ keys. refl, λ keys. refl)
+  tries_none name at (act.SendChecked bytes check priority) h = refl
+  tries_none name at (act.SendStep conn m) h = (λ link s. refl, record { runs = refl; pings = refl })
+  tries_none name at (act.RecvStep conn m) h = (λ link s. refl, λ i. refl)
+  tries_none name at (act.Close c m) h = refl
   tries_none name at (act.Dialer m) h = none_dialed m name at (ap (λ b. b && (k == name)) h)
-  tries_none name at (act.Listener m) h = λ link. refl
+  tries_none name at (act.Listener m) h = (λ link. refl, record { update = λ addresses. refl; arrival = λ from g. refl })
   tries_none name at (act.Handshake e m) h = λ link. refl
   tries_none name at (act.Spawner m) h = λ key link. refl
   tries_none name at (act.Attempt e m) h = none_tried m e at (ap (λ b. b && (k == e)) h)

@@ -1,19 +1,13 @@
 -- What checks admitted, and the lists of peers that were put, with one more entry.
-use Rattle.std.proofs.Common.{◌≡◌, ℕ, List, [], ◌∷◌, ◌++◌, refl, ap, ◌∙◌, append-nil, Option, None}
+use Rattle.std.proofs.Common.{◌≡◌, ℕ, List, [], ◌∷◌, ◌++◌, refl, ap, ◌∙◌, append-nil}
 use Rattle.std.specs.Prelude.{flat_map}
 use Rattle.std.proofs.lemmas.Grind.{flat_map-append}
 use Rattle.p2p_base.specs.declared.key.Key.{Key}
 use Rattle.p2p_log.specs.declared.queue.Queue.{Queue}
 use Rattle.p2p_log.specs.declared.item.Item.{Item}
 use Rattle.p2p_log.specs.declared.entry.Entry.{Entry}
-use Rattle.p2p_log_rules.specs.declared.row.Checked.{Checked}
-use Rattle.p2p_log_rules.specs.Checking.{checks_by, checked_at}
 use Rattle.p2p_log_rules.specs.Facts.{list_put, lists_put, newest, peers_told}
-use Rattle.p2p_log_rules.proofs.Facts.{state_from-append}
-
-pub checked_at-append : (log : List Entry) (e : Entry) (n check : ℕ) → checked_at (log ++ e ∷ []) n check ≡ checks_by n log e (checked_at log n) check
-unfolding checked_at
-checked_at-append log e n check = ap (λ (f : ℕ → Option Checked). f check) (state_from-append (checks_by n) [] log e (λ name. None))
+pub use Rattle.p2p_log_rules.proofs.Checks.{checked_at-append}
 
 -- ---- the newest list of peers
 

@@ -117,10 +117,14 @@ dials_by n _ = false
 
 none_dialed : (pace : Pace) (n name at : ℕ) (a : Act) → dials_by n a ≡ false → NoneTold (of_dialer pace n) name at a
 none_dialed pace n name at (act.Start m) h = h
-none_dialed pace n name at (act.SendStep conn m) h = λ link s. refl
-none_dialed pace n name at (act.RecvStep conn m) h = λ link s. refl
+none_dialed pace n name at (act.Send bytes c m priority to) h = λ keys. refl
+none_dialed pace n name at (act.Check c m to) h = (λ keys. refl, λ keys. refl)
+none_dialed pace n name at (act.SendChecked bytes check priority) h = refl
+none_dialed pace n name at (act.SendStep conn m) h = (λ link s. refl, record { runs = refl; pings = refl })
+none_dialed pace n name at (act.RecvStep conn m) h = (λ link s. refl, λ i. refl)
+none_dialed pace n name at (act.Close c m) h = refl
 none_dialed pace n name at (act.Dialer m) h = record { list = λ asked seed next peers. h; answer = h; begun = λ key ingress. refl; due = h; dials = h; asks = h }
-none_dialed pace n name at (act.Listener m) h = λ link. refl
+none_dialed pace n name at (act.Listener m) h = (λ link. refl, record { update = λ addresses. refl; arrival = λ from g. refl })
 none_dialed pace n name at (act.Handshake e m) h = λ link. refl
 none_dialed pace n name at (act.Spawner m) h = λ key link. refl
 none_dialed pace n name at (act.Attempt e m) h = record { addresses = λ seed addresses. refl; link = refl; ended = refl; drops = λ link. refl }

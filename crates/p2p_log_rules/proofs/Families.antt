@@ -32,14 +32,27 @@ kind (telling.link_taken m k at) = 12
 kind (telling.attempt_ended m k) = 13
 kind (telling.end_dropped link s) = 14
 kind (telling.connection_made m k key link) = 15
+kind (telling.connection_ran m k at) = 40
+kind (telling.ping_put m k at) = 41
+kind (telling.item_admitted m k at i) = 42
+kind (telling.sends_admitted m c at keys) = 43
+kind (telling.check_made m k c keys) = 44
+kind (telling.check_spent k) = 45
+kind (telling.reader_dropped m c) = 46
+kind (telling.update_taken m addresses) = 47
+kind (telling.arrival_judged m at from g) = 48
 
 -- the kinds that an act may tell: one line for an act
 abbrev pub kinds_of : Act → List ℕ
 kinds_of (act.Start m) = 0 ∷ []
-kinds_of (act.SendStep conn m) = 14 ∷ []
-kinds_of (act.RecvStep conn m) = 14 ∷ []
+kinds_of (act.Send bytes c m priority to) = 43 ∷ []
+kinds_of (act.Check c m to) = 43 ∷ 44 ∷ []
+kinds_of (act.SendChecked bytes check priority) = 45 ∷ []
+kinds_of (act.SendStep conn m) = 14 ∷ 40 ∷ 41 ∷ []
+kinds_of (act.RecvStep conn m) = 14 ∷ 42 ∷ []
+kinds_of (act.Close c m) = 46 ∷ []
 kinds_of (act.Dialer m) = 2 ∷ 3 ∷ 4 ∷ 5 ∷ 6 ∷ 7 ∷ []
-kinds_of (act.Listener m) = 14 ∷ []
+kinds_of (act.Listener m) = 14 ∷ 47 ∷ 48 ∷ []
 kinds_of (act.Handshake h m) = 14 ∷ []
 kinds_of (act.Spawner m) = 15 ∷ []
 kinds_of (act.Attempt k m) = 11 ∷ 12 ∷ 13 ∷ 14 ∷ []
@@ -57,10 +70,14 @@ are_apart ks js = not (list_any (has js) ks)
 -- it tells no other: one line for an act
 within : (name at : ℕ) (a : Act) → NoneTold (λ t. not (has (kinds_of a) (kind t))) name at a
 within name at (act.Start m) = refl
-within name at (act.SendStep conn m) = λ link s. refl
-within name at (act.RecvStep conn m) = λ link s. refl
+within name at (act.Send bytes c m priority to) = λ keys. refl
+within name at (act.Check c m to) = (λ keys. refl, λ keys. refl)
+within name at (act.SendChecked bytes check priority) = refl
+within name at (act.SendStep conn m) = (λ link s. refl, record { runs = refl; pings = refl })
+within name at (act.RecvStep conn m) = (λ link s. refl, λ i. refl)
+within name at (act.Close c m) = refl
 within name at (act.Dialer m) = record { list = λ asked seed next peers. refl; answer = refl; begun = λ key ingress. refl; due = refl; dials = refl; asks = refl }
-within name at (act.Listener m) = λ link. refl
+within name at (act.Listener m) = (λ link. refl, record { update = λ addresses. refl; arrival = λ from g. refl })
 within name at (act.Handshake e m) = λ link. refl
 within name at (act.Spawner m) = λ key link. refl
 within name at (act.Attempt e m) = record { addresses = λ seed addresses. refl; link = refl; ended = refl; drops = λ link. refl }

@@ -1,6 +1,7 @@
 pub mod Attempts
 pub mod Calls
 pub mod Checking
+pub mod Checks
 pub mod Closing
 pub mod Connections
 pub mod Dialing
@@ -11,9 +12,15 @@ pub mod First
 pub mod Handshakes
 pub mod Lawful
 pub mod Links
+pub mod Listening
+pub mod Metering
 pub mod Moves
 pub mod Named
+pub mod Others
+pub mod PingRows
+pub mod Pinging
 pub mod Recorded
+pub mod Sends
 pub mod Spawning
 pub mod TakenAt
 pub mod Tellings

@@ -1,8 +1,9 @@
 -- What an act may tell: where a test holds of none of that, it holds of nothing that the act tells. The one proof that looks at acts.
 use Rattle.std.proofs.Common.{◌≡◌, ℕ, Bool, true, false, List, [], ◌∷◌, ◌++◌, refl, ap, ◌∙◌, Option, Some, None}
-use Rattle.std.specs.Prelude.{◌||◌}
+use Rattle.std.specs.Prelude.{◌||◌, not}
 use Rattle.std.specs.List.{list_any}
 use Rattle.p2p_base.specs.declared.key.Key.{Key}
+use Rattle.p2p_address.specs.declared.ip.IpAddr.{IpAddr}
 use Rattle.p2p_address.specs.declared.ip.SocketAddr.{SocketAddr}
 use Rattle.p2p_address.specs.declared.peer.Ingress.{Ingress}
 use Rattle.p2p_tracker_calls.specs.declared.gates.Reply.{Reply as Gates}
@@ -18,11 +19,12 @@ use Rattle.p2p_log.specs.declared.entry.Reply.TheVariants as reply
 use Rattle.p2p_log.specs.declared.event.Act.{Act}
 use Rattle.p2p_log.specs.declared.event.Act.TheVariants as act
 use Rattle.p2p_log_rules.specs.declared.row.Half.{Half}
+use Rattle.p2p_log_rules.specs.HalfSteps.{is_answer, puts_ping, holds}
 use Rattle.p2p_log_rules.specs.Handshakes.{peer_at}
 use Rattle.p2p_log_rules.specs.Puts.{gave_up, ends_attempt, broke_off}
 use Rattle.p2p_log_rules.specs.Tellings.{Telling, last_or}
 use Rattle.p2p_log_rules.specs.Tellings as telling
-use Rattle.p2p_log_rules.specs.Told.{half_in, spawn_tells, when, done_tells, asks_list, link_in, dialing_dropped, half_dropped, half_tells, turned_away, gates_tell, answer_tells, due_tells, ask_tells, took_tells, left_tells, link_tells, act_tells}
+use Rattle.p2p_log_rules.specs.Told.{pinged_tells, admitted_tells, check_tells, judged_tells, heard_tells, admitted_in, half_in, spawn_tells, when, done_tells, asks_list, link_in, dialing_dropped, half_dropped, half_tells, turned_away, gates_tell, answer_tells, due_tells, ask_tells, took_tells, left_tells, link_tells, act_tells}
 use Rattle.p2p_log_rules.proofs.Tellings.{append_quiet, when_quiet, done_quiet}
 
 -- a test holds of nothing that a step of a node's dialer may tell
@@ -41,13 +43,27 @@ pub record NoneTried (test : Telling → Bool) (m e at : ℕ) : Type 0 where
   pub ended : test (telling.attempt_ended m e) ≡ false
   pub drops : (link : ℕ) → test (telling.end_dropped link side.Out) ≡ false
 
+-- nor a step of a sending half of its pings
+pub record NonePinged (test : Telling → Bool) (m conn at : ℕ) : Type 0 where
+  pub runs : test (telling.connection_ran m conn at) ≡ false
+  pub pings : test (telling.ping_put m conn at) ≡ false
+
+-- nor a step of a listener of what it took
+pub record NoneHeard (test : Telling → Bool) (m at : ℕ) : Type 0 where
+  pub update : (addresses : List IpAddr) → test (telling.update_taken m addresses) ≡ false
+  pub arrival : (from : IpAddr) (g : Gates) → test (telling.arrival_judged m at from g) ≡ false
+
 module _ (test : Telling → Bool) (name at : ℕ) where
   abbrev pub NoneTold : Act → Type 0
   NoneTold (act.Start m) = test (telling.node_started m at) ≡ false
-  NoneTold (act.SendStep conn m) = (link : ℕ) (s : Side) → test (telling.end_dropped link s) ≡ false
-  NoneTold (act.RecvStep conn m) = (link : ℕ) (s : Side) → test (telling.end_dropped link s) ≡ false
+  NoneTold (act.Send bytes c m priority to) = (keys : List Key) → test (telling.sends_admitted m c at keys) ≡ false
+  NoneTold (act.Check c m to) = ((keys : List Key) → test (telling.sends_admitted m c at keys) ≡ false) × ((keys : List Key) → test (telling.check_made m name c keys) ≡ false)
+  NoneTold (act.SendChecked bytes check priority) = test (telling.check_spent check) ≡ false
+  NoneTold (act.SendStep conn m) = ((link : ℕ) (s : Side) → test (telling.end_dropped link s) ≡ false) × NonePinged test m conn at
+  NoneTold (act.RecvStep conn m) = ((link : ℕ) (s : Side) → test (telling.end_dropped link s) ≡ false) × ((i : Item) → test (telling.item_admitted m conn at i) ≡ false)
+  NoneTold (act.Close c m) = test (telling.reader_dropped m c) ≡ false
   NoneTold (act.Dialer m) = NoneDialed test m name at
-  NoneTold (act.Listener m) = (link : ℕ) → test (telling.end_dropped link side.In) ≡ false
+  NoneTold (act.Listener m) = ((link : ℕ) → test (telling.end_dropped link side.In) ≡ false) × NoneHeard test m at
   NoneTold (act.Handshake h m) = (link : ℕ) → test (telling.end_dropped link side.In) ≡ false
   NoneTold (act.Spawner m) = (key : Key) (link : ℕ) → test (telling.connection_made m name key link) ≡ false
   NoneTold (act.Attempt e m) = NoneTried test m e at
@@ -75,6 +91,30 @@ module _ (test : Telling → Bool) (name at : ℕ) where
   gates_quiet : (r : Reply) (items : List Item) → ((link : ℕ) → test (telling.end_dropped link side.In) ≡ false) → list_any test (gates_tell r items) ≡ false
   gates_quiet (reply.Gates g) items h = turned_quiet g items h
   gates_quiet _ items h = refl
+
+  pinged_quiet : (m conn : ℕ) (items : List Item) (puts : List (Queue × Item)) → NonePinged test m conn at → list_any test (pinged_tells m conn at items puts) ≡ false
+  pinged_quiet m conn items puts h =
+      append_quiet test (when (list_any is_answer items) (telling.connection_ran m conn at ∷ [])) (when (puts_ping items puts) (telling.ping_put m conn at ∷ []))
+      (when_quiet test (list_any is_answer items) (telling.connection_ran m conn at ∷ []) (one (telling.connection_ran m conn at) h.runs))
+      (when_quiet test (puts_ping items puts) (telling.ping_put m conn at ∷ []) (one (telling.ping_put m conn at) h.pings))
+
+  admitted_quiet : (m conn : ℕ) (r : Reply) (items : List Item) (puts : List (Queue × Item)) → ((i : Item) → test (telling.item_admitted m conn at i) ≡ false) → list_any test (admitted_tells m conn at r items puts) ≡ false
+  admitted_quiet m conn (reply.Ended why) items puts h = refl
+  admitted_quiet m conn _ [] puts h = refl
+  admitted_quiet m conn _ (i ∷ items) puts h = when_quiet test (not (holds puts)) (telling.item_admitted m conn at i ∷ []) (one (telling.item_admitted m conn at i) (h i))
+
+  check_quiet : (m c : ℕ) (r : Reply) → ((keys : List Key) → test (telling.check_made m name c keys) ≡ false) → list_any test (check_tells m name c r) ≡ false
+  check_quiet m c (reply.Checked keys) h = one (telling.check_made m name c keys) (h keys)
+  check_quiet m c _ h = refl
+
+  judged_quiet : (m : ℕ) (from : IpAddr) (r : Reply) → NoneHeard test m at → list_any test (judged_tells m at from r) ≡ false
+  judged_quiet m from (reply.Gates g) h = one (telling.arrival_judged m at from g) (h.arrival from g)
+  judged_quiet m from _ h = refl
+
+  heard_quiet : (m : ℕ) (r : Reply) (items : List Item) → NoneHeard test m at → list_any test (heard_tells m at r items) ≡ false
+  heard_quiet m r (item.Addresses addresses ∷ items) h = one (telling.update_taken m addresses) (h.update addresses)
+  heard_quiet m r (item.Arrival from key link ∷ items) h = judged_quiet m from.ip r h
+  heard_quiet m r _ h = refl
 
   answer_quiet : (m asked seed : ℕ) (items : List Item) → NoneDialed test m name at → list_any test (answer_tells m asked name at seed items) ≡ false
   answer_quiet m asked seed (item.Dialable next peers ∷ items) h = more (telling.list_taken m asked seed next peers) (telling.answer_taken m ∷ []) (h.list asked seed next peers) (one (telling.answer_taken m) h.answer)
@@ -122,11 +162,18 @@ module _ (test : Telling → Bool) (name at : ℕ) where
   pub quiet_act : (ts : List Telling) (before : List Entry) (seed : ℕ) (r : Reply) (items : List Item) (puts : List (Queue × Item)) (a : Act) → NoneTold a
       → list_any test (act_tells ts before name at seed r items puts a) ≡ false
   quiet_act ts before seed r items puts (act.Start m) h = done_quiet test r (telling.node_started m at ∷ []) (one (telling.node_started m at) h)
-  quiet_act ts before seed r items puts (act.SendStep conn m) h = half_quiet r (half_in ts before m conn) h
-  quiet_act ts before seed r items puts (act.RecvStep conn m) h = half_quiet r (half_in ts before m conn) h
+  quiet_act ts before seed r items puts (act.Send bytes c m priority to) h = one (telling.sends_admitted m c at (admitted_in ts before m c at to)) (h (admitted_in ts before m c at to))
+  quiet_act ts before seed r items puts (act.Check c m to) h = more (telling.sends_admitted m c at (admitted_in ts before m c at to)) (check_tells m name c r) (h.0 (admitted_in ts before m c at to)) (check_quiet m c r h.1)
+  quiet_act ts before seed r items puts (act.SendChecked bytes check priority) h = one (telling.check_spent check) h
+  quiet_act ts before seed r items puts (act.SendStep conn m) h =
+      append_quiet test (half_tells r (half_in ts before m conn)) (done_tells r (pinged_tells m conn at items puts)) (half_quiet r (half_in ts before m conn) h.0)
+      (done_quiet test r (pinged_tells m conn at items puts) (pinged_quiet m conn items puts h.1))
+  quiet_act ts before seed r items puts (act.RecvStep conn m) h =
+      append_quiet test (half_tells r (half_in ts before m conn)) (admitted_tells m conn at r items puts) (half_quiet r (half_in ts before m conn) h.0) (admitted_quiet m conn r items puts h.1)
+  quiet_act ts before seed r items puts (act.Close c m) h = done_quiet test r (telling.reader_dropped m c ∷ []) (one (telling.reader_dropped m c) h)
   quiet_act ts before seed r items puts (act.Dialer m) h =
       append_quiet test (answer_tells m (last_or 0 (asks_list m) ts) name at seed items) (ask_tells m at items puts) (answer_quiet m (last_or 0 (asks_list m) ts) seed items h) (ask_quiet m items puts h.due h.dials h.asks)
-  quiet_act ts before seed r items puts (act.Listener m) h = gates_quiet r items h
+  quiet_act ts before seed r items puts (act.Listener m) h = append_quiet test (gates_tell r items) (heard_tells m at r items) (gates_quiet r items h.0) (heard_quiet m r items h.1)
   quiet_act ts before seed r items puts (act.Handshake e m) h =
       when_quiet test (broke_off r items puts) (telling.end_dropped (peer_at before e).link side.In ∷ []) (one (telling.end_dropped (peer_at before e).link side.In) (h (peer_at before e).link))
   quiet_act ts before seed r items puts (act.Spawner m) h = spawn_quiet m items h

@@ -4,8 +4,6 @@ use Rattle.std.specs.List.{list_any}
 use Rattle.std.specs.Option.{option_map}
 use Rattle.p2p_log.specs.declared.queue.Side.{Side}
 use Rattle.p2p_log.specs.declared.queue.Side.TheVariants as side
-use Rattle.p2p_log.specs.declared.item.Item.{Item}
-use Rattle.p2p_log.specs.declared.item.Item.TheVariants as item
 use Rattle.p2p_log.specs.declared.entry.Entry.{Entry}
 use Rattle.p2p_log.specs.declared.entry.Reply.{Reply}
 use Rattle.p2p_log.specs.declared.entry.Reply.TheVariants as reply
@@ -13,6 +11,7 @@ use Rattle.p2p_log.specs.declared.event.Act.{Act}
 use Rattle.p2p_log.specs.declared.event.Act.TheVariants as act
 use Rattle.p2p_log_rules.specs.declared.row.Half.{Half}
 use Rattle.p2p_log_rules.specs.Facts.{taken, history}
+pub use Rattle.p2p_log_rules.specs.HalfSteps.{is_answer}
 pub use Rattle.p2p_log_rules.specs.Halves.{side_at, half_over, half_of}
 use Rattle.p2p_log_rules.specs.Spawning.{Spawned, connections_of}
 
@@ -38,10 +37,6 @@ begins n conn e = steps_sender n conn e.event.act && is_done e.reply
 -- whether it has begun: its sending half did a step
 unfoldable pub is_begun : List Entry → ℕ → ℕ → Bool
 is_begun log n conn = list_any (begins n conn) log
-
-abbrev pub is_answer : Item → Bool
-is_answer item.Answer = true
-is_answer _ = false
 
 abbrev pub answers_by : ℕ → ℕ → List Entry → Entry → List Bool
 answers_by n conn before e = cond (steps_sender n conn e.event.act) (map is_answer (taken before e)) []

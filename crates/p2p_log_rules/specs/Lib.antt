@@ -11,9 +11,11 @@ pub mod Ending
 pub mod Facts
 pub mod First
 pub mod Frames
+pub mod HalfSteps
 pub mod Halves
 pub mod Handshakes
 pub mod Handshaking
+pub mod Judged
 pub mod Lawful
 pub mod Links
 pub mod Listening
@@ -21,6 +23,7 @@ pub mod Metering
 pub mod Moves
 pub mod Pings
 pub mod Puts
+pub mod Quotas
 pub mod Reading
 pub mod Rows
 pub mod Spawning

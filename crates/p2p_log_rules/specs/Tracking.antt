@@ -1,8 +1,6 @@
 -- What stands of a node's tracker, by the log: the calls of its directory, and who subscribed.
 use Rattle.std.specs.Prelude.{ℕ, Bool, true, false, ◌==◌, cond, List, [], ◌∷◌, flat_map, Option, Some, None, slice_get}
 use Rattle.std.specs.List.{list_any}
-use Rattle.std.specs.Ordering.{nat_cmp}
-use Rattle.std.specs.declared.cmp.Ordering.{Ordering}
 use Rattle.p2p_base.specs.declared.key.Key.{Key}
 use Rattle.p2p_tracker_calls.specs.declared.call.Call.{Call}
 use Rattle.p2p_tracker_calls.specs.declared.call.Call.TheVariants as call
@@ -20,10 +18,7 @@ use Rattle.p2p_log.specs.declared.asked.Asked.TheVariants as ask
 use Rattle.p2p_log.specs.declared.event.Act.{Act}
 use Rattle.p2p_log.specs.declared.event.Act.TheVariants as act
 use Rattle.p2p_log_rules.specs.Facts.{taken, state_from, history}
-
--- keys in their order
-abbrev pub key_cmp : Key → Key → Ordering
-key_cmp a b = nat_cmp a.0 b.0
+pub use Rattle.p2p_log_rules.specs.Quotas.{key_cmp}
 
 -- what a node's tracker is made with
 abbrev pub rules_of : Config → Rules Key

@@ -18,19 +18,19 @@ use Rattle.p2p_log_laws.specs.PlainPath.{two_nodes}
 use Rattle.p2p_log_laws.proofs.worked.closed_rows.Goals as goal
 
 left : effect two_nodes message_waits message_left.event ≡ message_left
-unfolding effect row line live_from registered is_closed
+unfolding effect row line live_from has_started registered rates admits taken taken_at history_from state_from half_at connections_of dialer_of told tells last_told is_closed
 left = refl
 
 once : effect two_nodes (message_waits ++ message_left ∷ []) closed_once.event ≡ closed_once
-unfolding effect row line live_from registered is_closed
+unfolding effect row line live_from has_started registered rates admits taken taken_at history_from state_from half_at connections_of dialer_of told tells last_told is_closed
 once = refl
 
 unread : effect two_nodes (message_waits ++ message_left ∷ []) nobody_reads.event ≡ nobody_reads
-unfolding effect row line live_from registered is_closed
+unfolding effect row line live_from has_started registered rates admits taken taken_at history_from state_from half_at connections_of dialer_of told tells last_told is_closed
 unread = refl
 
 leaves : effect two_nodes message_comes reader_leaves.event ≡ reader_leaves
-unfolding effect row line live_from registered is_closed
+unfolding effect row line live_from has_started registered rates admits taken taken_at history_from state_from half_at connections_of dialer_of told tells last_told is_closed
 leaves = refl
 
 late : effect two_nodes (message_comes ++ reader_leaves ∷ []) message_late.event ≡ message_late

@@ -50,11 +50,11 @@ delivery_follows =
     (refl, (refl, (refl, (refl, (refl, (refl, (refl, (refl, (refl, (refl, (refl, (refl, (refl, (refl, (refl, (refl, (refl, (refl, (refl, (refl, (refl, (refl, (refl, (refl, (refl, (refl, (refl, (refl, (refl, (refl, (refl, (refl, (refl, (refl, (refl, (refl, (refl, (refl, (refl, (refl, (refl, tt)))))))))))))))))))))))))))))))))))))))))
 
 drop_before_start_follows : Follow one_node [] drop_before_start
-unfolding effect row line live_from has_started registered rates sent_moments state_from admits
+unfolding effect row line live_from has_started registered rates sent_moments told tells state_from admits
 drop_before_start_follows = (refl, (refl, tt))
 
 drop_without_connection_follows : Follow one_node [] drop_without_connection
-unfolding effect row line live_from has_started registered rates sent_moments state_from admits taken history_from routed subscribers routes frame spelling
+unfolding effect row line live_from has_started registered rates sent_moments told tells state_from admits taken history_from routed subscribers routes frame spelling
 drop_without_connection_follows = (refl, (refl, (refl, (refl, (refl, tt)))))
 
 delivered : fate_of delivery (36, 0) ≡ Some (fate.Delivered (queue.Channel 1 7) 40)
