@@ -10,6 +10,7 @@ use Rattle.p2p_log_rules.specs.Connections.{is_begun}
 use Rattle.p2p_log_rules.specs.Effect.{effect, row, entry_of}
 use Rattle.p2p_log_rules.specs.Facts.{state_from}
 use Rattle.p2p_log_rules.specs.Lawful.{IsLawful}
+use Rattle.p2p_log_rules.specs.Told.{told}
 use Rattle.p2p_log_rules.specs.Tracking.{calls_of}
 use Rattle.p2p_log_rules.proofs.Calls.{calls_of-append}
 use Rattle.p2p_log_rules.proofs.Connections.{is_begun-append}
@@ -28,7 +29,7 @@ module _ (configs : List Config) (n conn : ℕ) where
   IsToldOnce log = weight (tells_begun n conn) (live log) + one (was_called conn (calls_of configs log n)) ≤ one (is_begun log n conn)
 
   told_first : IsToldOnce []
-  unfolding live_from calls_of state_from is_begun
+  unfolding live_from calls_of state_from is_begun told
   told_first = omega arith
 
   -- by what stood there, what was called, and whether it had begun

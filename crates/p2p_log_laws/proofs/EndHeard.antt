@@ -33,7 +33,8 @@ use Rattle.p2p_log_rules.specs.Dropping.{other_side, is_dropped}
 use Rattle.p2p_log_rules.specs.Effect
 use Rattle.p2p_log_rules.specs.Effect.{effect, row, entry_of, Spread, spread, row_of_spread, peers_put, mailbox_size_at}
 use Rattle.p2p_log_rules.specs.Ending.{end_row}
-use Rattle.p2p_log_rules.specs.Facts.{is_up, history_from, taken, keys_in, subscribers, with_route, routes}
+use Rattle.p2p_log_rules.specs.Facts.{is_up, state_from, taken, keys_in, subscribers, with_route, routes}
+use Rattle.p2p_log_rules.specs.Told.{told}
 use Rattle.p2p_log_rules.specs.Lawful.{IsLawful}
 use Rattle.p2p_log_rules.specs.Links.{openings_of}
 use Rattle.p2p_log_rules.specs.Moves.{Moves}
@@ -394,7 +395,7 @@ module _ (configs : List Config) (n conn : ℕ) where
   IsHeardOnce log = (weight (tells_ready n conn) (live log) + weight (puts_answer n conn) (live log)) + one (is_running log n conn) ≤ one (is_begun log n conn)
 
   heard_first : IsHeardOnce []
-  unfolding live_from history_from is_running is_begun
+  unfolding live_from state_from told is_running is_begun
   heard_first = omega arith
 
   counted : (told answered told_after answered_after told_taken told_ended answers_taken answers_ended told_puts answer_puts took runs runs_after before begun : ℕ)

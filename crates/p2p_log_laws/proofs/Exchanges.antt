@@ -22,7 +22,7 @@ use Rattle.p2p_log_rules.specs.Handshakes.{with_admitted, ends_handshake, withou
 use Rattle.p2p_log_rules.specs.Links.{with_opened, without_finished, acted_openings, openings_of, admitted_end, listened, arrived, unless_dropped, acted_ends, listening_ends_of}
 use Rattle.p2p_log_rules.proofs.Facts.{state_from-append}
 use Rattle.p2p_log_rules.proofs.Handshakes.{is_among, among-without, handshakes_of-append, handshaking_early}
-use Rattle.p2p_log_rules.proofs.Links.{openings_of-append, listening_ends_of-append}
+use Rattle.p2p_log_rules.proofs.Links.{openings_of-append, openings_of-none, listening_ends_of-append, listening_ends_of-none}
 use Rattle.p2p_log_rules.proofs.TakenAt.{taken_at-longer, taken_at-last}
 use Rattle.p2p_log_laws.specs.OneAnswer.{is_end_of, leads_to, ends_exchange, ended_by, has_ended}
 
@@ -54,8 +54,7 @@ opened_none m r puts (act.Finish link ok) openings k other none = by r
 opened_none m r puts _ openings k other none = none
 
 pub open_first : OpenEarly []
-unfolding openings_of state_from
-open_first k past = refl
+open_first k past = openings_of-none k
 
 pub open_more : (log : List Entry) (e : Entry) → OpenEarly log → OpenEarly (log ++ e ∷ [])
 open_more log e early k past =
@@ -69,8 +68,7 @@ abbrev pub LeadsTo : ℕ → List Entry → Type 0
 LeadsTo n log = (link h : ℕ) → listening_ends_of log n link ≡ Some (listening.Handshake h) → (is_handshaking log n h ≡ true) × ((peer_at log h).link ≡ link)
 
 pub leads_first : (n : ℕ) → LeadsTo n []
-unfolding listening_ends_of state_from
-leads_first n link h is = cc
+leads_first n link h is = let none : listening_ends_of [] n link ≡ None = listening_ends_of-none n link in cc
 
 or_true : (b : Bool) → (b || true) ≡ true
 or_true true = refl

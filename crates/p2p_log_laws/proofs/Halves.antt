@@ -20,9 +20,10 @@ use Rattle.p2p_log_rules.specs.Connections.{half_at}
 use Rattle.p2p_log_rules.specs.Effect.{other_side}
 use Rattle.p2p_log_rules.specs.Facts.{key_at}
 use Rattle.p2p_log_rules.specs.Lawful.{IsLawful}
-use Rattle.p2p_log_rules.specs.Dialed.{dialed_by, dialer_in, dialer_of}
+use Rattle.p2p_log_rules.specs.Dialed.{dialed_by, dialer_of}
 use Rattle.p2p_log_rules.specs.Spawning.{connections_of}
 use Rattle.p2p_log_rules.proofs.Connections.{HalfParts, half_parts}
+use Rattle.p2p_log_rules.proofs.Dialed.{dialer_of-entry}
 use Rattle.p2p_log_laws.specs.Leading.{Links, LeadsTo}
 use Rattle.p2p_log_laws.proofs.ConnectionPeers.{connections_lead}
 use Rattle.p2p_log_laws.proofs.Meeting.{HalvesMeet}
@@ -32,8 +33,9 @@ use Rattle.p2p_log_laws.proofs.OneConnection.{same_ends, connections_are_one, en
 
 -- the node from which a link leads dialed it
 links_dialer : (log : List Entry) (link from to : ℕ) → Links log link from to → dialer_of log link ≡ Some from
-unfolding dialer_of
-links_dialer log link from to l = ap dialer_in l.at ∙ (ap (λ a. dialed_by a l.entry.reply l.entry.puts) l.acts ∙ (ap (λ r. dialed_by (act.Connect l.attempt l.address from to) r l.entry.puts) l.done ∙ by_puts l.entry.puts l.arrives))
+links_dialer log link from to l =
+    dialer_of-entry log link l.entry from l.at
+    (ap (λ a. dialed_by a l.entry.reply l.entry.puts) l.acts ∙ (ap (λ r. dialed_by (act.Connect l.attempt l.address from to) r l.entry.puts) l.done ∙ by_puts l.entry.puts l.arrives))
   where
     by_puts : (puts : List (Queue × Item)) → slice_get puts 1 ≡ Some (queue.Arrivals to, item.Arrival l.address l.key link) → dialed_by (act.Connect l.attempt l.address from to) reply.Ok puts ≡ Some from
     by_puts [] h = absurd (cc)

@@ -32,7 +32,7 @@ use Rattle.p2p_log_rules.specs.Lawful.{IsLawful}
 use Rattle.p2p_log_rules.specs.Metering.{pings, messages, may_pass}
 use Rattle.p2p_log_rules.specs.Pings.{ping_is_due}
 use Rattle.p2p_log_rules.specs.Spawning.{Spawned, connections_of}
-use Rattle.p2p_log_rules.proofs.Connections.{is_begun-append, is_running-append, is_ended-append, half_parts, is_live}
+use Rattle.p2p_log_rules.proofs.Connections.{is_begun-append, is_begun-none, is_running-append, is_running-none, is_ended-append, is_ended-none, half_parts, is_live}
 use Rattle.p2p_log_rules.proofs.Moves.{one_taken, first_has}
 use Rattle.p2p_log_rules.proofs.Spawning.{connections_of-late, connections_of-next}
 use Rattle.p2p_log_laws.specs.Endings.{IsNoFrame, IsOnNoChannel, HasReason}
@@ -340,16 +340,13 @@ module _ (configs : List Config) (script : List Event) (log : List Entry) (lawfu
   Makes test l = (n conn : ℕ) → test l n conn ≡ true → IsMade l n conn
 
   none_ended : Makes is_ended []
-  unfolding is_ended
-  none_ended n conn h = absurd (false≢true h)
+  none_ended n conn h = absurd (false≢true (sym (is_ended-none n conn) ∙ h))
 
   none_begun : Makes is_begun []
-  unfolding is_begun
-  none_begun n conn h = absurd (false≢true h)
+  none_begun n conn h = absurd (false≢true (sym (is_begun-none n conn) ∙ h))
 
   none_running : Makes is_running []
-  unfolding is_running history_from
-  none_running n conn h = absurd (false≢true h)
+  none_running n conn h = absurd (false≢true (sym (is_running-none n conn) ∙ h))
 
   pub ended_made : (n conn : ℕ) → is_ended log n conn ≡ true → IsMade log n conn
   ended_made = at_end configs (Makes is_ended) none_ended more script log lawful

@@ -12,6 +12,7 @@ use Rattle.p2p_log.specs.declared.event.Event.{Event}
 use Rattle.p2p_log_rules.specs.Effect.{row, effect}
 use Rattle.p2p_log_rules.specs.Facts.{events_of, capacity_for, registers_at, registered}
 use Rattle.p2p_log_rules.specs.Lawful.{IsLawful}
+use Rattle.p2p_log_rules.proofs.Channels.{channels-asked}
 use Rattle.p2p_log_laws.specs.Subscribing.{registered_by, registrations, subscription, EachStartSubscribes}
 use Rattle.p2p_log_laws.proofs.Prefixes.{entry_due}
 
@@ -39,7 +40,7 @@ module _ (configs : List Config) (n : ℕ) where
 
   start_puts : (log : List Entry) (at seed : ℕ) (a : Act) → a ≡ act.Start n → (row configs log at seed a).puts ≡ map (subscription n) (registrations n log)
   unfolding row
-  start_puts log at seed a is = ap (λ b. (row configs log at seed b).puts) is ∙ same_channels log
+  start_puts log at seed a is = ap (λ b. (row configs log at seed b).puts) is ∙ (ap (map put) (channels-asked configs log n) ∙ same_channels log)
 
   effect_puts : (log : List Entry) (ev : Event) → (effect configs log ev).event.act ≡ act.Start n → (effect configs log ev).puts ≡ map (subscription n) (registrations n log)
   unfolding effect

@@ -15,12 +15,12 @@ use Rattle.p2p_log.specs.Lines.{line}
 use Rattle.p2p_log_rules.specs.declared.row.Row.{Row}
 use Rattle.p2p_log_rules.specs.Dropping.{handshake_drops, handshake_step_row}
 use Rattle.p2p_log_rules.specs.Effect.{effect, entry_of, row}
-use Rattle.p2p_log_rules.specs.Facts.{taken, state_from}
+use Rattle.p2p_log_rules.specs.Facts.{taken}
 use Rattle.p2p_log_rules.specs.Handshakes.{is_handshaking, is_finished, peer_at, steps_handshake, has_taken}
 use Rattle.p2p_log_rules.specs.Handshaking.{handshake_deadline, is_due, handshake_turn}
 use Rattle.p2p_log_rules.specs.Lawful.{IsLawful}
 use Rattle.p2p_log_rules.specs.Rows.{only, is_spawner_full}
-use Rattle.p2p_log_rules.proofs.Handshakes.{none_later, has_taken-append}
+use Rattle.p2p_log_rules.proofs.Handshakes.{none_later, has_taken-append, has_taken-none}
 use Rattle.p2p_log_laws.proofs.Plain.{and_false}
 use Rattle.p2p_log_laws.proofs.Prefixes.{at_end}
 use Rattle.p2p_log_laws.proofs.Shape.{no_moves}
@@ -31,8 +31,7 @@ module _ (test : List Item → Bool) (none : test [] ≡ false) (configs : List 
   Untold log = length log ≤ name → has_taken test log n name ≡ false
 
   pub untold_first : Untold []
-  unfolding has_taken state_from
-  untold_first past = refl
+  untold_first past = has_taken-none test n name
 
   gone_row : (log : List Entry) (at : ℕ) → is_handshaking log n name ≡ false → handshake_step_row configs log name n at ≡ only reply.Gone
   gone_row log at ended =

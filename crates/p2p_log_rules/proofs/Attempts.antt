@@ -27,8 +27,9 @@ use Rattle.p2p_log_rules.specs.Tellings as telling
 use Rattle.p2p_log_rules.specs.Puts.{gave_up, ends_attempt, broke_off}
 use Rattle.p2p_log_rules.specs.Told.{Begun, begins, ends, opens, opened_since, link_in, dialing_dropped, when, done_tells, asks_list, half_tells, turned_away, gates_tell, answer_tells, ask_tells, took_tells, left_tells, link_tells, act_tells, tells, told}
 use Rattle.p2p_log_rules.proofs.Facts.{list_any-last}
+use Rattle.p2p_log_rules.proofs.Families.{kind, has, untold_act}
 use Rattle.p2p_log_rules.proofs.Named.{NoneFrom, either_none, named_none, begun_none}
-use Rattle.p2p_log_rules.proofs.Told.{NoneDialed, NoneTried, NoneTold, one, ask_quiet, cut_quiet, link_quiet, step_quiet, connect_quiet, quiet_act}
+use Rattle.p2p_log_rules.proofs.Told.{NoneDialed, NoneTried, one, ask_quiet, cut_quiet, link_quiet, step_quiet, connect_quiet, quiet_act}
 use Rattle.p2p_log_rules.proofs.Tellings.{late_told, when_quiet, done_quiet, append_quiet, told-append, or_left, or_right, last_or-append, first_or-append, any_or-append, least_or-append, with_last, last_told-one}
 
 -- ---- after one telling more
@@ -101,7 +102,7 @@ module _ (rules : DialRules) (n k : ℕ) where
   of_attempt (telling.attempt_begun m j key ingress at) = (m == n) && (k == j)
   of_attempt (telling.addresses_told m j) = (m == n) && (k == j)
   of_attempt (telling.dial_answered m j event) = (m == n) && (k == j)
-  of_attempt (telling.link_opened m j link) = (m == n) && (k == j)
+  of_attempt (telling.link_opened m j link to) = (m == n) && (k == j)
   of_attempt (telling.addresses_taken m j seed addresses) = (m == n) && (k == j)
   of_attempt (telling.link_taken m j at) = (m == n) && (k == j)
   of_attempt (telling.attempt_ended m j) = (m == n) && (k == j)
@@ -119,7 +120,7 @@ module _ (rules : DialRules) (n k : ℕ) where
   other_told (telling.attempt_begun m j key ingress at) o h = ap (λ b. begun_or (cond b (Some (record { key = key; ingress = ingress; at = at })) None) (nothing_told o)) h ∙ same o
   other_told (telling.addresses_told m j) o h = ap (λ b. option_map (λ (a : Attempt). record a { is_resolved = b || a.is_resolved }) o) h ∙ same o
   other_told (telling.dial_answered m j event) o h = ap (λ b. option_map (λ (a : Attempt). record a { answer = unwrap_or (cond b (Some (Some event)) None) a.answer }) o) h ∙ same o
-  other_told (telling.link_opened m j link) o h = ap (λ b. option_map (λ (a : Attempt). record a { link = unwrap_or (cond b (Some (Some link)) None) a.link }) o) h ∙ same o
+  other_told (telling.link_opened m j link to) o h = ap (λ b. option_map (λ (a : Attempt). record a { link = unwrap_or (cond b (Some (Some link)) None) a.link }) o) h ∙ same o
   other_told (telling.addresses_taken m j seed addresses) o h = ap (λ b. option_map (λ (a : Attempt). record a { address = or_new (cond b (drawn_address rules.private addresses seed) None) a.address }) o) h ∙ same o
   other_told (telling.link_taken m j at) o h = ap (λ b. option_map (λ (a : Attempt). record a { deadline = least_by (cond b (Some (at + rules.handshake_timeout)) None) a.deadline }) o) h ∙ same o
   other_told (telling.attempt_ended m j) o h = ap (λ b. cond b None (nothing_told o)) h ∙ same o
@@ -206,24 +207,30 @@ module _ (rules : DialRules) (n k : ℕ) where
   none_tried : (m e at : ℕ) → ((m == n) && (k == e)) ≡ false → NoneTried about m e at
   none_tried m e at h = record { addresses = λ seed addresses. h; link = h; ended = h; drops = λ link. refl }
 
+  -- the kinds that tell of it
+  abbrev attempt_kinds : List ℕ
+  attempt_kinds = 7 ∷ 8 ∷ 9 ∷ 10 ∷ 11 ∷ 12 ∷ 13 ∷ []
+
+  of_kinds : (t : Telling) → has attempt_kinds (kind t) ≡ false → about t ≡ false
+  of_kinds (telling.attempt_begun m j key ingress at) h = cc
+  of_kinds (telling.addresses_told m j) h = cc
+  of_kinds (telling.dial_answered m j event) h = cc
+  of_kinds (telling.link_opened m j link to) h = cc
+  of_kinds (telling.addresses_taken m j seed addresses) h = cc
+  of_kinds (telling.link_taken m j at) h = cc
+  of_kinds (telling.attempt_ended m j) h = cc
+  of_kinds _ h = refl
+
   -- an act of another node, or of none, tells nothing of it
-  tries_none : (name at : ℕ) (a : Act) → tries n a ≡ false → NoneTold about name at a
-  tries_none name at (act.Start m) h = refl
-  tries_none name at (act.Send bytes c m priority to) h = λ keys. refl
-  tries_none name at (act.Check c m to) h = (λ keys. refl, λ keys. refl)
-  tries_none name at (act.SendChecked bytes check priority) h = refl
-  tries_none name at (act.SendStep conn m) h = (λ link s. refl, record { runs = refl; pings = refl })
-  tries_none name at (act.RecvStep conn m) h = (λ link s. refl, λ i. refl)
-  tries_none name at (act.Close c m) h = refl
-  tries_none name at (act.Dialer m) h = none_dialed m name at (ap (λ b. b && (k == name)) h)
-  tries_none name at (act.Listener m) h = (λ link. refl, record { update = λ addresses. refl; arrival = λ from g. refl })
-  tries_none name at (act.Handshake e m) h = λ link. refl
-  tries_none name at (act.Spawner m) h = λ key link. refl
-  tries_none name at (act.Attempt e m) h = none_tried m e at (ap (λ b. b && (k == e)) h)
-  tries_none name at (act.Resolve addresses e m) h = ap (λ b. b && (k == e)) h
-  tries_none name at (act.Connect e from m to) h = (ap (λ b. b && (k == e)) h, ap (λ b. b && (k == e)) h)
-  tries_none name at (act.Refuse e m) h = ap (λ b. b && (k == e)) h
-  tries_none name at _ h = tt
+  tries_none : (ts : List Telling) (before : List Entry) (name at seed : ℕ) (r : Reply) (items : List Item) (puts : List (Queue × Item)) (a : Act) → tries n a ≡ false
+      → list_any about (act_tells ts before name at seed r items puts a) ≡ false
+  tries_none ts before name at seed r items puts (act.Dialer m) h = quiet_act about name at ts before seed r items puts (act.Dialer m) (none_dialed m name at (ap (λ b. b && (k == name)) h))
+  tries_none ts before name at seed r items puts (act.Attempt e m) h = quiet_act about name at ts before seed r items puts (act.Attempt e m) (none_tried m e at (ap (λ b. b && (k == e)) h))
+  tries_none ts before name at seed r items puts (act.Resolve addresses e m) h = quiet_act about name at ts before seed r items puts (act.Resolve addresses e m) (ap (λ b. b && (k == e)) h)
+  tries_none ts before name at seed r items puts (act.Connect e from m to) h =
+      quiet_act about name at ts before seed r items puts (act.Connect e from m to) (ap (λ b. b && (k == e)) h, ap (λ b. b && (k == e)) h)
+  tries_none ts before name at seed r items puts (act.Refuse e m) h = quiet_act about name at ts before seed r items puts (act.Refuse e m) (ap (λ b. b && (k == e)) h)
+  tries_none ts before name at seed r items puts a h = untold_act about attempt_kinds of_kinds ts before name at seed r items puts a refl
 
   -- ---- what an act makes of it
 
@@ -268,17 +275,17 @@ module _ (rules : DialRules) (n k : ℕ) where
       by _ h None = refl
       by _ h (Some a) = refl
 
-  connect_told : (m e name : ℕ) (r : Reply) (puts : List (Queue × Item)) (f : ℕ → Option Attempt)
-      → attempt_told rules n k (done_tells r (telling.dial_answered m e name ∷ link_tells m e name puts)) (f k) ≡ cond (m == n) (with_named e (option_map (told_link name r puts) (f e)) f k) (f k)
-  connect_told m e name r puts f =
-      named_told m e (done_tells r (telling.dial_answered m e name ∷ link_tells m e name puts)) f (option_map (told_link name r puts) (f e)) (λ h. connect_quiet about name 0 m e r puts h h) (λ at is. by r puts (is_here m e at is) (f e))
+  connect_told : (m e name to : ℕ) (r : Reply) (puts : List (Queue × Item)) (f : ℕ → Option Attempt)
+      → attempt_told rules n k (done_tells r (telling.dial_answered m e name ∷ link_tells m e name to puts)) (f k) ≡ cond (m == n) (with_named e (option_map (told_link name r puts) (f e)) f k) (f k)
+  connect_told m e name to r puts f =
+      named_told m e (done_tells r (telling.dial_answered m e name ∷ link_tells m e name to puts)) f (option_map (told_link name r puts) (f e)) (λ h. connect_quiet about name 0 m e to r puts h h) (λ at is. by r puts (is_here m e at is) (f e))
     where
       -- answered, and linked too where it is so
       answered : Bool → Bool → Attempt → Attempt
       answered b c a = record a { answer = unwrap_or (cond b (Some (Some name)) None) a.answer; link = unwrap_or (cond c (Some (Some name)) None) a.link }
 
       by : (r : Reply) (puts : List (Queue × Item)) → here m e ≡ true → (o : Option Attempt)
-          → attempt_told rules n k (done_tells r (telling.dial_answered m e name ∷ link_tells m e name puts)) o ≡ option_map (told_link name r puts) o
+          → attempt_told rules n k (done_tells r (telling.dial_answered m e name ∷ link_tells m e name to puts)) o ≡ option_map (told_link name r puts) o
       by reply.Ok (told ∷ arrival ∷ puts) h None = refl
       by reply.Ok (told ∷ arrival ∷ puts) h (Some a) = ap (λ b. Some (answered b b a)) h
       by reply.Ok [] h o = ap (λ b. option_map (answered b false) o) h
@@ -412,9 +419,9 @@ module _ (rules : DialRules) (n name : ℕ) (at seed : ℕ) (r : Reply) (items :
   acted_told ts before (act.Dialer m) attempts k h = dialer_told rules n k m (last_or 0 (asks_list m) ts) name at seed items puts attempts
   acted_told ts before (act.Attempt e m) attempts k h = step_told rules n k m e at seed r items (link_in ts m e) puts attempts h
   acted_told ts before (act.Resolve addresses e m) attempts k h = resolve_told rules n k m e r attempts
-  acted_told ts before (act.Connect e from m to) attempts k h = connect_told rules n k m e name r puts attempts
+  acted_told ts before (act.Connect e from m to) attempts k h = connect_told rules n k m e name to r puts attempts
   acted_told ts before (act.Refuse e m) attempts k h = refuse_told rules n k m e name r attempts
-  acted_told ts before a attempts k h = others_told rules n k (act_tells ts before name at seed r items puts a) (attempts k) (quiet_act (of_attempt rules n k) name at ts before seed r items puts a (tries_none rules n k name at a refl))
+  acted_told ts before a attempts k h = others_told rules n k (act_tells ts before name at seed r items puts a) (attempts k) (tries_none rules n k ts before name at seed r items puts a refl)
 
 -- the same of an entry
 abbrev pub HeedsAttempt : List Config → ℕ → List Entry → Entry → (ℕ → Option Attempt) → Type 0
@@ -432,7 +439,7 @@ pub attempts_kept : (configs : List Config) (log : List Entry) (e : Entry) (n k 
 unfolding tells
 attempts_kept configs log e n k o h =
     others_told (dial_rules_at configs n) n k (tells (told log) log e) o
-    (quiet_act (of_attempt (dial_rules_at configs n) n k) (length log) e.event.at (told log) log e.event.seed e.reply (taken log e) e.puts e.event.act (tries_none (dial_rules_at configs n) n k (length log) e.event.at e.event.act h))
+    (tries_none (dial_rules_at configs n) n k (told log) log (length log) e.event.at e.event.seed e.reply (taken log e) e.puts e.event.act h)
 
 -- an attempt takes its name from the entry that begins it, so there is none of a later name
 
@@ -477,7 +484,7 @@ late_each rules n before e ts k past none =
     attempt_in-more rules n k ts (tells ts before e)
     ∙ (ap (attempt_told rules n k (tells ts before e)) none
     ∙ (acted_told rules n (length before) e.event.at e.event.seed e.reply (taken before e) e.puts ts before e.event.act (λ j. None) k
-       (no_attempt rules n (length before) e.event.at e.event.seed e.reply (taken before e) e.puts e.event.act)
+    (no_attempt rules n (length before) e.event.at e.event.seed e.reply (taken before e) e.puts e.event.act)
     ∙ acted_none rules n (length before) e.event.at e.event.seed e.reply (taken before e) e.puts e.event.act (λ j. None) (λ j h. refl) k past))
 
 pub attempts_of-late : (configs : List Config) (log : List Entry) (n k : ℕ) → length log ≤ k → attempts_of configs log n k ≡ None

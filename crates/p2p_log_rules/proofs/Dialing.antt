@@ -9,6 +9,7 @@ use Rattle.p2p_log.specs.declared.queue.Queue.{Queue}
 use Rattle.p2p_log.specs.declared.item.Item.{Item}
 use Rattle.p2p_log.specs.declared.item.Item.TheVariants as item
 use Rattle.p2p_log.specs.declared.entry.Entry.{Entry}
+use Rattle.p2p_log.specs.declared.entry.Reply.{Reply}
 use Rattle.p2p_log.specs.declared.entry.Reply.TheVariants as reply
 use Rattle.p2p_log.specs.declared.event.Act.{Act}
 use Rattle.p2p_log.specs.declared.event.Act.TheVariants as act
@@ -16,9 +17,9 @@ use Rattle.p2p_log_rules.specs.Dialing.{Pace, pace_at, after_dial, next_deadline
 use Rattle.p2p_log_rules.specs.Facts.{starts, taken}
 use Rattle.p2p_log_rules.specs.Tellings.{Telling, Last, last_told, last_or}
 use Rattle.p2p_log_rules.specs.Tellings as telling
-use Rattle.p2p_log_rules.specs.Told.{done_tells, asks_list, answer_tells, ask_tells, act_tells, tells, told}
-use Rattle.p2p_log_rules.proofs.Families.{kind, kinds_of, has, are_apart, untold_of}
-use Rattle.p2p_log_rules.proofs.Told.{NoneDialed, NoneTried, NoneTold, quiet_act}
+use Rattle.p2p_log_rules.specs.Told.{asks_list, answer_tells, ask_tells, act_tells, tells, told}
+use Rattle.p2p_log_rules.proofs.Families.{kind, kinds_of, has, are_apart, untold_act, untold_of}
+use Rattle.p2p_log_rules.proofs.Told.{quiet_act}
 use Rattle.p2p_log_rules.proofs.Tellings.{told-append, or_left, or_right, last_or-append, with_last, last_told-one}
 
 -- ---- after one telling more
@@ -115,30 +116,34 @@ dials_by n (act.Start m) = m == n
 dials_by n (act.Dialer m) = m == n
 dials_by n _ = false
 
-none_dialed : (pace : Pace) (n name at : ℕ) (a : Act) → dials_by n a ≡ false → NoneTold (of_dialer pace n) name at a
-none_dialed pace n name at (act.Start m) h = h
-none_dialed pace n name at (act.Send bytes c m priority to) h = λ keys. refl
-none_dialed pace n name at (act.Check c m to) h = (λ keys. refl, λ keys. refl)
-none_dialed pace n name at (act.SendChecked bytes check priority) h = refl
-none_dialed pace n name at (act.SendStep conn m) h = (λ link s. refl, record { runs = refl; pings = refl })
-none_dialed pace n name at (act.RecvStep conn m) h = (λ link s. refl, λ i. refl)
-none_dialed pace n name at (act.Close c m) h = refl
-none_dialed pace n name at (act.Dialer m) h = record { list = λ asked seed next peers. h; answer = h; begun = λ key ingress. refl; due = h; dials = h; asks = h }
-none_dialed pace n name at (act.Listener m) h = (λ link. refl, record { update = λ addresses. refl; arrival = λ from g. refl })
-none_dialed pace n name at (act.Handshake e m) h = λ link. refl
-none_dialed pace n name at (act.Spawner m) h = λ key link. refl
-none_dialed pace n name at (act.Attempt e m) h = record { addresses = λ seed addresses. refl; link = refl; ended = refl; drops = λ link. refl }
-none_dialed pace n name at (act.Resolve addresses e m) h = refl
-none_dialed pace n name at (act.Connect e from m to) h = (refl, refl)
-none_dialed pace n name at (act.Refuse e m) h = refl
-none_dialed pace n name at _ h = tt
+-- ---- the kinds that tell of it
+
+abbrev pub dialer_kinds : List ℕ
+dialer_kinds = 0 ∷ 2 ∷ 3 ∷ 4 ∷ 5 ∷ 6 ∷ []
+
+of_kinds : (pace : Pace) (n : ℕ) (t : Telling) → has dialer_kinds (kind t) ≡ false → of_dialer pace n t ≡ false
+of_kinds pace n (telling.node_started m at) h = cc
+of_kinds pace n (telling.list_asked m at) h = cc
+of_kinds pace n (telling.list_taken m asked seed next peers) h = cc
+of_kinds pace n (telling.answer_taken m) h = cc
+of_kinds pace n (telling.dial_asked m) h = cc
+of_kinds pace n (telling.dial_due m at) h = cc
+of_kinds pace n _ h = refl
+
+-- an act of another node's dialer or start, or of none, tells nothing of it
+none_dialed : (pace : Pace) (n : ℕ) (ts : List Telling) (before : List Entry) (name at seed : ℕ) (r : Reply) (items : List Item) (puts : List (Queue × Item)) (a : Act) → dials_by n a ≡ false
+    → list_any (of_dialer pace n) (act_tells ts before name at seed r items puts a) ≡ false
+none_dialed pace n ts before name at seed r items puts (act.Start m) h = quiet_act (of_dialer pace n) name at ts before seed r items puts (act.Start m) h
+none_dialed pace n ts before name at seed r items puts (act.Dialer m) h =
+    quiet_act (of_dialer pace n) name at ts before seed r items puts (act.Dialer m) (record { list = λ asked s next peers. h; answer = h; begun = λ key ingress. refl; due = h; dials = h; asks = h })
+none_dialed pace n ts before name at seed r items puts a h = untold_act (of_dialer pace n) dialer_kinds (of_kinds pace n) ts before name at seed r items puts a refl
 
 pub dials_of-kept : (configs : List Config) (log : List Entry) (e : Entry) (n : ℕ) → dials_by n e.event.act ≡ false → dials_of configs (log ++ e ∷ []) n ≡ dials_of configs log n
 unfolding tells
 dials_of-kept configs log e n h =
     dials_of-append configs log e n
     ∙ others_dialed (pace_at configs n) n (tells (told log) log e) (dials_of configs log n)
-      (quiet_act (of_dialer (pace_at configs n) n) (length log) e.event.at (told log) log e.event.seed e.reply (taken log e) e.puts e.event.act (none_dialed (pace_at configs n) n (length log) e.event.at e.event.act h))
+    (none_dialed (pace_at configs n) n (told log) log (length log) e.event.at e.event.seed e.reply (taken log e) e.puts e.event.act h)
 
 -- ---- by its act
 
@@ -148,8 +153,7 @@ unfolding tells
 dials_of-starts configs log e n is ok =
     dials_of-append configs log e n
     ∙ (ap (λ a. dials_told pace n (act_tells (told log) log (length log) e.event.at e.event.seed e.reply (taken log e) e.puts a) d) is
-    ∙ (ap (λ r. dials_told pace n (done_tells r (telling.node_started n e.event.at ∷ [])) d) ok
-    ∙ ap (λ b. record { peers = keys_after pace n (cond b (Some []) None) false d.peers; deadline = unwrap_or (cond b (Some e.event.at) None) d.deadline; asked_at = unwrap_or (cond b (Some e.event.at) None) d.asked_at; is_asking = unwrap_or (cond b (Some false) None) d.is_asking }) (eq-eqb n n refl)))
+    ∙ ap (λ b. record { peers = keys_after pace n (cond b (Some []) None) false d.peers; deadline = unwrap_or (cond b (Some e.event.at) None) d.deadline; asked_at = unwrap_or (cond b (Some e.event.at) None) d.asked_at; is_asking = unwrap_or (cond b (Some false) None) d.is_asking }) (eq-eqb n n refl))
   where
     pace : Pace
     pace = pace_at configs n
@@ -234,20 +238,6 @@ dials_of-stepped configs log e n is h =
     ∙ (told_append pace n (length log) e.event.at e.event.seed (answer_tells n d.asked_at (length log) e.event.at e.event.seed (taken log e)) (ask_tells n e.event.at (taken log e) e.puts) d
     ∙ (ap (dials_told pace n (ask_tells n e.event.at (taken log e) e.puts)) (answer_told pace n (length log) e.event.at e.event.seed (taken log e) d)
     ∙ ask_told pace n (length log) e.event.at e.event.seed (taken log e) e.puts d h)))
-
--- ---- the kinds that tell of it
-
-abbrev pub dialer_kinds : List ℕ
-dialer_kinds = 0 ∷ 2 ∷ 3 ∷ 4 ∷ 5 ∷ 6 ∷ []
-
-of_kinds : (pace : Pace) (n : ℕ) (t : Telling) → has dialer_kinds (kind t) ≡ false → of_dialer pace n t ≡ false
-of_kinds pace n (telling.node_started m at) h = cc
-of_kinds pace n (telling.list_asked m at) h = cc
-of_kinds pace n (telling.list_taken m asked seed next peers) h = cc
-of_kinds pace n (telling.answer_taken m) h = cc
-of_kinds pace n (telling.dial_asked m) h = cc
-of_kinds pace n (telling.dial_due m at) h = cc
-of_kinds pace n _ h = refl
 
 -- an entry whose act tells none of these
 pub dials_of-apart : (configs : List Config) (log : List Entry) (e : Entry) (n : ℕ) → are_apart (kinds_of e.event.act) dialer_kinds ≡ true → dials_of configs (log ++ e ∷ []) n ≡ dials_of configs log n

@@ -20,15 +20,16 @@ use Rattle.p2p_log_rules.specs.declared.row.Half.{Half}
 use Rattle.p2p_log_rules.specs.Connections.{half_at, is_end}
 use Rattle.p2p_log_rules.specs.Dropping.{LinkEnd, is_side, drops, is_dropped, drop_in, drops_in, drops_of, dialing_end, half_end}
 use Rattle.p2p_log_rules.specs.Facts.{taken, state_from}
-use Rattle.p2p_log_rules.specs.HalfSteps.{is_answer, puts_ping, holds}
-use Rattle.p2p_log_rules.specs.Handshakes.{peer_at}
-use Rattle.p2p_log_rules.specs.Puts.{is_spawn, gave_up, broke_off}
+use Rattle.p2p_log_rules.specs.HalfSteps.{puts_ping, holds}
+use Rattle.p2p_log_rules.specs.Halves.{half_in}
+use Rattle.p2p_log_rules.specs.Handshakes.{ends_handshake, peer_at}
+use Rattle.p2p_log_rules.specs.Puts.{is_spawn, gave_up, broke_off, is_answer}
 use Rattle.p2p_log_rules.specs.Spawning.{connections_of}
 use Rattle.p2p_log_rules.specs.Tellings.{Telling}
 use Rattle.p2p_log_rules.specs.Tellings as telling
-use Rattle.p2p_log_rules.specs.Told.{when, done_tells, link_in, dialing_dropped, half_tells, gates_tell, took_tells, left_tells, pinged_tells, admitted_tells, judged_tells, heard_tells, act_tells, tells, told}
+use Rattle.p2p_log_rules.specs.Told.{pinged_tells, admitted_tells, judged_tells, heard_tells, when, done_tells, link_in, dialing_dropped, half_tells, end_tells, sender_tells, handshake_tells, admitted_as, begun_tells, arrival_tells, gates_tell, took_tells, left_tells, act_tells, tells, told}
+use Rattle.p2p_log_rules.proofs.Families.{kind, kinds_of, has, are_apart, untold_of}
 use Rattle.p2p_log_rules.proofs.Tellings.{told-append}
-use Rattle.p2p_log_rules.proofs.Told.{NoneTold, quiet_act}
 
 -- whether an end is told of
 abbrev is_drop : Telling → Bool
@@ -122,9 +123,44 @@ heard_drops n at r _ = refl
 drops_before : (ts us : List Telling) → drops_in us ≡ [] → drops_in (ts ++ us) ≡ drops_in ts
 drops_before ts us none = drops_in-append ts us ∙ (ap (λ l. drops_in ts ++ l) none ∙ append-nil (drops_in ts))
 
-broke_drops : (b : Bool) (link : ℕ) → drops_in (when b (telling.end_dropped link side.In ∷ [])) ≡ all_of (cond b (Some (link, side.In)) None)
-broke_drops true link = refl
-broke_drops false link = refl
+-- what a half tells of its connection besides
+over_drops : (n conn : ℕ) (r : Reply) (o : Option Half) → drops_in (end_tells n conn r ++ half_tells r o) ≡ all_of (cond (is_end r) (half_end o) None)
+over_drops n conn (reply.Ended why) o = half_drops (reply.Ended why) o
+over_drops n conn _ o = refl
+
+sender_drops : (n conn : ℕ) (r : Reply) (items : List Item) → drops_in (sender_tells n conn r items) ≡ []
+sender_drops n conn r items = drops_in-append (done_tells r (telling.half_stepped n conn ∷ [])) (when (list_any is_answer items) (telling.answer_heard n conn ∷ [])) ∙ by r (list_any is_answer items)
+  where
+    answer : (b : Bool) → drops_in (when b (telling.answer_heard n conn ∷ [])) ≡ []
+    answer true = refl
+    answer false = refl
+
+    by : (r : Reply) (b : Bool) → drops_in (done_tells r (telling.half_stepped n conn ∷ [])) ++ drops_in (when b (telling.answer_heard n conn ∷ [])) ≡ []
+    by reply.Ok b = answer b
+    by _ b = answer b
+
+-- what a handshake tells besides
+handshake_drops : (n h over : ℕ) (ended broke : Bool) (link : ℕ) (items : List Item)
+    → drops_in (handshake_tells n h over ended items ++ when broke (telling.end_dropped link side.In ∷ [])) ≡ all_of (cond broke (Some (link, side.In)) None)
+handshake_drops n h over true true link items = refl
+handshake_drops n h over true false link items = refl
+handshake_drops n h over false true link items = refl
+handshake_drops n h over false false link items = refl
+
+-- what a listener tells besides
+arrival_drops : (n name : ℕ) (r : Reply) (items : List Item) → drops_in (arrival_tells n (admitted_as name r) items ++ (begun_tells n (admitted_as name r) ++ gates_tell r items)) ≡ drops_in (gates_tell r items)
+arrival_drops n name r items =
+    drops_in-append (arrival_tells n (admitted_as name r) items) (begun_tells n (admitted_as name r) ++ gates_tell r items)
+    ∙ (ap (λ l. l ++ drops_in (begun_tells n (admitted_as name r) ++ gates_tell r items)) (arrives items)
+    ∙ (drops_in-append (begun_tells n (admitted_as name r)) (gates_tell r items) ∙ ap (λ l. l ++ drops_in (gates_tell r items)) (begins (admitted_as name r))))
+  where
+    arrives : (items : List Item) → drops_in (arrival_tells n (admitted_as name r) items) ≡ []
+    arrives (item.Arrival from key link ∷ items) = refl
+    arrives _ = refl
+
+    begins : (o : Option ℕ) → drops_in (begun_tells n o) ≡ []
+    begins None = refl
+    begins (Some h) = refl
 
 module _ (log : List Entry) (e : Entry) where
   abbrev acts_tell : Act → List Telling
@@ -141,26 +177,32 @@ module _ (log : List Entry) (e : Entry) where
       ∙ (ap (λ l. l ++ drops_in (left_tells n k (link_in (told log) n k) e.puts)) (took_drops n k e.event.at e.event.seed (taken log e)) ∙ left_drops n k (link_in (told log) n k) e.puts))
 
   pub drops_of-handshake : (h n : ℕ) → e.event.act ≡ act.Handshake h n → drops_of log e ≡ all_of (cond (broke_off e.reply (taken log e) e.puts) (Some ((peer_at log h).link, side.In)) None)
-  drops_of-handshake h n is = tells_act (act.Handshake h n) is ∙ broke_drops (broke_off e.reply (taken log e) e.puts) (peer_at log h).link
+  drops_of-handshake h n is =
+      tells_act (act.Handshake h n) is
+      ∙ handshake_drops n h (peer_at log h).link (ends_handshake e.reply (taken log e)) (broke_off e.reply (taken log e) e.puts) (peer_at log h).link (taken log e)
 
   pub drops_of-send : (conn n : ℕ) → e.event.act ≡ act.SendStep conn n → drops_of log e ≡ all_of (cond (is_end e.reply) (half_end (half_at log n conn)) None)
   unfolding half_at connections_of
   drops_of-send conn n is =
       tells_act (act.SendStep conn n) is
-      ∙ (drops_before (half_tells e.reply (half_at log n conn)) (done_tells e.reply (pinged_tells n conn e.event.at (taken log e) e.puts)) (ping_drops n conn e.event.at e.reply (taken log e) e.puts)
-      ∙ half_drops e.reply (half_at log n conn))
+      ∙ (drops_before (sender_tells n conn e.reply (taken log e) ++ (end_tells n conn e.reply ++ half_tells e.reply (half_in (told log) n conn))) (done_tells e.reply (pinged_tells n conn e.event.at (taken log e) e.puts)) (ping_drops n conn e.event.at e.reply (taken log e) e.puts)
+      ∙ (drops_in-append (sender_tells n conn e.reply (taken log e)) (end_tells n conn e.reply ++ half_tells e.reply (half_in (told log) n conn))
+      ∙ (ap (λ l. l ++ drops_in (end_tells n conn e.reply ++ half_tells e.reply (half_in (told log) n conn))) (sender_drops n conn e.reply (taken log e))
+      ∙ over_drops n conn e.reply (half_at log n conn))))
 
   pub drops_of-receive : (conn n : ℕ) → e.event.act ≡ act.RecvStep conn n → drops_of log e ≡ all_of (cond (is_end e.reply) (half_end (half_at log n conn)) None)
   unfolding half_at connections_of
   drops_of-receive conn n is =
       tells_act (act.RecvStep conn n) is
-      ∙ (drops_before (half_tells e.reply (half_at log n conn)) (admitted_tells n conn e.event.at e.reply (taken log e) e.puts) (let_in_drops n conn e.event.at e.reply (taken log e) e.puts)
-      ∙ half_drops e.reply (half_at log n conn))
+      ∙ (drops_before (end_tells n conn e.reply ++ half_tells e.reply (half_in (told log) n conn)) (admitted_tells n conn e.event.at e.reply (taken log e) e.puts) (let_in_drops n conn e.event.at e.reply (taken log e) e.puts)
+      ∙ over_drops n conn e.reply (half_at log n conn))
 
   -- a step that does not admit an arrival drops its end
   pub drops_of-listener : (n : ℕ) → e.event.act ≡ act.Listener n → drops_of log e ≡ drops_in (gates_tell e.reply (taken log e))
   drops_of-listener n is =
-      tells_act (act.Listener n) is ∙ drops_before (gates_tell e.reply (taken log e)) (heard_tells n e.event.at e.reply (taken log e)) (heard_drops n e.event.at e.reply (taken log e))
+      tells_act (act.Listener n) is
+      ∙ (drops_before (arrival_tells n (admitted_as (length log) e.reply) (taken log e) ++ (begun_tells n (admitted_as (length log) e.reply) ++ gates_tell e.reply (taken log e))) (heard_tells n e.event.at e.reply (taken log e)) (heard_drops n e.event.at e.reply (taken log e))
+      ∙ arrival_drops n (length log) e.reply (taken log e))
 
 -- where no end is told of, none is dropped
 none_dropped : (ts : List Telling) → list_any is_drop ts ≡ false → drops_in ts ≡ []
@@ -177,26 +219,17 @@ drops_none (act.RecvStep conn n) = false
 drops_none (act.Listener n) = false
 drops_none _ = true
 
-none_told : (name at : ℕ) (a : Act) → drops_none a ≡ true → NoneTold is_drop name at a
-none_told name at (act.Attempt d n) h = cc
-none_told name at (act.Handshake k n) h = cc
-none_told name at (act.SendStep conn n) h = cc
-none_told name at (act.RecvStep conn n) h = cc
-none_told name at (act.Listener n) h = cc
-none_told name at (act.Start n) h = refl
-none_told name at (act.Send bytes c n priority to) h = λ keys. refl
-none_told name at (act.Check c n to) h = (λ keys. refl, λ keys. refl)
-none_told name at (act.SendChecked bytes check priority) h = refl
-none_told name at (act.Close c n) h = refl
-none_told name at (act.Dialer n) h = record { list = λ asked seed next peers. refl; answer = refl; begun = λ key ingress. refl; due = refl; dials = refl; asks = refl }
-none_told name at (act.Spawner n) h = λ key link. refl
-none_told name at (act.Resolve addresses k n) h = refl
-none_told name at (act.Connect k from n to) h = (refl, refl)
-none_told name at (act.Refuse k n) h = refl
-none_told name at _ h = tt
+of_kinds : (t : Telling) → has (14 ∷ []) (kind t) ≡ false → is_drop t ≡ false
+of_kinds (telling.end_dropped link s) h = cc
+of_kinds _ h = refl
 
 pub drops_of-none : (log : List Entry) (e : Entry) → drops_none e.event.act ≡ true → drops_of log e ≡ []
-unfolding tells
-drops_of-none log e h =
-    none_dropped (acts_tell log e e.event.act)
-    (quiet_act is_drop (length log) e.event.at (told log) log e.event.seed e.reply (taken log e) e.puts e.event.act (none_told (length log) e.event.at e.event.act h))
+drops_of-none log e h = none_dropped (tells (told log) log e) (untold_of is_drop (14 ∷ []) of_kinds (told log) log e (apart e.event.act h))
+  where
+    apart : (a : Act) → drops_none a ≡ true → are_apart (kinds_of a) (14 ∷ []) ≡ true
+    apart (act.Attempt d n) h = cc
+    apart (act.Handshake k n) h = cc
+    apart (act.SendStep conn n) h = cc
+    apart (act.RecvStep conn n) h = cc
+    apart (act.Listener n) h = cc
+    apart _ h = refl

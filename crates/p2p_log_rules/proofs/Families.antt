@@ -8,7 +8,7 @@ use Rattle.p2p_log.specs.declared.entry.Entry.{Entry}
 use Rattle.p2p_log.specs.declared.entry.Reply.{Reply}
 use Rattle.p2p_log.specs.declared.event.Act.{Act}
 use Rattle.p2p_log.specs.declared.event.Act.TheVariants as act
-use Rattle.p2p_log_rules.specs.Facts.{taken}
+use Rattle.p2p_log_rules.specs.Taking.{taken}
 use Rattle.p2p_log_rules.specs.Tellings.{Telling}
 use Rattle.p2p_log_rules.specs.Tellings as telling
 use Rattle.p2p_log_rules.specs.Told.{act_tells, tells}
@@ -26,12 +26,21 @@ kind (telling.dial_due m at) = 6
 kind (telling.attempt_begun m k key ingress at) = 7
 kind (telling.addresses_told m k) = 8
 kind (telling.dial_answered m k event) = 9
-kind (telling.link_opened m k link) = 10
+kind (telling.link_opened m k link to) = 10
 kind (telling.addresses_taken m k seed addresses) = 11
 kind (telling.link_taken m k at) = 12
 kind (telling.attempt_ended m k) = 13
 kind (telling.end_dropped link s) = 14
 kind (telling.connection_made m k key link) = 15
+kind (telling.channel_registered m c rate) = 20
+kind (telling.exchange_ended link) = 21
+kind (telling.arrival_taken m link handshake) = 22
+kind (telling.handshake_begun m h) = 23
+kind (telling.handshake_took m h items) = 24
+kind (telling.handshake_ended m h link) = 25
+kind (telling.half_stepped m conn) = 26
+kind (telling.answer_heard m conn) = 27
+kind (telling.connection_ended m conn) = 28
 kind (telling.connection_ran m k at) = 40
 kind (telling.ping_put m k at) = 41
 kind (telling.item_admitted m k at i) = 42
@@ -44,21 +53,23 @@ kind (telling.arrival_judged m at from g) = 48
 
 -- the kinds that an act may tell: one line for an act
 abbrev pub kinds_of : Act → List ℕ
+kinds_of (act.Register c m rate) = 20 ∷ []
 kinds_of (act.Start m) = 0 ∷ []
 kinds_of (act.Send bytes c m priority to) = 43 ∷ []
 kinds_of (act.Check c m to) = 43 ∷ 44 ∷ []
 kinds_of (act.SendChecked bytes check priority) = 45 ∷ []
-kinds_of (act.SendStep conn m) = 14 ∷ 40 ∷ 41 ∷ []
-kinds_of (act.RecvStep conn m) = 14 ∷ 42 ∷ []
+kinds_of (act.SendStep conn m) = 14 ∷ 26 ∷ 27 ∷ 28 ∷ 40 ∷ 41 ∷ []
+kinds_of (act.RecvStep conn m) = 14 ∷ 28 ∷ 42 ∷ []
 kinds_of (act.Close c m) = 46 ∷ []
 kinds_of (act.Dialer m) = 2 ∷ 3 ∷ 4 ∷ 5 ∷ 6 ∷ 7 ∷ []
-kinds_of (act.Listener m) = 14 ∷ 47 ∷ 48 ∷ []
-kinds_of (act.Handshake h m) = 14 ∷ []
+kinds_of (act.Listener m) = 14 ∷ 22 ∷ 23 ∷ 47 ∷ 48 ∷ []
+kinds_of (act.Handshake h m) = 14 ∷ 24 ∷ 25 ∷ []
 kinds_of (act.Spawner m) = 15 ∷ []
 kinds_of (act.Attempt k m) = 11 ∷ 12 ∷ 13 ∷ 14 ∷ []
 kinds_of (act.Resolve addresses k m) = 8 ∷ []
 kinds_of (act.Connect k from m to) = 9 ∷ 10 ∷ []
 kinds_of (act.Refuse k m) = 9 ∷ []
+kinds_of (act.Finish link ok) = 21 ∷ []
 kinds_of _ = []
 
 abbrev pub has : List ℕ → ℕ → Bool
@@ -69,21 +80,23 @@ are_apart ks js = not (list_any (has js) ks)
 
 -- it tells no other: one line for an act
 within : (name at : ℕ) (a : Act) → NoneTold (λ t. not (has (kinds_of a) (kind t))) name at a
+within name at (act.Register c m rate) = refl
 within name at (act.Start m) = refl
 within name at (act.Send bytes c m priority to) = λ keys. refl
 within name at (act.Check c m to) = (λ keys. refl, λ keys. refl)
 within name at (act.SendChecked bytes check priority) = refl
-within name at (act.SendStep conn m) = (λ link s. refl, record { runs = refl; pings = refl })
-within name at (act.RecvStep conn m) = (λ link s. refl, λ i. refl)
+within name at (act.SendStep conn m) = (record { step = refl; answer = refl; ends = record { over = refl; drops = λ link s. refl } }, record { runs = refl; pings = refl })
+within name at (act.RecvStep conn m) = (record { over = refl; drops = λ link s. refl }, λ i. refl)
 within name at (act.Close c m) = refl
 within name at (act.Dialer m) = record { list = λ asked seed next peers. refl; answer = refl; begun = λ key ingress. refl; due = refl; dials = refl; asks = refl }
-within name at (act.Listener m) = (λ link. refl, record { update = λ addresses. refl; arrival = λ from g. refl })
-within name at (act.Handshake e m) = λ link. refl
+within name at (act.Listener m) = (record { took = λ link handshake. refl; begun = refl; drops = λ link. refl }, record { update = λ addresses. refl; arrival = λ from g. refl })
+within name at (act.Handshake e m) = record { took = λ items. refl; over = λ link. refl; drops = λ link. refl }
 within name at (act.Spawner m) = λ key link. refl
 within name at (act.Attempt e m) = record { addresses = λ seed addresses. refl; link = refl; ended = refl; drops = λ link. refl }
 within name at (act.Resolve addresses e m) = refl
 within name at (act.Connect e from m to) = (refl, refl)
 within name at (act.Refuse e m) = refl
+within name at (act.Finish link ok) = refl
 within name at _ = tt
 
 is_not : (b : Bool) → not b ≡ false → b ≡ true
@@ -111,12 +124,16 @@ is_false : (b : Bool) → not b ≡ true → b ≡ false
 is_false true h = cc
 is_false false h = refl
 
--- an entry whose act tells none of these kinds tells nothing of a thing of these
+-- an act that tells none of these kinds tells nothing of a thing of these
+pub untold_act : (about : Telling → Bool) (js : List ℕ) → ((t : Telling) → has js (kind t) ≡ false → about t ≡ false)
+    → (ts : List Telling) (before : List Entry) (name at seed : ℕ) (r : Reply) (items : List Item) (puts : List (Queue × Item)) (a : Act) → are_apart (kinds_of a) js ≡ true
+    → list_any about (act_tells ts before name at seed r items puts a) ≡ false
+untold_act about js all ts before name at seed r items puts a h =
+    narrower about (kinds_of a) js all (is_false (list_any (has js) (kinds_of a)) h) (act_tells ts before name at seed r items puts a)
+    (quiet_act (λ t. not (has (kinds_of a) (kind t))) name at ts before seed r items puts a (within name at a))
+
+-- and so does an entry of it
 pub untold_of : (about : Telling → Bool) (js : List ℕ) → ((t : Telling) → has js (kind t) ≡ false → about t ≡ false) → (ts : List Telling) (log : List Entry) (e : Entry) → are_apart (kinds_of e.event.act) js ≡ true
     → list_any about (tells ts log e) ≡ false
 unfolding tells
-untold_of about js all ts log e h =
-    let name : ℕ = length log in
-    let a : Act = e.event.act in
-    narrower about (kinds_of a) js all (is_false (list_any (has js) (kinds_of a)) h) (act_tells ts log name e.event.at e.event.seed e.reply (taken log e) e.puts a)
-    (quiet_act (λ t. not (has (kinds_of a) (kind t))) name e.event.at ts log e.event.seed e.reply (taken log e) e.puts a (within name e.event.at a))
+untold_of about js all ts log e h = untold_act about js all ts log (length log) e.event.at e.event.seed e.reply (taken log e) e.puts e.event.act h

@@ -1,5 +1,5 @@
 -- The handshakes of a node after one more entry, and that each name stands once among them, which is that of an earlier entry.
-use Rattle.std.proofs.Common.{◌≡◌, ℕ, zero, suc, ◌+◌, ◌≤◌, Bool, true, false, cond, List, [], ◌∷◌, ◌++◌, length, refl, ap, sym, subst, ◌∙◌, arith, append_assoc, append-nil, length-append}
+use Rattle.std.proofs.Common.{◌≡◌, ℕ, zero, suc, ◌+◌, ◌≤◌, Bool, true, false, cond, List, [], ◌∷◌, ◌++◌, length, refl, ap, sym, subst, ◌∙◌, arith, append-nil, length-append, Some, None}
 use Rattle.std.specs.Prelude.{◌==◌, ◌&&◌, ◌||◌, not, filter, count_by, nat_lt}
 use Rattle.std.specs.List.{list_any}
 use Rattle.std.proofs.lemmas.Bool.Decides.{nat_tests}
@@ -7,6 +7,7 @@ use Rattle.std.proofs.lemmas.List.Filters.{length-filter_both}
 use Rattle.std.proofs.lemmas.List.Sums.{sum_by-append, sum_by-cons, length-filter}
 use Rattle.std.proofs.lemmas.Map.Views.{any-filter_same}
 use Rattle.p2p_tracker_calls.specs.declared.gates.Reply.TheVariants as gates
+use Rattle.p2p_log.specs.declared.queue.Side.TheVariants as side
 use Rattle.p2p_log.specs.declared.item.Item.{Item}
 use Rattle.p2p_log.specs.declared.entry.Entry.{Entry}
 use Rattle.p2p_log.specs.declared.entry.Reply.{Reply}
@@ -14,20 +15,139 @@ use Rattle.p2p_log.specs.declared.entry.Reply.TheVariants as reply
 use Rattle.p2p_log.specs.declared.event.Act.{Act}
 use Rattle.p2p_log.specs.declared.event.Act.TheVariants as act
 use Rattle.p2p_log_rules.specs.Facts.{taken, state_from}
-use Rattle.p2p_log_rules.specs.Handshakes.{with_admitted, ends_handshake, without_name, unless_ended, acted_handshakes, handshakes_by, handshakes_of, is_handshaking, took_by, has_taken}
-use Rattle.p2p_log_rules.proofs.Facts.{state_from-append}
+use Rattle.p2p_log_rules.specs.HandshakeEntries.{steps_handshake, with_admitted, without_name, unless_ended, acted_handshakes, handshakes_by, took_by}
+use Rattle.p2p_log_rules.specs.Handshakes.{ends_handshake, peer_at, begins_handshake, ends_named, handshakes_of, is_handshaking, takes_such, has_taken}
+use Rattle.p2p_log_rules.specs.Puts.{broke_off}
+use Rattle.p2p_log_rules.specs.Standing.{standing}
+use Rattle.p2p_log_rules.specs.Tellings.{Telling, any_or}
+use Rattle.p2p_log_rules.specs.Tellings as telling
+use Rattle.p2p_log_rules.specs.Told.{when, admitted_as, begun_tells, arrival_tells, handshake_tells, gates_tell, heard_tells, act_tells, tells, told}
+use Rattle.p2p_log_rules.proofs.Families.{kind, kinds_of, has, are_apart, untold_of}
+use Rattle.p2p_log_rules.proofs.Ignoring.{any_or-none, either_same, by_entries}
+use Rattle.p2p_log_rules.proofs.Standing.{started, stood_after, stood_told, standing-more, stood_append, same_filter, same_stood, others_stood}
+use Rattle.p2p_log_rules.proofs.Tellings.{told-append, any_or-append, append_quiet, when_quiet}
+use Rattle.p2p_log_rules.proofs.Told.{arrival_quiet, gates_quiet, heard_quiet}
+
+-- ---- by the act of one entry more
+
+module _ (n : ℕ) where
+  abbrev of_handshakes : Telling → Bool
+  of_handshakes (telling.handshake_begun m h) = m == n
+  of_handshakes (telling.handshake_ended m h link) = m == n
+  of_handshakes _ = false
+
+  handshake_kinds : (t : Telling) → has (23 ∷ 25 ∷ []) (kind t) ≡ false → of_handshakes t ≡ false
+  handshake_kinds (telling.handshake_begun m h) is = cc
+  handshake_kinds (telling.handshake_ended m h link) is = cc
+  handshake_kinds _ is = refl
+
+  abbrev after : Telling → List ℕ → List ℕ
+  after t names = stood_after (begins_handshake n) (ends_named n) t names
+
+  abbrev after_all : List Telling → List ℕ → List ℕ
+  after_all ts names = stood_told (begins_handshake n) (ends_named n) ts names
+
+  other_after : (t : Telling) (names : List ℕ) → of_handshakes t ≡ false → after t names ≡ names
+  other_after (telling.handshake_begun m h) names is = ap (λ b. filter (λ k. true) names ++ started (cond b (Some h) None)) is ∙ same_stood names
+  other_after (telling.handshake_ended m h link) names is = ap (λ b. filter (λ k. not (b && (k == h))) names ++ []) is ∙ same_stood names
+  other_after _ names is = same_stood names
+
+  others_after : (ts : List Telling) (names : List ℕ) → list_any of_handshakes ts ≡ false → after_all ts names ≡ names
+  others_after ts names h = others_stood (begins_handshake n) (ends_named n) of_handshakes other_after ts names h
+
+  admitted_after : (m name : ℕ) (r : Reply) (names : List ℕ) → after_all (begun_tells m (admitted_as name r)) names ≡ cond (m == n) (with_admitted name r names) names
+  admitted_after m name (reply.Gates gates.Admitted) names = by (m == n)
+    where
+      by : (b : Bool) → filter (λ k. true) names ++ started (cond b (Some name) None) ≡ cond b (names ++ name ∷ []) names
+      by true = ap (λ l. l ++ name ∷ []) (same_filter names)
+      by false = same_stood names
+  admitted_after m name (reply.Gates _) names = either_same (m == n) names
+  admitted_after m name _ names = either_same (m == n) names
+
+  listened_after : (m name : ℕ) (r : Reply) (items : List Item) (names : List ℕ)
+      → after_all (arrival_tells m (admitted_as name r) items ++ (begun_tells m (admitted_as name r) ++ gates_tell r items)) names ≡ cond (m == n) (with_admitted name r names) names
+  listened_after m name r items names =
+      let begins = begins_handshake n in
+      let ends = ends_named n in
+      stood_append begins ends (arrival_tells m (admitted_as name r) items) (begun_tells m (admitted_as name r) ++ gates_tell r items) names
+      ∙ (ap (λ l. after_all (begun_tells m (admitted_as name r) ++ gates_tell r items) l)
+      (others_after (arrival_tells m (admitted_as name r) items) names (arrival_quiet of_handshakes name 0 m (admitted_as name r) items (λ link o. refl)))
+      ∙ (stood_append begins ends (begun_tells m (admitted_as name r)) (gates_tell r items) names
+      ∙ (others_after (gates_tell r items) (after_all (begun_tells m (admitted_as name r)) names) (gates_quiet of_handshakes name 0 r items (λ link. refl))
+      ∙ admitted_after m name r names)))
+
+  shaken_after : (m h link : ℕ) (over broke : Bool) (items : List Item) (names : List ℕ)
+      → after_all (handshake_tells m h link over items ++ when broke (telling.end_dropped link side.In ∷ [])) names ≡ cond (m == n) (unless_ended over h names) names
+  shaken_after m h link over broke items names =
+      stood_append (begins_handshake n) (ends_named n) (handshake_tells m h link over items) (when broke (telling.end_dropped link side.In ∷ [])) names
+      ∙ (others_after (when broke (telling.end_dropped link side.In ∷ [])) (after_all (handshake_tells m h link over items) names)
+      (when_quiet of_handshakes broke (telling.end_dropped link side.In ∷ []) refl)
+      ∙ by over)
+    where
+      ended : (b : Bool) → filter (λ k. not (b && (k == h))) names ++ [] ≡ cond b (without_name h names) names
+      ended true = append-nil (without_name h names)
+      ended false = same_stood names
+
+      by : (over : Bool) → after_all (handshake_tells m h link over items) names ≡ cond (m == n) (unless_ended over h names) names
+      by true = ap (λ l. after (telling.handshake_ended m h link) l) (same_stood names) ∙ ended (m == n)
+      by false = same_stood names ∙ either_same (m == n) names
+
+  after_act : (ts : List Telling) (log : List Entry) (e : Entry) (names : List ℕ) (a : Act) → e.event.act ≡ a → after_all (tells ts log e) names ≡ acted_handshakes n (length log) e.reply (taken log e) a names
+  unfolding tells
+  after_act ts log e names (act.Listener m) is =
+      ap (λ b. after_all (act_tells ts log (length log) e.event.at e.event.seed e.reply (taken log e) e.puts b) names) is
+      ∙ (stood_append (begins_handshake n) (ends_named n) (arrival_tells m (admitted_as (length log) e.reply) (taken log e) ++ (begun_tells m (admitted_as (length log) e.reply) ++ gates_tell e.reply (taken log e))) (heard_tells m e.event.at e.reply (taken log e)) names
+      ∙ (others_after (heard_tells m e.event.at e.reply (taken log e)) (after_all (arrival_tells m (admitted_as (length log) e.reply) (taken log e) ++ (begun_tells m (admitted_as (length log) e.reply) ++ gates_tell e.reply (taken log e))) names) (heard_quiet of_handshakes (length log) e.event.at m e.reply (taken log e) (record { update = λ addresses. refl; arrival = λ from g. refl }))
+      ∙ listened_after m (length log) e.reply (taken log e) names))
+  after_act ts log e names (act.Handshake h m) is =
+      ap (λ b. after_all (act_tells ts log (length log) e.event.at e.event.seed e.reply (taken log e) e.puts b) names) is
+      ∙ shaken_after m h (peer_at log h).link (ends_handshake e.reply (taken log e)) (broke_off e.reply (taken log e) e.puts) (taken log e) names
+  after_act ts log e names a is = others_after (tells ts log e) names (untold_of of_handshakes (23 ∷ 25 ∷ []) handshake_kinds ts log e (ap (λ b. are_apart (kinds_of b) (23 ∷ 25 ∷ [])) is))
 
 pub handshakes_of-append : (log : List Entry) (e : Entry) (n : ℕ) → handshakes_of (log ++ e ∷ []) n ≡ handshakes_by n log e (handshakes_of log n)
 unfolding handshakes_of
-handshakes_of-append log e n = state_from-append (handshakes_by n) [] log e []
+handshakes_of-append log e n =
+    ap (standing (begins_handshake n) (ends_named n)) (told-append log e)
+    ∙ (standing-more (begins_handshake n) (ends_named n) (told log) (tells (told log) log e) ∙ after_act n (told log) log e (handshakes_of log n) e.event.act refl)
+
+pub handshakes_of-none : (n : ℕ) → handshakes_of [] n ≡ []
+unfolding handshakes_of standing told state_from
+handshakes_of-none n = refl
 
 pub handshakes_of-kept : (log : List Entry) (e : Entry) (n : ℕ) → handshakes_by n log e (handshakes_of log n) ≡ handshakes_of log n → handshakes_of (log ++ e ∷ []) n ≡ handshakes_of log n
 handshakes_of-kept log e n h = handshakes_of-append log e n ∙ h
 
+module _ (test : List Item → Bool) (n name : ℕ) where
+  took_kinds : (t : Telling) → has (24 ∷ []) (kind t) ≡ false → takes_such test n name t ≡ false
+  took_kinds (telling.handshake_took m h items) is = cc
+  took_kinds _ is = refl
+
+  shaken_took : (m h link : ℕ) (over broke : Bool) (items : List Item) (took : Bool)
+      → any_or took (takes_such test n name) (handshake_tells m h link over items ++ when broke (telling.end_dropped link side.In ∷ [])) ≡ ((((m == n) && (h == name)) && test items) || took)
+  shaken_took m h link true true items took = refl
+  shaken_took m h link true false items took = refl
+  shaken_took m h link false true items took = refl
+  shaken_took m h link false false items took = refl
+
+  took_act : (ts : List Telling) (log : List Entry) (e : Entry) (took : Bool) (a : Act) → e.event.act ≡ a
+      → any_or took (takes_such test n name) (tells ts log e) ≡ ((steps_handshake n name a && test (taken log e)) || took)
+  unfolding tells
+  took_act ts log e took (act.Handshake h m) is =
+      ap (λ b. any_or took (takes_such test n name) (act_tells ts log (length log) e.event.at e.event.seed e.reply (taken log e) e.puts b)) is
+      ∙ shaken_took m h (peer_at log h).link (ends_handshake e.reply (taken log e)) (broke_off e.reply (taken log e) e.puts) (taken log e) took
+  took_act ts log e took a is =
+      any_or-none took (takes_such test n name) (tells ts log e) (untold_of (takes_such test n name) (24 ∷ []) took_kinds ts log e (ap (λ b. are_apart (kinds_of b) (24 ∷ [])) is))
+
 pub has_taken-append : (test : List Item → Bool) (log : List Entry) (e : Entry) (n name : ℕ)
     → has_taken test (log ++ e ∷ []) n name ≡ took_by test n name log e (has_taken test log n name)
 unfolding has_taken
-has_taken-append test log e n name = state_from-append (took_by test n name) [] log e false
+has_taken-append test log e n name =
+    ap (any_or false (takes_such test n name)) (told-append log e)
+    ∙ (any_or-append false (takes_such test n name) (told log) (tells (told log) log e) ∙ took_act test n name (told log) log e (has_taken test log n name) e.event.act refl)
+
+pub has_taken-none : (test : List Item → Bool) (n name : ℕ) → has_taken test [] n name ≡ false
+unfolding has_taken told state_from
+has_taken-none test n name = refl
 
 -- ---- how often a name stands among these
 
@@ -164,17 +284,16 @@ once_acted n m r items (act.Handshake name j) names h = by (j == n)
     by false = once_later m names h
 once_acted n m r items _ names h = once_later m names h
 
-once_from : (n : ℕ) (before es : List Entry) (names : List ℕ) → AreOnce (length before) names → AreOnce (length (before ++ es)) (state_from (handshakes_by n) before es names)
-unfolding state_from
-once_from n before [] names h = subst (λ l. AreOnce (length l) names) (sym (append-nil before)) h
-once_from n before (e ∷ es) names h =
-    let next = handshakes_by n before e names in
-    let more : AreOnce (length (before ++ e ∷ [])) next = subst (λ l. AreOnce l next) (sym (length-append before (e ∷ []))) (once_acted n (length before) e.reply (taken before e) e.event.act names h) in
-    subst (λ l. AreOnce (length l) (state_from (handshakes_by n) (before ++ e ∷ []) es next)) (append_assoc before (e ∷ []) es) (once_from n (before ++ e ∷ []) es next more)
-
 pub handshakes_once : (log : List Entry) (n : ℕ) → AreOnce (length log) (handshakes_of log n)
-unfolding handshakes_of
-handshakes_once log n = once_from n [] log [] (record { once = λ k. omega arith; early = λ k past. refl })
+handshakes_once log n = by_entries (λ l. AreOnce (length l) (handshakes_of l n)) first more log
+  where
+    first : AreOnce 0 (handshakes_of [] n)
+    first = subst (AreOnce 0) (sym (handshakes_of-none n)) (record { once = λ k. omega arith; early = λ k past. refl })
+
+    more : (l : List Entry) (e : Entry) → AreOnce (length l) (handshakes_of l n) → AreOnce (length (l ++ e ∷ [])) (handshakes_of (l ++ e ∷ []) n)
+    more l e h =
+        subst (λ m. AreOnce m (handshakes_of (l ++ e ∷ []) n)) (sym (length-append l (e ∷ [])))
+        (subst (AreOnce (length l + 1)) (sym (handshakes_of-append l e n)) (once_acted n (length l) e.reply (taken l e) e.event.act (handshakes_of l n) h))
 
 -- no handshake has the name of a later entry
 pub none_later : (log : List Entry) (n k : ℕ) → length log ≤ k → is_handshaking log n k ≡ false

@@ -1,15 +1,18 @@
 pub mod Attempts
 pub mod Calls
+pub mod Channels
 pub mod Checking
 pub mod Checks
 pub mod Closing
 pub mod Connections
+pub mod Dialed
 pub mod Dialing
 pub mod Dropping
 pub mod Facts
 pub mod Families
 pub mod First
 pub mod Handshakes
+pub mod Ignoring
 pub mod Lawful
 pub mod Links
 pub mod Listening
@@ -22,6 +25,7 @@ pub mod Pinging
 pub mod Recorded
 pub mod Sends
 pub mod Spawning
+pub mod Standing
 pub mod TakenAt
 pub mod Tellings
 pub mod Told

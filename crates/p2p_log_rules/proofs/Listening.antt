@@ -29,10 +29,11 @@ use Rattle.p2p_log_rules.specs.Judged.{is_counted, passed_address, passed_subnet
 use Rattle.p2p_log_rules.specs.Listening.{hears, passes_address, passes_subnet, comes_to_quotas, known_in, known_of, gate_rules_at, took_known, known_by}
 use Rattle.p2p_log_rules.specs.Tellings.{Telling, last_or}
 use Rattle.p2p_log_rules.specs.Tellings as telling
-use Rattle.p2p_log_rules.specs.Told.{judged_tells, heard_tells, gates_tell, turned_away as turned_away_tells, act_tells, tells, told_by, told}
+use Rattle.p2p_log_rules.specs.Told.{admitted_as, begun_tells, arrival_tells, judged_tells, heard_tells, gates_tell, act_tells, tells, told_by, told}
 use Rattle.p2p_log_rules.proofs.Facts.{events_of-append}
 use Rattle.p2p_log_rules.proofs.Families.{kind, kinds_of, has, are_apart, untold_of}
 use Rattle.p2p_log_rules.proofs.Others.{none_listed, last_kept}
+use Rattle.p2p_log_rules.proofs.Told.{listener_quiet}
 use Rattle.p2p_log_rules.proofs.Tellings.{told-append, last_or-append}
 
 -- ---- after more tellings
@@ -285,15 +286,13 @@ module _ (n m at : ℕ) (k : Known) where
           elsewhere _ = nothing
   heard rules r _ h = nothing ∙ same (m == n)
 
-gates_quiet : (r : Reply) (items : List Item) → list_any is_hearing (gates_tell r items) ≡ false
+-- what a step of the listener tells before that is of other things
+abbrev others_told : ℕ → ℕ → Reply → List Item → List Telling
+others_told m name r items = arrival_tells m (admitted_as name r) items ++ (begun_tells m (admitted_as name r) ++ gates_tell r items)
+
+others_quiet : (m name : ℕ) (r : Reply) (items : List Item) → list_any is_hearing (others_told m name r items) ≡ false
 unfolding is_hearing
-gates_quiet (reply.Gates g) items = by g items
-  where
-    by : (g : Gates) (items : List Item) → list_any is_hearing (turned_away_tells g items) ≡ false
-    by gates.Admitted items = refl
-    by _ (item.Arrival from key link ∷ items) = refl
-    by _ _ = refl
-gates_quiet _ items = refl
+others_quiet m name r items = listener_quiet is_hearing name 0 m r items (record { took = λ link handshake. refl; begun = refl; drops = λ link. refl })
 
 module _ (configs : List Config) (log : List Entry) (e : Entry) (n : ℕ) where
   abbrev k : Known
@@ -311,12 +310,12 @@ module _ (configs : List Config) (log : List Entry) (e : Entry) (n : ℕ) where
           ≡ cond (steps_listener n a) (took_known rules e.event.at (taken log e) k) k
       by (act.Listener m) is h =
           let ts : List Telling = told log in
-          let first : List Telling = gates_tell e.reply (taken log e) in
+          let first : List Telling = others_told m (length log) e.reply (taken log e) in
           let after : List Telling = heard_tells m e.event.at e.reply (taken log e) in
           ap (λ a. known_in (ts ++ act_tells ts log (length log) e.event.at e.event.seed e.reply (taken log e) e.puts a) n) is
           ∙ (ap (λ l. known_in l n) (sym (append_assoc ts first after))
           ∙ (known_in-more n (ts ++ first) after
-          ∙ (ap (known_told n after) (known_others n ts first (gates_quiet e.reply (taken log e))) ∙ heard n m e.event.at k rules e.reply (taken log e) h)))
+          ∙ (ap (known_told n after) (known_others n ts first (others_quiet m (length log) e.reply (taken log e))) ∙ heard n m e.event.at k rules e.reply (taken log e) h)))
       by a is h = known_others n (told log) (tells (told log) log e) (untold_of is_hearing (47 ∷ 48 ∷ []) of_kinds (told log) log e (ap (λ b. are_apart (kinds_of b) (47 ∷ 48 ∷ [])) is))
 
   pub known_of-append : (steps_listener n e.event.act ≡ true → IsJudged rules (known_of configs log n) e.event.at e.reply (taken log e)) → known_of configs (log ++ e ∷ []) n ≡ known_by configs n log e (known_of configs log n)
@@ -361,12 +360,12 @@ module _ (n : ℕ) where
 
       by : (a : Act) → e.event.act ≡ a → last_or x (comes_to_quotas n) (tells ts log e) ≤ max x e.event.at
       by (act.Listener m) is =
-          let first : List Telling = gates_tell e.reply (taken log e) in
+          let first : List Telling = others_told m (length log) e.reply (taken log e) in
           let after : List Telling = heard_tells m e.event.at e.reply (taken log e) in
           subst (λ y. y ≤ max x e.event.at)
           (sym (ap (λ a. last_or x (comes_to_quotas n) (act_tells ts log (length log) e.event.at e.event.seed e.reply (taken log e) e.puts a)) is
           ∙ (last_or-append x (comes_to_quotas n) first after
-          ∙ ap (λ y. last_or y (comes_to_quotas n) after) (last_kept is_hearing (comes_to_quotas n) (none_comes n) x first (gates_quiet e.reply (taken log e))))))
+          ∙ ap (λ y. last_or y (comes_to_quotas n) after) (last_kept is_hearing (comes_to_quotas n) (none_comes n) x first (others_quiet m (length log) e.reply (taken log e))))))
           (hear m e.reply (taken log e))
       by a is = kept (tells ts log e) (untold_of is_hearing (47 ∷ 48 ∷ []) of_kinds ts log e (ap (λ b. are_apart (kinds_of b) (47 ∷ 48 ∷ [])) is))
 

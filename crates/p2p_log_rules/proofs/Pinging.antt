@@ -14,13 +14,15 @@ use Rattle.p2p_log_rules.specs.declared.row.Half.{Half}
 use Rattle.p2p_log_rules.specs.Connections.{is_answer, steps_sender, is_done, begins}
 use Rattle.p2p_log_rules.specs.Facts.{taken, state_from}
 use Rattle.p2p_log_rules.specs.HalfSteps.{puts_ping}
+use Rattle.p2p_log_rules.specs.Halves.{half_in}
 use Rattle.p2p_log_rules.specs.Pings.{ping_frequency_at, is_past, runs_from, pings_at, or_from, last_pinged, ping_is_due}
 use Rattle.p2p_log_rules.specs.Tellings.{Telling, last_or, or_new, first_or}
 use Rattle.p2p_log_rules.specs.Tellings as telling
-use Rattle.p2p_log_rules.specs.Told.{when, done_tells, half_tells, half_in, pinged_tells, act_tells, tells, told}
+use Rattle.p2p_log_rules.specs.Told.{when, done_tells, sender_tells, end_tells, half_tells, pinged_tells, act_tells, tells, told}
 use Rattle.p2p_log_rules.proofs.Families.{kind, kinds_of, has, are_apart, untold_of}
 use Rattle.p2p_log_rules.proofs.Others.{last_kept, first_kept}
-use Rattle.p2p_log_rules.proofs.Tellings.{told-append, last_or-append, first_or-append}
+use Rattle.p2p_log_rules.proofs.Told.{NoneReceived, sender_quiet, over_quiet}
+use Rattle.p2p_log_rules.proofs.Tellings.{told-append, append_quiet, last_or-append, first_or-append}
 
 -- after a step at this moment that took these and put these
 abbrev pub counted_now : ℕ → List Item → List (Queue × Item) → Option ℕ → Option ℕ
@@ -64,11 +66,12 @@ module _ (n conn : ℕ) where
       ap (λ o. or_from o (first_or ran (runs_from n conn) us)) (last_kept is_count (pings_at n conn) not_pinged pinged us h)
       ∙ ap (or_from pinged) (first_kept is_count (runs_from n conn) not_run ran us h)
 
-  half_quiet : (r : Reply) (half : Option Half) → list_any is_count (half_tells r half) ≡ false
+  half_quiet : (m c : ℕ) (r : Reply) (items : List Item) (half : Option Half) → list_any is_count (sender_tells m c r items ++ (end_tells m c r ++ half_tells r half)) ≡ false
   unfolding is_count
-  half_quiet (reply.Ended why) None = refl
-  half_quiet (reply.Ended why) (Some half) = refl
-  half_quiet _ half = refl
+  half_quiet m c r items half =
+      let ends : NoneReceived is_count m c = record { over = refl; drops = λ link s. refl } in
+      append_quiet is_count (sender_tells m c r items) (end_tells m c r ++ half_tells r half)
+      (sender_quiet is_count 0 0 m c r items (record { step = refl; answer = refl; ends = ends })) (over_quiet is_count 0 0 m c r half ends)
 
   -- what a step of a sending half makes of it
   stepped : (m c at : ℕ) (r : Reply) (items : List Item) (puts : List (Queue × Item)) (pinged ran : Option ℕ)
@@ -123,12 +126,12 @@ counted_by log e n conn pinged ran = by e.event.act refl
     by : (a : Act) → e.event.act ≡ a
         → counted n conn (tells (told log) log e) pinged ran ≡ cond (steps_sender n conn a && is_done e.reply) (counted_now e.event.at (taken log e) e.puts (or_from pinged ran)) (or_from pinged ran)
     by (act.SendStep c m) is =
-        let half : List Telling = half_tells e.reply (half_in (told log) log m c) in
+        let half : List Telling = sender_tells m c e.reply (taken log e) ++ (end_tells m c e.reply ++ half_tells e.reply (half_in (told log) m c)) in
         let more : List Telling = done_tells e.reply (pinged_tells m c e.event.at (taken log e) e.puts) in
         ap (λ a. counted n conn (act_tells (told log) log (length log) e.event.at e.event.seed e.reply (taken log e) e.puts a) pinged ran) is
         ∙ (counted-append n conn half more pinged ran
-        ∙ (ap (λ o. counted n conn more o (first_or ran (runs_from n conn) half)) (last_kept is_count (pings_at n conn) (not_pinged n conn) pinged half (half_quiet n conn e.reply (half_in (told log) log m c)))
-        ∙ (ap (λ o. counted n conn more pinged o) (first_kept is_count (runs_from n conn) (not_run n conn) ran half (half_quiet n conn e.reply (half_in (told log) log m c)))
+        ∙ (ap (λ o. counted n conn more o (first_or ran (runs_from n conn) half)) (last_kept is_count (pings_at n conn) (not_pinged n conn) pinged half (half_quiet n conn m c e.reply (taken log e) (half_in (told log) m c)))
+        ∙ (ap (λ o. counted n conn more pinged o) (first_kept is_count (runs_from n conn) (not_run n conn) ran half (half_quiet n conn m c e.reply (taken log e) (half_in (told log) m c)))
         ∙ stepped n conn m c e.event.at e.reply (taken log e) e.puts pinged ran)))
     by a is = counted_same n conn (tells (told log) log e) pinged ran (untold_of is_count (40 ∷ 41 ∷ []) of_kinds (told log) log e (ap (λ b. are_apart (kinds_of b) (40 ∷ 41 ∷ [])) is))
 

@@ -15,7 +15,7 @@ use Rattle.p2p_log.specs.declared.event.Act.TheVariants as act
 use Rattle.p2p_log.specs.declared.event.Recipients.{Recipients}
 use Rattle.p2p_log.specs.Copies.{keys_of_recipients}
 use Rattle.p2p_log_rules.specs.Admitting.{admitted_keys, keys_by, moments_after, moments_by, rate_at, asked_for, asked_moments, sent_by, sent_moments}
-use Rattle.p2p_log_rules.specs.Facts.{taken, peers_told, state_from}
+use Rattle.p2p_log_rules.specs.Facts.{taken, rates, peers_told, state_from}
 use Rattle.p2p_log_rules.specs.Quotas.{key_cmp, quota_of, at_places, admits_key}
 use Rattle.p2p_log_rules.specs.Tellings.{Telling}
 use Rattle.p2p_log_rules.specs.Tellings as telling
@@ -69,7 +69,7 @@ module _ (log : List Entry) (e : Entry) (n c : ℕ) (k : Key) where
   asked : (m d : ℕ) (to : Recipients) (us : List Telling) → flat_map (admits_key n c k) us ≡ []
       → sent_moments log n c k ++ flat_map (admits_key n c k) (telling.sends_admitted m d e.event.at (admitted_in (told log) log m d e.event.at to) ∷ us)
       ≡ asked_moments (rate_at log n c) e.event.at (peers_told log n c) (cond ((m == n) && (d == c)) (Some to) None) (sent_moments log n c) k
-  unfolding sent_moments
+  unfolding sent_moments rates
   asked m d to us none = by (m == n) refl (d == c) refl
     where
       now : ℕ → ℕ → List ℕ

@@ -18,13 +18,16 @@ use Rattle.p2p_log.specs.declared.entry.Reply.{Reply}
 use Rattle.p2p_log.specs.declared.entry.Reply.TheVariants as reply
 use Rattle.p2p_log.specs.declared.event.Act.{Act}
 use Rattle.p2p_log.specs.declared.event.Act.TheVariants as act
+use Rattle.p2p_log.specs.declared.event.Rate.{Rate}
 use Rattle.p2p_log_rules.specs.declared.row.Half.{Half}
-use Rattle.p2p_log_rules.specs.HalfSteps.{is_answer, puts_ping, holds}
-use Rattle.p2p_log_rules.specs.Handshakes.{peer_at}
-use Rattle.p2p_log_rules.specs.Puts.{gave_up, ends_attempt, broke_off}
+use Rattle.p2p_log_rules.specs.HalfSteps.{puts_ping, holds}
+use Rattle.p2p_log_rules.specs.Halves.{half_in}
+use Rattle.p2p_log_rules.specs.HandshakeSteps.{ends_handshake, peer_at}
+use Rattle.p2p_log_rules.specs.Puts.{gave_up, ends_attempt, broke_off, is_answer}
 use Rattle.p2p_log_rules.specs.Tellings.{Telling, last_or}
 use Rattle.p2p_log_rules.specs.Tellings as telling
-use Rattle.p2p_log_rules.specs.Told.{pinged_tells, admitted_tells, check_tells, judged_tells, heard_tells, admitted_in, half_in, spawn_tells, when, done_tells, asks_list, link_in, dialing_dropped, half_dropped, half_tells, turned_away, gates_tell, answer_tells, due_tells, ask_tells, took_tells, left_tells, link_tells, act_tells}
+use Rattle.p2p_log_rules.specs.Told.{pinged_tells, admitted_tells, check_tells, judged_tells, heard_tells, admitted_in, spawn_tells, admitted_as, begun_tells, arrival_tells, handshake_tells, sender_tells, end_tells, when, done_tells, asks_list, link_in, dialing_dropped, half_dropped, half_tells, turned_away, gates_tell, answer_tells, due_tells, ask_tells, took_tells, left_tells, link_tells, act_tells}
+use Rattle.std.proofs.lemmas.List.Folds.{list_any-append}
 use Rattle.p2p_log_rules.proofs.Tellings.{append_quiet, when_quiet, done_quiet}
 
 -- a test holds of nothing that a step of a node's dialer may tell
@@ -43,6 +46,28 @@ pub record NoneTried (test : Telling → Bool) (m e at : ℕ) : Type 0 where
   pub ended : test (telling.attempt_ended m e) ≡ false
   pub drops : (link : ℕ) → test (telling.end_dropped link side.Out) ≡ false
 
+-- nor a step of the receiving half of a connection
+pub record NoneReceived (test : Telling → Bool) (m conn : ℕ) : Type 0 where
+  pub over : test (telling.connection_ended m conn) ≡ false
+  pub drops : (link : ℕ) (s : Side) → test (telling.end_dropped link s) ≡ false
+
+-- nor one of its sending half
+pub record NoneSent (test : Telling → Bool) (m conn : ℕ) : Type 0 where
+  pub step : test (telling.half_stepped m conn) ≡ false
+  pub answer : test (telling.answer_heard m conn) ≡ false
+  pub ends : NoneReceived test m conn
+
+-- nor a step of a node's listener
+pub record NoneListened (test : Telling → Bool) (m name : ℕ) : Type 0 where
+  pub took : (link : ℕ) (handshake : Option ℕ) → test (telling.arrival_taken m link handshake) ≡ false
+  pub begun : test (telling.handshake_begun m name) ≡ false
+  pub drops : (link : ℕ) → test (telling.end_dropped link side.In) ≡ false
+
+-- nor a step of a handshake
+pub record NoneShaken (test : Telling → Bool) (m h : ℕ) : Type 0 where
+  pub took : (items : List Item) → test (telling.handshake_took m h items) ≡ false
+  pub over : (link : ℕ) → test (telling.handshake_ended m h link) ≡ false
+  pub drops : (link : ℕ) → test (telling.end_dropped link side.In) ≡ false
 -- nor a step of a sending half of its pings
 pub record NonePinged (test : Telling → Bool) (m conn at : ℕ) : Type 0 where
   pub runs : test (telling.connection_ran m conn at) ≡ false
@@ -55,21 +80,23 @@ pub record NoneHeard (test : Telling → Bool) (m at : ℕ) : Type 0 where
 
 module _ (test : Telling → Bool) (name at : ℕ) where
   abbrev pub NoneTold : Act → Type 0
+  NoneTold (act.Register c m rate) = test (telling.channel_registered m c rate) ≡ false
   NoneTold (act.Start m) = test (telling.node_started m at) ≡ false
   NoneTold (act.Send bytes c m priority to) = (keys : List Key) → test (telling.sends_admitted m c at keys) ≡ false
   NoneTold (act.Check c m to) = ((keys : List Key) → test (telling.sends_admitted m c at keys) ≡ false) × ((keys : List Key) → test (telling.check_made m name c keys) ≡ false)
   NoneTold (act.SendChecked bytes check priority) = test (telling.check_spent check) ≡ false
-  NoneTold (act.SendStep conn m) = ((link : ℕ) (s : Side) → test (telling.end_dropped link s) ≡ false) × NonePinged test m conn at
-  NoneTold (act.RecvStep conn m) = ((link : ℕ) (s : Side) → test (telling.end_dropped link s) ≡ false) × ((i : Item) → test (telling.item_admitted m conn at i) ≡ false)
+  NoneTold (act.SendStep conn m) = NoneSent test m conn × NonePinged test m conn at
+  NoneTold (act.RecvStep conn m) = NoneReceived test m conn × ((i : Item) → test (telling.item_admitted m conn at i) ≡ false)
   NoneTold (act.Close c m) = test (telling.reader_dropped m c) ≡ false
   NoneTold (act.Dialer m) = NoneDialed test m name at
-  NoneTold (act.Listener m) = ((link : ℕ) → test (telling.end_dropped link side.In) ≡ false) × NoneHeard test m at
-  NoneTold (act.Handshake h m) = (link : ℕ) → test (telling.end_dropped link side.In) ≡ false
+  NoneTold (act.Listener m) = NoneListened test m name × NoneHeard test m at
+  NoneTold (act.Handshake h m) = NoneShaken test m h
   NoneTold (act.Spawner m) = (key : Key) (link : ℕ) → test (telling.connection_made m name key link) ≡ false
   NoneTold (act.Attempt e m) = NoneTried test m e at
   NoneTold (act.Resolve addresses e m) = test (telling.addresses_told m e) ≡ false
-  NoneTold (act.Connect e from m to) = (test (telling.dial_answered m e name) ≡ false) × (test (telling.link_opened m e name) ≡ false)
+  NoneTold (act.Connect e from m to) = (test (telling.dial_answered m e name) ≡ false) × (test (telling.link_opened m e name to) ≡ false)
   NoneTold (act.Refuse e m) = test (telling.dial_answered m e name) ≡ false
+  NoneTold (act.Finish link ok) = test (telling.exchange_ended link) ≡ false
   NoneTold _ = Unit {0}
 
   pub one : (t : Telling) → test t ≡ false → list_any test (t ∷ []) ≡ false
@@ -78,7 +105,7 @@ module _ (test : Telling → Bool) (name at : ℕ) where
   more : (t : Telling) (ts : List Telling) → test t ≡ false → list_any test ts ≡ false → list_any test (t ∷ ts) ≡ false
   more t ts h k = ap (λ b. b || list_any test ts) h ∙ k
 
-  half_quiet : (r : Reply) (o : Option Half) → ((link : ℕ) (s : Side) → test (telling.end_dropped link s) ≡ false) → list_any test (half_tells r o) ≡ false
+  pub half_quiet : (r : Reply) (o : Option Half) → ((link : ℕ) (s : Side) → test (telling.end_dropped link s) ≡ false) → list_any test (half_tells r o) ≡ false
   half_quiet (reply.Ended why) None h = refl
   half_quiet (reply.Ended why) (Some half) h = one (telling.end_dropped half.link half.writes) (h half.link half.writes)
   half_quiet _ o h = refl
@@ -88,17 +115,52 @@ module _ (test : Telling → Bool) (name at : ℕ) where
   turned_quiet _ (item.Arrival from key link ∷ items) h = one (telling.end_dropped link side.In) (h link)
   turned_quiet _ _ h = refl
 
-  gates_quiet : (r : Reply) (items : List Item) → ((link : ℕ) → test (telling.end_dropped link side.In) ≡ false) → list_any test (gates_tell r items) ≡ false
+  pub gates_quiet : (r : Reply) (items : List Item) → ((link : ℕ) → test (telling.end_dropped link side.In) ≡ false) → list_any test (gates_tell r items) ≡ false
   gates_quiet (reply.Gates g) items h = turned_quiet g items h
   gates_quiet _ items h = refl
 
-  pinged_quiet : (m conn : ℕ) (items : List Item) (puts : List (Queue × Item)) → NonePinged test m conn at → list_any test (pinged_tells m conn at items puts) ≡ false
+  pub begun_quiet : (m : ℕ) (r : Reply) → test (telling.handshake_begun m name) ≡ false → list_any test (begun_tells m (admitted_as name r)) ≡ false
+  begun_quiet m (reply.Gates gates.Admitted) h = one (telling.handshake_begun m name) h
+  begun_quiet m (reply.Gates _) h = refl
+  begun_quiet m _ h = refl
+
+  pub arrival_quiet : (m : ℕ) (handshake : Option ℕ) (items : List Item) → ((link : ℕ) (o : Option ℕ) → test (telling.arrival_taken m link o) ≡ false) → list_any test (arrival_tells m handshake items) ≡ false
+  arrival_quiet m handshake (item.Arrival from key link ∷ items) h = one (telling.arrival_taken m link handshake) (h link handshake)
+  arrival_quiet m handshake _ h = refl
+
+  pub listener_quiet : (m : ℕ) (r : Reply) (items : List Item) → NoneListened test m name
+      → list_any test (arrival_tells m (admitted_as name r) items ++ (begun_tells m (admitted_as name r) ++ gates_tell r items)) ≡ false
+  listener_quiet m r items h =
+      append_quiet test (arrival_tells m (admitted_as name r) items) (begun_tells m (admitted_as name r) ++ gates_tell r items) (arrival_quiet m (admitted_as name r) items h.took)
+      (append_quiet test (begun_tells m (admitted_as name r)) (gates_tell r items) (begun_quiet m r h.begun) (gates_quiet r items h.drops))
+
+  shaken_quiet : (m h link : ℕ) (over broke : Bool) (items : List Item) → NoneShaken test m h
+      → list_any test (handshake_tells m h link over items ++ when broke (telling.end_dropped link side.In ∷ [])) ≡ false
+  shaken_quiet m h link over broke items none =
+      more (telling.handshake_took m h items) (when over (telling.handshake_ended m h link ∷ []) ++ when broke (telling.end_dropped link side.In ∷ [])) (none.took items)
+      (append_quiet test (when over (telling.handshake_ended m h link ∷ [])) (when broke (telling.end_dropped link side.In ∷ []))
+      (when_quiet test over (telling.handshake_ended m h link ∷ []) (one (telling.handshake_ended m h link) (none.over link)))
+      (when_quiet test broke (telling.end_dropped link side.In ∷ []) (one (telling.end_dropped link side.In) (none.drops link))))
+
+  pub over_quiet : (m conn : ℕ) (r : Reply) (half : Option Half) → NoneReceived test m conn → list_any test (end_tells m conn r ++ half_tells r half) ≡ false
+  over_quiet m conn r half h = append_quiet test (end_tells m conn r) (half_tells r half) (by r) (half_quiet r half h.drops)
+    where
+      by : (r : Reply) → list_any test (end_tells m conn r) ≡ false
+      by (reply.Ended why) = one (telling.connection_ended m conn) h.over
+      by _ = refl
+
+  pub sender_quiet : (m conn : ℕ) (r : Reply) (items : List Item) → NoneSent test m conn → list_any test (sender_tells m conn r items) ≡ false
+  sender_quiet m conn r items h =
+      append_quiet test (done_tells r (telling.half_stepped m conn ∷ [])) (when (list_any is_answer items) (telling.answer_heard m conn ∷ []))
+      (done_quiet test r (telling.half_stepped m conn ∷ []) (one (telling.half_stepped m conn) h.step))
+      (when_quiet test (list_any is_answer items) (telling.answer_heard m conn ∷ []) (one (telling.answer_heard m conn) h.answer))
+  pub pinged_quiet : (m conn : ℕ) (items : List Item) (puts : List (Queue × Item)) → NonePinged test m conn at → list_any test (pinged_tells m conn at items puts) ≡ false
   pinged_quiet m conn items puts h =
       append_quiet test (when (list_any is_answer items) (telling.connection_ran m conn at ∷ [])) (when (puts_ping items puts) (telling.ping_put m conn at ∷ []))
       (when_quiet test (list_any is_answer items) (telling.connection_ran m conn at ∷ []) (one (telling.connection_ran m conn at) h.runs))
       (when_quiet test (puts_ping items puts) (telling.ping_put m conn at ∷ []) (one (telling.ping_put m conn at) h.pings))
 
-  admitted_quiet : (m conn : ℕ) (r : Reply) (items : List Item) (puts : List (Queue × Item)) → ((i : Item) → test (telling.item_admitted m conn at i) ≡ false) → list_any test (admitted_tells m conn at r items puts) ≡ false
+  pub admitted_quiet : (m conn : ℕ) (r : Reply) (items : List Item) (puts : List (Queue × Item)) → ((i : Item) → test (telling.item_admitted m conn at i) ≡ false) → list_any test (admitted_tells m conn at r items puts) ≡ false
   admitted_quiet m conn (reply.Ended why) items puts h = refl
   admitted_quiet m conn _ [] puts h = refl
   admitted_quiet m conn _ (i ∷ items) puts h = when_quiet test (not (holds puts)) (telling.item_admitted m conn at i ∷ []) (one (telling.item_admitted m conn at i) (h i))
@@ -111,10 +173,24 @@ module _ (test : Telling → Bool) (name at : ℕ) where
   judged_quiet m from (reply.Gates g) h = one (telling.arrival_judged m at from g) (h.arrival from g)
   judged_quiet m from _ h = refl
 
-  heard_quiet : (m : ℕ) (r : Reply) (items : List Item) → NoneHeard test m at → list_any test (heard_tells m at r items) ≡ false
+  pub heard_quiet : (m : ℕ) (r : Reply) (items : List Item) → NoneHeard test m at → list_any test (heard_tells m at r items) ≡ false
   heard_quiet m r (item.Addresses addresses ∷ items) h = one (telling.update_taken m addresses) (h.update addresses)
   heard_quiet m r (item.Arrival from key link ∷ items) h = judged_quiet m from.ip r h
   heard_quiet m r _ h = refl
+
+  -- and what is told of it before them
+  any_before : (ts us : List Telling) → list_any test us ≡ false → list_any test (ts ++ us) ≡ list_any test ts
+  any_before ts us none = list_any-append test ts us ∙ (ap (λ b. list_any test ts || b) none ∙ by (list_any test ts))
+    where
+      by : (b : Bool) → (b || false) ≡ b
+      by true = refl
+      by false = refl
+
+  pub before_pings : (ts : List Telling) (m conn : ℕ) (r : Reply) (items : List Item) (puts : List (Queue × Item)) → NonePinged test m conn at → list_any test (ts ++ done_tells r (pinged_tells m conn at items puts)) ≡ list_any test ts
+  before_pings ts m conn r items puts h = any_before ts (done_tells r (pinged_tells m conn at items puts)) (done_quiet test r (pinged_tells m conn at items puts) (pinged_quiet m conn items puts h))
+
+  pub before_admitted : (ts : List Telling) (m conn : ℕ) (r : Reply) (items : List Item) (puts : List (Queue × Item)) → ((i : Item) → test (telling.item_admitted m conn at i) ≡ false) → list_any test (ts ++ admitted_tells m conn at r items puts) ≡ list_any test ts
+  before_admitted ts m conn r items puts h = any_before ts (admitted_tells m conn at r items puts) (admitted_quiet m conn r items puts h)
 
   answer_quiet : (m asked seed : ℕ) (items : List Item) → NoneDialed test m name at → list_any test (answer_tells m asked name at seed items) ≡ false
   answer_quiet m asked seed (item.Dialable next peers ∷ items) h = more (telling.list_taken m asked seed next peers) (telling.answer_taken m ∷ []) (h.list asked seed next peers) (one (telling.answer_taken m) h.answer)
@@ -147,38 +223,41 @@ module _ (test : Telling → Bool) (name at : ℕ) where
       when_quiet test (ends_attempt puts) (telling.attempt_ended m e ∷ when (gave_up puts) (dialing_dropped link))
       (more (telling.attempt_ended m e) (when (gave_up puts) (dialing_dropped link)) h.ended (when_quiet test (gave_up puts) (dialing_dropped link) (cut_quiet link h.drops)))
 
-  pub link_quiet : (m e : ℕ) (puts : List (Queue × Item)) → test (telling.link_opened m e name) ≡ false → list_any test (link_tells m e name puts) ≡ false
-  link_quiet m e (told ∷ arrival ∷ puts) h = one (telling.link_opened m e name) h
-  link_quiet m e _ h = refl
+  pub link_quiet : (m e to : ℕ) (puts : List (Queue × Item)) → test (telling.link_opened m e name to) ≡ false → list_any test (link_tells m e name to puts) ≡ false
+  link_quiet m e to (told ∷ arrival ∷ puts) h = one (telling.link_opened m e name to) h
+  link_quiet m e to _ h = refl
 
   pub step_quiet : (m e seed : ℕ) (items : List Item) (link : Option ℕ) (puts : List (Queue × Item)) → NoneTried test m e at → list_any test (took_tells m e at seed items ++ left_tells m e link puts) ≡ false
   step_quiet m e seed items link puts h = append_quiet test (took_tells m e at seed items) (left_tells m e link puts) (took_quiet m e seed items h) (left_quiet m e link puts h)
 
-  pub connect_quiet : (m e : ℕ) (r : Reply) (puts : List (Queue × Item)) → test (telling.dial_answered m e name) ≡ false → test (telling.link_opened m e name) ≡ false
-      → list_any test (done_tells r (telling.dial_answered m e name ∷ link_tells m e name puts)) ≡ false
-  connect_quiet m e r puts h k =
-      done_quiet test r (telling.dial_answered m e name ∷ link_tells m e name puts) (more (telling.dial_answered m e name) (link_tells m e name puts) h (link_quiet m e puts k))
+  pub connect_quiet : (m e to : ℕ) (r : Reply) (puts : List (Queue × Item)) → test (telling.dial_answered m e name) ≡ false → test (telling.link_opened m e name to) ≡ false
+      → list_any test (done_tells r (telling.dial_answered m e name ∷ link_tells m e name to puts)) ≡ false
+  connect_quiet m e to r puts h k =
+      done_quiet test r (telling.dial_answered m e name ∷ link_tells m e name to puts) (more (telling.dial_answered m e name) (link_tells m e name to puts) h (link_quiet m e to puts k))
 
   pub quiet_act : (ts : List Telling) (before : List Entry) (seed : ℕ) (r : Reply) (items : List Item) (puts : List (Queue × Item)) (a : Act) → NoneTold a
       → list_any test (act_tells ts before name at seed r items puts a) ≡ false
-  quiet_act ts before seed r items puts (act.Start m) h = done_quiet test r (telling.node_started m at ∷ []) (one (telling.node_started m at) h)
+  quiet_act ts before seed r items puts (act.Register c m rate) h = one (telling.channel_registered m c rate) h
+  quiet_act ts before seed r items puts (act.Start m) h = one (telling.node_started m at) h
   quiet_act ts before seed r items puts (act.Send bytes c m priority to) h = one (telling.sends_admitted m c at (admitted_in ts before m c at to)) (h (admitted_in ts before m c at to))
   quiet_act ts before seed r items puts (act.Check c m to) h = more (telling.sends_admitted m c at (admitted_in ts before m c at to)) (check_tells m name c r) (h.0 (admitted_in ts before m c at to)) (check_quiet m c r h.1)
   quiet_act ts before seed r items puts (act.SendChecked bytes check priority) h = one (telling.check_spent check) h
   quiet_act ts before seed r items puts (act.SendStep conn m) h =
-      append_quiet test (half_tells r (half_in ts before m conn)) (done_tells r (pinged_tells m conn at items puts)) (half_quiet r (half_in ts before m conn) h.0)
+      append_quiet test (sender_tells m conn r items ++ (end_tells m conn r ++ half_tells r (half_in ts m conn))) (done_tells r (pinged_tells m conn at items puts))
+      (append_quiet test (sender_tells m conn r items) (end_tells m conn r ++ half_tells r (half_in ts m conn)) (sender_quiet m conn r items h.0) (over_quiet m conn r (half_in ts m conn) h.0.ends))
       (done_quiet test r (pinged_tells m conn at items puts) (pinged_quiet m conn items puts h.1))
   quiet_act ts before seed r items puts (act.RecvStep conn m) h =
-      append_quiet test (half_tells r (half_in ts before m conn)) (admitted_tells m conn at r items puts) (half_quiet r (half_in ts before m conn) h.0) (admitted_quiet m conn r items puts h.1)
+      append_quiet test (end_tells m conn r ++ half_tells r (half_in ts m conn)) (admitted_tells m conn at r items puts) (over_quiet m conn r (half_in ts m conn) h.0) (admitted_quiet m conn r items puts h.1)
   quiet_act ts before seed r items puts (act.Close c m) h = done_quiet test r (telling.reader_dropped m c ∷ []) (one (telling.reader_dropped m c) h)
   quiet_act ts before seed r items puts (act.Dialer m) h =
       append_quiet test (answer_tells m (last_or 0 (asks_list m) ts) name at seed items) (ask_tells m at items puts) (answer_quiet m (last_or 0 (asks_list m) ts) seed items h) (ask_quiet m items puts h.due h.dials h.asks)
-  quiet_act ts before seed r items puts (act.Listener m) h = append_quiet test (gates_tell r items) (heard_tells m at r items) (gates_quiet r items h.0) (heard_quiet m r items h.1)
-  quiet_act ts before seed r items puts (act.Handshake e m) h =
-      when_quiet test (broke_off r items puts) (telling.end_dropped (peer_at before e).link side.In ∷ []) (one (telling.end_dropped (peer_at before e).link side.In) (h (peer_at before e).link))
+  quiet_act ts before seed r items puts (act.Listener m) h =
+      append_quiet test (arrival_tells m (admitted_as name r) items ++ (begun_tells m (admitted_as name r) ++ gates_tell r items)) (heard_tells m at r items) (listener_quiet m r items h.0) (heard_quiet m r items h.1)
+  quiet_act ts before seed r items puts (act.Handshake e m) h = shaken_quiet m e (peer_at before e).link (ends_handshake r items) (broke_off r items puts) items h
   quiet_act ts before seed r items puts (act.Spawner m) h = spawn_quiet m items h
   quiet_act ts before seed r items puts (act.Attempt e m) h = step_quiet m e seed items (link_in ts m e) puts h
   quiet_act ts before seed r items puts (act.Resolve addresses e m) h = done_quiet test r (telling.addresses_told m e ∷ []) (one (telling.addresses_told m e) h)
-  quiet_act ts before seed r items puts (act.Connect e from m to) h = connect_quiet m e r puts h.0 h.1
+  quiet_act ts before seed r items puts (act.Connect e from m to) h = connect_quiet m e to r puts h.0 h.1
   quiet_act ts before seed r items puts (act.Refuse e m) h = done_quiet test r (telling.dial_answered m e name ∷ []) (one (telling.dial_answered m e name) h)
+  quiet_act ts before seed r items puts (act.Finish link ok) h = done_quiet test r (telling.exchange_ended link ∷ []) (one (telling.exchange_ended link) h)
   quiet_act ts before seed r items puts _ h = refl

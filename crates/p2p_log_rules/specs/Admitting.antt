@@ -9,14 +9,14 @@ use Rattle.p2p_log.specs.declared.event.Act.{Act}
 use Rattle.p2p_log.specs.declared.event.Act.TheVariants as act
 use Rattle.p2p_log.specs.declared.event.Recipients.{Recipients}
 use Rattle.p2p_log.specs.Copies.{keys_of_recipients}
-use Rattle.p2p_log_rules.specs.Facts.{events_of, rates, rate_in, peers_told}
+use Rattle.p2p_log_rules.specs.Facts.{rates, rate_in, peers_told}
 pub use Rattle.p2p_log_rules.specs.Quotas.{admitted_keys, latest_retry, keys_by, retry_by}
 use Rattle.p2p_log_rules.specs.Quotas.{key_cmp, quota_of, moments_in}
 use Rattle.p2p_log_rules.specs.Told.{told}
 
 -- the rate of a channel of a node
 abbrev pub rate_at : List Entry → ℕ → ℕ → Option Rate
-rate_at log n c = rate_in (rates (events_of log) n) c
+rate_at log n c = rate_in (rates log n) c
 
 -- the moments at which the quota of a channel of a node admitted each key, oldest first
 unfoldable pub sent_moments : List Entry → ℕ → ℕ → Key → List ℕ

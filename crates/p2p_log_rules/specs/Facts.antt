@@ -1,5 +1,5 @@
 -- What stands of nodes, channels and routers, by the log.
-use Rattle.std.specs.Prelude.{ℕ, ◌+◌, ◌*◌, max, Bool, false, ◌==◌, cond, List, [], ◌∷◌, ◌++◌, map, flat_map, take, Option, Some, None, slice_get}
+use Rattle.std.specs.Prelude.{ℕ, ◌+◌, max, Bool, false, ◌==◌, cond, List, [], ◌∷◌, map, flat_map, Option, Some, None, slice_get}
 use Rattle.std.specs.List.{list_any}
 use Rattle.std.specs.BTreeMap.{insert_entry, is_at}
 use Rattle.std.specs.Map.{lookup, remove_entry}
@@ -16,24 +16,28 @@ use Rattle.p2p_log.specs.declared.event.Event.{Event}
 use Rattle.p2p_log.specs.declared.event.Rate.{Rate}
 use Rattle.p2p_log.specs.declared.event.Act.{Act}
 use Rattle.p2p_log.specs.declared.event.Act.TheVariants as act
+pub use Rattle.p2p_log_rules.specs.Asked.{events_of, starts, capacity_for, registers_at, rates_by}
+unfoldable pub use Rattle.p2p_log_rules.specs.Asked.{has_started, registered}
+pub use Rattle.p2p_log_rules.specs.Taking.{item_put, item_in, item_named, taken_in, with_named, with_begun, history}
+unfoldable pub use Rattle.p2p_log_rules.specs.Taking.{taken, taken_at, history_from, state_from}
+pub use Rattle.p2p_log_rules.specs.Listing.{list_put, lists_put, newest}
+unfoldable pub use Rattle.p2p_log_rules.specs.Listing.{peers_told}
+pub use Rattle.p2p_log_rules.specs.Quotas.{rate_told, rate_in}
+use Rattle.p2p_log_rules.specs.Quotas.{rates_in}
+use Rattle.p2p_log_rules.specs.Tellings.{Telling}
+use Rattle.p2p_log_rules.specs.Tellings as telling
+use Rattle.p2p_log_rules.specs.Told.{told}
 
 -- ---- nodes
 
--- what was asked, in order
-abbrev pub events_of : List Entry → List Event
-events_of log = map (λ e. e.event) log
-
-abbrev pub starts : ℕ → Act → Bool
-starts n (act.Start m) = m == n
-starts n _ = false
-
--- whether a node was asked to start
-unfoldable pub has_started : List Event → ℕ → Bool
-has_started events n = list_any (λ v. starts n v.act) events
+-- whether it is told that the node runs
+abbrev pub runs_node : ℕ → Telling → Bool
+runs_node n (telling.node_started m at) = m == n
+runs_node n _ = false
 
 -- whether the node has started
-abbrev pub is_up : List Entry → ℕ → Bool
-is_up log n = has_started (events_of log) n
+unfoldable pub is_up : List Entry → ℕ → Bool
+is_up log n = list_any (runs_node n) (told log)
 
 -- the latest of the moments of these
 abbrev pub latest_moment : List Event → ℕ
@@ -50,89 +54,21 @@ moment_at log name = moment_of (slice_get log name)
 
 -- ---- channels
 
--- the retained peers' bursts
-abbrev pub capacity_for : Option Config → Rate → ℕ
-capacity_for None rate = 0
-capacity_for (Some c) rate = (c.max_peers_per_set * c.tracked_peer_sets) * rate.burst
+-- the channels that were registered at a node, in order, each with its rate
+unfoldable pub rates : List Entry → ℕ → List (ℕ × Rate)
+rates log n = rates_in (told log) n
 
-abbrev pub registers_at : List Config → ℕ → Act → List (ℕ × ℕ)
-registers_at configs n (act.Register c m rate) = cond (m == n) ((c, capacity_for (slice_get configs n) rate) ∷ []) []
-registers_at configs n _ = []
-
--- the channels that were registered at a node, in order, each with its capacity
-unfoldable pub registered : List Config → List Event → ℕ → List (ℕ × ℕ)
-registered configs events n = flat_map (λ v. registers_at configs n v.act) events
-
-abbrev pub channels : List Config → List Entry → ℕ → List (ℕ × ℕ)
-channels configs log n = registered configs (events_of log) n
+-- and each with its capacity
+unfoldable pub channels : List Config → List Entry → ℕ → List (ℕ × ℕ)
+channels configs log n = map (λ c. (c.0, capacity_for (slice_get configs n) c.1)) (rates log n)
 
 -- the capacity of a channel, where it is registered
 abbrev pub capacity_in : List (ℕ × ℕ) → ℕ → Option ℕ
 capacity_in channels c = lookup (λ k. c == k) channels
 
-abbrev pub rates_by : ℕ → Act → List (ℕ × Rate)
-rates_by n (act.Register c m rate) = cond (m == n) ((c, rate) ∷ []) []
-rates_by n _ = []
-
--- the channels that were registered at a node, in order, each with its rate
-unfoldable pub rates : List Event → ℕ → List (ℕ × Rate)
-rates events n = flat_map (λ v. rates_by n v.act) events
-
--- the rate of a channel, where it is registered
-abbrev pub rate_in : List (ℕ × Rate) → ℕ → Option Rate
-rate_in rates c = lookup (λ k. c == k) rates
-
 abbrev pub sum_capacities : List (ℕ × ℕ) → ℕ
 sum_capacities [] = 0
 sum_capacities (c ∷ cs) = c.1 + sum_capacities cs
-
--- ---- what was taken
-
-abbrev pub item_put : Option (Queue × Item) → List Item
-item_put None = []
-item_put (Some x) = x.1 ∷ []
-
-abbrev pub item_in : Option Entry → ℕ → List Item
-item_in None p = []
-item_in (Some e) p = item_put (slice_get e.puts p)
-
--- the item of this name
-abbrev pub item_named : List Entry → ℕ × ℕ → List Item
-item_named log name = item_in (slice_get log name.0) name.1
-
--- the items that an entry took, with the entries before it
-unfoldable pub taken : List Entry → Entry → List Item
-taken before e = flat_map (item_named before) e.takes
-
-abbrev pub taken_in : List Entry → Option Entry → List Item
-taken_in before None = []
-taken_in before (Some e) = taken before e
-
--- the items that the entry of this name took
-unfoldable pub taken_at : List Entry → ℕ → List Item
-taken_at log name = taken_in (take name log) (slice_get log name)
-
--- what each entry adds to a history, given the entries before it
-unfoldable pub history_from : {X : Type 0} → (List Entry → Entry → List X) → List Entry → List Entry → List X
-history_from adds before [] = []
-history_from adds before (e ∷ es) = adds before e ++ history_from adds (before ++ e ∷ []) es
-
--- what stands after a log, by what each entry makes of it, given the entries before it
-unfoldable pub state_from : {X : Type 0} → (List Entry → Entry → X → X) → List Entry → List Entry → X → X
-state_from by before [] x = x
-state_from by before (e ∷ es) x = state_from by (before ++ e ∷ []) es (by before e x)
-
--- what has a name, with this in its place
-abbrev pub with_named : {X : Type 0} → ℕ → Option X → (ℕ → Option X) → ℕ → Option X
-with_named name o xs k = cond (k == name) o (xs k)
-
--- once the entry of this name may have begun something
-abbrev pub with_begun : {X : Type 0} → Option X → ℕ → (ℕ → Option X) → ℕ → Option X
-with_begun None name xs k = xs k
-with_begun (Some x) name xs k = with_named name (Some x) xs k
-
-abbrev pub history : {X : Type 0} → (List Entry → Entry → List X) → List Entry → List X
-history adds log = history_from adds [] log
 
 -- ---- the router
 
@@ -175,26 +111,6 @@ keys_in routes = map (λ r. record { 0 = r.0 }) routes
 -- the connection to a key that the router has
 abbrev pub route_to : List (ℕ × ℕ) → Key → Option ℕ
 route_to routes key = lookup (λ k. key.0 == k) routes
-
--- ---- lists of peers
-
-abbrev pub list_put : ℕ → ℕ → Queue × Item → List (List Key)
-list_put n c (q, item.Peers keys) = cond (same_queue (queue.Peers n c) q) (keys ∷ []) []
-list_put n c _ = []
-
--- the lists of peers that an entry puts for a channel, in order
-abbrev pub lists_put : ℕ → ℕ → Entry → List (List Key)
-lists_put n c e = flat_map (list_put n c) e.puts
-
--- the last of these: empty where there is none
-abbrev pub newest : List (List Key) → List Key
-newest [] = []
-newest (keys ∷ []) = keys
-newest (keys ∷ more ∷ lists) = newest (more ∷ lists)
-
--- the newest list of peers that was put for a channel of a node
-unfoldable pub peers_told : List Entry → ℕ → ℕ → List Key
-peers_told log n c = newest (flat_map (lists_put n c) log)
 
 -- ---- keys
 

@@ -119,11 +119,11 @@ inputs configs log at (sender n conn) =
     when (not (is_begun log n conn)) begins
     ∷ oldest (line log (queue.Ready n conn))
     ∷ running (is_running log n conn) (
-      when (ping_is_due configs log n conn at) due
-      ∷ oldest (line log (queue.Control n conn))
-      ∷ oldest (line log (queue.High n conn))
-      ∷ oldest (line log (queue.Low n conn))
-      ∷ [])
+    when (ping_is_due configs log n conn at) due
+    ∷ oldest (line log (queue.Control n conn))
+    ∷ oldest (line log (queue.High n conn))
+    ∷ oldest (line log (queue.Low n conn))
+    ∷ [])
 inputs configs log at (receiver n conn) = running (is_running log n conn) (held_or (line log (queue.Held n conn)) (link_inputs log (live_half log n conn)))
 
 -- whether it runs: what has ended, or never came about, has no input

@@ -5,10 +5,6 @@ use Rattle.p2p_log.specs.declared.queue.Queue.TheVariants as queue
 use Rattle.p2p_log.specs.declared.item.Item.{Item}
 use Rattle.p2p_log.specs.declared.item.Item.TheVariants as item
 
-abbrev pub is_answer : Item → Bool
-is_answer item.Answer = true
-is_answer _ = false
-
 -- whether it put a ping: a frame that carries no copy, before those that it took
 abbrev pub puts_ping : List Item → List (Queue × Item) → Bool
 puts_ping items ((q, item.Frame None frame) ∷ puts) = nat_le (length items) (length puts)

@@ -1,7 +1,9 @@
 pub mod Admitting
+pub mod Asked
 pub mod Attempting
 pub mod Checking
 pub mod Closing
+pub mod ConnectionEntries
 pub mod Connections
 pub mod Dialed
 pub mod Dialing
@@ -13,11 +15,16 @@ pub mod First
 pub mod Frames
 pub mod HalfSteps
 pub mod Halves
+pub mod HandshakeEntries
+pub mod HandshakeSteps
 pub mod Handshakes
 pub mod Handshaking
+pub mod Holders
 pub mod Judged
 pub mod Lawful
+pub mod LinkEntries
 pub mod Links
+pub mod Listing
 pub mod Listening
 pub mod Metering
 pub mod Moves
@@ -27,6 +34,8 @@ pub mod Quotas
 pub mod Reading
 pub mod Rows
 pub mod Spawning
+pub mod Standing
+pub mod Taking
 pub mod TrackerPuts
 pub mod TrackerRows
 pub mod Tellings

@@ -12,7 +12,7 @@ use Rattle.p2p_log.specs.declared.item.Item.TheVariants as item
 use Rattle.p2p_log.specs.declared.entry.Entry.{Entry}
 use Rattle.p2p_log.specs.declared.event.Rate.{Rate}
 use Rattle.p2p_log_rules.specs.Connections.{steps_receiver, is_end}
-use Rattle.p2p_log_rules.specs.Facts.{events_of, rates, rate_in, taken}
+use Rattle.p2p_log_rules.specs.Facts.{rates, rate_in, taken}
 pub use Rattle.p2p_log_rules.specs.HalfSteps.{holds}
 use Rattle.p2p_log_rules.specs.Pings.{ping_frequency_at}
 use Rattle.p2p_log_rules.specs.Quotas.{quota_of}
@@ -82,7 +82,7 @@ ping_quota frequency = rate_of 1 (max 1 (frequency / 2))
 -- the quota of a node for these, on each of its connections
 abbrev pub quota_at : List Config → List Entry → ℕ → Metered → Quota
 quota_at configs log n pings = ping_quota (ping_frequency_at configs n)
-quota_at configs log n (messages c) = quota_or_none (rate_in (rates (events_of log) n) c)
+quota_at configs log n (messages c) = quota_or_none (rate_in (rates log n) c)
 
 -- whether a connection admits one more of these at a moment
 abbrev pub may_pass : List Config → List Entry → ℕ → ℕ → ℕ → Metered → Bool

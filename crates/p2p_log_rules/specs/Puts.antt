@@ -1,11 +1,11 @@
--- What becomes of a reservation, by what is put, and of a handshake.
+-- What becomes of a reservation, by what is put, of a handshake, and of a half of a connection.
 use Rattle.std.specs.Prelude.{Bool, true, false, ◌&&◌, ◌||◌, not, List}
 use Rattle.std.specs.List.{list_any}
 use Rattle.p2p_log.specs.declared.queue.Queue.{Queue}
 use Rattle.p2p_log.specs.declared.item.Item.{Item}
 use Rattle.p2p_log.specs.declared.item.Item.TheVariants as item
 use Rattle.p2p_log.specs.declared.entry.Reply.{Reply}
-use Rattle.p2p_log_rules.specs.Handshakes.{ends_handshake}
+use Rattle.p2p_log_rules.specs.HandshakeSteps.{ends_handshake}
 
 abbrev pub is_release : Queue × Item → Bool
 is_release (q, item.Release key) = true
@@ -26,3 +26,8 @@ ends_attempt puts = gave_up puts || list_any is_spawn puts
 -- whether a handshake broke off, at a step of this reply that took these and put these
 abbrev pub broke_off : Reply → List Item → List (Queue × Item) → Bool
 broke_off r items puts = ends_handshake r items && not (list_any is_spawn puts)
+
+-- whether it is a router's answer to a connection
+abbrev pub is_answer : Item → Bool
+is_answer item.Answer = true
+is_answer _ = false

@@ -1,6 +1,7 @@
 -- What the quota of a channel admits of what its node sends: it counts each key apart.
 use Rattle.std.specs.Prelude.{ℕ, max, ◌==◌, ◌&&◌, cond, List, [], ◌∷◌, flat_map, Option, Some, None}
 use Rattle.std.specs.BTreeMap.{is_at}
+use Rattle.std.specs.Map.{lookup}
 use Rattle.std.specs.Ordering.{nat_cmp}
 use Rattle.std.specs.declared.cmp.Ordering.{Ordering}
 use Rattle.p2p_base.specs.declared.key.Key.{Key}
@@ -13,6 +14,22 @@ use Rattle.p2p_log_rules.specs.Tellings as telling
 -- keys in their order
 abbrev pub key_cmp : Key → Key → Ordering
 key_cmp a b = nat_cmp a.0 b.0
+
+-- ---- rates
+
+-- the channel that is told of, with its rate
+abbrev pub rate_told : ℕ → Telling → List (ℕ × Rate)
+rate_told n (telling.channel_registered m c rate) = cond (m == n) ((c, rate) ∷ []) []
+rate_told n _ = []
+
+abbrev pub rates_in : List Telling → ℕ → List (ℕ × Rate)
+rates_in ts n = flat_map (rate_told n) ts
+
+-- the rate of a channel, where it is registered
+abbrev pub rate_in : List (ℕ × Rate) → ℕ → Option Rate
+rate_in rates c = lookup (λ k. c == k) rates
+
+-- ---- quotas
 
 abbrev pub quota_of : Rate → Quota
 quota_of r = record { burst = r.burst; period = r.period }

@@ -8,6 +8,7 @@ use Rattle.p2p_address.specs.declared.peer.Ingress.{Ingress}
 use Rattle.p2p_tracker_calls.specs.declared.gates.Reply.{Reply as Gates}
 use Rattle.p2p_log.specs.declared.queue.Side.{Side}
 use Rattle.p2p_log.specs.declared.item.Item.{Item}
+use Rattle.p2p_log.specs.declared.event.Rate.{Rate}
 
 -- one thing that an entry tells: each names the thing that it is of, and has what it tells of it
 pub data Telling : Type 0 where
@@ -29,8 +30,8 @@ pub data Telling : Type 0 where
   addresses_told : (node attempt : ℕ) → Telling
   -- its dial was answered by the event of this name
   dial_answered : (node attempt event : ℕ) → Telling
-  -- it has the dialing end of the link of this name
-  link_opened : (node attempt link : ℕ) → Telling
+  -- it has the dialing end of the link of this name, which leads to that node
+  link_opened : (node attempt link to : ℕ) → Telling
   -- it took these addresses, one of which is drawn with this seed
   addresses_taken : (node attempt seed : ℕ) (addresses : List SocketAddr) → Telling
   -- it took at this moment that it is linked
@@ -41,6 +42,24 @@ pub data Telling : Type 0 where
   connection_made : (node conn : ℕ) (key : Key) (link : ℕ) → Telling
   -- the end of a link that writes in this direction was dropped
   end_dropped : (link : ℕ) (side : Side) → Telling
+  -- a channel was registered at a node, with its rate
+  channel_registered : (node channel : ℕ) (rate : Rate) → Telling
+  -- the exchange of keys over a link ended
+  exchange_ended : (link : ℕ) → Telling
+  -- a node's listener took the arrival over a link, for the handshake of this name where it admitted it
+  arrival_taken : (node link : ℕ) (handshake : Option ℕ) → Telling
+  -- a handshake began, of this name
+  handshake_begun : (node handshake : ℕ) → Telling
+  -- it took these
+  handshake_took : (node handshake : ℕ) (items : List Item) → Telling
+  -- it ended, and has the listening end of this link no more
+  handshake_ended : (node handshake link : ℕ) → Telling
+  -- the sending half of a connection did a step
+  half_stepped : (node conn : ℕ) → Telling
+  -- it took its router's answer
+  answer_heard : (node conn : ℕ) → Telling
+  -- a connection ended
+  connection_ended : (node conn : ℕ) → Telling
   -- the sending half of a connection took its router's answer at this moment: it runs
   connection_ran : (node conn at : ℕ) → Telling
   -- it put a ping at this moment

@@ -18,12 +18,13 @@ use Rattle.p2p_log.specs.declared.event.Act.TheVariants as act
 use Rattle.p2p_log.specs.declared.event.Recipients.{Recipients}
 use Rattle.p2p_log.specs.Copies.{keys_of_recipients}
 use Rattle.p2p_log_rules.specs.declared.row.Half.{Half}
-use Rattle.p2p_log_rules.specs.Halves.{connection_in, half_of}
-use Rattle.p2p_log_rules.specs.Facts.{taken, state_from, events_of, rates, rate_in, peers_told}
-use Rattle.p2p_log_rules.specs.HalfSteps.{is_answer, puts_ping, holds}
-use Rattle.p2p_log_rules.specs.Handshakes.{ends_handshake, peer_at}
-use Rattle.p2p_log_rules.specs.Puts.{gave_up, ends_attempt, broke_off}
-use Rattle.p2p_log_rules.specs.Quotas.{keys_by, moments_in}
+use Rattle.p2p_log_rules.specs.HalfSteps.{puts_ping, holds}
+use Rattle.p2p_log_rules.specs.Halves.{half_in}
+use Rattle.p2p_log_rules.specs.HandshakeSteps.{ends_handshake, peer_at}
+use Rattle.p2p_log_rules.specs.Listing.{peers_told}
+use Rattle.p2p_log_rules.specs.Puts.{gave_up, ends_attempt, broke_off, is_answer}
+use Rattle.p2p_log_rules.specs.Quotas.{rate_in, rates_in, keys_by, moments_in}
+use Rattle.p2p_log_rules.specs.Taking.{taken, state_from}
 use Rattle.p2p_log_rules.specs.Tellings.{Telling, Last, last_told, last_or}
 use Rattle.p2p_log_rules.specs.Tellings as telling
 
@@ -51,7 +52,7 @@ ends n k _ = false
 
 -- the link of which it has the dialing end
 abbrev pub opens : ℕ → ℕ → Telling → Option (Option ℕ)
-opens n k (telling.link_opened m j link) = cond ((m == n) && (k == j)) (Some (Some link)) None
+opens n k (telling.link_opened m j link to) = cond ((m == n) && (k == j)) (Some (Some link)) None
 opens n k _ = None
 
 abbrev pub opened_since : ℕ → ℕ → Option (Last Begun) → Option ℕ
@@ -115,10 +116,10 @@ took_tells n k at seed _ = []
 abbrev pub left_tells : ℕ → ℕ → Option ℕ → List (Queue × Item) → List Telling
 left_tells n k link puts = when (ends_attempt puts) (telling.attempt_ended n k ∷ when (gave_up puts) (dialing_dropped link))
 
--- the link that an answer to a dial made, of this name, where there was an arrival
-abbrev pub link_tells : ℕ → ℕ → ℕ → List (Queue × Item) → List Telling
-link_tells n k name (told ∷ arrival ∷ puts) = telling.link_opened n k name ∷ []
-link_tells n k name _ = []
+-- the link that an answer to a dial made, of this name and to that node, where there was an arrival
+abbrev pub link_tells : ℕ → ℕ → ℕ → ℕ → List (Queue × Item) → List Telling
+link_tells n k name to (told ∷ arrival ∷ puts) = telling.link_opened n k name to ∷ []
+link_tells n k name to _ = []
 
 -- an arrival that a listener did not admit
 abbrev pub turned_away : Gates → List Item → List Telling
@@ -129,6 +130,33 @@ turned_away g _ = []
 abbrev pub gates_tell : Reply → List Item → List Telling
 gates_tell (reply.Gates g) items = turned_away g items
 gates_tell r items = []
+
+-- the handshake that begins in an entry of this name, where that admitted an arrival
+abbrev pub admitted_as : ℕ → Reply → Option ℕ
+admitted_as name (reply.Gates gates.Admitted) = Some name
+admitted_as name _ = None
+
+abbrev pub begun_tells : ℕ → Option ℕ → List Telling
+begun_tells n None = []
+begun_tells n (Some h) = telling.handshake_begun n h ∷ []
+
+-- the arrival that a listener took
+abbrev pub arrival_tells : ℕ → Option ℕ → List Item → List Telling
+arrival_tells n handshake (item.Arrival from key link ∷ items) = telling.arrival_taken n link handshake ∷ []
+arrival_tells n handshake _ = []
+
+-- what a handshake took whose peer came over this link, and whether it ended
+abbrev pub handshake_tells : ℕ → ℕ → ℕ → Bool → List Item → List Telling
+handshake_tells n h link over items = telling.handshake_took n h items ∷ when over (telling.handshake_ended n h link ∷ [])
+
+-- that a sending half did a step, and that it took its router's answer
+abbrev pub sender_tells : ℕ → ℕ → Reply → List Item → List Telling
+sender_tells n conn r items = done_tells r (telling.half_stepped n conn ∷ []) ++ when (list_any is_answer items) (telling.answer_heard n conn ∷ [])
+
+-- that a half ended its connection
+abbrev pub end_tells : ℕ → ℕ → Reply → List Telling
+end_tells n conn (reply.Ended why) = telling.connection_ended n conn ∷ []
+end_tells n conn r = []
 
 -- the connection that a spawner made of what it took, in an entry of this name
 abbrev pub spawn_tells : ℕ → ℕ → List Item → List Telling
@@ -163,23 +191,19 @@ heard_tells n at r _ = []
 
 -- the keys that the quota of a channel admits at a moment, of those for whom it is asked
 abbrev pub admitted_in : List Telling → List Entry → ℕ → ℕ → ℕ → Recipients → List Key
-admitted_in ts before n c at to = keys_by (rate_in (rates (events_of before) n) c) at (keys_of_recipients (peers_told before n c) to) (moments_in ts n c)
-
--- a node's half of a connection
-abbrev pub half_in : List Telling → List Entry → ℕ → ℕ → Option Half
-half_in ts before n conn = half_of before n (connection_in ts n conn)
+admitted_in ts before n c at to = keys_by (rate_in (rates_in ts n) c) at (keys_of_recipients (peers_told before n c) to) (moments_in ts n c)
 
 -- after these tellings and entries, with this name, at a moment and with a seed; of this reply, which took and put these
 module _ (ts : List Telling) (before : List Entry) (name at seed : ℕ) (r : Reply) (items : List Item) (puts : List (Queue × Item)) where
   abbrev pub act_tells : Act → List Telling
-  act_tells (act.Register c n rate) = []
-  act_tells (act.Start n) = done_tells r (telling.node_started n at ∷ [])
+  act_tells (act.Register c n rate) = telling.channel_registered n c rate ∷ []
+  act_tells (act.Start n) = telling.node_started n at ∷ []
   act_tells (act.Send bytes c n priority to) = telling.sends_admitted n c at (admitted_in ts before n c at to) ∷ []
   act_tells (act.Check c n to) = telling.sends_admitted n c at (admitted_in ts before n c at to) ∷ check_tells n name c r
   act_tells (act.SendChecked bytes check priority) = telling.check_spent check ∷ []
   act_tells (act.Router n) = []
-  act_tells (act.SendStep conn n) = half_tells r (half_in ts before n conn) ++ done_tells r (pinged_tells n conn at items puts)
-  act_tells (act.RecvStep conn n) = half_tells r (half_in ts before n conn) ++ admitted_tells n conn at r items puts
+  act_tells (act.SendStep conn n) = (sender_tells n conn r items ++ (end_tells n conn r ++ half_tells r (half_in ts n conn))) ++ done_tells r (pinged_tells n conn at items puts)
+  act_tells (act.RecvStep conn n) = (end_tells n conn r ++ half_tells r (half_in ts n conn)) ++ admitted_tells n conn at r items puts
   act_tells (act.Recv c n) = []
   act_tells (act.Close c n) = done_tells r (telling.reader_dropped n c ∷ [])
   act_tells (act.Ask what n) = []
@@ -187,14 +211,15 @@ module _ (ts : List Telling) (before : List Entry) (name at seed : ℕ) (r : Rep
   act_tells (act.Next question) = []
   act_tells (act.Tracker n) = []
   act_tells (act.Dialer n) = answer_tells n (last_or 0 (asks_list n) ts) name at seed items ++ ask_tells n at items puts
-  act_tells (act.Listener n) = gates_tell r items ++ heard_tells n at r items
-  act_tells (act.Handshake h n) = when (broke_off r items puts) (telling.end_dropped (peer_at before h).link side.In ∷ [])
+  act_tells (act.Listener n) = (arrival_tells n (admitted_as name r) items ++ (begun_tells n (admitted_as name r) ++ gates_tell r items)) ++ heard_tells n at r items
+  act_tells (act.Handshake h n) =
+      handshake_tells n h (peer_at before h).link (ends_handshake r items) items ++ when (broke_off r items puts) (telling.end_dropped (peer_at before h).link side.In ∷ [])
   act_tells (act.Spawner n) = spawn_tells n name items
   act_tells (act.Attempt k n) = took_tells n k at seed items ++ left_tells n k (link_in ts n k) puts
   act_tells (act.Resolve addresses k n) = done_tells r (telling.addresses_told n k ∷ [])
-  act_tells (act.Connect k from n to) = done_tells r (telling.dial_answered n k name ∷ link_tells n k name puts)
+  act_tells (act.Connect k from n to) = done_tells r (telling.dial_answered n k name ∷ link_tells n k name to puts)
   act_tells (act.Refuse k n) = done_tells r (telling.dial_answered n k name ∷ [])
-  act_tells (act.Finish link ok) = []
+  act_tells (act.Finish link ok) = done_tells r (telling.exchange_ended link ∷ [])
 
 -- what an entry tells, given what was told and the entries before it
 unfoldable pub tells : List Telling → List Entry → Entry → List Telling
