@@ -20,7 +20,9 @@ use Rattle.p2p_log_rules.specs.Checking.{node_of_check, checking_node, keys_chec
 use Rattle.p2p_log_rules.specs.Effect.{only, taking, takes_list, checked_row, check_row, row, effect}
 use Rattle.p2p_log_rules.specs.Facts.{channels, capacity_in, state_from, with_begun, with_named}
 use Rattle.p2p_log_rules.specs.Lawful.{IsLawful}
-use Rattle.p2p_log_rules.proofs.Checking.{checked_at-append}
+use Rattle.p2p_log_rules.specs.Tellings.{last_told}
+use Rattle.p2p_log_rules.specs.Told.{told}
+use Rattle.p2p_log_rules.proofs.Checks.{checked_at-append}
 use Rattle.p2p_log_laws.specs.Admitted.{IsCheckOf, ChecksAreAdmitted, ChecksAreSpentOnce}
 use Rattle.p2p_log_laws.proofs.Accepting.{each_checked}
 use Rattle.p2p_log_laws.proofs.Prefixes.{at_end, take_next, take_no_more}
@@ -116,7 +118,7 @@ module _ (configs : List Config) (before : List Entry) (ev : Event) (h : ChecksA
   more_admitted k = by_act ev.act refl (sym (checked_at-append before e n name) ∙ k)
 
 none_first : ChecksAreAdmitted []
-unfolding checked_at state_from
+unfolding checked_at told state_from last_told
 none_first n name c h = absurd (cc)
 
 pub checks_are_admitted : (configs : List Config) (script : List Event) (log : List Entry) → IsLawful configs script log → ChecksAreAdmitted log

@@ -27,7 +27,7 @@ use Rattle.p2p_log_rules.proofs.Families.{kind, kinds_of, has, are_apart, untold
 use Rattle.p2p_log_rules.proofs.Ignoring.{and_true, and_false}
 use Rattle.p2p_log_rules.proofs.Spawning.{connections_of-longer}
 use Rattle.p2p_log_rules.proofs.Tellings.{told-append}
-use Rattle.p2p_log_rules.proofs.Told.{half_quiet}
+use Rattle.p2p_log_rules.proofs.Told.{half_quiet, before_pings, before_admitted}
 
 -- whether such a thing is told by an entry more
 told_more : (test : Telling → Bool) (log : List Entry) (e : Entry) (b : Bool) → list_any test (tells (told log) log e) ≡ b → list_any test (told (log ++ e ∷ [])) ≡ (list_any test (told log) || b)
@@ -86,7 +86,8 @@ module _ (n conn : ℕ) where
   unfolding tells
   step_act log e (act.SendStep c m) is =
       ap (λ b. list_any (is_step n conn) (act_tells (told log) log (length log) e.event.at e.event.seed e.reply (taken log e) e.puts b)) is
-      ∙ (sender_told (is_step n conn) (λ link s. refl) m c e.reply (taken log e) (half_in (told log) m c) ∙ step_told m c e.reply (taken log e))
+      ∙ (before_pings (is_step n conn) (length log) e.event.at (sender_tells m c e.reply (taken log e) ++ (end_tells m c e.reply ++ half_tells e.reply (half_in (told log) m c))) m c e.reply (taken log e) e.puts (record { runs = refl; pings = refl })
+      ∙ sender_told (is_step n conn) (λ link s. refl) m c e.reply (taken log e) (half_in (told log) m c) ∙ step_told m c e.reply (taken log e))
   step_act log e a is = untold_of (is_step n conn) (26 ∷ []) step_kinds (told log) log e (ap (λ b. are_apart (kinds_of b) (26 ∷ [])) is)
 
 pub is_begun-append : (log : List Entry) (e : Entry) (n conn : ℕ) → is_begun (log ++ e ∷ []) n conn ≡ (is_begun log n conn || begins n conn e)
@@ -132,7 +133,8 @@ module _ (n conn : ℕ) where
   unfolding tells
   answer_act log e (act.SendStep c m) is =
       ap (λ b. list_any (hears_answer n conn) (act_tells (told log) log (length log) e.event.at e.event.seed e.reply (taken log e) e.puts b)) is
-      ∙ (sender_told (hears_answer n conn) (λ link s. refl) m c e.reply (taken log e) (half_in (told log) m c) ∙ heard_told m c e.reply (taken log e))
+      ∙ (before_pings (hears_answer n conn) (length log) e.event.at (sender_tells m c e.reply (taken log e) ++ (end_tells m c e.reply ++ half_tells e.reply (half_in (told log) m c))) m c e.reply (taken log e) e.puts (record { runs = refl; pings = refl })
+      ∙ sender_told (hears_answer n conn) (λ link s. refl) m c e.reply (taken log e) (half_in (told log) m c) ∙ heard_told m c e.reply (taken log e))
   answer_act log e a is = untold_of (hears_answer n conn) (27 ∷ []) answer_kinds (told log) log e (ap (λ b. are_apart (kinds_of b) (27 ∷ [])) is)
 
 pub is_running-append :
@@ -180,11 +182,13 @@ module _ (n conn : ℕ) where
   unfolding tells
   over_act log e (act.SendStep c m) is =
       ap (λ b. list_any (is_over n conn) (act_tells (told log) log (length log) e.event.at e.event.seed e.reply (taken log e) e.puts b)) is
-      ∙ (sender_told (is_over n conn) (λ link s. refl) m c e.reply (taken log e) (half_in (told log) m c)
+      ∙ (before_pings (is_over n conn) (length log) e.event.at (sender_tells m c e.reply (taken log e) ++ (end_tells m c e.reply ++ half_tells e.reply (half_in (told log) m c))) m c e.reply (taken log e) e.puts (record { runs = refl; pings = refl })
+      ∙ sender_told (is_over n conn) (λ link s. refl) m c e.reply (taken log e) (half_in (told log) m c)
       ∙ (sender_over m c e.reply (taken log e) ∙ (over_told m c e.reply ∙ ap (λ b. b && is_end e.reply) (sym (or-false ((m == n) && (c == conn)))))))
   over_act log e (act.RecvStep c m) is =
       ap (λ b. list_any (is_over n conn) (act_tells (told log) log (length log) e.event.at e.event.seed e.reply (taken log e) e.puts b)) is
-      ∙ (ended_told (is_over n conn) (λ link s. refl) m c e.reply (half_in (told log) m c) ∙ over_told m c e.reply)
+      ∙ (before_admitted (is_over n conn) (length log) e.event.at (end_tells m c e.reply ++ half_tells e.reply (half_in (told log) m c)) m c e.reply (taken log e) e.puts (λ i. refl)
+      ∙ (ended_told (is_over n conn) (λ link s. refl) m c e.reply (half_in (told log) m c) ∙ over_told m c e.reply))
   over_act log e a is = untold_of (is_over n conn) (28 ∷ []) over_kinds (told log) log e (ap (λ b. are_apart (kinds_of b) (28 ∷ [])) is)
 
 pub is_ended-append : (log : List Entry) (e : Entry) (n conn : ℕ) → is_ended (log ++ e ∷ []) n conn ≡ (is_ended log n conn || ends_connection n conn e)

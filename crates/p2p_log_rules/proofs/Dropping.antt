@@ -1,10 +1,11 @@
 -- Which ends of links were dropped, after one more entry.
-use Rattle.std.proofs.Common.{◌≡◌, ℕ, Bool, true, false, cond, List, [], ◌∷◌, ◌++◌, length, refl, ap, ◌∙◌, Option, Some, None}
-use Rattle.std.specs.Prelude.{◌==◌, ◌&&◌, ◌||◌}
+use Rattle.std.proofs.Common.{◌≡◌, ℕ, Bool, true, false, cond, List, [], ◌∷◌, ◌++◌, length, refl, ap, ◌∙◌, append-nil, Option, Some, None}
+use Rattle.std.specs.Prelude.{◌==◌, ◌&&◌, ◌||◌, not}
 use Rattle.std.specs.List.{list_any}
 use Rattle.std.specs.Option.{option_map}
 use Rattle.std.proofs.lemmas.Grind.{flat_map-append}
 use Rattle.std.proofs.lemmas.List.Folds.{list_any-append}
+use Rattle.p2p_address.specs.declared.ip.IpAddr.{IpAddr}
 use Rattle.p2p_log.specs.declared.queue.Queue.{Queue}
 use Rattle.p2p_log.specs.declared.queue.Side.{Side}
 use Rattle.p2p_log.specs.declared.queue.Side.TheVariants as side
@@ -19,13 +20,14 @@ use Rattle.p2p_log_rules.specs.declared.row.Half.{Half}
 use Rattle.p2p_log_rules.specs.Connections.{half_at, is_end}
 use Rattle.p2p_log_rules.specs.Dropping.{LinkEnd, is_side, drops, is_dropped, drop_in, drops_in, drops_of, dialing_end, arrival_end, half_end}
 use Rattle.p2p_log_rules.specs.Facts.{taken, state_from}
+use Rattle.p2p_log_rules.specs.HalfSteps.{puts_ping, holds}
 use Rattle.p2p_log_rules.specs.Halves.{half_in}
 use Rattle.p2p_log_rules.specs.Handshakes.{ends_handshake, peer_at}
 use Rattle.p2p_log_rules.specs.Puts.{is_spawn, gave_up, broke_off, is_answer, turns_away, arrival_link}
 use Rattle.p2p_log_rules.specs.Spawning.{connections_of}
 use Rattle.p2p_log_rules.specs.Tellings.{Telling}
 use Rattle.p2p_log_rules.specs.Tellings as telling
-use Rattle.p2p_log_rules.specs.Told.{when, done_tells, link_in, dialing_dropped, listening_dropped, half_tells, end_tells, sender_tells, handshake_tells, admitted_as, begun_tells, arrival_tells, gates_tell, took_tells, left_tells, act_tells, tells, told}
+use Rattle.p2p_log_rules.specs.Told.{listening_dropped, pinged_tells, admitted_tells, judged_tells, heard_tells, when, done_tells, link_in, dialing_dropped, half_tells, end_tells, sender_tells, handshake_tells, admitted_as, begun_tells, arrival_tells, gates_tell, took_tells, left_tells, act_tells, tells, told}
 use Rattle.p2p_log_rules.proofs.Families.{kind, kinds_of, has, are_apart, untold_of}
 use Rattle.p2p_log_rules.proofs.Tellings.{told-append}
 
@@ -89,6 +91,38 @@ half_drops (reply.Ended why) None = refl
 half_drops (reply.Ended why) (Some half) = refl
 half_drops _ o = refl
 
+-- a ping drops none, nor does what is let in or heard
+ping_drops : (n conn at : ℕ) (r : Reply) (items : List Item) (puts : List (Queue × Item)) → drops_in (done_tells r (pinged_tells n conn at items puts)) ≡ []
+ping_drops n conn at reply.Ok items puts = by (list_any is_answer items) (puts_ping items puts)
+  where
+    by : (runs pings : Bool) → drops_in (when runs (telling.connection_ran n conn at ∷ []) ++ when pings (telling.ping_put n conn at ∷ [])) ≡ []
+    by true true = refl
+    by true false = refl
+    by false true = refl
+    by false false = refl
+ping_drops n conn at _ items puts = refl
+
+let_in_drops : (n conn at : ℕ) (r : Reply) (items : List Item) (puts : List (Queue × Item)) → drops_in (admitted_tells n conn at r items puts) ≡ []
+let_in_drops n conn at (reply.Ended why) items puts = refl
+let_in_drops n conn at _ [] puts = refl
+let_in_drops n conn at _ (i ∷ items) puts = by (holds puts)
+  where
+    by : (b : Bool) → drops_in (when (not b) (telling.item_admitted n conn at i ∷ [])) ≡ []
+    by true = refl
+    by false = refl
+
+judged_drops : (n at : ℕ) (from : IpAddr) (r : Reply) → drops_in (judged_tells n at from r) ≡ []
+judged_drops n at from (reply.Gates g) = refl
+judged_drops n at from _ = refl
+
+heard_drops : (n at : ℕ) (r : Reply) (items : List Item) → drops_in (heard_tells n at r items) ≡ []
+heard_drops n at r (item.Addresses addresses ∷ items) = refl
+heard_drops n at r (item.Arrival from key link ∷ items) = judged_drops n at from.ip r
+heard_drops n at r _ = refl
+
+drops_before : (ts us : List Telling) → drops_in us ≡ [] → drops_in (ts ++ us) ≡ drops_in ts
+drops_before ts us none = drops_in-append ts us ∙ (ap (λ l. drops_in ts ++ l) none ∙ append-nil (drops_in ts))
+
 -- what a half tells of its connection besides
 over_drops : (n conn : ℕ) (r : Reply) (o : Option Half) → drops_in (end_tells n conn r ++ half_tells r o) ≡ all_of (cond (is_end r) (half_end o) None)
 over_drops n conn (reply.Ended why) o = half_drops (reply.Ended why) o
@@ -128,10 +162,10 @@ arrival_drops n name r items =
     begins None = refl
     begins (Some h) = refl
 
-heard_drops : (b : Bool) (o : Option ℕ) → drops_in (when b (listening_dropped o)) ≡ all_of (cond b (option_map (λ l. (l, side.In)) o) None)
-heard_drops true None = refl
-heard_drops true (Some link) = refl
-heard_drops false o = refl
+turned_drops : (b : Bool) (o : Option ℕ) → drops_in (when b (listening_dropped o)) ≡ all_of (cond b (option_map (λ l. (l, side.In)) o) None)
+turned_drops true None = refl
+turned_drops true (Some link) = refl
+turned_drops false o = refl
 
 module _ (log : List Entry) (e : Entry) where
   abbrev acts_tell : Act → List Telling
@@ -156,17 +190,24 @@ module _ (log : List Entry) (e : Entry) where
   unfolding half_at connections_of
   drops_of-send conn n is =
       tells_act (act.SendStep conn n) is
+      ∙ (drops_before (sender_tells n conn e.reply (taken log e) ++ (end_tells n conn e.reply ++ half_tells e.reply (half_in (told log) n conn))) (done_tells e.reply (pinged_tells n conn e.event.at (taken log e) e.puts)) (ping_drops n conn e.event.at e.reply (taken log e) e.puts)
       ∙ (drops_in-append (sender_tells n conn e.reply (taken log e)) (end_tells n conn e.reply ++ half_tells e.reply (half_in (told log) n conn))
       ∙ (ap (λ l. l ++ drops_in (end_tells n conn e.reply ++ half_tells e.reply (half_in (told log) n conn))) (sender_drops n conn e.reply (taken log e))
-      ∙ over_drops n conn e.reply (half_at log n conn)))
+      ∙ over_drops n conn e.reply (half_at log n conn))))
 
   pub drops_of-receive : (conn n : ℕ) → e.event.act ≡ act.RecvStep conn n → drops_of log e ≡ all_of (cond (is_end e.reply) (half_end (half_at log n conn)) None)
   unfolding half_at connections_of
-  drops_of-receive conn n is = tells_act (act.RecvStep conn n) is ∙ over_drops n conn e.reply (half_at log n conn)
+  drops_of-receive conn n is =
+      tells_act (act.RecvStep conn n) is
+      ∙ (drops_before (end_tells n conn e.reply ++ half_tells e.reply (half_in (told log) n conn)) (admitted_tells n conn e.event.at e.reply (taken log e) e.puts) (let_in_drops n conn e.event.at e.reply (taken log e) e.puts)
+      ∙ over_drops n conn e.reply (half_at log n conn))
 
   -- a step that turns an arrival away drops its end
   pub drops_of-listener : (n : ℕ) → e.event.act ≡ act.Listener n → drops_of log e ≡ all_of (cond (turns_away e.reply) (arrival_end (taken log e)) None)
-  drops_of-listener n is = tells_act (act.Listener n) is ∙ (arrival_drops n (length log) e.reply (taken log e) ∙ heard_drops (turns_away e.reply) (arrival_link (taken log e)))
+  drops_of-listener n is =
+      tells_act (act.Listener n) is
+      ∙ (drops_before (arrival_tells n (admitted_as (length log) e.reply) (taken log e) ++ (begun_tells n (admitted_as (length log) e.reply) ++ gates_tell e.reply (taken log e))) (heard_tells n e.event.at e.reply (taken log e)) (heard_drops n e.event.at e.reply (taken log e))
+      ∙ (arrival_drops n (length log) e.reply (taken log e) ∙ turned_drops (turns_away e.reply) (arrival_link (taken log e))))
 
 -- where no end is told of, none is dropped
 none_dropped : (ts : List Telling) → list_any is_drop ts ≡ false → drops_in ts ≡ []

@@ -55,17 +55,30 @@ kind (telling.lists_wanted m c) = 70
 kind (telling.ready_routed m conn key) = 71
 kind (telling.release_routed m key) = 72
 kind (telling.peers_listed m c keys) = 73
+kind (telling.connection_ran m k at) = 40
+kind (telling.ping_put m k at) = 41
+kind (telling.item_admitted m k at i) = 42
+kind (telling.sends_admitted m c at keys) = 43
+kind (telling.check_made m k c keys) = 44
+kind (telling.check_spent k) = 45
+kind (telling.reader_dropped m c) = 46
+kind (telling.update_taken m addresses) = 47
+kind (telling.arrival_judged m at from g) = 48
 
 -- the kinds that an act may tell: one line for an act
 abbrev pub kinds_of : Act → List ℕ
 kinds_of (act.Register c m rate) = 20 ∷ []
 kinds_of (act.Start m) = 0 ∷ []
 kinds_of (act.Router m) = 70 ∷ 71 ∷ 72 ∷ 73 ∷ []
-kinds_of (act.SendStep conn m) = 14 ∷ 26 ∷ 27 ∷ 28 ∷ []
-kinds_of (act.RecvStep conn m) = 14 ∷ 28 ∷ []
 kinds_of (act.Tracker m) = 60 ∷ 61 ∷ 62 ∷ 63 ∷ 64 ∷ 65 ∷ 66 ∷ 67 ∷ 68 ∷ 69 ∷ []
+kinds_of (act.Send bytes c m priority to) = 43 ∷ []
+kinds_of (act.Check c m to) = 43 ∷ 44 ∷ []
+kinds_of (act.SendChecked bytes check priority) = 45 ∷ []
+kinds_of (act.SendStep conn m) = 14 ∷ 26 ∷ 27 ∷ 28 ∷ 40 ∷ 41 ∷ []
+kinds_of (act.RecvStep conn m) = 14 ∷ 28 ∷ 42 ∷ []
+kinds_of (act.Close c m) = 46 ∷ []
 kinds_of (act.Dialer m) = 2 ∷ 3 ∷ 4 ∷ 5 ∷ 6 ∷ 7 ∷ []
-kinds_of (act.Listener m) = 14 ∷ 22 ∷ 23 ∷ []
+kinds_of (act.Listener m) = 14 ∷ 22 ∷ 23 ∷ 47 ∷ 48 ∷ []
 kinds_of (act.Handshake h m) = 14 ∷ 24 ∷ 25 ∷ []
 kinds_of (act.Spawner m) = 15 ∷ []
 kinds_of (act.Attempt k m) = 11 ∷ 12 ∷ 13 ∷ 14 ∷ []
@@ -86,8 +99,6 @@ within : (name at : ℕ) (a : Act) → NoneTold (λ t. not (has (kinds_of a) (ki
 within name at (act.Register c m rate) = refl
 within name at (act.Start m) = refl
 within name at (act.Router m) = record { wants = λ c. refl; ready = λ conn key. refl; release = λ key. refl; list = λ n c keys. refl }
-within name at (act.SendStep conn m) = record { step = refl; answer = refl; ends = record { over = refl; drops = λ link s. refl } }
-within name at (act.RecvStep conn m) = record { over = refl; drops = λ link s. refl }
 within name at (act.Tracker m) = record {
   unblocks = refl;
   set = λ index primary secondary. refl;
@@ -100,8 +111,14 @@ within name at (act.Tracker m) = record {
   sets = λ e. refl;
   blocks = λ e. refl;
 }
+within name at (act.Send bytes c m priority to) = λ keys. refl
+within name at (act.Check c m to) = (λ keys. refl, λ keys. refl)
+within name at (act.SendChecked bytes check priority) = refl
+within name at (act.SendStep conn m) = (record { step = refl; answer = refl; ends = record { over = refl; drops = λ link s. refl } }, record { runs = refl; pings = refl })
+within name at (act.RecvStep conn m) = (record { over = refl; drops = λ link s. refl }, λ i. refl)
+within name at (act.Close c m) = refl
 within name at (act.Dialer m) = record { list = λ asked seed next peers. refl; answer = refl; begun = λ key ingress. refl; due = refl; dials = refl; asks = refl }
-within name at (act.Listener m) = record { took = λ link handshake. refl; begun = refl; drops = λ link. refl }
+within name at (act.Listener m) = (record { took = λ link handshake. refl; begun = refl; drops = λ link. refl }, record { update = λ addresses. refl; arrival = λ from g. refl })
 within name at (act.Handshake e m) = record { took = λ items. refl; over = λ link. refl; drops = λ link. refl }
 within name at (act.Spawner m) = λ key link. refl
 within name at (act.Attempt e m) = record { addresses = λ seed addresses. refl; link = refl; ended = refl; drops = λ link. refl }

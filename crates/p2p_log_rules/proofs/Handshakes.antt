@@ -21,12 +21,12 @@ use Rattle.p2p_log_rules.specs.Puts.{broke_off}
 use Rattle.p2p_log_rules.specs.Standing.{standing}
 use Rattle.p2p_log_rules.specs.Tellings.{Telling, any_or}
 use Rattle.p2p_log_rules.specs.Tellings as telling
-use Rattle.p2p_log_rules.specs.Told.{when, admitted_as, begun_tells, arrival_tells, handshake_tells, gates_tell, act_tells, tells, told}
+use Rattle.p2p_log_rules.specs.Told.{when, admitted_as, begun_tells, arrival_tells, handshake_tells, gates_tell, heard_tells, act_tells, tells, told}
 use Rattle.p2p_log_rules.proofs.Families.{kind, kinds_of, has, are_apart, untold_of}
 use Rattle.p2p_log_rules.proofs.Ignoring.{any_or-none, either_same, by_entries}
 use Rattle.p2p_log_rules.proofs.Standing.{started, stood_after, stood_told, standing-more, stood_append, same_filter, same_stood, others_stood}
 use Rattle.p2p_log_rules.proofs.Tellings.{told-append, any_or-append, append_quiet, when_quiet}
-use Rattle.p2p_log_rules.proofs.Told.{arrival_quiet, gates_quiet}
+use Rattle.p2p_log_rules.proofs.Told.{arrival_quiet, gates_quiet, heard_quiet}
 
 -- ---- by the act of one entry more
 
@@ -95,7 +95,10 @@ module _ (n : ℕ) where
   after_act : (ts : List Telling) (log : List Entry) (e : Entry) (names : List ℕ) (a : Act) → e.event.act ≡ a → after_all (tells ts log e) names ≡ acted_handshakes n (length log) e.reply (taken log e) a names
   unfolding tells
   after_act ts log e names (act.Listener m) is =
-      ap (λ b. after_all (act_tells ts log (length log) e.event.at e.event.seed e.reply (taken log e) e.puts b) names) is ∙ listened_after m (length log) e.reply (taken log e) names
+      ap (λ b. after_all (act_tells ts log (length log) e.event.at e.event.seed e.reply (taken log e) e.puts b) names) is
+      ∙ (stood_append (begins_handshake n) (ends_named n) (arrival_tells m (admitted_as (length log) e.reply) (taken log e) ++ (begun_tells m (admitted_as (length log) e.reply) ++ gates_tell e.reply (taken log e))) (heard_tells m e.event.at e.reply (taken log e)) names
+      ∙ (others_after (heard_tells m e.event.at e.reply (taken log e)) (after_all (arrival_tells m (admitted_as (length log) e.reply) (taken log e) ++ (begun_tells m (admitted_as (length log) e.reply) ++ gates_tell e.reply (taken log e))) names) (heard_quiet of_handshakes (length log) e.event.at m e.reply (taken log e) (record { update = λ addresses. refl; arrival = λ from g. refl }))
+      ∙ listened_after m (length log) e.reply (taken log e) names))
   after_act ts log e names (act.Handshake h m) is =
       ap (λ b. after_all (act_tells ts log (length log) e.event.at e.event.seed e.reply (taken log e) e.puts b) names) is
       ∙ shaken_after m h (peer_at log h).link (ends_handshake e.reply (taken log e)) (broke_off e.reply (taken log e) e.puts) (taken log e) names

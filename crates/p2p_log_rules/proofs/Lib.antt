@@ -1,7 +1,7 @@
 pub mod Attempts
 pub mod Calls
 pub mod Channels
-pub mod Checking
+pub mod Checks
 pub mod Closing
 pub mod Connections
 pub mod Dialed
@@ -14,12 +14,18 @@ pub mod Handshakes
 pub mod Ignoring
 pub mod Lawful
 pub mod Links
+pub mod Listening
+pub mod Metering
 pub mod Moves
 pub mod Named
+pub mod Others
+pub mod PingRows
+pub mod Pinging
 pub mod Recorded
 pub mod Rising
 pub mod Routed
 pub mod Routing
+pub mod Sends
 pub mod Spawning
 pub mod Standing
 pub mod TakenAt

@@ -23,11 +23,11 @@ use Rattle.p2p_log_rules.specs.Links.{opens_exchange, openings_of, has_listening
 use Rattle.p2p_log_rules.specs.Puts.{broke_off}
 use Rattle.p2p_log_rules.specs.Tellings.{Telling, last_or}
 use Rattle.p2p_log_rules.specs.Tellings as telling
-use Rattle.p2p_log_rules.specs.Told.{when, done_tells, link_tells, admitted_as, begun_tells, arrival_tells, handshake_tells, gates_tell, act_tells, tells, told}
+use Rattle.p2p_log_rules.specs.Told.{when, done_tells, link_tells, admitted_as, begun_tells, arrival_tells, handshake_tells, gates_tell, heard_tells, act_tells, tells, told}
 use Rattle.p2p_log_rules.proofs.Families.{kind, kinds_of, has, are_apart, untold_of}
 use Rattle.p2p_log_rules.proofs.Ignoring.{reads_some, last_or-none, unwrap_named, unwrap_at, either_same}
 use Rattle.p2p_log_rules.proofs.Tellings.{told-append, last_or-append, append_quiet, when_quiet}
-use Rattle.p2p_log_rules.proofs.Told.{begun_quiet, gates_quiet}
+use Rattle.p2p_log_rules.proofs.Told.{begun_quiet, gates_quiet, heard_quiet}
 
 -- ---- between whom keys are exchanged
 
@@ -117,7 +117,11 @@ module _ (n k : ℕ) where
   listening_told ts log e f (act.Connect d from m to) is =
       ap (λ b. last_or (f k) (has_listening n k) (act_tells ts log (length log) e.event.at e.event.seed e.reply (taken log e) e.puts b)) is ∙ arrived_told m d (length log) to e.reply e.puts f
   listening_told ts log e f (act.Listener m) is =
-      ap (λ b. last_or (f k) (has_listening n k) (act_tells ts log (length log) e.event.at e.event.seed e.reply (taken log e) e.puts b)) is ∙ listened_told m (length log) e.reply (taken log e) f
+      ap (λ b. last_or (f k) (has_listening n k) (act_tells ts log (length log) e.event.at e.event.seed e.reply (taken log e) e.puts b)) is
+      ∙ (last_or-append (f k) (has_listening n k) (arrival_tells m (admitted_as (length log) e.reply) (taken log e) ++ (begun_tells m (admitted_as (length log) e.reply) ++ gates_tell e.reply (taken log e))) (heard_tells m e.event.at e.reply (taken log e))
+      ∙ (last_or-none (last_or (f k) (has_listening n k) (arrival_tells m (admitted_as (length log) e.reply) (taken log e) ++ (begun_tells m (admitted_as (length log) e.reply) ++ gates_tell e.reply (taken log e)))) (has_listening n k) (heard_tells m e.event.at e.reply (taken log e))
+      (heard_quiet (reads_some (has_listening n k)) (length log) e.event.at m e.reply (taken log e) (record { update = λ addresses. refl; arrival = λ from g. refl }))
+      ∙ listened_told m (length log) e.reply (taken log e) f))
   listening_told ts log e f (act.Handshake h m) is =
       ap (λ b. last_or (f k) (has_listening n k) (act_tells ts log (length log) e.event.at e.event.seed e.reply (taken log e) e.puts b)) is
       ∙ shaken_told m h (peer_at log h).link (ends_handshake e.reply (taken log e)) (broke_off e.reply (taken log e) e.puts) (taken log e) f

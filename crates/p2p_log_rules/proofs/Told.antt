@@ -1,8 +1,9 @@
 -- What an act may tell: where a test holds of none of that, it holds of nothing that the act tells. The one proof that looks at acts.
 use Rattle.std.proofs.Common.{◌≡◌, ℕ, Bool, true, false, List, [], ◌∷◌, ◌++◌, refl, ap, ◌∙◌, Option, Some, None}
-use Rattle.std.specs.Prelude.{◌||◌}
+use Rattle.std.specs.Prelude.{◌||◌, not}
 use Rattle.std.specs.List.{list_any}
 use Rattle.p2p_base.specs.declared.key.Key.{Key}
+use Rattle.p2p_address.specs.declared.ip.IpAddr.{IpAddr}
 use Rattle.p2p_address.specs.declared.ip.SocketAddr.{SocketAddr}
 use Rattle.p2p_address.specs.declared.peer.Ingress.{Ingress}
 use Rattle.p2p_tracker_calls.specs.declared.gates.Reply.TheVariants as gates
@@ -18,13 +19,15 @@ use Rattle.p2p_log.specs.declared.event.Act.{Act}
 use Rattle.p2p_log.specs.declared.event.Act.TheVariants as act
 use Rattle.p2p_log.specs.declared.event.Rate.{Rate}
 use Rattle.p2p_log_rules.specs.declared.row.Half.{Half}
+use Rattle.p2p_log_rules.specs.HalfSteps.{puts_ping, holds}
 use Rattle.p2p_log_rules.specs.Halves.{half_in}
 use Rattle.p2p_log_rules.specs.HandshakeSteps.{ends_handshake, peer_at}
 use Rattle.p2p_log_rules.specs.Puts.{gave_up, ends_attempt, broke_off, is_answer, turns_away, arrival_link}
 use Rattle.p2p_log_rules.specs.Tellings.{Telling, last_or}
 use Rattle.p2p_log_rules.specs.Tellings as telling
-use Rattle.p2p_log_rules.specs.Told.{spawn_tells, admitted_as, begun_tells, arrival_tells, handshake_tells, sender_tells, end_tells, when, done_tells, asks_list, link_in, dialing_dropped, listening_dropped, half_dropped, half_tells, gates_tell, answer_tells, due_tells, ask_tells, took_tells, left_tells, link_tells, act_tells}
+use Rattle.p2p_log_rules.specs.Told.{listening_dropped, pinged_tells, admitted_tells, check_tells, judged_tells, heard_tells, admitted_in, spawn_tells, admitted_as, begun_tells, arrival_tells, handshake_tells, sender_tells, end_tells, when, done_tells, asks_list, link_in, dialing_dropped, half_dropped, half_tells, gates_tell, answer_tells, due_tells, ask_tells, took_tells, left_tells, link_tells, act_tells}
 use Rattle.p2p_log_rules.proofs.Routed.{NoneRouted, router_quiet}
+use Rattle.std.proofs.lemmas.List.Folds.{list_any-append}
 use Rattle.p2p_log_rules.proofs.Tellings.{append_quiet, when_quiet, done_quiet}
 use Rattle.p2p_log_rules.proofs.Tracked.{NoneTracked, tracker_quiet}
 
@@ -66,17 +69,30 @@ pub record NoneShaken (test : Telling → Bool) (m h : ℕ) : Type 0 where
   pub took : (items : List Item) → test (telling.handshake_took m h items) ≡ false
   pub over : (link : ℕ) → test (telling.handshake_ended m h link) ≡ false
   pub drops : (link : ℕ) → test (telling.end_dropped link side.In) ≡ false
+-- nor a step of a sending half of its pings
+pub record NonePinged (test : Telling → Bool) (m conn at : ℕ) : Type 0 where
+  pub runs : test (telling.connection_ran m conn at) ≡ false
+  pub pings : test (telling.ping_put m conn at) ≡ false
+
+-- nor a step of a listener of what it took
+pub record NoneHeard (test : Telling → Bool) (m at : ℕ) : Type 0 where
+  pub update : (addresses : List IpAddr) → test (telling.update_taken m addresses) ≡ false
+  pub arrival : (from : IpAddr) (g : Gates) → test (telling.arrival_judged m at from g) ≡ false
 
 module _ (test : Telling → Bool) (name at : ℕ) where
   abbrev pub NoneTold : Act → Type 0
   NoneTold (act.Register c m rate) = test (telling.channel_registered m c rate) ≡ false
   NoneTold (act.Start m) = test (telling.node_started m at) ≡ false
   NoneTold (act.Router m) = NoneRouted test m
-  NoneTold (act.SendStep conn m) = NoneSent test m conn
-  NoneTold (act.RecvStep conn m) = NoneReceived test m conn
   NoneTold (act.Tracker m) = NoneTracked test m at
+  NoneTold (act.Send bytes c m priority to) = (keys : List Key) → test (telling.sends_admitted m c at keys) ≡ false
+  NoneTold (act.Check c m to) = ((keys : List Key) → test (telling.sends_admitted m c at keys) ≡ false) × ((keys : List Key) → test (telling.check_made m name c keys) ≡ false)
+  NoneTold (act.SendChecked bytes check priority) = test (telling.check_spent check) ≡ false
+  NoneTold (act.SendStep conn m) = NoneSent test m conn × NonePinged test m conn at
+  NoneTold (act.RecvStep conn m) = NoneReceived test m conn × ((i : Item) → test (telling.item_admitted m conn at i) ≡ false)
+  NoneTold (act.Close c m) = test (telling.reader_dropped m c) ≡ false
   NoneTold (act.Dialer m) = NoneDialed test m name at
-  NoneTold (act.Listener m) = NoneListened test m name
+  NoneTold (act.Listener m) = NoneListened test m name × NoneHeard test m at
   NoneTold (act.Handshake h m) = NoneShaken test m h
   NoneTold (act.Spawner m) = (key : Key) (link : ℕ) → test (telling.connection_made m name key link) ≡ false
   NoneTold (act.Attempt e m) = NoneTried test m e at
@@ -97,12 +113,12 @@ module _ (test : Telling → Bool) (name at : ℕ) where
   half_quiet (reply.Ended why) (Some half) h = one (telling.end_dropped half.link half.writes) (h half.link half.writes)
   half_quiet _ o h = refl
 
-  heard_quiet : (o : Option ℕ) → ((link : ℕ) → test (telling.end_dropped link side.In) ≡ false) → list_any test (listening_dropped o) ≡ false
-  heard_quiet None h = refl
-  heard_quiet (Some link) h = one (telling.end_dropped link side.In) (h link)
+  turned_quiet : (o : Option ℕ) → ((link : ℕ) → test (telling.end_dropped link side.In) ≡ false) → list_any test (listening_dropped o) ≡ false
+  turned_quiet None h = refl
+  turned_quiet (Some link) h = one (telling.end_dropped link side.In) (h link)
 
   pub gates_quiet : (r : Reply) (items : List Item) → ((link : ℕ) → test (telling.end_dropped link side.In) ≡ false) → list_any test (gates_tell r items) ≡ false
-  gates_quiet r items h = when_quiet test (turns_away r) (listening_dropped (arrival_link items)) (heard_quiet (arrival_link items) h)
+  gates_quiet r items h = when_quiet test (turns_away r) (listening_dropped (arrival_link items)) (turned_quiet (arrival_link items) h)
 
   pub begun_quiet : (m : ℕ) (r : Reply) → test (telling.handshake_begun m name) ≡ false → list_any test (begun_tells m (admitted_as name r)) ≡ false
   begun_quiet m (reply.Gates gates.Admitted) h = one (telling.handshake_begun m name) h
@@ -113,7 +129,7 @@ module _ (test : Telling → Bool) (name at : ℕ) where
   arrival_quiet m handshake (item.Arrival from key link ∷ items) h = one (telling.arrival_taken m link handshake) (h link handshake)
   arrival_quiet m handshake _ h = refl
 
-  listener_quiet : (m : ℕ) (r : Reply) (items : List Item) → NoneListened test m name
+  pub listener_quiet : (m : ℕ) (r : Reply) (items : List Item) → NoneListened test m name
       → list_any test (arrival_tells m (admitted_as name r) items ++ (begun_tells m (admitted_as name r) ++ gates_tell r items)) ≡ false
   listener_quiet m r items h =
       append_quiet test (arrival_tells m (admitted_as name r) items) (begun_tells m (admitted_as name r) ++ gates_tell r items) (arrival_quiet m (admitted_as name r) items h.took)
@@ -127,18 +143,55 @@ module _ (test : Telling → Bool) (name at : ℕ) where
       (when_quiet test over (telling.handshake_ended m h link ∷ []) (one (telling.handshake_ended m h link) (none.over link)))
       (when_quiet test broke (telling.end_dropped link side.In ∷ []) (one (telling.end_dropped link side.In) (none.drops link))))
 
-  over_quiet : (m conn : ℕ) (r : Reply) (half : Option Half) → NoneReceived test m conn → list_any test (end_tells m conn r ++ half_tells r half) ≡ false
+  pub over_quiet : (m conn : ℕ) (r : Reply) (half : Option Half) → NoneReceived test m conn → list_any test (end_tells m conn r ++ half_tells r half) ≡ false
   over_quiet m conn r half h = append_quiet test (end_tells m conn r) (half_tells r half) (by r) (half_quiet r half h.drops)
     where
       by : (r : Reply) → list_any test (end_tells m conn r) ≡ false
       by (reply.Ended why) = one (telling.connection_ended m conn) h.over
       by _ = refl
 
-  sender_quiet : (m conn : ℕ) (r : Reply) (items : List Item) → NoneSent test m conn → list_any test (sender_tells m conn r items) ≡ false
+  pub sender_quiet : (m conn : ℕ) (r : Reply) (items : List Item) → NoneSent test m conn → list_any test (sender_tells m conn r items) ≡ false
   sender_quiet m conn r items h =
       append_quiet test (done_tells r (telling.half_stepped m conn ∷ [])) (when (list_any is_answer items) (telling.answer_heard m conn ∷ []))
       (done_quiet test r (telling.half_stepped m conn ∷ []) (one (telling.half_stepped m conn) h.step))
       (when_quiet test (list_any is_answer items) (telling.answer_heard m conn ∷ []) (one (telling.answer_heard m conn) h.answer))
+  pub pinged_quiet : (m conn : ℕ) (items : List Item) (puts : List (Queue × Item)) → NonePinged test m conn at → list_any test (pinged_tells m conn at items puts) ≡ false
+  pinged_quiet m conn items puts h =
+      append_quiet test (when (list_any is_answer items) (telling.connection_ran m conn at ∷ [])) (when (puts_ping items puts) (telling.ping_put m conn at ∷ []))
+      (when_quiet test (list_any is_answer items) (telling.connection_ran m conn at ∷ []) (one (telling.connection_ran m conn at) h.runs))
+      (when_quiet test (puts_ping items puts) (telling.ping_put m conn at ∷ []) (one (telling.ping_put m conn at) h.pings))
+
+  pub admitted_quiet : (m conn : ℕ) (r : Reply) (items : List Item) (puts : List (Queue × Item)) → ((i : Item) → test (telling.item_admitted m conn at i) ≡ false) → list_any test (admitted_tells m conn at r items puts) ≡ false
+  admitted_quiet m conn (reply.Ended why) items puts h = refl
+  admitted_quiet m conn _ [] puts h = refl
+  admitted_quiet m conn _ (i ∷ items) puts h = when_quiet test (not (holds puts)) (telling.item_admitted m conn at i ∷ []) (one (telling.item_admitted m conn at i) (h i))
+
+  check_quiet : (m c : ℕ) (r : Reply) → ((keys : List Key) → test (telling.check_made m name c keys) ≡ false) → list_any test (check_tells m name c r) ≡ false
+  check_quiet m c (reply.Checked keys) h = one (telling.check_made m name c keys) (h keys)
+  check_quiet m c _ h = refl
+
+  judged_quiet : (m : ℕ) (from : IpAddr) (r : Reply) → NoneHeard test m at → list_any test (judged_tells m at from r) ≡ false
+  judged_quiet m from (reply.Gates g) h = one (telling.arrival_judged m at from g) (h.arrival from g)
+  judged_quiet m from _ h = refl
+
+  pub heard_quiet : (m : ℕ) (r : Reply) (items : List Item) → NoneHeard test m at → list_any test (heard_tells m at r items) ≡ false
+  heard_quiet m r (item.Addresses addresses ∷ items) h = one (telling.update_taken m addresses) (h.update addresses)
+  heard_quiet m r (item.Arrival from key link ∷ items) h = judged_quiet m from.ip r h
+  heard_quiet m r _ h = refl
+
+  -- and what is told of it before them
+  any_before : (ts us : List Telling) → list_any test us ≡ false → list_any test (ts ++ us) ≡ list_any test ts
+  any_before ts us none = list_any-append test ts us ∙ (ap (λ b. list_any test ts || b) none ∙ by (list_any test ts))
+    where
+      by : (b : Bool) → (b || false) ≡ b
+      by true = refl
+      by false = refl
+
+  pub before_pings : (ts : List Telling) (m conn : ℕ) (r : Reply) (items : List Item) (puts : List (Queue × Item)) → NonePinged test m conn at → list_any test (ts ++ done_tells r (pinged_tells m conn at items puts)) ≡ list_any test ts
+  before_pings ts m conn r items puts h = any_before ts (done_tells r (pinged_tells m conn at items puts)) (done_quiet test r (pinged_tells m conn at items puts) (pinged_quiet m conn items puts h))
+
+  pub before_admitted : (ts : List Telling) (m conn : ℕ) (r : Reply) (items : List Item) (puts : List (Queue × Item)) → ((i : Item) → test (telling.item_admitted m conn at i) ≡ false) → list_any test (ts ++ admitted_tells m conn at r items puts) ≡ list_any test ts
+  before_admitted ts m conn r items puts h = any_before ts (admitted_tells m conn at r items puts) (admitted_quiet m conn r items puts h)
 
   answer_quiet : (m asked seed : ℕ) (items : List Item) → NoneDialed test m name at → list_any test (answer_tells m asked name at seed items) ≡ false
   answer_quiet m asked seed (item.Dialable next peers ∷ items) h = more (telling.list_taken m asked seed next peers) (telling.answer_taken m ∷ []) (h.list asked seed next peers) (one (telling.answer_taken m) h.answer)
@@ -188,13 +241,21 @@ module _ (test : Telling → Bool) (name at : ℕ) where
   quiet_act ts before seed r items puts (act.Router m) h = router_quiet test m h items puts
   quiet_act ts before seed r items puts (act.Register c m rate) h = one (telling.channel_registered m c rate) h
   quiet_act ts before seed r items puts (act.Start m) h = one (telling.node_started m at) h
+  quiet_act ts before seed r items puts (act.Send bytes c m priority to) h = one (telling.sends_admitted m c at (admitted_in ts m c at to)) (h (admitted_in ts m c at to))
+  quiet_act ts before seed r items puts (act.Check c m to) h = more (telling.sends_admitted m c at (admitted_in ts m c at to)) (check_tells m name c r) (h.0 (admitted_in ts m c at to)) (check_quiet m c r h.1)
+  quiet_act ts before seed r items puts (act.SendChecked bytes check priority) h = one (telling.check_spent check) h
   quiet_act ts before seed r items puts (act.SendStep conn m) h =
-      append_quiet test (sender_tells m conn r items) (end_tells m conn r ++ half_tells r (half_in ts m conn)) (sender_quiet m conn r items h) (over_quiet m conn r (half_in ts m conn) h.ends)
-  quiet_act ts before seed r items puts (act.RecvStep conn m) h = over_quiet m conn r (half_in ts m conn) h
+      append_quiet test (sender_tells m conn r items ++ (end_tells m conn r ++ half_tells r (half_in ts m conn))) (done_tells r (pinged_tells m conn at items puts))
+      (append_quiet test (sender_tells m conn r items) (end_tells m conn r ++ half_tells r (half_in ts m conn)) (sender_quiet m conn r items h.0) (over_quiet m conn r (half_in ts m conn) h.0.ends))
+      (done_quiet test r (pinged_tells m conn at items puts) (pinged_quiet m conn items puts h.1))
+  quiet_act ts before seed r items puts (act.RecvStep conn m) h =
+      append_quiet test (end_tells m conn r ++ half_tells r (half_in ts m conn)) (admitted_tells m conn at r items puts) (over_quiet m conn r (half_in ts m conn) h.0) (admitted_quiet m conn r items puts h.1)
+  quiet_act ts before seed r items puts (act.Close c m) h = done_quiet test r (telling.reader_dropped m c ∷ []) (one (telling.reader_dropped m c) h)
   quiet_act ts before seed r items puts (act.Tracker m) h = tracker_quiet test m at h before seed r items puts
   quiet_act ts before seed r items puts (act.Dialer m) h =
       append_quiet test (answer_tells m (last_or 0 (asks_list m) ts) name at seed items) (ask_tells m at items puts) (answer_quiet m (last_or 0 (asks_list m) ts) seed items h) (ask_quiet m items puts h.due h.dials h.asks)
-  quiet_act ts before seed r items puts (act.Listener m) h = listener_quiet m r items h
+  quiet_act ts before seed r items puts (act.Listener m) h =
+      append_quiet test (arrival_tells m (admitted_as name r) items ++ (begun_tells m (admitted_as name r) ++ gates_tell r items)) (heard_tells m at r items) (listener_quiet m r items h.0) (heard_quiet m r items h.1)
   quiet_act ts before seed r items puts (act.Handshake e m) h = shaken_quiet m e (peer_at before e).link (ends_handshake r items) (broke_off r items puts) items h
   quiet_act ts before seed r items puts (act.Spawner m) h = spawn_quiet m items h
   quiet_act ts before seed r items puts (act.Attempt e m) h = step_quiet m e seed items (link_in ts m e) puts h

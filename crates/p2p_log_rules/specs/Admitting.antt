@@ -1,7 +1,7 @@
--- What the quota of a channel admits of what its node sends, by the log: it counts each key apart.
-use Rattle.std.specs.Prelude.{ℕ, max, ◌==◌, ◌&&◌, cond, List, [], ◌∷◌, Option, Some, None}
+-- What the quota of a channel admits of what its node sends, by the log.
+use Rattle.std.specs.Prelude.{ℕ, ◌==◌, ◌&&◌, cond, List, [], ◌∷◌, Option, Some, None}
 use Rattle.p2p_base.specs.declared.key.Key.{Key}
-use Rattle.p2p_runtime.specs.QuotaLaw.{Rate as Quota, admits, retry}
+use Rattle.p2p_runtime.specs.QuotaLaw.{Rate as Quota, admits}
 use Rattle.p2p_runtime.specs.QuotaKeys.{with_admission}
 use Rattle.p2p_log.specs.declared.entry.Entry.{Entry}
 use Rattle.p2p_log.specs.declared.event.Rate.{Rate}
@@ -9,45 +9,42 @@ use Rattle.p2p_log.specs.declared.event.Act.{Act}
 use Rattle.p2p_log.specs.declared.event.Act.TheVariants as act
 use Rattle.p2p_log.specs.declared.event.Recipients.{Recipients}
 use Rattle.p2p_log.specs.Copies.{keys_of_recipients}
-use Rattle.p2p_log_rules.specs.Facts.{rates, rate_in, state_from, peers_told}
-use Rattle.p2p_log_rules.specs.Listening.{quota_of}
-use Rattle.p2p_log_rules.specs.Tracking.{key_cmp}
-
-module _ (quota : Quota) (at : ℕ) where
-  -- the keys that the quota admits at a moment, one after another, given the moments at which it admitted each
-  abbrev pub admitted_keys : List Key → (Key → List ℕ) → List Key
-  admitted_keys [] past = []
-  admitted_keys (k ∷ ks) past =
-      cond (admits quota (past k) at) (k ∷ admitted_keys ks (with_admission key_cmp past k at)) (admitted_keys ks past)
-
-  -- the latest of the moments from which those are admitted that it refuses, where it refuses some
-  abbrev pub latest_retry : List Key → (Key → List ℕ) → ℕ
-  latest_retry [] past = 0
-  latest_retry (k ∷ ks) past =
-      cond (admits quota (past k) at) (latest_retry ks (with_admission key_cmp past k at)) (max (retry quota (past k)) (latest_retry ks past))
-
-  -- the moments at which it admitted each, after that
-  abbrev pub moments_after : List Key → (Key → List ℕ) → Key → List ℕ
-  moments_after [] past k = past k
-  moments_after (j ∷ ks) past k =
-      cond (admits quota (past j) at) (moments_after ks (with_admission key_cmp past j at) k) (moments_after ks past k)
-
--- the same of a channel of this rate, where it is registered
-abbrev pub keys_by : Option Rate → ℕ → List Key → (Key → List ℕ) → List Key
-keys_by None at keys past = []
-keys_by (Some rate) at keys past = admitted_keys (quota_of rate) at keys past
-
-abbrev pub retry_by : Option Rate → ℕ → List Key → (Key → List ℕ) → ℕ
-retry_by None at keys past = 0
-retry_by (Some rate) at keys past = latest_retry (quota_of rate) at keys past
-
-abbrev pub moments_by : Option Rate → ℕ → List Key → (Key → List ℕ) → Key → List ℕ
-moments_by None at keys past k = past k
-moments_by (Some rate) at keys past k = moments_after (quota_of rate) at keys past k
+use Rattle.p2p_log_rules.specs.Facts.{rates, rate_in, peers_told}
+pub use Rattle.p2p_log_rules.specs.Quotas.{admitted_keys, latest_retry, keys_by, retry_by}
+use Rattle.p2p_log_rules.specs.Quotas.{key_cmp, quota_of, moments_in}
+use Rattle.p2p_log_rules.specs.Told.{told}
 
 -- the rate of a channel of a node
 abbrev pub rate_at : List Entry → ℕ → ℕ → Option Rate
 rate_at log n c = rate_in (rates log n) c
+
+-- the moments at which the quota of a channel of a node admitted each key, oldest first
+unfoldable pub sent_moments : List Entry → ℕ → ℕ → Key → List ℕ
+sent_moments log n c k = moments_in (told log) n c k
+
+-- whom a message on a channel of a node is offered to: all are those of the newest list that the channel was told of
+abbrev pub offered : List Entry → ℕ → ℕ → Recipients → List Key
+offered log n c to = keys_of_recipients (peers_told log n c) to
+
+-- the keys of these that it admits at a moment
+abbrev pub keys_admitted : List Entry → ℕ → ℕ → ℕ → List Key → List Key
+keys_admitted log n c at keys = keys_by (rate_at log n c) at keys (sent_moments log n c)
+
+-- the latest of the moments from which those of these are admitted that it refuses at a moment
+abbrev pub retry_moment : List Entry → ℕ → ℕ → ℕ → List Key → ℕ
+retry_moment log n c at keys = retry_by (rate_at log n c) at keys (sent_moments log n c)
+
+-- ---- what an entry adds to them
+
+-- the moments at which it admitted each key, once it was asked for these
+abbrev pub moments_after : Quota → ℕ → List Key → (Key → List ℕ) → Key → List ℕ
+moments_after quota at [] past k = past k
+moments_after quota at (j ∷ ks) past k =
+    cond (admits quota (past j) at) (moments_after quota at ks (with_admission key_cmp past j at) k) (moments_after quota at ks past k)
+
+abbrev pub moments_by : Option Rate → ℕ → List Key → (Key → List ℕ) → Key → List ℕ
+moments_by None at keys past k = past k
+moments_by (Some rate) at keys past k = moments_after (quota_of rate) at keys past k
 
 -- for whom an act asks the quota of a channel of a node, where it does
 abbrev pub asked_for : ℕ → ℕ → Act → Option Recipients
@@ -62,19 +59,3 @@ asked_moments rate at all (Some to) past k = moments_by rate at (keys_of_recipie
 
 abbrev pub sent_by : ℕ → ℕ → List Entry → Entry → (Key → List ℕ) → Key → List ℕ
 sent_by n c before e past = asked_moments (rate_at before n c) e.event.at (peers_told before n c) (asked_for n c e.event.act) past
-
--- the moments at which the quota of a channel of a node admitted each key, oldest first
-unfoldable pub sent_moments : List Entry → ℕ → ℕ → Key → List ℕ
-sent_moments log n c = state_from (sent_by n c) [] log (λ k. [])
-
--- whom a message on a channel of a node is offered to: all are those of the newest list that the channel was told of
-abbrev pub offered : List Entry → ℕ → ℕ → Recipients → List Key
-offered log n c to = keys_of_recipients (peers_told log n c) to
-
--- the keys of these that it admits at a moment
-abbrev pub keys_admitted : List Entry → ℕ → ℕ → ℕ → List Key → List Key
-keys_admitted log n c at keys = keys_by (rate_at log n c) at keys (sent_moments log n c)
-
--- the latest of the moments from which those of these are admitted that it refuses at a moment
-abbrev pub retry_moment : List Entry → ℕ → ℕ → ℕ → List Key → ℕ
-retry_moment log n c at keys = retry_by (rate_at log n c) at keys (sent_moments log n c)

@@ -16,20 +16,27 @@ use Rattle.p2p_log_rules.specs.declared.row.Row.{Row}
 use Rattle.p2p_log_rules.specs.Connections.{is_done}
 use Rattle.p2p_log_rules.specs.Facts.{channels, capacity_in}
 use Rattle.p2p_log_rules.specs.Rows.{only}
+use Rattle.p2p_log_rules.specs.Tellings.{Telling}
+use Rattle.p2p_log_rules.specs.Tellings as telling
+use Rattle.p2p_log_rules.specs.Told.{told}
 
 -- ---- readers
 
--- whether an act with this reply drops the reader of a channel of a node
+abbrev pub drops_reader : ℕ → ℕ → Telling → Bool
+drops_reader n c (telling.reader_dropped m d) = (m == n) && (d == c)
+drops_reader n c _ = false
+
+-- whether the reader of a channel of a node was dropped
+unfoldable pub is_closed : List Entry → ℕ → ℕ → Bool
+is_closed log n c = list_any (drops_reader n c) (told log)
+
+-- whether an act with this reply drops it
 abbrev pub closed_by : ℕ → ℕ → Act → Reply → Bool
 closed_by n c (act.Close d m) r = ((m == n) && (d == c)) && is_done r
 closed_by n c _ r = false
 
 abbrev pub closes : ℕ → ℕ → Entry → Bool
 closes n c e = closed_by n c e.event.act e.reply
-
--- whether the reader of a channel of a node was dropped
-unfoldable pub is_closed : List Entry → ℕ → ℕ → Bool
-is_closed log n c = list_any (closes n c) log
 
 -- a channel has a reader from its registration until that is dropped
 abbrev pub reader_of : Option ℕ → Bool → Bool

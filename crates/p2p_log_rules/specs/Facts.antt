@@ -17,6 +17,8 @@ pub use Rattle.p2p_log_rules.specs.Asked.{events_of, starts, capacity_for, regis
 unfoldable pub use Rattle.p2p_log_rules.specs.Asked.{has_started, registered}
 pub use Rattle.p2p_log_rules.specs.Taking.{item_put, item_in, item_named, taken_in, with_named, with_begun, history}
 unfoldable pub use Rattle.p2p_log_rules.specs.Taking.{taken, taken_at, history_from, state_from}
+pub use Rattle.p2p_log_rules.specs.Quotas.{rate_told, rate_in}
+use Rattle.p2p_log_rules.specs.Quotas.{rates_in}
 use Rattle.p2p_log_rules.specs.Routed.{peers_in}
 use Rattle.p2p_log_rules.specs.Tellings.{Telling, last_or}
 use Rattle.p2p_log_rules.specs.Tellings as telling
@@ -48,18 +50,9 @@ moment_at log name = moment_of (slice_get log name)
 
 -- ---- channels
 
--- the channel that is told of, with its rate
-abbrev pub rate_told : ℕ → Telling → List (ℕ × Rate)
-rate_told n (telling.channel_registered m c rate) = cond (m == n) ((c, rate) ∷ []) []
-rate_told n _ = []
-
 -- the channels that were registered at a node, in order, each with its rate
 unfoldable pub rates : List Entry → ℕ → List (ℕ × Rate)
-rates log n = flat_map (rate_told n) (told log)
-
--- the rate of a channel, where it is registered
-abbrev pub rate_in : List (ℕ × Rate) → ℕ → Option Rate
-rate_in rates c = lookup (λ k. c == k) rates
+rates log n = rates_in (told log) n
 
 -- and each with its capacity
 unfoldable pub channels : List Config → List Entry → ℕ → List (ℕ × ℕ)

@@ -14,12 +14,14 @@ pub mod Facts
 pub mod First
 pub mod Frames
 pub mod Full
+pub mod HalfSteps
 pub mod Halves
 pub mod HandshakeEntries
 pub mod HandshakeSteps
 pub mod Handshakes
 pub mod Handshaking
 pub mod Holders
+pub mod Judged
 pub mod Lawful
 pub mod LinkEntries
 pub mod Links
@@ -28,6 +30,7 @@ pub mod Metering
 pub mod Moves
 pub mod Pings
 pub mod Puts
+pub mod Quotas
 pub mod Reading
 pub mod Routed
 pub mod Rows

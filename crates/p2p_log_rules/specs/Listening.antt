@@ -1,8 +1,11 @@
 -- A node's listener, by the log: what its gates go by, and the row of its step.
-use Rattle.std.specs.Prelude.{ℕ, Bool, false, cond, nat_lt, List, [], ◌∷◌, length, Some, None, slice_get}
+use Rattle.std.specs.Prelude.{ℕ, Bool, false, ◌==◌, ◌&&◌, cond, nat_lt, List, [], ◌∷◌, flat_map, length, Option, Some, None, slice_get}
+use Rattle.std.specs.BTreeMap.{is_at}
 use Rattle.p2p_base.specs.declared.key.Key.{Key}
-use Rattle.p2p_runtime.specs.QuotaLaw.{Rate as Quota}
-use Rattle.p2p_tracker_calls.specs.Gates.{GateRules, Known, nothing_known, reply_to, known_after}
+use Rattle.p2p_address.specs.Addresses.{subnet_of}
+use Rattle.p2p_address.specs.declared.ip.IpAddr.{IpAddr}
+use Rattle.p2p_tracker_calls.specs.Gates.{GateRules, Known, reply_to, known_after}
+use Rattle.p2p_tracker_calls.specs.Heard.{ip_cmp}
 use Rattle.p2p_tracker_calls.specs.declared.gates.Reply.{Reply as GatesReply}
 use Rattle.p2p_tracker_calls.specs.declared.gates.Reply.TheVariants as gates
 use Rattle.p2p_log.specs.declared.config.Config.{Config}
@@ -13,15 +16,16 @@ use Rattle.p2p_log.specs.declared.item.Item.TheVariants as item
 use Rattle.p2p_log.specs.declared.item.Envelope.{Envelope}
 use Rattle.p2p_log.specs.declared.entry.Entry.{Entry}
 use Rattle.p2p_log.specs.declared.entry.Reply.TheVariants as reply
-use Rattle.p2p_log.specs.declared.event.Rate.{Rate}
 use Rattle.p2p_log.specs.Lines.{name_of, line}
 use Rattle.p2p_log_rules.specs.declared.row.Row.{Row}
-use Rattle.p2p_log_rules.specs.Facts.{is_up, taken, state_from}
+use Rattle.p2p_log_rules.specs.Facts.{is_up, taken}
 use Rattle.p2p_log_rules.specs.Handshakes.{steps_listener, handshakes_of}
+use Rattle.p2p_log_rules.specs.Judged.{is_counted, passed_address, passed_subnet}
+pub use Rattle.p2p_log_rules.specs.Quotas.{quota_of}
 use Rattle.p2p_log_rules.specs.Rows.{only}
-
-abbrev pub quota_of : Rate → Quota
-quota_of r = record { burst = r.burst; period = r.period }
+use Rattle.p2p_log_rules.specs.Tellings.{Telling, last_or}
+use Rattle.p2p_log_rules.specs.Tellings as telling
+use Rattle.p2p_log_rules.specs.Told.{told}
 
 -- the rules of the gates of a node
 abbrev pub gate_rules_of : Config → GateRules
@@ -48,7 +52,42 @@ gate_rules_at configs n = elim (slice_get configs n) [ None ↦ no_gates | Some 
 abbrev pub most_handshakes_at : List Config → ℕ → ℕ
 most_handshakes_at configs n = elim (slice_get configs n) [ None ↦ 0 | Some c ↦ c.max_concurrent_handshakes ]
 
--- ---- what the gates go by, and what an entry makes of it
+-- ---- what the gates go by
+
+-- the value of an item that the listener took from its updates
+abbrev pub hears : ℕ → Telling → Option (List IpAddr)
+hears n (telling.update_taken m addresses) = cond (m == n) (Some addresses) None
+hears n _ = None
+
+-- the moment of an arrival from this address that passed the quota of addresses
+abbrev pub passes_address : ℕ → IpAddr → Telling → List ℕ
+passes_address n ip (telling.arrival_judged m at from g) = cond (m == n) (cond (is_at (ip_cmp from) ip && passed_address g) (at ∷ []) []) []
+passes_address n ip _ = []
+
+-- the moment of one from this subnet that passed the quota of subnets
+abbrev pub passes_subnet : ℕ → IpAddr → Telling → List ℕ
+passes_subnet n subnet (telling.arrival_judged m at from g) = cond (m == n) (cond (is_at (ip_cmp (subnet_of from)) subnet && passed_subnet g) (at ∷ []) []) []
+passes_subnet n subnet _ = []
+
+-- the moment of one that came to the quotas
+abbrev pub comes_to_quotas : ℕ → Telling → Option ℕ
+comes_to_quotas n (telling.arrival_judged m at from g) = cond (m == n) (cond (is_counted g) (Some at) None) None
+comes_to_quotas n _ = None
+
+-- the addresses of the last update; the moments of the arrivals that passed the quota of their address, and of their subnet, as they
+-- were told; and the moment of the last one that came to the quotas
+abbrev pub known_in : List Telling → ℕ → Known
+known_in ts n = record {
+  addresses = last_or [] (hears n) ts;
+  passed = record { addresses = λ ip. flat_map (passes_address n ip) ts; subnets = λ ip. flat_map (passes_subnet n ip) ts };
+  latest = last_or 0 (comes_to_quotas n) ts;
+}
+
+-- what the gates of a node's listener go by
+unfoldable pub known_of : List Config → List Entry → ℕ → Known
+known_of configs log n = known_in (told log) n
+
+-- ---- what an entry makes of it
 
 -- once it took this at a moment: addresses, or an arrival, which is held against the quotas where it comes to them
 abbrev pub took_known : GateRules → ℕ → List Item → Known → Known
@@ -60,10 +99,6 @@ took_known rules at _ k = k
 abbrev pub known_by : List Config → ℕ → List Entry → Entry → Known → Known
 known_by configs n before e k =
     cond (steps_listener n e.event.act) (took_known (gate_rules_at configs n) e.event.at (taken before e) k) k
-
--- what the gates of a node's listener go by
-unfoldable pub known_of : List Config → List Entry → ℕ → Known
-known_of configs log n = state_from (known_by configs n) [] log nothing_known
 
 -- ---- its step
 

@@ -1,5 +1,5 @@
 -- What the quotas of a connection admit of what comes over it, by the log: its pings, and the messages of each channel.
-use Rattle.std.specs.Prelude.{ℕ, ◌/◌, max, Bool, true, false, ◌==◌, ◌&&◌, not, cond, List, [], ◌∷◌, Option, Some, None, slice_get, Result, Ok, Err}
+use Rattle.std.specs.Prelude.{ℕ, ◌/◌, max, Bool, true, false, ◌==◌, ◌&&◌, not, cond, List, [], ◌∷◌, flat_map, Option, Some, None, slice_get, Result, Ok, Err}
 use Rattle.p2p_runtime.specs.QuotaLaw.{Rate as Quota, rate_of, admits}
 use Rattle.p2p_wire.specs.declared.error.CodecError.{CodecError}
 use Rattle.p2p_wire.specs.declared.frame.Message.{Message}
@@ -7,15 +7,18 @@ use Rattle.p2p_wire.specs.declared.frame.Message.TheVariants as message
 use Rattle.p2p_wire.specs.Frame.{decode_frame}
 use Rattle.p2p_log.specs.declared.config.Config.{Config}
 use Rattle.p2p_log.specs.declared.queue.Queue.{Queue}
-use Rattle.p2p_log.specs.declared.queue.Queue.TheVariants as queue
 use Rattle.p2p_log.specs.declared.item.Item.{Item}
 use Rattle.p2p_log.specs.declared.item.Item.TheVariants as item
 use Rattle.p2p_log.specs.declared.entry.Entry.{Entry}
 use Rattle.p2p_log.specs.declared.event.Rate.{Rate}
 use Rattle.p2p_log_rules.specs.Connections.{steps_receiver, is_end}
-use Rattle.p2p_log_rules.specs.Facts.{rates, rate_in, taken, history}
-use Rattle.p2p_log_rules.specs.Listening.{quota_of}
+use Rattle.p2p_log_rules.specs.Facts.{rates, rate_in, taken}
+pub use Rattle.p2p_log_rules.specs.HalfSteps.{holds}
 use Rattle.p2p_log_rules.specs.Pings.{ping_frequency_at}
+use Rattle.p2p_log_rules.specs.Quotas.{quota_of}
+use Rattle.p2p_log_rules.specs.Tellings.{Telling}
+use Rattle.p2p_log_rules.specs.Tellings as telling
+use Rattle.p2p_log_rules.specs.Told.{told}
 
 -- what a quota of a connection counts: pings, or the messages of a channel
 pub data Metered : Type 0 where
@@ -41,27 +44,27 @@ metered_in limit (item.Held channel bytes copy) = Some (messages channel)
 metered_in limit item.Ping = Some pings
 metered_in limit _ = None
 
--- whether what was taken is held
-abbrev pub holds : List (Queue × Item) → Bool
-holds ((queue.Held n conn, i) ∷ puts) = true
-holds _ = false
+abbrev pub limit_at : List Config → ℕ → ℕ
+limit_at configs n = elim (slice_get configs n) [ None ↦ 0 | Some c ↦ c.max_message_size ]
+
+-- the moment at which a connection took one of these and did not hold it
+abbrev pub passes : ℕ → ℕ → ℕ → Metered → Telling → List ℕ
+passes limit n conn what (telling.item_admitted m c at i) = cond (((m == n) && (c == conn)) && is_of what (metered_in limit i)) (at ∷ []) []
+passes limit n conn what _ = []
+
+-- the moments at which a connection admitted these, oldest first
+unfoldable pub admitted : List Config → List Entry → ℕ → ℕ → Metered → List ℕ
+admitted configs log n conn what = flat_map (passes (limit_at configs n) n conn what) (told log)
 
 -- whether a step that took these and put these admitted one of them
 abbrev pub admits_one : ℕ → Metered → List Item → List (Queue × Item) → Bool
 admits_one limit what [] puts = false
 admits_one limit what (i ∷ items) puts = is_of what (metered_in limit i) && not (holds puts)
 
-abbrev pub limit_at : List Config → ℕ → ℕ
-limit_at configs n = elim (slice_get configs n) [ None ↦ 0 | Some c ↦ c.max_message_size ]
-
--- a step that ends its connection admits nothing
+-- what an entry adds to them: a step that ends its connection admits nothing
 abbrev pub admitted_by : ℕ → ℕ → ℕ → Metered → List Entry → Entry → List ℕ
 admitted_by limit n conn what before e =
     cond (steps_receiver n conn e.event.act && not (is_end e.reply) && admits_one limit what (taken before e) e.puts) (e.event.at ∷ []) []
-
--- the moments at which a connection admitted these, oldest first
-unfoldable pub admitted : List Config → List Entry → ℕ → ℕ → Metered → List ℕ
-admitted configs log n conn what = history (admitted_by (limit_at configs n) n conn what) log
 
 -- ---- what is admitted
 

@@ -1,13 +1,12 @@
 -- The pings of a connection, by the log: when the next is due, and the frame of one.
-use Rattle.std.specs.Prelude.{ℕ, ◌+◌, Bool, false, cond, nat_le, List, [], Option, Some, None, slice_get}
-use Rattle.std.specs.List.{list_any}
+use Rattle.std.specs.Prelude.{ℕ, ◌+◌, Bool, false, ◌==◌, ◌&&◌, cond, nat_le, List, Option, Some, None, slice_get}
 use Rattle.p2p_wire.specs.declared.frame.Message.TheVariants as message
 use Rattle.p2p_wire.specs.Frame.{frame}
 use Rattle.p2p_log.specs.declared.config.Config.{Config}
-use Rattle.p2p_log.specs.declared.item.Item.{Item}
 use Rattle.p2p_log.specs.declared.entry.Entry.{Entry}
-use Rattle.p2p_log_rules.specs.Connections.{begins, is_answer}
-use Rattle.p2p_log_rules.specs.Facts.{taken, state_from}
+use Rattle.p2p_log_rules.specs.Tellings.{Telling, last_or, first_or}
+use Rattle.p2p_log_rules.specs.Tellings as telling
+use Rattle.p2p_log_rules.specs.Told.{told}
 
 abbrev pub ping_frame : List ℕ
 ping_frame = frame message.Ping
@@ -20,17 +19,24 @@ abbrev pub is_past : ℕ → ℕ → Option ℕ → Bool
 is_past frequency at None = false
 is_past frequency at (Some from) = nat_le (from + frequency) at
 
--- once a step at this moment took these: one that took its router's answer counts from there, and one that runs from where it pings
-abbrev pub counted_from : ℕ → ℕ → List Item → Option ℕ → Option ℕ
-counted_from frequency at items None = cond (list_any is_answer items) (Some at) None
-counted_from frequency at items (Some from) = cond (is_past frequency at (Some from)) (Some at) (Some from)
+-- the moment at which a connection took its router's answer
+abbrev pub runs_from : ℕ → ℕ → Telling → Option ℕ
+runs_from n conn (telling.connection_ran m c at) = cond ((m == n) && (c == conn)) (Some at) None
+runs_from n conn _ = None
 
-abbrev pub pinged_by : ℕ → ℕ → ℕ → List Entry → Entry → Option ℕ → Option ℕ
-pinged_by frequency n conn before e last = cond (begins n conn e) (counted_from frequency e.event.at (taken before e) last) last
+-- the moment at which it put a ping
+abbrev pub pings_at : ℕ → ℕ → Telling → Option (Option ℕ)
+pings_at n conn (telling.ping_put m c at) = cond ((m == n) && (c == conn)) (Some (Some at)) None
+pings_at n conn _ = None
 
--- the moment from which a connection that runs counts to its next ping: that of the step that took its router's answer, or of its last ping
+-- a moment, or else that one
+abbrev pub or_from : Option ℕ → Option ℕ → Option ℕ
+or_from None from = from
+or_from (Some at) from = Some at
+
+-- the moment from which a connection that runs counts to its next ping: that of its last ping, or else of the step that took its router's answer
 unfoldable pub last_pinged : List Config → List Entry → ℕ → ℕ → Option ℕ
-last_pinged configs log n conn = state_from (pinged_by (ping_frequency_at configs n) n conn) [] log None
+last_pinged configs log n conn = or_from (last_or None (pings_at n conn) (told log)) (first_or None (runs_from n conn) (told log))
 
 -- whether its next ping is due
 abbrev pub ping_is_due : List Config → List Entry → ℕ → ℕ → ℕ → Bool

@@ -2,9 +2,11 @@
 use Rattle.std.specs.Prelude.{ℕ, Bool, ◌||◌, min, List, [], ◌∷◌, Option, Some, None, unwrap_or}
 use Rattle.std.specs.Option.{option_map}
 use Rattle.p2p_base.specs.declared.key.Key.{Key}
+use Rattle.p2p_address.specs.declared.ip.IpAddr.{IpAddr}
 use Rattle.p2p_address.specs.declared.ip.SocketAddr.{SocketAddr}
 use Rattle.p2p_address.specs.declared.peer.Address.{Address}
 use Rattle.p2p_address.specs.declared.peer.Ingress.{Ingress}
+use Rattle.p2p_tracker_calls.specs.declared.gates.Reply.{Reply as Gates}
 use Rattle.p2p_log.specs.declared.queue.Side.{Side}
 use Rattle.p2p_log.specs.declared.item.Item.{Item}
 use Rattle.p2p_log.specs.declared.event.Rate.{Rate}
@@ -87,6 +89,24 @@ pub data Telling : Type 0 where
   release_routed : (node : ℕ) (key : Key) → Telling
   -- it put a list of peers for a channel
   peers_listed : (node channel : ℕ) (keys : List Key) → Telling
+  -- the sending half of a connection took its router's answer at this moment: it runs
+  connection_ran : (node conn at : ℕ) → Telling
+  -- it put a ping at this moment
+  ping_put : (node conn at : ℕ) → Telling
+  -- the receiving half of a connection took this at this moment, and did not hold it
+  item_admitted : (node conn at : ℕ) (taken : Item) → Telling
+  -- the quota of a channel of a node admitted these keys at this moment, one after another
+  sends_admitted : (node channel at : ℕ) (keys : List Key) → Telling
+  -- a check was made, of this name: these keys may be sent to on this channel
+  check_made : (node check channel : ℕ) (keys : List Key) → Telling
+  -- a message was sent by a check of this name
+  check_spent : (check : ℕ) → Telling
+  -- the reader of a channel was dropped
+  reader_dropped : (node channel : ℕ) → Telling
+  -- a node's listener took the addresses that are registered
+  update_taken : (node : ℕ) (addresses : List IpAddr) → Telling
+  -- it took an arrival from this address at this moment, which was told this
+  arrival_judged : (node at : ℕ) (from : IpAddr) (told : Gates) → Telling
 
 -- ---- words
 

@@ -1,7 +1,8 @@
 -- What an entry tells, and what a log does: the one place that looks at acts.
-use Rattle.std.specs.Prelude.{ℕ, Bool, true, false, ◌==◌, ◌&&◌, cond, List, [], ◌∷◌, ◌++◌, length, Option, Some, None}
+use Rattle.std.specs.Prelude.{ℕ, Bool, true, false, ◌==◌, ◌&&◌, not, cond, List, [], ◌∷◌, ◌++◌, length, Option, Some, None}
 use Rattle.std.specs.List.{list_any}
 use Rattle.p2p_base.specs.declared.key.Key.{Key}
+use Rattle.p2p_address.specs.declared.ip.IpAddr.{IpAddr}
 use Rattle.p2p_address.specs.declared.peer.Ingress.{Ingress}
 use Rattle.p2p_tracker_calls.specs.declared.gates.Reply.TheVariants as gates
 use Rattle.p2p_log.specs.declared.queue.Queue.{Queue}
@@ -13,12 +14,16 @@ use Rattle.p2p_log.specs.declared.entry.Reply.{Reply}
 use Rattle.p2p_log.specs.declared.entry.Reply.TheVariants as reply
 use Rattle.p2p_log.specs.declared.event.Act.{Act}
 use Rattle.p2p_log.specs.declared.event.Act.TheVariants as act
+use Rattle.p2p_log.specs.declared.event.Recipients.{Recipients}
+use Rattle.p2p_log.specs.Copies.{keys_of_recipients}
 use Rattle.p2p_log_rules.specs.declared.row.Half.{Half}
+use Rattle.p2p_log_rules.specs.HalfSteps.{puts_ping, holds}
 use Rattle.p2p_log_rules.specs.Halves.{half_in}
 use Rattle.p2p_log_rules.specs.HandshakeSteps.{ends_handshake, peer_at}
 use Rattle.p2p_log_rules.specs.Puts.{gave_up, ends_attempt, broke_off, is_answer, turns_away, arrival_link}
+use Rattle.p2p_log_rules.specs.Quotas.{rate_in, rates_in, keys_by, moments_in}
 use Rattle.p2p_log_rules.specs.Taking.{taken, state_from}
-use Rattle.p2p_log_rules.specs.Routed.{router_tells}
+use Rattle.p2p_log_rules.specs.Routed.{router_tells, peers_in}
 use Rattle.p2p_log_rules.specs.Tellings.{Telling, Last, last_told, last_or}
 use Rattle.p2p_log_rules.specs.Tellings as telling
 use Rattle.p2p_log_rules.specs.Tracked.{tracker_tells}
@@ -156,25 +161,55 @@ abbrev pub spawn_tells : ℕ → ℕ → List Item → List Telling
 spawn_tells n name (item.Spawn key link ∷ items) = telling.connection_made n name key link ∷ []
 spawn_tells n name _ = []
 
+-- that a sending half took its router's answer, and that it put a ping
+abbrev pub pinged_tells : ℕ → ℕ → ℕ → List Item → List (Queue × Item) → List Telling
+pinged_tells n conn at items puts = when (list_any is_answer items) (telling.connection_ran n conn at ∷ []) ++ when (puts_ping items puts) (telling.ping_put n conn at ∷ [])
+
+-- what a receiving half took and did not hold, unless it ended its connection
+abbrev pub admitted_tells : ℕ → ℕ → ℕ → Reply → List Item → List (Queue × Item) → List Telling
+admitted_tells n conn at (reply.Ended why) items puts = []
+admitted_tells n conn at r [] puts = []
+admitted_tells n conn at r (i ∷ items) puts = when (not (holds puts)) (telling.item_admitted n conn at i ∷ [])
+
+-- what a check with this reply admitted, on its channel
+abbrev pub check_tells : ℕ → ℕ → ℕ → Reply → List Telling
+check_tells n name c (reply.Checked keys) = telling.check_made n name c keys ∷ []
+check_tells n name c r = []
+
+-- what an arrival was told that a listener took
+abbrev pub judged_tells : ℕ → ℕ → IpAddr → Reply → List Telling
+judged_tells n at from (reply.Gates g) = telling.arrival_judged n at from g ∷ []
+judged_tells n at from r = []
+
+-- what a listener took, and what it was told
+abbrev pub heard_tells : ℕ → ℕ → Reply → List Item → List Telling
+heard_tells n at r (item.Addresses addresses ∷ items) = telling.update_taken n addresses ∷ []
+heard_tells n at r (item.Arrival from key link ∷ items) = judged_tells n at from.ip r
+heard_tells n at r _ = []
+
+-- the keys that the quota of a channel admits at a moment, of those for whom it is asked
+abbrev pub admitted_in : List Telling → ℕ → ℕ → ℕ → Recipients → List Key
+admitted_in ts n c at to = keys_by (rate_in (rates_in ts n) c) at (keys_of_recipients (peers_in ts n c) to) (moments_in ts n c)
+
 -- after these tellings and entries, with this name, at a moment and with a seed; of this reply, which took and put these
 module _ (ts : List Telling) (before : List Entry) (name at seed : ℕ) (r : Reply) (items : List Item) (puts : List (Queue × Item)) where
   abbrev pub act_tells : Act → List Telling
   act_tells (act.Register c n rate) = telling.channel_registered n c rate ∷ []
   act_tells (act.Start n) = telling.node_started n at ∷ []
-  act_tells (act.Send bytes c n priority to) = []
-  act_tells (act.Check c n to) = []
-  act_tells (act.SendChecked bytes check priority) = []
+  act_tells (act.Send bytes c n priority to) = telling.sends_admitted n c at (admitted_in ts n c at to) ∷ []
+  act_tells (act.Check c n to) = telling.sends_admitted n c at (admitted_in ts n c at to) ∷ check_tells n name c r
+  act_tells (act.SendChecked bytes check priority) = telling.check_spent check ∷ []
   act_tells (act.Router n) = router_tells n items puts
-  act_tells (act.SendStep conn n) = sender_tells n conn r items ++ (end_tells n conn r ++ half_tells r (half_in ts n conn))
-  act_tells (act.RecvStep conn n) = end_tells n conn r ++ half_tells r (half_in ts n conn)
+  act_tells (act.SendStep conn n) = (sender_tells n conn r items ++ (end_tells n conn r ++ half_tells r (half_in ts n conn))) ++ done_tells r (pinged_tells n conn at items puts)
+  act_tells (act.RecvStep conn n) = (end_tells n conn r ++ half_tells r (half_in ts n conn)) ++ admitted_tells n conn at r items puts
   act_tells (act.Recv c n) = []
-  act_tells (act.Close c n) = []
+  act_tells (act.Close c n) = done_tells r (telling.reader_dropped n c ∷ [])
   act_tells (act.Ask what n) = []
   act_tells (act.Answer question) = []
   act_tells (act.Next question) = []
   act_tells (act.Tracker n) = tracker_tells before n at seed r items puts
   act_tells (act.Dialer n) = answer_tells n (last_or 0 (asks_list n) ts) name at seed items ++ ask_tells n at items puts
-  act_tells (act.Listener n) = arrival_tells n (admitted_as name r) items ++ (begun_tells n (admitted_as name r) ++ gates_tell r items)
+  act_tells (act.Listener n) = (arrival_tells n (admitted_as name r) items ++ (begun_tells n (admitted_as name r) ++ gates_tell r items)) ++ heard_tells n at r items
   act_tells (act.Handshake h n) =
       handshake_tells n h (peer_at before h).link (ends_handshake r items) items ++ when (broke_off r items puts) (telling.end_dropped (peer_at before h).link side.In ∷ [])
   act_tells (act.Spawner n) = spawn_tells n name items

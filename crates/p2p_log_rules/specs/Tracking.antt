@@ -1,7 +1,5 @@
 -- What stands of a node's tracker, by the log: the calls of its directory, and who subscribed.
 use Rattle.std.specs.Prelude.{ℕ, Bool, true, false, ◌==◌, cond, List, [], ◌∷◌, map, flat_map, reverse, Some, None, slice_get}
-use Rattle.std.specs.Ordering.{nat_cmp}
-use Rattle.std.specs.declared.cmp.Ordering.{Ordering}
 use Rattle.p2p_address.specs.declared.peer.Address.{Address}
 use Rattle.p2p_base.specs.declared.key.Key.{Key}
 use Rattle.p2p_tracker_calls.specs.declared.call.Call.{Call}
@@ -15,11 +13,8 @@ use Rattle.p2p_log.specs.declared.event.Act.TheVariants as act
 use Rattle.p2p_log_rules.specs.Tellings.{Telling}
 use Rattle.p2p_log_rules.specs.Tellings as telling
 use Rattle.p2p_log_rules.specs.Told.{told}
+pub use Rattle.p2p_log_rules.specs.Quotas.{key_cmp}
 pub use Rattle.p2p_log_rules.specs.Tracked.{asked_by, grants_peer}
-
--- keys in their order
-abbrev pub key_cmp : Key → Key → Ordering
-key_cmp a b = nat_cmp a.0 b.0
 
 -- what a node's tracker is made with
 abbrev pub rules_of : Config → Rules Key

@@ -15,10 +15,11 @@ use Rattle.p2p_log.specs.declared.event.Rate.{Rate}
 use Rattle.p2p_log.specs.declared.event.Act.TheVariants as act
 use Rattle.p2p_log.specs.Lines.{line, name_of, placed, stands_in, ended_item}
 use Rattle.p2p_log_rules.specs.declared.row.Row.{Row}
-use Rattle.p2p_log_rules.specs.Facts.{events_of, has_started, registered, registers_at, capacity_for, channels, capacity_in, sum_capacities, is_up}
+use Rattle.p2p_log_rules.specs.Facts.{events_of, has_started, registers_at, capacity_for, channels, capacity_in, sum_capacities, is_up}
 use Rattle.p2p_log_rules.specs.Effect.{only, row, effect, entry_of, start_row, read_row, oldest_read, recv_row, mailbox_size_at, router_capacity}
 use Rattle.p2p_log_rules.specs.Listening.{quota_of}
 use Rattle.p2p_log_rules.specs.Valid.{fits_usize, is_quota, may_register, may_act}
+use Rattle.p2p_log_rules.proofs.Channels.{is_up-asked, channels-asked}
 use Rattle.p2p_runtime.specs.QuotaStep.{IsQuota}
 use Rattle.p2p_log_laws.proofs.Untouched.{line-untouched}
 use Rattle.p2p_net_queues.specs.Tables.{waiting, popped_at}
@@ -69,12 +70,15 @@ register_performs configs log at seed n c rate x y l links r s t valid d kept =
     let rout : RouterStands configs log n x.router = s.each place.router in
     let amount : k ≡ capacity_for (slice_get configs n) rate = ap (λ m. m * rate.burst) s.own.retained ∙ sym (ap (λ o. capacity_for o rate) s.own.config) in
     let may : may_register configs (events_of log) c n rate ≡ true = (and_parts (nat_lt n (length configs)) (may_register configs (events_of log) c n rate) valid).1 in
-    let regs = registered configs (events_of log) n in
+    let regs = channels configs log n in
     let capacity = capacity_for (slice_get configs n) rate in
-    let halves = and_parts ((not (has_started (events_of log) n) && not (is_some (capacity_in regs c))) && is_quota rate) (fits_usize capacity && fits_usize (mailbox_size_at configs n + (sum_capacities regs + capacity))) may in
+    let halves =
+    and_parts ((not (has_started (events_of log) n) && not (is_some (capacity_in regs c))) && is_quota rate) (fits_usize capacity && fits_usize (mailbox_size_at configs n + (sum_capacities regs + capacity)))
+    (ap (λ l. ((not (has_started (events_of log) n) && not (is_some (capacity_in l c))) && is_quota rate) && (fits_usize capacity && fits_usize (mailbox_size_at configs n + (sum_capacities l + capacity)))) (channels-asked configs log n) ∙ may)
+    in
     let named = and_parts (not (has_started (events_of log) n) && not (is_some (capacity_in regs c))) (is_quota rate) halves.0 in
     let fresh = and_parts (not (has_started (events_of log) n)) (not (is_some (capacity_in regs c))) named.0 in
-    let early : is_up log n ≡ false = not-true (has_started (events_of log) n) fresh.0 in
+    let early : is_up log n ≡ false = is_up-asked log n ∙ not-true (has_started (events_of log) n) fresh.0 in
     let absent : capacity_in regs c ≡ None = none_in (capacity_in regs c) (not-true (is_some (capacity_in regs c)) fresh.1) in
     let fit = (and_parts (fits_usize capacity) (fits_usize (mailbox_size_at configs n + (sum_capacities regs + capacity))) halves.1).1 in
     let room : mailbox_size_at configs n + (x.channels.total + k) < 2 ^ 64 =

@@ -1,5 +1,5 @@
 -- A link that is open was made between the nodes that the event of its name says.
-use Rattle.std.proofs.Common.{◌≡◌, ℕ, Bool, true, false, cond, List, [], ◌∷◌, ◌++◌, length, Option, Some, None, refl, ap, sym, subst, ◌∙◌, append_assoc, append-nil, eqb-true}
+use Rattle.std.proofs.Common.{◌≡◌, ℕ, Bool, true, false, cond, List, [], ◌∷◌, ◌++◌, length, Option, Some, None, refl, ap, sym, ◌∙◌, eqb-true}
 use Rattle.std.specs.Prelude.{◌==◌, slice_get}
 use Rattle.p2p_log.specs.declared.queue.Queue.{Queue}
 use Rattle.p2p_log.specs.declared.item.Item.{Item}
@@ -10,8 +10,9 @@ use Rattle.p2p_log.specs.declared.event.Act.{Act}
 use Rattle.p2p_log.specs.declared.event.Act.TheVariants as act
 use Rattle.p2p_log.proofs.Places.{slice_get-seam}
 use Rattle.p2p_log_rules.specs.declared.row.Opening.{Opening}
-use Rattle.p2p_log_rules.specs.Facts.{state_from}
 use Rattle.p2p_log_rules.specs.Links.{with_opened, without_finished, acted_openings, openings_by, openings_of}
+use Rattle.p2p_log_rules.proofs.Ignoring.{by_entries}
+use Rattle.p2p_log_rules.proofs.Links.{openings_of-append, openings_of-none}
 use Rattle.p2p_net_queues.proofs.Matching.{slice_get-longer}
 use Rattle.p2p_net.specs.Places.{linked_by, nodes_linked}
 use Rattle.p2p_net.specs.declared.meeting.Ends.{Ends}
@@ -73,18 +74,18 @@ module _ (before : List Entry) (e : Entry) (openings : ℕ → Option Opening) (
   next_made : AreMade (before ++ e ∷ []) (openings_by before e openings)
   next_made k o is = by_act e.event.act refl e.reply e.puts k o is
 
-made_from : (before es : List Entry) (openings : ℕ → Option Opening) → AreMade before openings → AreMade (before ++ es) (state_from openings_by before es openings)
-unfolding state_from
-made_from before [] openings made = subst (λ l. AreMade l openings) (sym (append-nil before)) made
-made_from before (e ∷ es) openings made =
-    subst (λ l. AreMade l (state_from openings_by (before ++ e ∷ []) es (openings_by before e openings))) (append_assoc before (e ∷ []) es)
-    (made_from (before ++ e ∷ []) es (openings_by before e openings) (next_made before e openings made))
+are_made : (log : List Entry) → AreMade log (openings_of log)
+are_made = by_entries (λ l. AreMade l (openings_of l)) first more
+  where
+    first : AreMade [] (openings_of [])
+    first k o is = let none : openings_of [] k ≡ None = openings_of-none k in cc
+
+    more : (before : List Entry) (e : Entry) → AreMade before (openings_of before) → AreMade (before ++ e ∷ []) (openings_of (before ++ e ∷ []))
+    more before e made k o is = next_made before e (openings_of before) made k o (sym (openings_of-append before e k) ∙ is)
 
 ends_made : (o : Opening) (at : Option Entry) → Made o at → nodes_linked at ≡ ends_of o
 ends_made o at made = ap nodes_linked made.is ∙ made.ends
 
 -- the nodes of a link that is open
 pub opening_made : (log : List Entry) (k : ℕ) (o : Opening) → openings_of log k ≡ Some o → nodes_linked (slice_get log k) ≡ ends_of o
-unfolding openings_of
-opening_made log k o is =
-    ends_made o (slice_get log k) (made_from [] log (λ j. None) (λ j p none. cc) k o is)
+opening_made log k o is = ends_made o (slice_get log k) (are_made log k o is)

@@ -10,12 +10,13 @@ use Rattle.p2p_log.specs.declared.event.Rate.{Rate}
 use Rattle.p2p_log.specs.declared.asked.Asked.TheVariants as ask
 use Rattle.p2p_log.specs.declared.event.Act.{Act}
 use Rattle.p2p_log.specs.declared.event.Act.TheVariants as act
-use Rattle.p2p_log_rules.specs.Facts.{events_of, has_started, is_up, key_at, registered, capacity_for, capacity_in}
+use Rattle.p2p_log_rules.specs.Facts.{events_of, has_started, is_up, key_at, registered, capacity_for, capacity_in, sum_capacities}
 use Rattle.p2p_log_rules.specs.Checking.{node_checking, checking_node}
 use Rattle.p2p_log_rules.specs.Effect.{mailbox_size_at, limit_at}
 use Rattle.p2p_log_rules.specs.Valid.{fits, sizes_fit, gates_fit, is_quota, fits_usize}
 use Rattle.p2p_log_rules.specs.Valid as valid
 use Rattle.p2p_log_rules.specs.Lawful.{IsLawful}
+use Rattle.p2p_log_rules.proofs.Channels.{is_up-asked, channels-asked}
 use Rattle.p2p_log_laws.proofs.Connecting.{connect_is_reserved}
 use Rattle.p2p_log_laws.proofs.HeldPeers.{held_is_others}
 use Rattle.p2p_log_laws.proofs.NodeGrants.{release_is_held}
@@ -45,7 +46,7 @@ use Rattle.p2p_net.proofs.Starts.{fits_there}
 -- ---- what the code tests is what the log says
 
 pub started_is : (configs : List Config) (log : List Entry) (n : ℕ) (x : Node) → NodeStands configs log n x → is_started x ≡ has_started (events_of log) n
-started_is configs log n x s = let rout : RouterStands configs log n x.router = s.each place.router in rout.stands.bound ∙ ap (is_up log) rout.number
+started_is configs log n x s = let rout : RouterStands configs log n x.router = s.each place.router in rout.stands.bound ∙ (ap (is_up log) rout.number ∙ is_up-asked log n)
 
 size_is : (configs : List Config) (n : ℕ) (x : Node) → OwnStands configs n x → x.config.mailbox_size ≡ mailbox_size_at configs n
 size_is configs n x s = sym (ap (λ (o : Option Config). elim o [ None ↦ 0 | Some c ↦ c.mailbox_size ]) s.config)
@@ -67,10 +68,10 @@ register_is configs log n c rate x s =
     ((not started && not (is_some o)) && is_quota rate) && (fits_usize k && fits_usize (size + (total + k)))
     in
     ap (λ b. tests b (capacity_at x.channels c) (capacity_by x rate) x.config.mailbox_size x.channels.total) (started_is configs log n x s)
-    ∙ (ap (λ o. tests (has_started (events_of log) n) o (capacity_by x rate) x.config.mailbox_size x.channels.total) (chan.capacities c)
+    ∙ (ap (λ o. tests (has_started (events_of log) n) o (capacity_by x rate) x.config.mailbox_size x.channels.total) (chan.capacities c ∙ ap (λ l. capacity_in l c) (channels-asked configs log n))
     ∙ (ap (λ k. tests (has_started (events_of log) n) (capacity_in regs c) k x.config.mailbox_size x.channels.total) (capacity_is configs n rate x s.own)
     ∙ (ap (λ k. tests (has_started (events_of log) n) (capacity_in regs c) (capacity_for (slice_get configs n) rate) k x.channels.total) (size_is configs n x s.own)
-    ∙ ap (λ k. tests (has_started (events_of log) n) (capacity_in regs c) (capacity_for (slice_get configs n) rate) (mailbox_size_at configs n) k) chan.total)))
+    ∙ ap (λ k. tests (has_started (events_of log) n) (capacity_in regs c) (capacity_for (slice_get configs n) rate) (mailbox_size_at configs n) k) (chan.total ∙ ap sum_capacities (channels-asked configs log n)))))
 
 spawned_is : (log : List Entry) (n conn : ℕ) → names_spawner n (slice_get log conn) ≡ valid.names_spawner (events_of log) n conn
 spawned_is [] n conn = refl
@@ -286,7 +287,7 @@ ready_by configs log n (act.Register c m rate) x s released reserved fit may =
     )
 ready_by configs log n (act.Start m) x s released reserved fit may =
     let chan : ChannelsStand configs log n x.channels = s.each place.channels in
-    let off : is_up log n ≡ false = sym (started_is configs log n x s) ∙ not-true (is_started x) may in (
+    let off : is_up log n ≡ false = is_up-asked log n ∙ (sym (started_is configs log n x s) ∙ not-true (is_started x) may) in (
       is_unbound-before configs log n x.router (s.each place.router) off,
       (
         one_mailbox x.config fit,

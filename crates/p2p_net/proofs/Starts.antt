@@ -11,7 +11,7 @@ use Rattle.p2p_log.specs.declared.queue.Queue.TheVariants as queue
 use Rattle.p2p_log.specs.declared.queue.Side.TheVariants as side
 use Rattle.p2p_log_rules.specs.Attempting.{dial_rules_in}
 use Rattle.p2p_log_rules.specs.Connections.{is_begun, live_connection}
-use Rattle.p2p_log_rules.specs.Facts.{registered}
+use Rattle.p2p_log_rules.specs.Facts.{capacity_in, sum_capacities}
 use Rattle.p2p_net_connections.proofs.Changes.{connections_new}
 use Rattle.p2p_net_channels.proofs.Checks.{checks_new}
 use Rattle.p2p_net_channels.proofs.Readers.{closed_new}
@@ -20,6 +20,8 @@ use Rattle.p2p_net_channels.proofs.Quotas.{quotas_new}
 use Rattle.p2p_log_rules.specs.Effect.{mailbox_size_at}
 use Rattle.p2p_log_rules.specs.Listening.{no_gates, gate_rules_of}
 use Rattle.p2p_log_rules.specs.Valid.{fits, has_key, is_valid_config, config_fault_from, config_fault}
+use Rattle.p2p_log_rules.proofs.Channels.{channels-none}
+use Rattle.p2p_log_rules.proofs.Connections.{is_begun-none}
 use Rattle.p2p_log.proofs.Places.{slice_get-append}
 use Rattle.p2p_net_router.specs.Stands.{StandsFor}
 use Rattle.p2p_net_channels.specs.Channels.{no_channels}
@@ -84,8 +86,7 @@ each-append P xs x each last n y s =
 
 -- no channels and no links stand for no log
 channels_new : (configs : List Config) (n : ℕ) → mailbox_size_at configs n < 2 ^ 64 → ChannelsStand configs [] n no_channels
-unfolding registered
-channels_new configs n h = record { capacities = λ c. refl; total = refl; room = omega (arith, h); waits = holds_none (queue.Channel n); quotas = quotas_new configs n; senders = senders_new n; checks = checks_new n; closed = closed_new n }
+channels_new configs n h = record { capacities = λ c. ap (λ l. capacity_in l c) (sym (channels-none configs n)); total = ap sum_capacities (sym (channels-none configs n)); room = omega (arith, h); waits = holds_none (queue.Channel n); quotas = quotas_new configs n; senders = senders_new n; checks = checks_new n; closed = closed_new n }
 
 pub links_new : (configs : List Config) → LinksStand configs [] no_links
 links_new configs = record {
@@ -100,8 +101,7 @@ links_new configs = record {
 
 -- of no log a router is to know of no connection
 nobody_heard : (n conn : ℕ) → key_heard (is_begun [] n conn) (live_connection [] n conn) ≡ None
-unfolding is_begun
-nobody_heard n conn = unheard false (live_connection [] n conn) refl
+nobody_heard n conn = unheard (is_begun [] n conn) (live_connection [] n conn) (is_begun-none n conn)
 
 -- a node that was asked for nothing
 pub node_new :

@@ -8,8 +8,8 @@ use Rattle.p2p_log.specs.declared.queue.Queue.TheVariants as queue
 use Rattle.p2p_log.specs.declared.item.Envelope.{Envelope}
 use Rattle.p2p_log.specs.declared.entry.Entry.{Entry}
 use Rattle.p2p_log.specs.QueueCode.{same_queue}
-use Rattle.p2p_log_rules.specs.Facts.{events_of, registers_at, registered, channels, capacity_in, rates, rate_in, sum_capacities}
-use Rattle.p2p_log_rules.proofs.Facts.{events_of-append, registered-append}
+use Rattle.p2p_log_rules.specs.Facts.{registers_at, channels, capacity_in, rates, rate_in, sum_capacities}
+pub use Rattle.p2p_log_rules.proofs.Channels.{channels-append}
 use Rattle.p2p_net_queues.specs.Lines.{HoldsLines}
 use Rattle.p2p_net_queues.proofs.Holding.{holds_frame}
 use Rattle.p2p_net_queues.specs.Tables.{at}
@@ -19,9 +19,6 @@ use Rattle.p2p_net_channels.proofs.Checks.{checks_stay}
 use Rattle.p2p_net_channels.proofs.Quotas.{same_rates, quota_stays}
 use Rattle.p2p_net_channels.proofs.Readers.{closed_stay}
 use Rattle.p2p_net_channels.proofs.Sending.{senders_stay}
-
-pub channels-append : (configs : List Config) (log : List Entry) (e : Entry) (n : ℕ) → channels configs (log ++ e ∷ []) n ≡ channels configs log n ++ registers_at configs n e.event.act
-channels-append configs log e n = ap (λ l. registered configs l n) (events_of-append log e) ∙ registered-append configs (events_of log) e.event n
 
 pub channels-kept : (configs : List Config) (log : List Entry) (e : Entry) (n : ℕ) → registers_at configs n e.event.act ≡ [] → channels configs (log ++ e ∷ []) n ≡ channels configs log n
 channels-kept configs log e n none = channels-append configs log e n ∙ (ap (λ l. channels configs log n ++ l) none ∙ append-nil (channels configs log n))
@@ -35,7 +32,7 @@ channels_moved configs log e n ch w s none admits sends closes waits = record {
   total = s.total ∙ ap sum_capacities (sym (channels-kept configs log e n none));
   room = s.room;
   waits = waits;
-  quotas = λ c. same_rates configs log e n c (at ch.quotas c) none (quota_stays configs log e n c (rate_in (rates (events_of log) n) c) (at ch.quotas c) (s.quotas c) (λ conn. admits conn c));
+  quotas = λ c. same_rates configs log e n c (at ch.quotas c) none (quota_stays configs log e n c (rate_in (rates log n) c) (at ch.quotas c) (s.quotas c) (λ conn. admits conn c));
   senders = senders_stay configs log e n ch.senders s.senders none sends;
   checks = checks_stay log e n ch.checks s.checks sends;
   closed = closed_stay log e n ch s.closed closes;

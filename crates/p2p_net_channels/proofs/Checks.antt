@@ -7,7 +7,7 @@ use Rattle.p2p_log.specs.declared.entry.Entry.{Entry}
 use Rattle.p2p_log_rules.specs.Checking.{checks_by, checked_at}
 use Rattle.p2p_log_rules.specs.Facts.{state_from, with_named}
 use Rattle.p2p_log_rules.specs.declared.row.Checked.{Checked}
-use Rattle.p2p_log_rules.proofs.Checking.{checked_at-append}
+use Rattle.p2p_log_rules.proofs.Checks.{checked_at-append}
 use Rattle.p2p_net_queues.specs.Tables.{at, AreBut}
 use Rattle.p2p_net_queues.proofs.Tables.{at-inserted}
 use Rattle.p2p_net_channels.specs.Channels.{no_channels}

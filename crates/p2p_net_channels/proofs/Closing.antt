@@ -5,7 +5,7 @@ use Rattle.p2p_log.specs.declared.queue.Queue.TheVariants as queue
 use Rattle.p2p_log.specs.declared.entry.Entry.{Entry}
 use Rattle.p2p_log.specs.declared.entry.Reply.TheVariants as reply
 use Rattle.p2p_log.specs.declared.event.Act.TheVariants as act
-use Rattle.p2p_log_rules.specs.Facts.{events_of, registers_at, capacity_in, rates, rate_in, sum_capacities}
+use Rattle.p2p_log_rules.specs.Facts.{registers_at, capacity_in, rates, rate_in, sum_capacities}
 use Rattle.p2p_net_queues.specs.Lines.{HoldsLines}
 use Rattle.p2p_net_queues.specs.Tables.{at, cleared_at}
 use Rattle.p2p_net_channels.specs.Channels.{closed_with}
@@ -28,7 +28,7 @@ channels_closed configs log e n c ch s acts done admits sends waits =
       total = s.total ∙ ap sum_capacities (sym (channels-kept configs log e n none));
       room = s.room;
       waits = waits;
-      quotas = λ d. same_rates configs log e n d (at ch.quotas d) none (quota_stays configs log e n d (rate_in (rates (events_of log) n) d) (at ch.quotas d) (s.quotas d) (λ conn. admits conn d));
+      quotas = λ d. same_rates configs log e n d (at ch.quotas d) none (quota_stays configs log e n d (rate_in (rates log n) d) (at ch.quotas d) (s.quotas d) (λ conn. admits conn d));
       senders = senders_stay configs log e n ch.senders s.senders none sends;
       checks = checks_stay log e n ch.checks s.checks sends;
       closed = closed_more log e n c ch s.closed acts done;

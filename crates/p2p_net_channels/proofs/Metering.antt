@@ -44,22 +44,22 @@ module _ (configs : List Config) (log : List Entry) (e : Entry) (n c conn now : 
 
   -- what each channel keeps
   quotas_checked :
-      (ch : Channels) → ((q : ℕ) → QuotaStands configs log n q (rate_in (rates (events_of log) n) q) (at ch.quotas q))
+      (ch : Channels) → ((q : ℕ) → QuotaStands configs log n q (rate_in (rates log n) q) (at ch.quotas q))
       → ((d q : ℕ) → admitted_by (limit_at configs n) n d (messages q) log e ≡ cond ((q == c) && ((d == conn) && may_admit ch c conn now)) (now ∷ []) [])
-      → (q : ℕ) → QuotaStands configs (log ++ e ∷ []) n q (rate_in (rates (events_of log) n) q) (at (checked_at nat_cmp ch.quotas c conn now) q)
+      → (q : ℕ) → QuotaStands configs (log ++ e ∷ []) n q (rate_in (rates log n) q) (at (checked_at nat_cmp ch.quotas c conn now) q)
   quotas_checked ch stands adds q =
-      subst (λ o. QuotaStands configs (log ++ e ∷ []) n q (rate_in (rates (events_of log) n) q) o) (sym (at-checked_at nat_cmp ch.quotas c q conn now)) (by (q == c) refl)
+      subst (λ o. QuotaStands configs (log ++ e ∷ []) n q (rate_in (rates log n) q) o) (sym (at-checked_at nat_cmp ch.quotas c q conn now)) (by (q == c) refl)
     where
-      here : (p : ℕ) → (p == c) ≡ true → p ≡ c → QuotaStands configs (log ++ e ∷ []) n p (rate_in (rates (events_of log) n) p) (option_map (λ kept. checked nat_cmp kept conn now) (at ch.quotas c))
+      here : (p : ℕ) → (p == c) ≡ true → p ≡ c → QuotaStands configs (log ++ e ∷ []) n p (rate_in (rates log n) p) (option_map (λ kept. checked nat_cmp kept conn now) (at ch.quotas c))
       here p test is =
-          subst (λ p. QuotaStands configs (log ++ e ∷ []) n p (rate_in (rates (events_of log) n) p) (option_map (λ kept. checked nat_cmp kept conn now) (at ch.quotas c))) (sym is)
-          (quota_checked (rate_in (rates (events_of log) n) c) (at ch.quotas c) (stands c)
+          subst (λ p. QuotaStands configs (log ++ e ∷ []) n p (rate_in (rates log n) p) (option_map (λ kept. checked nat_cmp kept conn now) (at ch.quotas c))) (sym is)
+          (quota_checked (rate_in (rates log n) c) (at ch.quotas c) (stands c)
           (λ d. adds d c ∙ ap (λ t. cond (t && ((d == conn) && may_admit ch c conn now)) (now ∷ []) []) (ap (λ i. i == c) (sym is) ∙ test)))
 
-      by : (b : Bool) → (q == c) ≡ b → QuotaStands configs (log ++ e ∷ []) n q (rate_in (rates (events_of log) n) q) (cond b (option_map (λ kept. checked nat_cmp kept conn now) (at ch.quotas c)) (at ch.quotas q))
+      by : (b : Bool) → (q == c) ≡ b → QuotaStands configs (log ++ e ∷ []) n q (rate_in (rates log n) q) (cond b (option_map (λ kept. checked nat_cmp kept conn now) (at ch.quotas c)) (at ch.quotas q))
       by true test = here q test (eqb-true q c test)
       by false test =
-          quota_stays configs log e n q (rate_in (rates (events_of log) n) q) (at ch.quotas q) (stands q)
+          quota_stays configs log e n q (rate_in (rates log n) q) (at ch.quotas q) (stands q)
           (λ d. adds d q ∙ ap (λ t. cond (t && ((d == conn) && may_admit ch c conn now)) (now ∷ []) []) test)
 
 -- the quota of a channel was asked for a message of a connection, which it admitted where it may, and these messages wait

@@ -1,21 +1,19 @@
 -- The rates of channels, and what is kept of their quotas, after one more entry.
-use Rattle.std.proofs.Common.{◌≡◌, ℕ, ◌≤◌, Bool, true, false, cond, List, [], ◌∷◌, ◌++◌, Option, Some, None, refl, ap, sym, subst, ◌∙◌, append-nil}
-use Rattle.std.specs.Prelude.{◌==◌, flat_map, is_some, slice_get}
-use Rattle.std.specs.Map.{lookup}
+use Rattle.std.proofs.Common.{◌≡◌, ℕ, ◌≤◌, Bool, true, false, cond, List, [], ◌∷◌, ◌++◌, map, Option, Some, None, refl, ap, sym, subst, ◌∙◌, append-nil}
+use Rattle.std.specs.Prelude.{◌==◌, is_some, slice_get}
 use Rattle.std.specs.Ordering.{nat_cmp}
-use Rattle.std.proofs.lemmas.Grind.{flat_map-append}
 use Rattle.p2p_runtime.specs.QuotaKeys.{KeptByKey}
 use Rattle.p2p_runtime.specs.QuotaLaw.{admits}
 use Rattle.p2p_log.specs.declared.config.Config.{Config}
 use Rattle.p2p_log.specs.declared.event.Act.{Act}
 use Rattle.p2p_log.specs.declared.event.Act.TheVariants as act
-use Rattle.p2p_log.specs.declared.event.Event.{Event}
 use Rattle.p2p_log.specs.declared.event.Rate.{Rate}
 use Rattle.p2p_log.specs.declared.entry.Entry.{Entry}
-use Rattle.p2p_log_rules.specs.Facts.{events_of, latest_moment, capacity_for, registers_at, registered, channels, capacity_in, rates_by, rates, rate_in, history_from}
+use Rattle.p2p_log_rules.specs.Facts.{events_of, latest_moment, capacity_for, registers_at, channels, capacity_in, rates_by, rates, rate_in, history_from, state_from}
 use Rattle.p2p_log_rules.specs.Listening.{quota_of}
 use Rattle.p2p_log_rules.specs.Metering.{messages, limit_at, admitted_by, admitted, quota_or_none, may_pass}
-use Rattle.p2p_log_rules.proofs.Facts.{events_of-append}
+use Rattle.p2p_log_rules.specs.Told.{told}
+use Rattle.p2p_log_rules.proofs.Channels.{rates-append}
 use Rattle.p2p_net_queues.specs.Meters.{passes_on}
 use Rattle.p2p_net_queues.specs.Tables.{at}
 use Rattle.p2p_net_queues.proofs.Meters.{admitted-kept, meters_frame, passes_is}
@@ -24,12 +22,6 @@ use Rattle.p2p_net_channels.specs.Stands.{QuotaStands, ChannelsStand}
 use Rattle.p2p_net_channels.specs.declared.channels.Channels.{Channels}
 
 -- ---- the rates of channels
-
-pub rates-append : (log : List Entry) (e : Entry) (n : ℕ) → rates (events_of (log ++ e ∷ [])) n ≡ rates (events_of log) n ++ rates_by n e.event.act
-unfolding rates
-rates-append log e n =
-    let by : Event → List (ℕ × Rate) = λ v. rates_by n v.act in
-    ap (flat_map by) (events_of-append log e) ∙ (flat_map-append by (events_of log) (e.event ∷ []) ∙ ap (λ l. flat_map by (events_of log) ++ l) (append-nil (rates_by n e.event.act)))
 
 -- an act that registers no channel has no rate
 no_rate : (configs : List Config) (n : ℕ) (a : Act) → registers_at configs n a ≡ [] → rates_by n a ≡ []
@@ -40,37 +32,29 @@ no_rate configs n (act.Register c m rate) h = by (m == n) h
     by false none = refl
 no_rate configs n _ h = refl
 
-pub rates-kept : (configs : List Config) (log : List Entry) (e : Entry) (n : ℕ) → registers_at configs n e.event.act ≡ [] → rates (events_of (log ++ e ∷ [])) n ≡ rates (events_of log) n
-rates-kept configs log e n none = rates-append log e n ∙ (ap (λ l. rates (events_of log) n ++ l) (no_rate configs n e.event.act none) ∙ append-nil (rates (events_of log) n))
+pub rates-kept : (configs : List Config) (log : List Entry) (e : Entry) (n : ℕ) → registers_at configs n e.event.act ≡ [] → rates (log ++ e ∷ []) n ≡ rates log n
+rates-kept configs log e n none = rates-append log e n ∙ (ap (λ l. rates log n ++ l) (no_rate configs n e.event.act none) ∙ append-nil (rates log n))
 
--- what one act registers has a capacity and a rate
-known_by : (configs : List Config) (n c : ℕ) (a : Act) (xs : List (ℕ × ℕ)) (ys : List (ℕ × Rate)) → is_some (capacity_in xs c) ≡ is_some (rate_in ys c)
-    → is_some (capacity_in (registers_at configs n a ++ xs) c) ≡ is_some (rate_in (rates_by n a ++ ys) c)
-known_by configs n c (act.Register d m rate) xs ys h = by (m == n) (c == d)
+-- each channel that has a rate has a capacity
+known_in : (configs : List Config) (n c : ℕ) (rs : List (ℕ × Rate)) → is_some (capacity_in (map (λ r. (r.0, capacity_for (slice_get configs n) r.1)) rs) c) ≡ is_some (rate_in rs c)
+known_in configs n c [] = refl
+known_in configs n c (r ∷ rs) = by (c == r.0) (known_in configs n c rs)
   where
-    by : (b t : Bool) → is_some (lookup (λ k. c == k) (cond b ((d, capacity_for (slice_get configs n) rate) ∷ []) [] ++ xs)) ≡ is_some (lookup (λ k. c == k) (cond b ((d, rate) ∷ []) [] ++ ys))
-    by true t =
-        elim (c == d) as (λ s. is_some (cond s (Some (capacity_for (slice_get configs n) rate)) (capacity_in xs c)) ≡ is_some (cond s (Some rate) (rate_in ys c))) [
-          | true ↦ refl
-          | false ↦ h
-        ]
-    by false t = h
-known_by configs n c _ xs ys h = h
-
-known_in : (configs : List Config) (events : List Event) (n c : ℕ) → is_some (capacity_in (registered configs events n) c) ≡ is_some (rate_in (rates events n) c)
-unfolding registered rates
-known_in configs [] n c = refl
-known_in configs (v ∷ events) n c = known_by configs n c v.act (registered configs events n) (rates events n) (known_in configs events n c)
+    by : (b : Bool) → is_some (capacity_in (map (λ d. (d.0, capacity_for (slice_get configs n) d.1)) rs) c) ≡ is_some (rate_in rs c)
+        → is_some (cond b (Some (capacity_for (slice_get configs n) r.1)) (capacity_in (map (λ d. (d.0, capacity_for (slice_get configs n) d.1)) rs) c)) ≡ is_some (cond b (Some r.1) (rate_in rs c))
+    by true h = refl
+    by false h = h
 
 -- a channel that has a capacity has a rate, and one that has none has none
-pub same_known : (configs : List Config) (log : List Entry) (n c : ℕ) → is_some (capacity_in (channels configs log n) c) ≡ is_some (rate_in (rates (events_of log) n) c)
-same_known configs log n c = known_in configs (events_of log) n c
+pub same_known : (configs : List Config) (log : List Entry) (n c : ℕ) → is_some (capacity_in (channels configs log n) c) ≡ is_some (rate_in (rates log n) c)
+unfolding channels
+same_known configs log n c = known_in configs n c (rates log n)
 
 -- ---- what is kept of their quotas
 
 -- no channels, and no log
-pub quotas_new : (configs : List Config) (n c : ℕ) → QuotaStands configs [] n c (rate_in (rates (events_of []) n) c) (at no_channels.quotas c)
-unfolding rates admitted history_from
+pub quotas_new : (configs : List Config) (n c : ℕ) → QuotaStands configs [] n c (rate_in (rates [] n) c) (at no_channels.quotas c)
+unfolding rates told state_from admitted history_from
 quotas_new configs n c = λ conn. refl
 
 -- a channel that has no rate admitted nothing
@@ -93,7 +77,7 @@ quota_stays configs log e n c (Some rate) None h none = absurd h
 -- an entry that registers no channel leaves each its rate
 pub same_rates :
     (configs : List Config) (log : List Entry) (e : Entry) (n c : ℕ) (o : Option (KeptByKey ℕ)) → registers_at configs n e.event.act ≡ []
-    → QuotaStands configs (log ++ e ∷ []) n c (rate_in (rates (events_of log) n) c) o → QuotaStands configs (log ++ e ∷ []) n c (rate_in (rates (events_of (log ++ e ∷ [])) n) c) o
+    → QuotaStands configs (log ++ e ∷ []) n c (rate_in (rates log n) c) o → QuotaStands configs (log ++ e ∷ []) n c (rate_in (rates (log ++ e ∷ []) n) c) o
 same_rates configs log e n c o none h = subst (λ rs. QuotaStands configs (log ++ e ∷ []) n c (rate_in rs c) o) (sym (rates-kept configs log e n none)) h
 
 -- the quota of a channel admits what it does by the log
@@ -101,7 +85,7 @@ pub may_admit_is :
     (configs : List Config) (log : List Entry) (n c k conn now : ℕ) (ch : Channels) → ChannelsStand configs log n ch → latest_moment (events_of log) ≤ now → capacity_at ch c ≡ Some k
     → may_admit ch c conn now ≡ may_pass configs log n conn now (messages c)
 may_admit_is configs log n c k conn now ch s late registered =
-    by (rate_in (rates (events_of log) n) c) (at ch.quotas c) (s.quotas c)
+    by (rate_in (rates log n) c) (at ch.quotas c) (s.quotas c)
     (sym (same_known configs log n c) ∙ ap (λ (o : Option ℕ). is_some o) (sym (s.capacities c) ∙ registered))
   where
     by : (r : Option Rate) (o : Option (KeptByKey ℕ)) → QuotaStands configs log n c r o → is_some r ≡ true → passes_on nat_cmp o conn now ≡ admits (quota_or_none r) (admitted configs log n conn (messages c)) now

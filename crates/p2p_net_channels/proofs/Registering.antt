@@ -11,7 +11,7 @@ use Rattle.p2p_log.specs.declared.event.Rate.{Rate}
 use Rattle.p2p_log.specs.declared.event.Act.TheVariants as act
 use Rattle.p2p_log.specs.declared.entry.Entry.{Entry}
 use Rattle.p2p_log.specs.Lines.{line}
-use Rattle.p2p_log_rules.specs.Facts.{events_of, registers_at, capacity_for, channels, capacity_in, rates_by, rates, rate_in, sum_capacities}
+use Rattle.p2p_log_rules.specs.Facts.{registers_at, capacity_for, channels, capacity_in, rates_by, rates, rate_in, sum_capacities}
 use Rattle.p2p_log_rules.specs.Admitting.{rate_at, sent_moments}
 use Rattle.p2p_log_rules.specs.Closing.{closed_by}
 use Rattle.p2p_log_rules.specs.Listening.{quota_of}
@@ -62,22 +62,22 @@ same_number : (n : ℕ) → (n == n) ≡ true
 same_number n = grind (arith, nat_tests)
 
 -- an act that registers a channel has its rate
-rates_registered : (log : List Entry) (e : Entry) (n c : ℕ) (rate : Rate) → e.event.act ≡ act.Register c n rate → rates (events_of (log ++ e ∷ [])) n ≡ rates (events_of log) n ++ (c, rate) ∷ []
+rates_registered : (log : List Entry) (e : Entry) (n c : ℕ) (rate : Rate) → e.event.act ≡ act.Register c n rate → rates (log ++ e ∷ []) n ≡ rates log n ++ (c, rate) ∷ []
 rates_registered log e n c rate is =
-    rates-append log e n ∙ ap (λ l. rates (events_of log) n ++ l) (ap (rates_by n) is ∙ ap (λ b. cond b ((c, rate) ∷ []) []) (same_number n))
+    rates-append log e n ∙ ap (λ l. rates log n ++ l) (ap (rates_by n) is ∙ ap (λ b. cond b ((c, rate) ∷ []) []) (same_number n))
 
 -- what is kept of the quota of each channel, once a channel is registered that was not
 module _ (configs : List Config) (log : List Entry) (e : Entry) (n c : ℕ) (rate : Rate) (ch : Channels) where
   new_quota :
-      ((d : ℕ) → QuotaStands configs log n d (rate_in (rates (events_of log) n) d) (at ch.quotas d)) → rate_in (rates (events_of log) n) c ≡ None → IsQuota (quota_of rate)
-      → AdmitsNone configs log e n → (d : ℕ) (b : Bool) → (d == c) ≡ b → (r : Option Rate) → rate_in (rates (events_of log) n) d ≡ r
+      ((d : ℕ) → QuotaStands configs log n d (rate_in (rates log n) d) (at ch.quotas d)) → rate_in (rates log n) c ≡ None → IsQuota (quota_of rate)
+      → AdmitsNone configs log e n → (d : ℕ) (b : Bool) → (d == c) ≡ b → (r : Option Rate) → rate_in (rates log n) d ≡ r
       → QuotaStands configs (log ++ e ∷ []) n d (elim r [ None ↦ cond b (Some rate) None | Some v ↦ Some v ]) (cond b (Some (fresh (quota_of rate))) (at ch.quotas d))
   new_quota stands absent is_quota admits d true here None is =
       meters_new nat_cmp (log ++ e ∷ []) (quota_of rate) (λ conn. admitted configs (log ++ e ∷ []) n conn (messages d)) is_quota
-      (λ conn. admitted-kept configs log e n conn (messages d) (admits conn d) ∙ admitted_none configs log n d (rate_in (rates (events_of log) n) d) (at ch.quotas d) (stands d) is conn)
+      (λ conn. admitted-kept configs log e n conn (messages d) (admits conn d) ∙ admitted_none configs log n d (rate_in (rates log n) d) (at ch.quotas d) (stands d) is conn)
   new_quota stands absent is_quota admits d true here (Some v) is =
       let same : d ≡ c = eqb-true d c here in
-      let missing : rate_in (rates (events_of log) n) d ≡ None = ap (rate_in (rates (events_of log) n)) same ∙ absent in
+      let missing : rate_in (rates log n) d ≡ None = ap (rate_in (rates log n)) same ∙ absent in
       absurd (cc)
   new_quota stands absent is_quota admits d false there None is =
       quota_stays configs log e n d None (at ch.quotas d) (subst (λ o. QuotaStands configs log n d o (at ch.quotas d)) is (stands d)) (λ conn. admits conn d)
@@ -93,7 +93,7 @@ module _ (configs : List Config) (log : List Entry) (e : Entry) (n c : ℕ) (rat
       (λ k. sent_moments-kept log e n d sends k ∙ sent_none log n d (rate_at log n d) (at ch.senders d) (stands d) is k)
   new_sender stands absent is_quota sends d true here (Some v) is =
       let same : d ≡ c = eqb-true d c here in
-      let missing : rate_at log n d ≡ None = ap (rate_in (rates (events_of log) n)) same ∙ absent in
+      let missing : rate_at log n d ≡ None = ap (rate_in (rates log n)) same ∙ absent in
       absurd (cc)
   new_sender stands absent is_quota sends d false there None is =
       sender_stays log e n d None (at ch.senders d) (subst (λ o. SenderStands log n d o (at ch.senders d)) is (stands d)) (sent_moments-kept log e n d sends)
@@ -124,8 +124,8 @@ channels_registered configs log e n c k rate ch s is amount absent room lines is
       waits = λ d. s.waits d ∙ sym (lines d);
       quotas = λ d.
           subst (λ r. QuotaStands configs (log ++ e ∷ []) n d r (at (insert_entry nat_cmp ch.quotas c (fresh (quota_of rate))) d)) (sym (known d))
-          (subst (λ o. QuotaStands configs (log ++ e ∷ []) n d (elim (rate_in (rates (events_of log) n) d) [ None ↦ cond (d == c) (Some rate) None | Some v ↦ Some v ]) o) (sym (at-inserted c d (fresh (quota_of rate)) ch.quotas))
-          (new_quota configs log e n c rate ch s.quotas (no_rate_yet (s.capacities c)) is_quota admits d (d == c) refl (rate_in (rates (events_of log) n) d) refl));
+          (subst (λ o. QuotaStands configs (log ++ e ∷ []) n d (elim (rate_in (rates log n) d) [ None ↦ cond (d == c) (Some rate) None | Some v ↦ Some v ]) o) (sym (at-inserted c d (fresh (quota_of rate)) ch.quotas))
+          (new_quota configs log e n c rate ch s.quotas (no_rate_yet (s.capacities c)) is_quota admits d (d == c) refl (rate_in (rates log n) d) refl));
       senders = λ d.
           subst (λ r. SenderStands (log ++ e ∷ []) n d r (at (insert_entry nat_cmp ch.senders c (fresh (quota_of rate))) d)) (sym (known d))
           (subst (λ o. SenderStands (log ++ e ∷ []) n d (elim (rate_at log n d) [ None ↦ cond (d == c) (Some rate) None | Some v ↦ Some v ]) o) (sym (at-inserted c d (fresh (quota_of rate)) ch.senders))
@@ -135,11 +135,11 @@ channels_registered configs log e n c k rate ch s is amount absent room lines is
     }
   where
     known : (d : ℕ) → rate_at (log ++ e ∷ []) n d ≡ elim (rate_at log n d) [ None ↦ cond (d == c) (Some rate) None | Some v ↦ Some v ]
-    known d = ap (λ l. rate_in l d) (rates_registered log e n c rate is) ∙ lookup-last (rates (events_of log) n) c rate d
+    known d = ap (λ l. rate_in l d) (rates_registered log e n c rate is) ∙ lookup-last (rates log n) c rate d
 
     unknown : (o : Option Rate) → is_some o ≡ false → o ≡ None
     unknown None h = refl
     unknown (Some v) h = cc
 
-    no_rate_yet : capacity_at ch c ≡ capacity_in (channels configs log n) c → rate_in (rates (events_of log) n) c ≡ None
-    no_rate_yet same = unknown (rate_in (rates (events_of log) n) c) (sym (same_known configs log n c) ∙ ap (λ (o : Option ℕ). is_some o) (sym same ∙ absent))
+    no_rate_yet : capacity_at ch c ≡ capacity_in (channels configs log n) c → rate_in (rates log n) c ≡ None
+    no_rate_yet same = unknown (rate_in (rates log n) c) (sym (same_known configs log n c) ∙ ap (λ (o : Option ℕ). is_some o) (sym same ∙ absent))

@@ -8,6 +8,7 @@ use Rattle.p2p_log_rules.specs.Facts.{registers_at, rates, rate_in, state_from}
 use Rattle.p2p_log_rules.specs.Admitting.{rate_at, sent_by, sent_moments}
 use Rattle.p2p_log_rules.specs.Listening.{quota_of}
 use Rattle.p2p_log_rules.specs.Tracking.{key_cmp}
+use Rattle.p2p_log_rules.specs.Told.{told}
 use Rattle.p2p_log_rules.proofs.Facts.{state_from-append}
 use Rattle.p2p_runtime.specs.QuotaKeys.{KeptByKey}
 use Rattle.p2p_net_queues.specs.Tables.{at}
@@ -27,7 +28,7 @@ sent_moments-kept log e n c none k = sent_moments-append log e n c k ∙ none.mo
 
 -- no channels, and no log
 pub senders_new : (n c : ℕ) → SenderStands [] n c (rate_at [] n c) (at no_channels.senders c)
-unfolding rates sent_moments state_from
+unfolding rates told sent_moments state_from
 senders_new n c = λ k. refl
 
 -- a channel that has no rate admitted nothing

@@ -12,7 +12,7 @@ use Rattle.p2p_log_rules.specs.Checking.{checks_by, checked_at}
 use Rattle.p2p_log_rules.specs.Closing as closing
 use Rattle.p2p_log_rules.specs.Closing.{closes}
 use Rattle.p2p_log_rules.specs.Tracking.{key_cmp}
-use Rattle.p2p_log_rules.specs.Facts.{events_of, channels, registers_at, capacity_in, rates, rate_in, sum_capacities}
+use Rattle.p2p_log_rules.specs.Facts.{channels, registers_at, capacity_in, rates, rate_in, sum_capacities}
 use Rattle.p2p_log_rules.specs.Listening.{quota_of}
 use Rattle.p2p_log_rules.specs.Metering.{messages, limit_at, admitted_by, admitted}
 use Rattle.p2p_log_rules.specs.Effect.{mailbox_size_at}
@@ -42,7 +42,7 @@ pub record ChannelsStand (configs : List Config) (log : List Entry) (n : ℕ) (c
   pub room : mailbox_size_at configs n + ch.total < 2 ^ 64
   pub waits : HoldsLines (queue.Channel n) log ch.waiting
   -- each channel's quota counts what each connection admitted there
-  pub quotas : (c : ℕ) → QuotaStands configs log n c (rate_in (rates (events_of log) n) c) (at ch.quotas c)
+  pub quotas : (c : ℕ) → QuotaStands configs log n c (rate_in (rates log n) c) (at ch.quotas c)
   -- and what the node sent there to each key
   pub senders : (c : ℕ) → SenderStands log n c (rate_at log n c) (at ch.senders c)
   -- what the node's checks admitted that waits for a message

@@ -27,10 +27,11 @@ use Rattle.p2p_log_rules.proofs.Attempts.{begun_of, acted_attempts, Heeds, tries
 use Rattle.p2p_log_rules.proofs.Dialing.{dials_by, dials_of-kept, dials_of-starts}
 use Rattle.p2p_log_rules.specs.Tellings.{last_told}
 use Rattle.p2p_log_rules.specs.Told.{told}
-use Rattle.p2p_log_rules.specs.Facts.{events_of, starts, has_started, is_up, taken, state_from, with_named, with_begun}
+use Rattle.p2p_log_rules.specs.Facts.{starts, is_up, taken, state_from, with_named, with_begun}
 use Rattle.p2p_log_rules.specs.Dialing.{Pace, pace_at, Dials, new_dials, dials_of}
 use Rattle.p2p_log_rules.proofs.Attempts.{attempts_of-append, attempts_of-late}
-use Rattle.p2p_log_rules.proofs.Facts.{events_of-append, has_started-append, state_from-append}
+use Rattle.p2p_log_rules.proofs.Channels.{is_up-append, is_up-none}
+use Rattle.p2p_log_rules.proofs.Facts.{state_from-append}
 use Rattle.p2p_net_queues.specs.Tables as table
 use Rattle.p2p_net_queues.proofs.Tables.{lookup-insert_entry}
 use Rattle.p2p_net_dialer.specs.Attempts.{running}
@@ -38,9 +39,6 @@ use Rattle.p2p_net_dialer.specs.Dialing.{gates_of, no_dialing, started}
 use Rattle.p2p_net_dialer.specs.Stands.{no_gates, gates_at, actor_of, attempt_of, AttemptStands, DialerStands, is_of_dialer, LeavesDialer}
 use Rattle.p2p_net_dialer.specs.declared.attempt.RunningAttempt.{RunningAttempt}
 use Rattle.p2p_net_dialer.specs.declared.dialing.Dialing.{Dialing}
-
-is_up-append : (log : List Entry) (e : Entry) (n : ℕ) → is_up (log ++ e ∷ []) n ≡ (is_up log n || starts n e.event.act)
-is_up-append log e n = ap (λ l. has_started l n) (events_of-append log e) ∙ has_started-append (events_of log) e.event n
 
 -- ---- an entry that leaves it alone
 
@@ -101,10 +99,6 @@ dialer_unmoved configs log e n no_start no_dialer waits = record {
 
 -- ---- a node that is new, and one that starts
 
-none_up : (n : ℕ) → is_up [] n ≡ false
-unfolding has_started
-none_up n = refl
-
 no_attempts : (configs : List Config) (n k : ℕ) → attempts_of configs [] n k ≡ None
 unfolding attempts_of told last_told state_from
 no_attempts configs n k = refl
@@ -115,7 +109,7 @@ none_waits q = refl
 
 pub dialer_new : (configs : List Config) (n : ℕ) → DialerStands configs [] n no_dialing
 dialer_new configs n = record {
-  actor = ap (λ b. cond b (Some (actor_of (gates_at configs n) (dials_of configs [] n))) None) (sym (none_up n));
+  actor = ap (λ b. cond b (Some (actor_of (gates_at configs n) (dials_of configs [] n))) None) (sym (is_up-none n));
   attempts = λ k. subst (λ o. AttemptStands (gates_at configs n) k None o (line [] (queue.Attempt n k))) (sym (no_attempts configs n k)) (none_waits (queue.Attempt n k));
 }
 

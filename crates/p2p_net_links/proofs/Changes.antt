@@ -28,8 +28,9 @@ use Rattle.p2p_log_rules.specs.Facts.{state_from, with_named}
 use Rattle.p2p_log_rules.specs.Links.{with_opened, without_finished, acted_openings, openings_by, openings_of}
 use Rattle.p2p_log_rules.specs.Dialed.{dialed_by, dialer_of}
 use Rattle.p2p_log_rules.specs.Pings.{ping_frame}
+use Rattle.p2p_log_rules.specs.Told.{told}
 use Rattle.p2p_log_rules.proofs.Connections.{dialer_of-append, dialer_of-unmade}
-use Rattle.p2p_log_rules.proofs.Links.{openings_of-append}
+use Rattle.p2p_log_rules.proofs.Links.{openings_of-append, openings_of-none}
 use Rattle.p2p_net_queues.specs.Tables.{at, waiting, pushed_at, popped_at}
 use Rattle.p2p_net_queues.proofs.Holding.{longer}
 use Rattle.p2p_net_queues.proofs.Tables.{waiting-pushed_at, waiting-popped_at, at-inserted}
@@ -80,7 +81,7 @@ changed l s t k j w f h =
 
 -- no links stand for no log
 pub dialers_new : (k : ℕ) → at no_links.dialers k ≡ dialer_of [] k
-unfolding dialer_of
+unfolding told state_from
 dialers_new k = refl
 
 -- an entry makes no link
@@ -94,8 +95,7 @@ dialers_kept log e dialers is none k = is k ∙ sym (dialer_of-unmade log e none
 
 -- no links stand for no log
 pub openings_new : (k : ℕ) → at no_links.openings k ≡ openings_of [] k
-unfolding openings_of state_from
-openings_new k = refl
+openings_new k = sym (openings_of-none k)
 
 -- an entry makes no link, and leaves them alone
 abbrev pub OpensNone : List Entry → Entry → Type 0

@@ -28,6 +28,8 @@ use Rattle.p2p_log_rules.specs.Attempting.{dial_rules_at}
 use Rattle.p2p_log_rules.specs.Facts.{state_from, taken, with_named}
 use Rattle.p2p_log_rules.specs.Handshakes.{steps_listener, steps_handshake, with_admitted, without_name, ends_handshake, unless_ended, acted_handshakes, handshakes_by, handshakes_of, is_handshaking, has_taken, peer_at}
 use Rattle.p2p_log_rules.specs.Links.{unless_dropped, listened, ends_by, listening_ends_of}
+use Rattle.p2p_log_rules.specs.Standing.{standing}
+use Rattle.p2p_log_rules.specs.Told.{told}
 use Rattle.p2p_log_rules.specs.Listening.{gate_rules_at, most_handshakes_at, took_known, known_by, known_of}
 use Rattle.p2p_log_rules.specs.declared.row.ListeningEnd.{ListeningEnd}
 use Rattle.p2p_log_rules.specs.declared.row.ListeningEnd.TheVariants as listening
@@ -119,7 +121,7 @@ rules_made cfg l new =
 
 pub listener_new : (configs : List Config) (n : ℕ) (cfg : Gates) (l : Listening) → IsNew cfg l → rules_by cfg ≡ gate_rules_at configs n → cfg.max_concurrent_handshakes ≡ most_handshakes_at configs n
     → cfg.handshake_timeout ≡ (dial_rules_at configs n).handshake_timeout → ListenerStands configs [] n l
-unfolding line live_from known_of handshakes_of has_taken listening_ends_of state_from
+unfolding line live_from known_of handshakes_of standing has_taken listening_ends_of told state_from
 listener_new configs n cfg l new rules most until = record {
   names = new.names;
   items = sym (ap (λ (a : Actor Key). map arrival_item a.arrivals) new.actor);

@@ -1,5 +1,5 @@
 -- The handshake that has the listening end of a link runs, and its peer came over that link.
-use Rattle.std.proofs.Common.{◌≡◌, ℕ, suc, ◌+◌, ◌≤◌, Bool, true, false, cond, List, [], ◌∷◌, ◌++◌, length, refl, ap, sym, subst, ◌∙◌, arith, eqb-true, append_assoc, append-nil, length-append, Option, Some, None}
+use Rattle.std.proofs.Common.{◌≡◌, ℕ, suc, ◌+◌, ◌≤◌, Bool, true, false, cond, List, [], ◌∷◌, ◌++◌, length, refl, ap, sym, subst, ◌∙◌, arith, eqb-true, length-append, Option, Some, None}
 use Rattle.std.specs.Prelude.{◌==◌, ◌&&◌, ◌||◌, not}
 use Rattle.std.specs.List.{list_any}
 use Rattle.std.proofs.lemmas.Bool.Decides.{nat_tests}
@@ -21,10 +21,12 @@ use Rattle.p2p_log.specs.declared.event.Act.{Act}
 use Rattle.p2p_log.specs.declared.event.Act.TheVariants as act
 use Rattle.p2p_log_rules.specs.declared.row.ListeningEnd.{ListeningEnd}
 use Rattle.p2p_log_rules.specs.declared.row.ListeningEnd.TheVariants as listening
-use Rattle.p2p_log_rules.specs.Facts.{taken, state_from}
-use Rattle.p2p_log_rules.specs.Handshakes.{with_admitted, ends_handshake, unless_ended, acted_handshakes, handshakes_by, handshakes_of, is_handshaking, is_accepted, peer_of, peer_at}
-use Rattle.p2p_log_rules.specs.Links.{admitted_end, listened, arrived, unless_dropped, acted_ends, ends_by, listening_ends_of}
-use Rattle.p2p_log_rules.proofs.Handshakes.{is_among, among-without}
+use Rattle.p2p_log_rules.specs.Facts.{taken}
+use Rattle.p2p_log_rules.specs.Handshakes.{with_admitted, ends_handshake, unless_ended, acted_handshakes, handshakes_of, is_handshaking, is_accepted, peer_of, peer_at}
+use Rattle.p2p_log_rules.specs.Links.{admitted_end, listened, arrived, unless_dropped, acted_ends, listening_ends_of}
+use Rattle.p2p_log_rules.proofs.Handshakes.{is_among, among-without, handshakes_of-append}
+use Rattle.p2p_log_rules.proofs.Ignoring.{by_entries}
+use Rattle.p2p_log_rules.proofs.Links.{listening_ends_of-append, listening_ends_of-none}
 use Rattle.p2p_log_rules.proofs.TakenAt.{taken_at-longer, taken_at-last}
 use Rattle.p2p_net_queues.specs.Tables as table
 use Rattle.p2p_net_listener.specs.Handshaking.{is_accepting, finished_in}
@@ -164,19 +166,16 @@ module _ (before : List Entry) (e : Entry) where
 
 -- ---- in a log
 
-run_from : (n : ℕ) (before es : List Entry) (names : List ℕ) (ends : ℕ → Option ListeningEnd) → RunOver before names ends
-    → RunOver (before ++ es) (state_from (handshakes_by n) before es names) (state_from (ends_by n) before es ends)
-unfolding state_from
-run_from n before [] names ends run = subst (λ l. RunOver l names ends) (sym (append-nil before)) run
-run_from n before (e ∷ es) names ends run =
-    let next = handshakes_by n before e names in
-    let has = ends_by n before e ends in
-    subst (λ l. RunOver l (state_from (handshakes_by n) (before ++ e ∷ []) es next) (state_from (ends_by n) (before ++ e ∷ []) es has)) (append_assoc before (e ∷ []) es)
-    (run_from n (before ++ e ∷ []) es next has (acted before e n names ends run e.event.act))
-
 pub runs_over : (log : List Entry) (n link name : ℕ) → listening_ends_of log n link ≡ Some (listening.Handshake name) → RunsOver log (handshakes_of log n) link name
-unfolding listening_ends_of handshakes_of
-runs_over log n link name is = run_from n [] log [] (λ k. None) (λ j k none. cc) link name is
+runs_over log n link name is = by_entries (λ l. RunOver l (handshakes_of l n) (listening_ends_of l n)) first more log link name is
+  where
+    first : RunOver [] (handshakes_of [] n) (listening_ends_of [] n)
+    first k h there = let none : listening_ends_of [] n k ≡ None = listening_ends_of-none n k in cc
+
+    more : (before : List Entry) (e : Entry) → RunOver before (handshakes_of before n) (listening_ends_of before n) → RunOver (before ++ e ∷ []) (handshakes_of (before ++ e ∷ []) n) (listening_ends_of (before ++ e ∷ []) n)
+    more before e run k h there =
+        subst (λ names. RunsOver (before ++ e ∷ []) names k h) (sym (handshakes_of-append before e n))
+        (acted before e n (handshakes_of before n) (listening_ends_of before n) run e.event.act k h (sym (listening_ends_of-append before e n k) ∙ there))
 
 -- ---- as the listener keeps it
 

@@ -16,10 +16,11 @@ use Rattle.p2p_log.specs.declared.queue.Queue.TheVariants as queue
 use Rattle.p2p_log.specs.QueueCode.{same_queue}
 use Rattle.p2p_log.specs.Lines.{name_of, ended_item, stays, placed, live, stands_in}
 use Rattle.p2p_log_rules.specs.Connections.{is_ended}
-use Rattle.p2p_log_rules.specs.Facts.{events_of, starts, has_started, registers_at, registered, channels, routed_by, subscribers, routes, sum_capacities}
+use Rattle.p2p_log_rules.specs.Facts.{starts, is_up, registers_at, channels, routed_by, subscribers, routes, sum_capacities}
 use Rattle.p2p_log_rules.proofs.Routing.{subscriber_of, routes_after}
 use Rattle.p2p_log_rules.specs.Effect.{mailbox_size_at, router_capacity}
-use Rattle.p2p_log_rules.proofs.Facts.{events_of-append, has_started-append, registered-append, subscribers-append, routes-append}
+use Rattle.p2p_log_rules.proofs.Channels.{channels-append, is_up-append}
+use Rattle.p2p_log_rules.proofs.Facts.{subscribers-append, routes-append}
 use Rattle.p2p_log.proofs.Lines.{live-append, filter_stays-nil}
 use Rattle.p2p_log.specs.Apart.{AreApart}
 use Rattle.p2p_log.proofs.Names.{filter_stays-first}
@@ -63,14 +64,9 @@ pub moved_over :
 moved_over configs log e r desk actor peers names items more s no_step no_channel no_start links subs works bound places ended h =
     let n = r.number in
     let same : channels configs (log ++ e ∷ []) n ≡ channels configs log n =
-    ap (λ v. registered configs v n) (events_of-append log e)
-    ∙ (registered-append configs (events_of log) e.event n
-    ∙ (ap (λ l. registered configs (events_of log) n ++ l) no_channel ∙ append-nil (registered configs (events_of log) n)))
+    channels-append configs log e n ∙ (ap (λ l. channels configs log n ++ l) no_channel ∙ append-nil (channels configs log n))
     in
-    let up : has_started (events_of (log ++ e ∷ [])) n ≡ has_started (events_of log) n =
-    ap (λ v. has_started v n) (events_of-append log e)
-    ∙ (has_started-append (events_of log) e.event n ∙ (ap (λ x. has_started (events_of log) n || x) no_start ∙ or-false (has_started (events_of log) n)))
-    in
+    let up : is_up (log ++ e ∷ []) n ≡ is_up log n = is_up-append log e n ∙ (ap (λ x. is_up log n || x) no_start ∙ or-false (is_up log n)) in
     record {
       holds = h;
       routes_are = links ∙ (s.routes_are ∙ sym (routes-append log e n ∙ ap (routes_after (routes log n)) no_step));

@@ -10,10 +10,11 @@ use Rattle.p2p_log.specs.declared.event.Act.{Act}
 use Rattle.p2p_log_rules.specs.declared.row.Row.{Row}
 use Rattle.p2p_log.specs.Lines.{stays, placed, live}
 use Rattle.p2p_log_rules.specs.Connections.{steps_sender, steps_receiver}
-use Rattle.p2p_log_rules.specs.Facts.{events_of, starts, has_started, is_up, registers_at, registered, channels, taken, steps_router, routed_by, subscribers, routes, sum_capacities}
+use Rattle.p2p_log_rules.specs.Facts.{starts, is_up, registers_at, channels, taken, steps_router, routed_by, subscribers, routes, sum_capacities}
 use Rattle.p2p_log_rules.proofs.Routing.{subscriber_of, routes_after}
 use Rattle.p2p_log_rules.specs.Effect.{entry_of, mailbox_size_at, router_capacity}
-use Rattle.p2p_log_rules.proofs.Facts.{events_of-append, has_started-append, registered-append, subscribers-append, routes-append}
+use Rattle.p2p_log_rules.proofs.Channels.{channels-append, is_up-append}
+use Rattle.p2p_log_rules.proofs.Facts.{subscribers-append, routes-append}
 use Rattle.p2p_log.proofs.Lines.{live-append}
 use Rattle.p2p_net_queues.specs.declared.board.Board.{Board}
 use Rattle.p2p_net_queues.specs.Rows.{row_goes}
@@ -28,10 +29,7 @@ abbrev pub rebound : Router → Desk Key → Board Name → Router
 rebound r desk names = record r { messenger = desk; names = names }
 
 channels_same : (configs : List Config) (log : List Entry) (e : Entry) (n : ℕ) → registers_at configs n e.event.act ≡ [] → channels configs (log ++ e ∷ []) n ≡ channels configs log n
-channels_same configs log e n none =
-    ap (λ v. registered configs v n) (events_of-append log e)
-    ∙ (registered-append configs (events_of log) e.event n
-    ∙ (ap (λ l. registered configs (events_of log) n ++ l) none ∙ append-nil (registered configs (events_of log) n)))
+channels_same configs log e n none = channels-append configs log e n ∙ (ap (λ l. channels configs log n ++ l) none ∙ append-nil (channels configs log n))
 
 pub stands_kept :
     (configs : List Config) (log : List Entry) (entry : ℕ) (event : Event) (a : Act) (r : Router) (desk : Desk Key) (names : Board Name) (row : Row)
@@ -53,8 +51,7 @@ stands_kept configs log entry event a r desk names row s at is other none no_hal
       told = s.told ∙ sym (subscribers-append log e n ∙ (ap (λ l. subscribers log n ++ flat_map subscriber_of l) took ∙ append-nil (subscribers log n)));
       registered = s.registered ∙ ap (map (λ (c : ℕ × ℕ). c.0)) (sym same);
       bound = up
-          ∙ (ap (λ x. has_started (events_of log) n || starts n x) (sym is)
-          ∙ (sym (has_started-append (events_of log) e.event n) ∙ ap (λ v. has_started v n) (sym (events_of-append log e))));
+          ∙ (ap (λ x. is_up log n || starts n x) (sym is) ∙ sym (is_up-append log e n));
       places = subst (λ k. HasPlaces k desk.binding) (ap (λ l. mailbox_size_at configs n + sum_capacities l) (sym same)) places;
       ended = ended_beside log e n r.peers r.actor.links (λ conn. ends_none-act e n conn a is (no_half conn)) s.ended;
       works = s.works;

@@ -23,10 +23,11 @@ use Rattle.p2p_log.specs.declared.event.Act.TheVariants as act
 use Rattle.p2p_log_rules.specs.declared.row.Row.{Row}
 use Rattle.p2p_log.specs.Lines.{name_of, stays, placed, live, line, stands_in}
 use Rattle.p2p_log_rules.specs.Connections.{is_ended}
-use Rattle.p2p_log_rules.specs.Facts.{events_of, starts, has_started, registers_at, registered, channels, item_named, taken, steps_router, routed_by, subscribers, with_route, routes, sum_capacities}
+use Rattle.p2p_log_rules.specs.Facts.{starts, is_up, registers_at, channels, item_named, taken, steps_router, routed_by, subscribers, with_route, routes, sum_capacities}
 use Rattle.p2p_log_rules.proofs.Routing.{subscriber_of, routes_after}
 use Rattle.p2p_log_rules.specs.Effect.{only, entry_of, mailbox_size_at, router_capacity, route_row, route_oldest}
-use Rattle.p2p_log_rules.proofs.Facts.{events_of-append, has_started-append, registered-append, subscribers-append, routes-append}
+use Rattle.p2p_log_rules.proofs.Channels.{channels-append, is_up-append}
+use Rattle.p2p_log_rules.proofs.Facts.{subscribers-append, routes-append}
 use Rattle.p2p_log.proofs.Lines.{live-append, filter_stays-nil}
 use Rattle.p2p_log_rules.proofs.Recorded.{item_named-first}
 use Rattle.p2p_net_queues.specs.declared.board.Board.{Board}
@@ -99,15 +100,10 @@ or-false false = refl
 
 channels_kept : (configs : List Config) (log : List Entry) (e : Entry) (n : ℕ) → e.event.act ≡ act.Router n → channels configs (log ++ e ∷ []) n ≡ channels configs log n
 channels_kept configs log e n is =
-    ap (λ v. registered configs v n) (events_of-append log e)
-    ∙ (registered-append configs (events_of log) e.event n
-    ∙ (ap (λ a. registered configs (events_of log) n ++ registers_at configs n a) is ∙ append-nil (registered configs (events_of log) n)))
+    channels-append configs log e n ∙ (ap (λ a. channels configs log n ++ registers_at configs n a) is ∙ append-nil (channels configs log n))
 
-up_kept : (log : List Entry) (e : Entry) (n : ℕ) → e.event.act ≡ act.Router n → has_started (events_of (log ++ e ∷ [])) n ≡ has_started (events_of log) n
-up_kept log e n is =
-    ap (λ v. has_started v n) (events_of-append log e)
-    ∙ (has_started-append (events_of log) e.event n
-    ∙ (ap (λ a. has_started (events_of log) n || starts n a) is ∙ or-false (has_started (events_of log) n)))
+up_kept : (log : List Entry) (e : Entry) (n : ℕ) → e.event.act ≡ act.Router n → is_up (log ++ e ∷ []) n ≡ is_up log n
+up_kept log e n is = is_up-append log e n ∙ (ap (λ a. is_up log n || starts n a) is ∙ or-false (is_up log n))
 
 places_taken : (k : ℕ) (b : Binding Key) → HasPlaces k b → HasPlaces k (in_mailbox without_oldest b)
 places_taken k Unbound h = h

@@ -20,11 +20,12 @@ use Rattle.p2p_log.specs.declared.queue.Queue.{Queue}
 use Rattle.p2p_log.specs.declared.queue.Queue.TheVariants as queue
 use Rattle.p2p_log.specs.declared.item.Item.TheVariants as item
 use Rattle.p2p_log.specs.Lines.{live_from, live, ended_item, stays, placed}
-use Rattle.p2p_log_rules.specs.Facts.{events_of, starts, has_started, capacity_for, registers_at, registered, channels, capacity_in, taken, steps_router, state_from, routed_by, subscribers, routes}
-use Rattle.p2p_log_rules.specs.Told.{told}
+use Rattle.p2p_log_rules.specs.Facts.{starts, is_up, capacity_for, registers_at, rates, channels, state_from, capacity_in, taken, steps_router, routed_by, subscribers, routes}
 use Rattle.p2p_log_rules.proofs.Routing.{subscriber_of, routes_after}
 use Rattle.p2p_log_rules.specs.Effect.{mailbox_size_at, router_capacity}
-use Rattle.p2p_log_rules.proofs.Facts.{events_of-append, has_started-append, registered-append, subscribers-append, routes-append}
+use Rattle.p2p_log_rules.specs.Told.{told}
+use Rattle.p2p_log_rules.proofs.Channels.{channels-append, is_up-append}
+use Rattle.p2p_log_rules.proofs.Facts.{subscribers-append, routes-append}
 use Rattle.p2p_log.proofs.Lines.{live-append, filter_stays-nil}
 use Rattle.p2p_net_queues.specs.Board.{held}
 use Rattle.p2p_net_router.specs.Items.{key_cmp, lists_in, message_item, messages_in, frame_item, frames_in, link_to, items_of, channel_of}
@@ -71,7 +72,7 @@ sound_fresh size r h = record {
 }
 
 pub fresh_stands : (configs : List Config) (r : Router) → IsFresh r → StandsFor configs [] r
-unfolding live_from has_started registered subscribers routes told state_from
+unfolding live_from is_up rates channels told state_from subscribers routes
 fresh_stands configs r h = record {
   holds = record {
     sound = sound_fresh (mailbox_size_at configs r.number) r h;
@@ -258,7 +259,7 @@ subscribed_stands configs log e r new d s g h absent =
     ap (registers_at configs n) g.is ∙ ap (λ b. cond b ((d, capacity_for (slice_get configs n) g.rate) ∷ []) []) (same_number n)
     in
     let channels_now : channels configs (log ++ e ∷ []) n ≡ channels configs log n ++ (d, capacity_for (slice_get configs n) g.rate) ∷ [] =
-    ap (λ v. registered configs v n) (events_of-append log e) ∙ (registered-append configs (events_of log) e.event n ∙ ap (λ l. registered configs (events_of log) n ++ l) here)
+    channels-append configs log e n ∙ ap (λ l. channels configs log n ++ l) here
     in
     let early = s.holds.sound.early (ap is_bound h.unbound) in
     subst (StandsFor configs (log ++ e ∷ [])) (sym h.rest)
@@ -278,9 +279,8 @@ subscribed_stands configs log e r new d s g h absent =
       bound = ap (λ (m : Desk Key). is_bound m.binding) h.desk
           ∙ (sym (ap is_bound h.unbound)
           ∙ (s.bound
-          ∙ (or-false (has_started (events_of log) n)
-          ∙ (ap (λ x. has_started (events_of log) n || starts n x) (sym g.is)
-          ∙ (sym (has_started-append (events_of log) e.event n) ∙ ap (λ v. has_started v n) (sym (events_of-append log e)))))));
+          ∙ (or-false (is_up log n)
+          ∙ (ap (λ x. is_up log n || starts n x) (sym g.is) ∙ sym (is_up-append log e n)))));
       places = subst (λ (m : Desk Key). HasPlaces (router_capacity configs (log ++ e ∷ []) n) m.binding) (sym h.desk) tt;
       ended = ended_beside log e n r.peers r.actor.links (λ conn. ends_none-act e n conn (act.Register d n g.rate) g.is refl) s.ended;
       works = s.works;

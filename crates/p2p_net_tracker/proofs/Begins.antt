@@ -33,10 +33,11 @@ use Rattle.p2p_log.specs.declared.item.Envelope.{Envelope}
 use Rattle.p2p_log.specs.declared.entry.Entry.{Entry}
 use Rattle.p2p_log.specs.Lines.{name_of, live_from, line}
 use Rattle.p2p_log_rules.specs.Facts.{state_from}
-use Rattle.p2p_log_rules.specs.Handshakes.{handshakes_of, is_handshaking}
+use Rattle.p2p_log_rules.specs.Handshakes.{is_handshaking}
 use Rattle.p2p_log_rules.specs.Told.{told}
 use Rattle.p2p_log_rules.specs.Tracking.{key_cmp, rules_of, no_rules, rules_at, calls_of, update_subscriptions, blocked_subscriptions}
 use Rattle.p2p_log_rules.specs.TrackerRows.{was_answered}
+use Rattle.p2p_log_rules.proofs.Handshakes.{handshakes_of-none}
 use Rattle.p2p_net_queues.specs.Board.{held}
 use Rattle.p2p_net_queues.specs.Tables as table
 use Rattle.p2p_net_tracker.specs.declared.tracker.Tracker.{Tracker}
@@ -62,10 +63,6 @@ no_updates n = refl
 no_sets : (n : ℕ) → blocked_subscriptions [] n ≡ []
 unfolding blocked_subscriptions told state_from
 no_sets n = refl
-
-no_handshakes : (n : ℕ) → handshakes_of [] n ≡ []
-unfolding handshakes_of state_from
-no_handshakes n = refl
 
 none_distinct : AreDistinct []
 unfolding IsDistinct
@@ -109,7 +106,7 @@ tracker_new configs n c t is h =
       heard = subst (λ o. HeardStands o (line [] (queue.Update n))) (sym (ap (λ (m : Mailbox Key). m.heard) h.mailbox)) (no_line (queue.Update n));
       handshakes = λ k.
           subst (λ (m : Mailbox Key). HandshakeStands (line_of m.handshakes k) (is_handshaking [] n k) (line [] (queue.Handshake n k))) (sym h.mailbox)
-          (ap (list_any (λ j. k == j)) (no_handshakes n), no_line (queue.Handshake n k));
+          (ap (list_any (λ j. k == j)) (handshakes_of-none n), no_line (queue.Handshake n k));
       distinct = subst AreDistinct (sym (ap (λ (m : Mailbox Key). m.handshakes) h.mailbox)) none_distinct;
       told = λ q own. h.told q ∙ sym (no_line q);
     }
