@@ -69,7 +69,7 @@ module _ (log : List Entry) (e : Entry) (n c : ℕ) (k : Key) where
   asked : (m d : ℕ) (to : Recipients) (us : List Telling) → flat_map (admits_key n c k) us ≡ []
       → sent_moments log n c k ++ flat_map (admits_key n c k) (telling.sends_admitted m d e.event.at (admitted_in (told log) m d e.event.at to) ∷ us)
       ≡ asked_moments (rate_at log n c) e.event.at (peers_told log n c) (cond ((m == n) && (d == c)) (Some to) None) (sent_moments log n c) k
-  unfolding sent_moments rates
+  unfolding sent_moments rates peers_told
   asked m d to us none = by (m == n) refl (d == c) refl
     where
       now : ℕ → ℕ → List ℕ

@@ -6,6 +6,7 @@ use Rattle.p2p_base.specs.declared.key.Key.{Key}
 use Rattle.p2p_address.specs.declared.ip.IpAddr.{IpAddr}
 use Rattle.p2p_address.specs.declared.ip.SocketAddr.{SocketAddr}
 use Rattle.p2p_address.specs.declared.peer.Ingress.{Ingress}
+use Rattle.p2p_tracker_calls.specs.declared.gates.Reply.{Reply as Gates}
 use Rattle.p2p_tracker_calls.specs.declared.gates.Reply.TheVariants as gates
 use Rattle.p2p_log.specs.declared.queue.Queue.{Queue}
 use Rattle.p2p_log.specs.declared.queue.Side.{Side}
