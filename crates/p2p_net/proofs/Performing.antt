@@ -293,7 +293,7 @@ part_still dialer configs log e n x a rep s is q h =
           let attempts = attempts_of configs log n in
           attempts_of-append configs log e n k
           ∙ (attempts_acted configs log e n k attempts
-             (subst (λ b. Heeds rules n (length log) e.event.at e.event.seed e.reply (taken log e) e.puts b attempts) (sym is) (quiet_heeds rules n (length log) e.event.at e.event.seed a rep e.reply (taken log e) e.puts attempts q))
+          (subst (λ b. Heeds rules n (length log) e.event.at e.event.seed e.reply (taken log e) e.puts b attempts) (sym is) (quiet_heeds rules n (length log) e.event.at e.event.seed a rep e.reply (taken log e) e.puts attempts q))
           ∙ (ap (λ b. acted_attempts rules n (length log) e.event.at e.event.seed e.reply (taken log e) e.puts b attempts k) is
           ∙ (ap (λ l. acted_attempts rules n (length log) e.event.at e.event.seed e.reply l e.puts a attempts k) none ∙ quiet_tries rules n (length log) e.event.at e.event.seed a rep e.reply e.puts attempts k q)));
       lines = λ k. line-still log e rep (queue.Attempt n k) h;

@@ -116,12 +116,14 @@ impl Node {
         match self.listening.step(turn.entry, way, at)? {
             None => Ok((only(turn.alloc, Reply::Idle), None)),
             Some(Took::Update) => Ok((self.tracker.take_update(turn)?, None)),
-            Some(Took::Arrival {
-                name,
-                told,
-                refused,
-                asked,
-            }) => {
+            Some(
+                Took::Arrival {
+                    name,
+                    told,
+                    refused,
+                    asked,
+                },
+            ) => {
                 let mut row = taking(turn.alloc, name)?;
                 row.reply = Reply::Gates(told);
                 self.tracker.put_message(turn, asked, &mut row)?;
