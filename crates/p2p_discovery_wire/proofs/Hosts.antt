@@ -1,10 +1,9 @@
 -- A host is text, or is of no kind.
-use Rattle.std.proofs.Common.{◌≡◌, Bool, true, false, cond, List, ℕ, Result, Ok, Err, refl, sym, ap, ◌∙◌, inl, inr}
+use Rattle.std.proofs.Common.{◌≡◌, Bool, true, false, cond, List, ℕ, Result, Ok, Err, refl}
 use Rattle.std.specs.Str.{IsUtf8, is_utf8}
 use Rattle.std.proofs.lemmas.Str.{is_utf8-from_IsUtf8, IsUtf8-from_is_utf8}
 use Rattle.p2p_wire.specs.declared.error.CodecError.{CodecError}
 use Rattle.p2p_wire.specs.declared.error.CodecError.TheVariants.{InvalidEnum}
-use Rattle.p2p_wire.specs.Varint.{◌>>=◌}
 use Rattle.p2p_discovery_wire.specs.Fits.{max_host}
 use Rattle.p2p_discovery_wire.specs.Reading.{sized_at, host_at}
 

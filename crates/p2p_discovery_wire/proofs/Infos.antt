@@ -1,16 +1,15 @@
 -- Infos are read again, and nothing else is read as one.
-use Rattle.std.proofs.Common.{◌≡◌, ℕ, zero, suc, ◌^◌, ◌<◌, ◌≤◌, Bool, cond, ltb, List, [], ◌∷◌, ◌++◌, length, get_or, Option, Some, None, Result, Ok, Err, refl, sym, ap, subst, ◌∙◌, append_assoc, arith, lit<, IsTrue}
+use Rattle.std.proofs.Common.{◌≡◌, ℕ, zero, suc, ◌^◌, ◌<◌, ◌≤◌, Bool, cond, ltb, List, [], ◌∷◌, ◌++◌, length, Option, Some, None, Ok, Err, refl, sym, ap, subst, ◌∙◌, append_assoc, arith, lit<, IsTrue}
 use Rattle.std.specs.List.{flat_map, AllByRecursion}
 use Rattle.std.proofs.lemmas.Bool.{ltb-false, le-ltb}
 use Rattle.std.proofs.lemmas.List.Concat.{flat_map-cons}
 use Rattle.p2p_address.specs.declared.peer.Ingress.{Ingress}
-use Rattle.p2p_wire.specs.declared.error.CodecError.{CodecError}
-use Rattle.p2p_wire.specs.declared.error.CodecError.TheVariants.{InvalidEnum, InvalidLength}
+use Rattle.p2p_wire.specs.declared.error.CodecError.TheVariants.{InvalidLength}
 use Rattle.p2p_wire.specs.Varint.{spelling, ◌>>=◌, u64_at, u32_at}
 use Rattle.p2p_wire.proofs.Laws.{AreBytes}
 use Rattle.p2p_discovery_wire.specs.declared.info.Info.{Info}
 use Rattle.p2p_discovery_wire.specs.Spelling.{sized, spelled_ingress, spelled_info}
-use Rattle.p2p_discovery_wire.specs.Fits.{max_signature, IngressFits, InfoFits}
+use Rattle.p2p_discovery_wire.specs.Fits.{max_signature, InfoFits}
 use Rattle.p2p_discovery_wire.specs.Reading.{bytes_at, sized_at, ingress_at, key_or, key_at, info_at, infos_at, peers_at}
 use Rattle.p2p_discovery_wire.proofs.Parts.{IsExact, bound, passed, same_read, left, front_are, joined, u64_is_exact, u32_is_exact, bytes_are_exact, sized_is_exact}
 use Rattle.p2p_discovery_wire.proofs.Ingresses.{ingress_is_exact}

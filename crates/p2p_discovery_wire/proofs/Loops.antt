@@ -1,13 +1,13 @@
 -- Loops that read or write one after the other: what is done so far, and then what is left, is the whole.
-use Rattle.std.proofs.Common.{◌≡◌, ◌≢◌, ℕ, zero, suc, ◌+◌, ◌-◌, ◌/◌, ◌%◌, ◌^◌, ◌<◌, ◌≤◌, Bool, true, cond, ltb, eqb, min, List, [], ◌∷◌, ◌++◌, length, get_or, take, drop, Option, Result, Ok, Err, refl, sym, ap, subst, ◌∙◌, append_assoc, arith, add-one, drop-cons}
+use Rattle.std.proofs.Common.{◌≡◌, ℕ, suc, ◌+◌, ◌-◌, ◌/◌, ◌%◌, ◌^◌, ◌<◌, ◌≤◌, Bool, true, ltb, eqb, min, List, [], ◌∷◌, ◌++◌, length, get_or, take, drop, Option, Result, Ok, Err, refl, sym, ap, subst, ◌∙◌, append_assoc, arith, add-one, drop-cons}
 use Rattle.std.proofs.lemmas.Bool.{lt-ltb, le-ltb}
 use Rattle.std.proofs.lemmas.List.{append-nil, drop_all, length-append, nil_from_length}
 use Rattle.p2p_wire.specs.declared.error.CodecError.{CodecError}
-use Rattle.p2p_wire.specs.declared.error.CodecError.TheVariants.{InvalidEnum, Memory}
+use Rattle.p2p_wire.specs.declared.error.CodecError.TheVariants.{InvalidEnum}
 use Rattle.p2p_wire.specs.Varint.{◌>>=◌}
 use Rattle.p2p_discovery_wire.specs.declared.info.Info.{Info}
 use Rattle.p2p_discovery_wire.specs.Spelling.{packed_byte, byte_count, packed_in, packed}
-use Rattle.p2p_discovery_wire.specs.Reading.{Gives, digits, unpacked, info_at, infos_at}
+use Rattle.p2p_discovery_wire.specs.Reading.{digits, unpacked, info_at, infos_at}
 use Rattle.p2p_discovery_wire.proofs.Bits.{byte_count-suc, cut}
 
 -- ---- infos

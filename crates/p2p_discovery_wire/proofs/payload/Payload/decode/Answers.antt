@@ -1,4 +1,4 @@
-use Rattle.std.proofs.Common.{◌≡◌, ◌<◌, List, ℕ, Result, Ok, get_or, ap, subst, ◌∙◌}
+use Rattle.std.proofs.Common.{◌<◌, List, ℕ, get_or, ap, subst, ◌∙◌}
 use Rattle.p2p_discovery_wire.specs.Reading.{Gives, payload_of}
 use Rattle.p2p_discovery_wire.proofs.Infos.{KeyLaws}
 use Rattle.p2p_discovery_wire.proofs.Payloads.{payload_again, decoded_is}

@@ -1,4 +1,4 @@
-use Rattle.std.proofs.Common.{◌≡◌, ◌<◌, ◌≤◌, ◌^◌, get_or, arith, sym, ap, ◌∙◌, ℕ, List, Bool, Ok}
+use Rattle.std.proofs.Common.{◌<◌, ◌≤◌, ◌^◌, get_or, arith, sym, ap, ◌∙◌, List, Bool, Ok}
 use Rattle.p2p_discovery_wire.specs.Reading.{unpacked}
 use Rattle.p2p_discovery_wire.proofs.Loops.{unpacked-more, unpacked-refused, unpacked-end}
 use Rattle.p2p_discovery_wire.proofs.reading.bits.unpack.Goals as goal

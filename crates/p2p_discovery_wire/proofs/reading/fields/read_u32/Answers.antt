@@ -1,4 +1,4 @@
-use Rattle.std.proofs.Common.{◌≡◌, ◌<◌, ◌^◌, List, ℕ, length, get_or, sym, ap, subst, ◌∙◌}
+use Rattle.std.proofs.Common.{◌<◌, ◌^◌, List, ℕ, get_or, sym, ap, subst, ◌∙◌}
 use Rattle.p2p_wire.specs.Varint.{u64_at}
 use Rattle.p2p_discovery_wire.specs.Narrowed.{narrowed}
 use Rattle.p2p_discovery_wire.proofs.Narrow.{u32-is-narrowed}

@@ -1,4 +1,3 @@
-use Rattle.std.proofs.Common.{◌≡◌}
 use Rattle.std.proofs.lemmas.Result.{err_from_is_err_and}
 use Rattle.p2p_discovery_wire.specs.Reading.{infos_at}
 use Rattle.p2p_discovery_wire.proofs.Loops.{infos-more, infos-refused, infos-end}
