@@ -6,6 +6,7 @@ use p2p_base::{Key, List, Text};
 use p2p_discovery_wire::{BitVec, Info, Payload, PayloadConfig, max_gossip_size, signed_bytes};
 use p2p_wire::{CodecError, Data};
 use std::alloc::{AllocError, Global};
+use std::test::Fail;
 
 // At most 10 bits, 2 infos, and 4 bytes of a message.
 const LIMITS: PayloadConfig = PayloadConfig {
