@@ -17,7 +17,8 @@ use Rattle.p2p_log.specs.Taken.{AreTaken}
 use Rattle.p2p_log.proofs.Each.{Each-weaker}
 use Rattle.p2p_log.proofs.Queues.{same_queue-refl}
 use Rattle.p2p_log_rules.specs.declared.row.Row.{Row}
-use Rattle.p2p_log_rules.specs.Attempting.{Attempt, DialRules, drawn_address, dialing, resolved, linked, stepped_attempt, left_ends, given_up_row, resolved_row, ready_row, link_of, took_row, attempt_turn}
+use Rattle.p2p_log_rules.specs.Attempting.{Attempt, DialRules, drawn_address, dialing, resolved, left_ends, given_up_row, resolved_row, ready_row, link_of, took_row, attempt_turn}
+use Rattle.p2p_log_rules.proofs.Attempts.{linked, stepped_attempt}
 use Rattle.p2p_log_rules.specs.Moves.{Moves}
 use Rattle.p2p_log_rules.specs.Rows.{only}
 use Rattle.p2p_log_rules.proofs.Moves.{stands_first}

@@ -4,10 +4,13 @@ use Rattle.std.specs.Prelude.{◌==◌}
 use Rattle.std.specs.Option.{option_map}
 use Rattle.p2p_base.specs.declared.key.Key.{Key}
 use Rattle.p2p_log.specs.declared.config.Config.{Config}
+use Rattle.p2p_log.specs.declared.queue.Queue.{Queue}
+use Rattle.p2p_log.specs.declared.item.Item.{Item}
 use Rattle.p2p_log.specs.declared.entry.Entry.{Entry}
 use Rattle.p2p_log.specs.declared.entry.Reply.{Reply}
 use Rattle.p2p_log.specs.declared.entry.Reply.TheVariants as reply
-use Rattle.p2p_log_rules.specs.Attempting.{Attempt, told_addresses, told_answer, and_then, attempts_by, attempts_of}
+use Rattle.p2p_log_rules.specs.Attempting.{Attempt, attempts_of}
+use Rattle.p2p_log_rules.proofs.Attempts.{told_addresses, told_answer, told_link, and_then, attempts_by}
 use Rattle.p2p_log_rules.proofs.Attempts.{attempts_of-append, attempts_of-late}
 use Rattle.p2p_log_laws.specs.Grants.{one}
 use Rattle.p2p_log_laws.specs.NodeGrants.{count_below, is_attempt_of}
@@ -49,6 +52,12 @@ module _ (key : Key) where
   pub answer_kept : (name : ℕ) (r : Reply) (a : Attempt) → holds (Some (told_answer name r a)) ≡ holds (Some a)
   answer_kept name reply.Ok a = refl
   answer_kept name _ a = refl
+
+  pub link_kept : (name : ℕ) (r : Reply) (puts : List (Queue × Item)) (a : Attempt) → holds (Some (told_link name r puts a)) ≡ holds (Some a)
+  link_kept name reply.Ok (told ∷ arrival ∷ puts) a = refl
+  link_kept name reply.Ok (told ∷ []) a = refl
+  link_kept name reply.Ok [] a = refl
+  link_kept name _ puts a = refl
 
   -- another node's attempts
   pub others_kept : (t : Bool) (o u : Option Attempt) → t ≡ false → holds (cond t o u) ≡ holds u

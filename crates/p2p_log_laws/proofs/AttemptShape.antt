@@ -1,7 +1,7 @@
 -- The shapes of what attempts are told, and of their steps: none moves a copy, but those end that are in flight towards an end of a link
 -- that an attempt drops.
 use Rattle.std.proofs.Common.{◌≡◌, ℕ, Bool, true, false, cond, List, [], ◌∷◌, ◌++◌, map, length, Option, Some, None, inl, inr, refl, ap, ◌∙◌}
-use Rattle.std.specs.Prelude.{◌||◌, nat_le, is_some}
+use Rattle.std.specs.Prelude.{slice_get, ◌||◌, nat_le, is_some}
 use Rattle.p2p_base.specs.declared.key.Key.{Key}
 use Rattle.p2p_address.specs.declared.ip.SocketAddr.{SocketAddr}
 use Rattle.p2p_address.specs.declared.peer.Ingress.{Ingress}
@@ -22,7 +22,9 @@ use Rattle.p2p_log.specs.Lines.{name_of, line}
 use Rattle.p2p_log.specs.Sending.{keys_sent, sending_of}
 use Rattle.p2p_log.proofs.Queues.{same_queue-refl}
 use Rattle.p2p_log_rules.specs.declared.row.Row.{Row}
-use Rattle.p2p_log_rules.specs.Dropping.{LinkEnd, other_side, gave_up, dialing_end, acted_drops, dropping, attempt_step_row}
+use Rattle.p2p_log_rules.proofs.Dropping.{all_of, drops_of-attempt}
+use Rattle.p2p_log_rules.specs.Dropping.{LinkEnd, other_side, dialing_end, dropping, attempt_step_row}
+use Rattle.p2p_log_rules.specs.Puts.{gave_up}
 use Rattle.p2p_log_rules.specs.Effect.{entry_of}
 use Rattle.p2p_log_rules.specs.Facts.{is_up, key_at, taken}
 use Rattle.p2p_log_rules.specs.Rows.{only, is_spawner_full}
@@ -46,7 +48,7 @@ module _ (configs : List Config) (log : List Entry) (e n : ℕ) where
   q = queue.Attempt n e
 
   written : ends_in configs log a q ≡ true
-  written = ap (λ b. b || in_flight (dialing_end (attempts_of configs log n e)) q) (same_queue-refl q)
+  written = ap (λ b. b || in_flight (dialing_end log n e) q) (same_queue-refl q)
 
   asks : writes configs log a (queue.Tracker n) ≡ true
   asks = ap (λ b. b || (same_queue (queue.Spawner n) (queue.Tracker n) || same_queue q (queue.Tracker n))) (same_queue-refl (queue.Tracker n))
@@ -101,9 +103,9 @@ module _ (configs : List Config) (log : List Entry) (e n : ℕ) where
       dropping_shape configs log a q r (attempt_within at seed) (cond (gave_up r.puts) o None)
       (λ cut is. attempt_aside cut.0 (other_side cut.1) n e) (λ cut is. towards cut (gave cut (gave_up r.puts) is))
       (λ cut is ev acts x place stands copy bears. inr (inl (record {
-        steps = (e, n, inl acts);
+        steps = (n, inr (e, inl acts));
         cut = cut;
-        drops = ap (λ b. acted_drops configs log r.reply (taken log (entry_of ev (dropping log (Some cut) r))) r.puts b) acts ∙ is;
+        drops = (0, ap (λ l. slice_get l 0) (drops_of-attempt log (entry_of ev (dropping log (Some cut) r)) e n acts ∙ ap all_of is));
         place = place;
         left = x;
         stood = stands;
@@ -114,7 +116,7 @@ module _ (configs : List Config) (log : List Entry) (e n : ℕ) where
       r = attempt_row configs log e n at seed
 
       o : Option LinkEnd
-      o = dialing_end (attempts_of configs log n e)
+      o = dialing_end log n e
 
       gave : (cut : LinkEnd) (b : Bool) → cond b o None ≡ Some cut → o ≡ Some cut
       gave cut true is = is

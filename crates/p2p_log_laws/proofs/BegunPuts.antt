@@ -151,7 +151,7 @@ module _ (n conn : ℕ) (log : List Entry) where
   running_begins : (configs : List Config) (half : Half) (due : Bool) → BeginsOnce (act.SendStep conn n) (running_row configs log n conn half due)
   running_begins configs half due =
       let most : ℕ = beside_ping due (batch_size_at configs n) in
-      let dropped : Bool = is_dropped configs log half.link (other_side half.writes) in
+      let dropped : Bool = is_dropped log half.link (other_side half.writes) in
       told_begins (act.SendStep conn n) half (line log (queue.Control n conn)) (nat_lt 0 most) (written_row log n conn half dropped due (batch log n conn most))
       (goes_on (act.SendStep conn n) half dropped due (batch log n conn most))
 

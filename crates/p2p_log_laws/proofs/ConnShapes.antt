@@ -248,7 +248,7 @@ module _ (configs : List Config) (log : List Entry) (conn n : ℕ) (half : Half)
   running_shape : (due : Bool) → Shape configs log a (Effect.running_row configs log n conn half due)
   running_shape due =
       let most : ℕ = Effect.beside_ping due (Effect.batch_size_at configs n) in
-      let dropped : Bool = is_dropped configs log half.link (Effect.other_side half.writes) in
+      let dropped : Bool = is_dropped log half.link (Effect.other_side half.writes) in
       told_shape (line log (queue.Control n conn)) (nat_lt 0 most) (Effect.written_row log n conn half dropped due (Effect.batch log n conn most)) refl
       (written_row_shape dropped due (Effect.batch log n conn most) (batch_moved log n conn most) (batch_relayed log n conn most))
 

@@ -18,6 +18,8 @@ use Rattle.p2p_log.proofs.Each.{Each-append, Each-filter, Each-weaker}
 use Rattle.p2p_log.proofs.Lines.{live-append}
 use Rattle.p2p_log.proofs.QueueNames.{queue_from_same}
 use Rattle.p2p_log.proofs.Taken.{Each-taken}
+use Rattle.p2p_log_rules.specs.Tellings.{last_told}
+use Rattle.p2p_log_rules.specs.Told.{tells, told}
 use Rattle.p2p_log_rules.specs.declared.row.Row.{Row}
 use Rattle.p2p_log_rules.specs.Effect.{effect, entry_of, row}
 use Rattle.p2p_log_rules.specs.Facts.{taken, state_from, with_begun}
@@ -48,7 +50,7 @@ record AreLed (configs : List Config) (log : List Entry) : Type 0 where
   pub connections : ConnectionsLead configs log
 
 led_first : (configs : List Config) → AreLed configs []
-unfolding live_from handshakes_of openings_of connections_of state_from
+unfolding live_from handshakes_of openings_of connections_of told state_from
 led_first configs = record { say = tt; come = λ n h runs. absurd (cc); opened = λ link o is. absurd (cc); connections = λ n conn c is. absurd (cc) }
 
 -- ---- the connections that an entry makes

@@ -15,7 +15,7 @@ use Rattle.p2p_log.specs.declared.entry.Reply.TheVariants as reply
 use Rattle.p2p_log.specs.QueueCode.{same_queue}
 use Rattle.p2p_log.specs.Lines.{name_of, line}
 use Rattle.p2p_log_rules.specs.declared.row.Row.{Row}
-use Rattle.p2p_log_rules.specs.Attempting.{begun_of}
+use Rattle.p2p_log_rules.proofs.Attempts.{begun_of}
 use Rattle.p2p_log_rules.specs.Dialing.{Dials, dials_of, in_drawn_order, last_key, dial_puts, dials_row, answered_row, due_row, dialer_turn, dialer_row}
 use Rattle.p2p_log_rules.specs.Facts.{is_up}
 use Rattle.p2p_log_rules.specs.Moves.{Moves}

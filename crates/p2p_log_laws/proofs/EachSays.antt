@@ -37,7 +37,8 @@ use Rattle.p2p_log_rules.specs.declared.row.ListeningEnd.{ListeningEnd}
 use Rattle.p2p_log_rules.specs.declared.row.ListeningEnd.TheVariants as listening
 use Rattle.p2p_log_rules.specs.declared.row.Row.{Row}
 use Rattle.p2p_log_rules.specs.Attempting.{Attempt, dial_rules_at, attempts_of, resolved, given_up_row, resolved_row, ready_row, link_of, took_row, attempt_turn, attempt_by, attempt_row, resolve_by, resolve_row, refuse_row, connect_row}
-use Rattle.p2p_log_rules.specs.Dropping.{gave_up, broke_off, dialing_end, attempt_step_row, handshake_step_row}
+use Rattle.p2p_log_rules.specs.Dropping.{dialing_end, attempt_step_row, handshake_step_row}
+use Rattle.p2p_log_rules.specs.Puts.{gave_up, broke_off}
 use Rattle.p2p_log_rules.specs.Effect.{effect, row}
 use Rattle.p2p_log_rules.specs.Facts.{is_up, key_at}
 use Rattle.p2p_log_rules.specs.Handshakes.{is_handshaking, is_finished, source_at, peer_at}
@@ -236,7 +237,7 @@ module _ (configs : List Config) (log : List Entry) where
     attempt_says : (e n : ℕ) → Each P (attempt_step_row configs log e n at seed).puts
     attempt_says e n =
         let r : Row = attempt_row configs log e n at seed in
-        each_dropping P log (cond (gave_up r.puts) (dialing_end (attempts_of configs log n e)) None) r (by (attempts_of configs log n e) refl)
+        each_dropping P log (cond (gave_up r.puts) (dialing_end log n e) None) r (by (attempts_of configs log n e) refl)
       where
         by : (o : Option Attempt) → attempts_of configs log n e ≡ o
             → Each P (attempt_by o n at seed (is_spawner_full configs log n) (dial_rules_at configs n).private (line log (queue.Attempt n e))).puts

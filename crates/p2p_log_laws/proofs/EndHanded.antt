@@ -21,15 +21,17 @@ use Rattle.p2p_log.specs.Lines.{name_of, line}
 use Rattle.p2p_log.proofs.Each.{Each-has, Has-get}
 use Rattle.p2p_log_rules.specs.declared.row.Opening.{Opening}
 use Rattle.p2p_log_rules.specs.declared.row.Row.{Row}
-use Rattle.p2p_log_rules.specs.Attempting.{Attempt, DialRules, dial_rules_at, resolved, stepped_attempt, and_then, acted_attempts, attempts_of, given_up_row, resolved_row, ready_row, link_of, took_row, attempt_turn, attempt_by, attempt_row}
-use Rattle.p2p_log_rules.specs.Dropping.{LinkEnd, dropping, gave_up, dialing_end, broke_off, attempt_step_row, handshake_step_row}
+use Rattle.p2p_log_rules.specs.Attempting.{Attempt, DialRules, dial_rules_at, resolved, attempts_of, given_up_row, resolved_row, ready_row, link_of, took_row, attempt_turn, attempt_by, attempt_row}
+use Rattle.p2p_log_rules.proofs.Attempts.{stepped_attempt, and_then, acted_attempts}
+use Rattle.p2p_log_rules.specs.Dropping.{LinkEnd, dropping, dialing_end, attempt_step_row, handshake_step_row}
+use Rattle.p2p_log_rules.specs.Puts.{gave_up, broke_off}
 use Rattle.p2p_log_rules.specs.Effect.{effect, row, entry_of}
 use Rattle.p2p_log_rules.specs.Facts.{item_named, taken}
 use Rattle.p2p_log_rules.specs.Handshakes.{acted_handshakes, handshakes_of, is_handshaking, is_finished, ends_handshake, unless_ended, Peer, peer_at}
 use Rattle.p2p_log_rules.specs.Handshaking as shaking
 use Rattle.p2p_log_rules.specs.Links.{openings_of}
 use Rattle.p2p_log_rules.specs.Rows.{only, is_spawner_full}
-use Rattle.p2p_log_rules.proofs.Attempts.{attempts_of-append}
+use Rattle.p2p_log_rules.proofs.Trying.{attempts_of-effect}
 use Rattle.p2p_log_rules.proofs.Handshakes.{is_among, among-without, handshakes_of-append}
 use Rattle.p2p_log_rules.proofs.Recorded.{item_named-first}
 use Rattle.p2p_log_rules.proofs.Touches.{in_ends}
@@ -140,7 +142,7 @@ module _ (log : List Entry) (n : ℕ) where
 
     attempt_hands : (p : ℕ) (i : Item) → slice_get (attempt_step_row configs log k m at seed).puts p ≡ Some (queue.Spawner n, i) → AttemptHanding p i (attempt_step_row configs log k m at seed)
     attempt_hands p i =
-        by (cond (gave_up (attempt_row configs log k m at seed).puts) (dialing_end (attempts_of configs log m k)) None) (attempt_row configs log k m at seed)
+        by (cond (gave_up (attempt_row configs log k m at seed).puts) (dialing_end log m k) None) (attempt_row configs log k m at seed)
         (tried_hands (is_spawner_full configs log m) (dial_rules_at configs m).private (attempts_of configs log m k) refl p i)
       where
         by : (o : Option LinkEnd) (r : Row) → (slice_get r.puts p ≡ Some (queue.Spawner n, i) → AttemptHanding p i r) → slice_get (dropping log o r).puts p ≡ Some (queue.Spawner n, i)
@@ -199,9 +201,9 @@ module _ (log : List Entry) (n : ℕ) where
 
 -- ---- so it ends
 
-attempt_ends : (rules : DialRules) (n m at seed k : ℕ) (r : Reply) (items : List Item) (f : ℕ → Option Attempt) → r ≡ reply.Ok → items ≡ item.Finished true ∷ []
-    → acted_attempts rules n m at seed r items (act.Attempt k n) f k ≡ None
-attempt_ends rules n m at seed k r items f ok word =
+attempt_ends : (rules : DialRules) (n m at seed k : ℕ) (r : Reply) (items : List Item) (puts : List (Queue × Item)) (f : ℕ → Option Attempt) → r ≡ reply.Ok → items ≡ item.Finished true ∷ []
+    → acted_attempts rules n m at seed r items puts (act.Attempt k n) f k ≡ None
+attempt_ends rules n m at seed k r items puts f ok word =
     ap (λ b. cond b (cond (k == k) (and_then (stepped_attempt rules at seed r items) (f k)) (f k)) (f k)) (eq-eqb n n refl)
     ∙ (ap (λ b. cond b (and_then (stepped_attempt rules at seed r items) (f k)) (f k)) (eq-eqb k k refl)
     ∙ (ap (λ x. and_then (stepped_attempt rules at seed x items) (f k)) ok ∙ (ap (λ is. and_then (stepped_attempt rules at seed reply.Ok is) (f k)) word ∙ by (f k))))
@@ -268,9 +270,9 @@ module _ (configs : List Config) (log : List Entry) (ev : Event) (n : ℕ) where
           stood = subst (λ j. attempts_of configs log j k ≡ Some h.attempt) g.node h.stood;
           answered = refl;
           gone =
-              attempts_of-append configs log (entry_of ev r) n k
-              ∙ (ap (λ a. acted_attempts (dial_rules_at configs n) n (length log) ev.at ev.seed r.reply (taken log (entry_of ev r)) a (attempts_of configs log n) k) here
-              ∙ attempt_ends (dial_rules_at configs n) n (length log) ev.at ev.seed k r.reply (taken log (entry_of ev r)) (attempts_of configs log n) g.ok (g.items ∙ ap (λ w. w ∷ []) g.such));
+              attempts_of-effect configs log ev n k
+              ∙ (ap (λ a. acted_attempts (dial_rules_at configs n) n (length log) ev.at ev.seed r.reply (taken log (entry_of ev r)) r.puts a (attempts_of configs log n) k) here
+              ∙ attempt_ends (dial_rules_at configs n) n (length log) ev.at ev.seed k r.reply (taken log (entry_of ev r)) r.puts (attempts_of configs log n) g.ok (g.items ∙ ap (λ w. w ∷ []) g.such));
         });
       }
 

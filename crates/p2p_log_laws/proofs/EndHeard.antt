@@ -177,7 +177,7 @@ module _ (n conn : ℕ) (log : List Entry) where
   running_tells : (configs : List Config) (half : Half) (due : Bool) → TellsOnce (act.SendStep conn n) (Effect.running_row configs log n conn half due)
   running_tells configs half due =
       let most : ℕ = Effect.beside_ping due (Effect.batch_size_at configs n) in
-      let dropped : Bool = is_dropped configs log half.link (other_side half.writes) in
+      let dropped : Bool = is_dropped log half.link (other_side half.writes) in
       told_tells (act.SendStep conn n) half (line log (queue.Control n conn)) (nat_lt 0 most) (Effect.written_row log n conn half dropped due (Effect.batch log n conn most))
       (goes_on_tells (act.SendStep conn n) half dropped due (Effect.batch log n conn most))
 

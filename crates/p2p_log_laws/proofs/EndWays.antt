@@ -27,13 +27,15 @@ use Rattle.p2p_log.proofs.Places.{slice_get-seam}
 use Rattle.p2p_log.proofs.Sending.{get_longer}
 use Rattle.p2p_log_rules.specs.declared.row.Opening.{Opening}
 use Rattle.p2p_log_rules.specs.declared.row.Row.{Row}
-use Rattle.p2p_log_rules.specs.Attempting.{Attempt, DialRules, dial_rules_at, begun_of, drawn_address, dialing, resolved, stepped_attempt, told_addresses, told_answer, and_then, acted_attempts, attempts_of, connect_row}
+use Rattle.p2p_log_rules.specs.Attempting.{Attempt, DialRules, dial_rules_at, drawn_address, dialing, resolved, attempts_of, connect_row}
+use Rattle.p2p_log_rules.proofs.Attempts.{begun_of, stepped_attempt, told_addresses, told_answer, told_link, and_then, acted_attempts}
 use Rattle.p2p_log_rules.specs.Effect.{effect, row}
 use Rattle.p2p_log_rules.specs.Facts.{item_named, key_at, taken, with_named, with_begun}
 use Rattle.p2p_log_rules.specs.Handshakes.{handshakes_of, is_handshaking, peer_of, peer_at}
 use Rattle.p2p_log_rules.specs.Lawful.{IsLawful}
 use Rattle.p2p_log_rules.specs.Links.{openings_of}
-use Rattle.p2p_log_rules.proofs.Attempts.{attempts_of-append, attempts_of-late}
+use Rattle.p2p_log_rules.proofs.Attempts.{attempts_of-late}
+use Rattle.p2p_log_rules.proofs.Trying.{attempts_of-effect}
 use Rattle.p2p_log_rules.proofs.Handshakes.{is_among, handshakes_of-append, handshaking_early}
 use Rattle.p2p_log_rules.proofs.Recorded.{item_named-first}
 use Rattle.p2p_log_rules.proofs.TakenAt.{taken_at-longer, taken_at-last}
@@ -89,7 +91,13 @@ told_answers : (m : ℕ) (r : Reply) (b : Attempt) → ((told_answer m r b).answ
 told_answers m reply.Ok b = inr refl
 told_answers m _ b = inl refl
 
-module _ (rules : DialRules) (n m at seed : ℕ) (r : Reply) (items : List Item) (f : ℕ → Option Attempt) (k : ℕ) (x : Attempt) where
+told_links : (m : ℕ) (r : Reply) (puts : List (Queue × Item)) (b : Attempt) → ((told_link m r puts b).answer ≡ b.answer) ⊎ ((told_link m r puts b).answer ≡ Some m)
+told_links m reply.Ok (told ∷ arrival ∷ puts) b = inr refl
+told_links m reply.Ok (told ∷ []) b = inr refl
+told_links m reply.Ok [] b = inr refl
+told_links m _ puts b = inl refl
+
+module _ (rules : DialRules) (n m at seed : ℕ) (r : Reply) (items : List Item) (puts : List (Queue × Item)) (f : ℕ → Option Attempt) (k : ℕ) (x : Attempt) where
   abbrev Answered : Act → Type 0
   Answered a = IsAnswered f n m k a x
 
@@ -141,7 +149,7 @@ module _ (rules : DialRules) (n m at seed : ℕ) (r : Reply) (items : List Item)
   both : (a b : Bool) → a ≡ true → b ≡ true → (a && b) ≡ true
   both a b h i = ap (λ y. y && b) h ∙ i
 
-  pub acted_answer : (a : Act) → acted_attempts rules n m at seed r items a f k ≡ Some x → Answered a
+  pub acted_answer : (a : Act) → acted_attempts rules n m at seed r items puts a f k ≡ Some x → Answered a
   acted_answer (act.Dialer j) = begins (act.Dialer j) j (begun_of rules.timeout at items) (begun_unanswered rules.timeout at items)
   acted_answer (act.Attempt e j) =
       named (act.Attempt e j) j e (and_then (stepped_attempt rules at seed r items) (f e))
@@ -150,10 +158,10 @@ module _ (rules : DialRules) (n m at seed : ℕ) (r : Reply) (items : List Item)
       named (act.Resolve addresses e j) j e (option_map (told_addresses r) (f e))
       (λ node here. of_map (act.Resolve addresses e j) e (told_addresses r) (λ b. inl (addresses_answer r b)) here (f e) refl)
   acted_answer (act.Connect e from j to) =
-      named (act.Connect e from j to) j e (option_map (told_answer m r) (f e))
+      named (act.Connect e from j to) j e (option_map (told_link m r puts) (f e))
       (λ node here.
-      of_map (act.Connect e from j to) e (told_answer m r)
-      (λ b. elim (told_answers m r b) [ inl kept ↦ inl kept | inr told ↦ inr (told, both (j == n) (e == k) node (same_either k e here)) ]) here (f e) refl)
+      of_map (act.Connect e from j to) e (told_link m r puts)
+      (λ b. elim (told_links m r puts b) [ inl kept ↦ inl kept | inr told ↦ inr (told, both (j == n) (e == k) node (same_either k e here)) ]) here (f e) refl)
   acted_answer (act.Refuse e j) =
       named (act.Refuse e j) j e (option_map (told_answer m r) (f e))
       (λ node here.
@@ -170,9 +178,10 @@ answers_first : (configs : List Config) → AnswersAreOwn configs []
 answers_first configs n k l a is answer = absurd (let none : attempts_of configs [] n k ≡ None = attempts_of-late configs [] n k (omega arith) in cc)
 
 answers_more : (configs : List Config) (log : List Entry) (ev : Event) → AnswersAreOwn configs log → AnswersAreOwn configs (log ++ effect configs log ev ∷ [])
+unfolding effect
 answers_more configs log ev old n k l a is answer =
     let e : Entry = effect configs log ev in
-    by e (acted_answer (dial_rules_at configs n) n (length log) e.event.at e.event.seed e.reply (taken log e) (attempts_of configs log n) k a e.event.act (sym (attempts_of-append configs log e n k) ∙ is))
+    by e (acted_answer (dial_rules_at configs n) n (length log) e.event.at e.event.seed e.reply (taken log e) e.puts (attempts_of configs log n) k a e.event.act (sym (attempts_of-effect configs log ev n k) ∙ is))
   where
     by : (e : Entry) → IsAnswered (attempts_of configs log n) n (length log) k e.event.act a → (d : Entry) × (slice_get (log ++ e ∷ []) l ≡ Some d) × (answers_attempt n k d.event.act ≡ true)
     by e (inl before) = let h = old n k l before.0 before.1 (sym before.2 ∙ answer) in (h.0, get_longer log (e ∷ []) l h.0 h.1, h.2)

@@ -8,6 +8,7 @@ use Rattle.p2p_address.specs.declared.ip.SocketAddr.{SocketAddr}
 use Rattle.p2p_log.specs.declared.config.Config.{Config}
 use Rattle.p2p_log.specs.declared.item.Item.{Item}
 use Rattle.p2p_log.specs.declared.item.Item.TheVariants as item
+use Rattle.p2p_log.specs.declared.queue.Queue.{Queue}
 use Rattle.p2p_log.specs.declared.entry.Entry.{Entry}
 use Rattle.p2p_log.specs.declared.entry.Reply.{Reply}
 use Rattle.p2p_log.specs.declared.entry.Reply.TheVariants as reply
@@ -15,10 +16,11 @@ use Rattle.p2p_log.specs.declared.event.Act.{Act}
 use Rattle.p2p_log.specs.declared.event.Act.TheVariants as act
 use Rattle.p2p_log.specs.declared.event.Event.{Event}
 use Rattle.p2p_log_rules.specs.declared.row.Row.{Row}
-use Rattle.p2p_log_rules.specs.Attempting.{Attempt, DialRules, dial_rules_at, begun_of, drawn_address, dialing, resolved, stepped_attempt, told_addresses, told_answer, and_then, acted_attempts, attempts_of, refuse_row, connect_row}
+use Rattle.p2p_log_rules.specs.Attempting.{Attempt, DialRules, dial_rules_at, drawn_address, dialing, resolved, attempts_of, refuse_row, connect_row}
+use Rattle.p2p_log_rules.proofs.Attempts.{begun_of, stepped_attempt, told_addresses, told_answer, told_link, and_then, acted_attempts}
 use Rattle.p2p_log_rules.specs.Effect.{effect, entry_of, row}
 use Rattle.p2p_log_rules.specs.Facts.{taken, with_named, with_begun}
-use Rattle.p2p_log_rules.proofs.Attempts.{attempts_of-append}
+use Rattle.p2p_log_rules.proofs.Trying.{attempts_of-effect}
 use Rattle.p2p_log_laws.proofs.Linking.{IsFree, IsUnanswered, IsRefused, refuse_is, IsAnswer, connect_is}
 
 -- this attempt is one that stood
@@ -69,6 +71,12 @@ answer_keeps name reply.Ok b free = (refl, λ link h. absurd (never b.answer lin
     never o link none some = cc
 answer_keeps name _ b free = kept b
 
+link_keeps : (name : ℕ) (r : Reply) (puts : List (Queue × Item)) (b : Attempt) → (r ≡ reply.Ok → b.answer ≡ None) → Keeps b (told_link name r puts b)
+link_keeps name reply.Ok (told ∷ arrival ∷ puts) b free = answer_keeps name reply.Ok b free
+link_keeps name reply.Ok (told ∷ []) b free = answer_keeps name reply.Ok b free
+link_keeps name reply.Ok [] b free = answer_keeps name reply.Ok b free
+link_keeps name _ puts b free = kept b
+
 map_goes : (g : Attempt → Attempt) (o : Option Attempt) → ((b : Attempt) → o ≡ Some b → Keeps b (g b)) → (a : Attempt) → option_map g o ≡ Some a → GoesOn o a
 map_goes g None keeps a is = absurd (cc)
 map_goes g (Some b) keeps a is = let k : Keeps b a = subst (Keeps b) (same_Some (g b) a is) (keeps b refl) in record { before = b; stood = refl; key = k.0; answer = k.1 }
@@ -102,29 +110,29 @@ IsFirstAnswer attempts (act.Connect e from n to) r = r ≡ reply.Ok → (b : Att
 IsFirstAnswer attempts (act.Refuse e n) r = r ≡ reply.Ok → (b : Attempt) → attempts n e ≡ Some b → b.answer ≡ None
 IsFirstAnswer attempts _ r = Unit {0}
 
-module _ (rules : DialRules) (n m at seed : ℕ) (r : Reply) (items : List Item) (attempts : ℕ → ℕ → Option Attempt) where
+module _ (rules : DialRules) (n m at seed : ℕ) (r : Reply) (items : List Item) (puts : List (Queue × Item)) (attempts : ℕ → ℕ → Option Attempt) where
   abbrev f : ℕ → Option Attempt
   f = attempts n
 
-  told_goes : (e j k : ℕ) → (r ≡ reply.Ok → (b : Attempt) → attempts j e ≡ Some b → b.answer ≡ None) → (a : Attempt)
-      → cond (j == n) (with_named e (option_map (told_answer m r) (f e)) f k) (f k) ≡ Some a → GoesOn (f k) a
-  told_goes e j k first a is = by (j == n) refl is
+  told_goes : (g : Attempt → Attempt) → ((b : Attempt) → (r ≡ reply.Ok → b.answer ≡ None) → Keeps b (g b)) → (e j k : ℕ) → (r ≡ reply.Ok → (b : Attempt) → attempts j e ≡ Some b → b.answer ≡ None) → (a : Attempt)
+      → cond (j == n) (with_named e (option_map g (f e)) f k) (f k) ≡ Some a → GoesOn (f k) a
+  told_goes g keeps e j k first a is = by (j == n) refl is
     where
-      by : (here : Bool) → (j == n) ≡ here → cond here (with_named e (option_map (told_answer m r) (f e)) f k) (f k) ≡ Some a → GoesOn (f k) a
+      by : (here : Bool) → (j == n) ≡ here → cond here (with_named e (option_map g (f e)) f k) (f k) ≡ Some a → GoesOn (f k) a
       by true at so =
-          named_goes f true e k (option_map (told_answer m r) (f e))
-          (map_goes (told_answer m r) (f e) (λ b stood. answer_keeps m r b (λ ok. first ok b (ap (λ i. attempts i e) (eqb-true j n at) ∙ stood)))) a so
+          named_goes f true e k (option_map g (f e))
+          (map_goes g (f e) (λ b stood. keeps b (λ ok. first ok b (ap (λ i. attempts i e) (eqb-true j n at) ∙ stood)))) a so
       by false other so = same (f k) a so
 
-  acted_goes : (a : Act) → IsFirstAnswer attempts a r → (k : ℕ) → suc k ≤ m → (x : Attempt) → acted_attempts rules n m at seed r items a f k ≡ Some x → GoesOn (f k) x
+  acted_goes : (a : Act) → IsFirstAnswer attempts a r → (k : ℕ) → suc k ≤ m → (x : Attempt) → acted_attempts rules n m at seed r items puts a f k ≡ Some x → GoesOn (f k) x
   acted_goes (act.Dialer j) first k early x is = begun_goes f (j == n) (begun_of rules.timeout at items) m k early x is
   acted_goes (act.Attempt e j) first k early x is =
       named_goes f (j == n) e k (and_then (stepped_attempt rules at seed r items) (f e))
       (then_goes (stepped_attempt rules at seed r items) (f e) (λ b a so. stepped_keeps rules at seed r items b a so)) x is
   acted_goes (act.Resolve addresses e j) first k early x is =
       named_goes f (j == n) e k (option_map (told_addresses r) (f e)) (map_goes (told_addresses r) (f e) (λ b stood. addresses_keep r b)) x is
-  acted_goes (act.Connect e from j to) first k early x is = told_goes e j k first x is
-  acted_goes (act.Refuse e j) first k early x is = told_goes e j k first x is
+  acted_goes (act.Connect e from j to) first k early x is = told_goes (told_link m r puts) (link_keeps m r puts) e j k first x is
+  acted_goes (act.Refuse e j) first k early x is = told_goes (told_answer m r) (answer_keeps m r) e j k first x is
   acted_goes _ first k early x is = same (f k) x is
 
 -- ---- of each entry
@@ -153,5 +161,5 @@ module _ (configs : List Config) (log : List Entry) where
   unfolding effect
   goes_on ev n k early a is =
       let e : Entry = entry_of ev (row configs log ev.at ev.seed ev.act) in
-      acted_goes (dial_rules_at configs n) n (length log) ev.at ev.seed e.reply (taken log e) (attempts_of configs log) ev.act
-      (each_first ev.at ev.seed ev.act) k early a (sym (attempts_of-append configs log e n k) ∙ is)
+      acted_goes (dial_rules_at configs n) n (length log) ev.at ev.seed e.reply (taken log e) e.puts (attempts_of configs log) ev.act
+      (each_first ev.at ev.seed ev.act) k early a (sym (attempts_of-effect configs log ev n k) ∙ is)

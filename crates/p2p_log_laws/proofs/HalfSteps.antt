@@ -83,7 +83,7 @@ module _ (configs : List Config) (log : List Entry) (conn n at : ℕ) (P : Queue
     running : (due : Bool) → Steps (Effect.running_row configs log n conn half due)
     running due =
         let most : ℕ = Effect.beside_ping due (Effect.batch_size_at configs n) in
-        let dropped : Bool = is_dropped configs log half.link (other_side half.writes) in
+        let dropped : Bool = is_dropped log half.link (other_side half.writes) in
         told (line log (queue.Control n conn)) (nat_lt 0 most) (Effect.written_row log n conn half dropped due (Effect.batch log n conn most)) (written dropped due (Effect.batch log n conn most))
 
   answered : (xs : List Envelope) → Steps (takes_oldest xs)
@@ -154,7 +154,7 @@ module _ (configs : List Config) (log : List Entry) (conn n at : ℕ) (P : Queue
       by_frame x _ = rests reply.Idle refl
 
       receives : (frames : List Envelope) → Steps (Effect.receive_row configs log n conn at half frames)
-      receives [] = by_dropped (is_dropped configs log half.link (other_side half.writes))
+      receives [] = by_dropped (is_dropped log half.link (other_side half.writes))
         where
           by_dropped : (b : Bool) → Steps (cond b (end_row log n conn half ended.ReceiveFailed cause.ConnectionEnded []) (only reply.Idle))
           by_dropped true = over half lived ended.ReceiveFailed cause.ConnectionEnded []

@@ -20,7 +20,7 @@ use Rattle.p2p_log_rules.specs.Connections.{half_at}
 use Rattle.p2p_log_rules.specs.Effect.{other_side}
 use Rattle.p2p_log_rules.specs.Facts.{key_at}
 use Rattle.p2p_log_rules.specs.Lawful.{IsLawful}
-use Rattle.p2p_log_rules.specs.Links.{dialed_by, dialer_in, dialer_of}
+use Rattle.p2p_log_rules.specs.Dialed.{dialed_by, dialer_in, dialer_of}
 use Rattle.p2p_log_rules.specs.Spawning.{connections_of}
 use Rattle.p2p_log_rules.proofs.Connections.{HalfParts, half_parts}
 use Rattle.p2p_log_laws.specs.Leading.{Links, LeadsTo}

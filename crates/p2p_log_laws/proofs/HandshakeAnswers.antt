@@ -25,7 +25,8 @@ use Rattle.p2p_log.proofs.Each.{count_by-none}
 use Rattle.p2p_log.proofs.Queues.{same_queue-refl}
 use Rattle.p2p_log_rules.specs.declared.row.Row.{Row}
 use Rattle.p2p_log_rules.specs.Attempting.{left_ends, ready_row}
-use Rattle.p2p_log_rules.specs.Dropping.{broke_off, handshake_step_row}
+use Rattle.p2p_log_rules.specs.Dropping.{handshake_step_row}
+use Rattle.p2p_log_rules.specs.Puts.{broke_off}
 use Rattle.p2p_log_rules.specs.Effect.{entry_of}
 use Rattle.p2p_log_rules.specs.Facts.{taken}
 use Rattle.p2p_log_rules.specs.Handshakes.{is_handshaking, is_finished, takes_acceptance, Peer, peer_at}

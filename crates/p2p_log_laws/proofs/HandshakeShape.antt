@@ -1,6 +1,6 @@
 -- The shape of a handshake's step: it moves no copy, but those end that are in flight towards the end of a link that it drops.
 use Rattle.std.proofs.Common.{◌≡◌, ℕ, Bool, true, false, cond, List, [], ◌∷◌, map, take, Option, Some, None, inr, inl, refl, ap, sym, ◌∙◌}
-use Rattle.std.specs.Prelude.{◌||◌, ◌&&◌, not}
+use Rattle.std.specs.Prelude.{slice_get, ◌||◌, ◌&&◌, not}
 use Rattle.std.specs.List.{AllByRecursion as Each, list_any}
 use Rattle.p2p_base.specs.declared.key.Key.{Key}
 use Rattle.p2p_log.specs.declared.config.Config.{Config}
@@ -21,7 +21,9 @@ use Rattle.p2p_log.specs.Sending.{keys_sent, sending_of}
 use Rattle.p2p_log.proofs.Queues.{same_queue-refl}
 use Rattle.p2p_log.specs.QueueCode.{same_queue}
 use Rattle.p2p_log_rules.specs.declared.row.Row.{Row}
-use Rattle.p2p_log_rules.specs.Dropping.{LinkEnd, other_side, is_spawn, broke_off, acted_drops, dropping, handshake_step_row}
+use Rattle.p2p_log_rules.proofs.Dropping.{all_of, drops_of-handshake}
+use Rattle.p2p_log_rules.specs.Dropping.{LinkEnd, other_side, dropping, handshake_step_row}
+use Rattle.p2p_log_rules.specs.Puts.{is_spawn, broke_off}
 use Rattle.p2p_log_rules.specs.Effect.{entry_of}
 use Rattle.p2p_log_rules.specs.Facts.{taken}
 use Rattle.p2p_log_rules.specs.Moves.{Moves}
@@ -137,9 +139,9 @@ module _ (configs : List Config) (log : List Entry) (e n : ℕ) where
       dropping_shape configs log a q r s.within (cond broke (Some over) None)
       (λ cut is. handshake_aside cut.0 (other_side cut.1) n e) (λ cut is. towards cut (gave cut broke is))
       (λ cut is ev acts x place stands copy bears. inr (inl (record {
-        steps = (e, n, inr acts);
+        steps = (n, inr (e, inr acts));
         cut = cut;
-        drops = ap (λ b. acted_drops configs log r.reply (taken log (entry_of ev (dropping log (Some cut) r))) r.puts b) acts ∙ (ap (λ b. cond (b && not (list_any is_spawn r.puts)) (Some over) None) (ends ev cut) ∙ is);
+        drops = (0, ap (λ l. slice_get l 0) (drops_of-handshake log (entry_of ev (dropping log (Some cut) r)) e n acts ∙ ap all_of (ap (λ b. cond (b && not (list_any is_spawn r.puts)) (Some over) None) (ends ev cut) ∙ is)));
         place = place;
         left = x;
         stood = stands;

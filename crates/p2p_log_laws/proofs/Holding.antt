@@ -118,7 +118,7 @@ module _ (configs : List Config) (log : List Entry) (n conn : ℕ) where
     none_alone false = inl tt
 
     held_alone : (xs frames : List Envelope) → Alone (Effect.held_row configs log m e at half xs frames)
-    held_alone [] [] = none_alone (is_dropped configs log half.link (Effect.other_side half.writes))
+    held_alone [] [] = none_alone (is_dropped log half.link (Effect.other_side half.writes))
     held_alone [] (x ∷ frames) = frame_alone x x.item
     held_alone (x ∷ xs) frames = retry_alone (name_of x) x.item
 

@@ -24,7 +24,10 @@ use Rattle.p2p_log.specs.declared.event.Event.{Event}
 use Rattle.p2p_log.specs.Lines.{ended_item, live, line}
 use Rattle.p2p_log.proofs.Each.{Each-weaker}
 use Rattle.p2p_log_rules.specs.declared.row.Row.{Row}
-use Rattle.p2p_log_rules.specs.Attempting.{Attempt, DialRules, dial_rules_at, begun_of, told_addresses, told_answer, and_then, stepped_attempt, attempts_by, attempts_of, attempt_turn, attempt_by, attempt_row, resolve_row, refuse_row, connect_row}
+use Rattle.p2p_log_rules.specs.Attempting.{Attempt, DialRules, dial_rules_at, attempts_of, attempt_turn, attempt_by, attempt_row, resolve_row, refuse_row, connect_row}
+use Rattle.p2p_log_rules.proofs.Attempts.{begun_of, told_addresses, told_answer, told_link, and_then, stepped_attempt, attempts_by, acted_attempts, tries, Agrees, HeedsAttempt, attempts_kept, attempts_acted}
+use Rattle.p2p_log_rules.proofs.Trying.{turn_agrees}
+use Rattle.std.proofs.lemmas.Option.{same_Some}
 use Rattle.p2p_log_rules.specs.Dialing.{dialer_row}
 use Rattle.p2p_log_rules.specs.declared.row.Opening.{Opening}
 use Rattle.p2p_log_rules.specs.declared.row.ListeningEnd.{ListeningEnd}
@@ -33,7 +36,8 @@ use Rattle.p2p_log_rules.specs.Handshaking.{handshake_deadline, is_due, handshak
 use Rattle.p2p_log_rules.specs.Links.{openings_of, listening_ends_of, finished_row, verdict, finish_by, finish_row}
 use Rattle.p2p_log_rules.specs.Listening.{listener_row}
 use Rattle.p2p_log_rules.specs.Connections.{ends_connection, half_at, is_ended}
-use Rattle.p2p_log_rules.specs.Dropping.{gave_up, broke_off, dialing_end, attempt_step_row, handshake_step_row}
+use Rattle.p2p_log_rules.specs.Dropping.{dialing_end, arriving_end, attempt_step_row, handshake_step_row}
+use Rattle.p2p_log_rules.specs.Puts.{gave_up, broke_off, turns_away}
 use Rattle.p2p_log_rules.specs.Effect.{entry_of, row, send_step_row, recv_step_row}
 use Rattle.p2p_log_rules.specs.Facts.{taken, with_named, with_begun}
 use Rattle.p2p_log_rules.specs.Moves.{Moves}
@@ -46,7 +50,7 @@ use Rattle.p2p_log_laws.proofs.Reaching.{in_connection, reads, ends_in}
 use Rattle.p2p_log_laws.specs.Grants.{one, Granting, held_after}
 use Rattle.p2p_log_laws.specs.NodeGrants.{releases_key, is_attempt_of, is_connection_of, puts_grant, granting}
 use Rattle.p2p_log_laws.proofs.AttemptGrants.{Ends, attempt_ends}
-use Rattle.p2p_log_laws.proofs.AttemptHolds.{told_kept, none_kept, addresses_kept, answer_kept, others_kept, holds_kept, holds_begun, holds_changed}
+use Rattle.p2p_log_laws.proofs.AttemptHolds.{told_kept, none_kept, addresses_kept, answer_kept, link_kept, others_kept, holds_kept, holds_begun, holds_changed}
 use Rattle.p2p_log_laws.proofs.ConnectionHolds.{connections_kept, connections_made}
 use Rattle.p2p_log_laws.proofs.AttemptShape.{attempt_shape}
 use Rattle.p2p_log_laws.proofs.ConnShapes.{send_step_shape}
@@ -58,7 +62,7 @@ use Rattle.p2p_log_laws.proofs.Plain.{IsAside, Away, Plain, StandsPlain, away_as
 use Rattle.p2p_log_laws.proofs.HandshakeShape.{handshake_shape}
 use Rattle.p2p_log_laws.proofs.ReceiverShape.{recv_step_shape}
 use Rattle.p2p_log_laws.proofs.Shape.{Shape, no_moves}
-use Rattle.p2p_log_laws.proofs.ListenerShape.{listener_plain}
+use Rattle.p2p_log_laws.proofs.ListenerShape.{listener_aside, listener_shape}
 use Rattle.p2p_log_laws.proofs.Shapes.{row_shape}
 use Rattle.p2p_log_laws.proofs.HalfSteps.{send_is, receive_is}
 use Rattle.p2p_log_laws.proofs.SpawnerGrants.{Made, spawner_makes}
@@ -107,6 +111,15 @@ module _ (configs : List Config) (n : ℕ) (key : Key) (log : List Entry) where
     or_false true = refl
     or_false false = refl
 
+    -- an act that is not of the node's attempts
+    untried : (a : Act) (r : Row) → tries n a ≡ false → (k : ℕ) → is_attempt_of key (attempts_by configs n log (entry_of (event at seed a) r) f k) ≡ is_attempt_of key (f k)
+    untried a r h k = ap (is_attempt_of key) (attempts_kept configs log (entry_of (event at seed a) r) n k (f k) h)
+
+    -- what an act makes of them
+    tried : (a : Act) (r : Row) → HeedsAttempt configs n log (entry_of (event at seed a) r) f → (k : ℕ) → attempts_by configs n log (entry_of (event at seed a) r) f k
+        ≡ acted_attempts (dial_rules_at configs n) n (length log) at seed r.reply (taken log (entry_of (event at seed a) r)) r.puts a f k
+    tried a r h k = attempts_acted configs log (entry_of (event at seed a) r) n k f h
+
     sender_weighs : (conn m : ℕ) → Weighs (event at seed (act.SendStep conn m)) (send_step_row configs log conn m at)
     sender_weighs conn m =
         let a : Act = act.SendStep conn m in
@@ -115,7 +128,7 @@ module _ (configs : List Config) (n : ℕ) (key : Key) (log : List Entry) where
         weighs.step_weighs configs n key log at seed a m conn r shape (record { dialer = refl; handshakes = λ h. refl; spawner = refl; tracker = refl })
         (half_aside a m conn r shape (λ q h. h)) refl refl (λ k. or_false ((m == n) && (conn == k)))
         (send_is configs log conn m at (Plain n key) (λ k. plain_item n key (queue.Tracker m) (item.Connect conn k) refl refl)
-        (λ k. plain_aside n key (queue.Router m) (item.Ready conn k) (refl, refl)) link_plain) (λ k. refl)
+        (λ k. plain_aside n key (queue.Router m) (item.Ready conn k) (refl, refl)) link_plain) (untried a r refl)
       where
         link_plain : (e : ℕ) (s : Side) (i : Item) → Plain n key (queue.Link e s, i)
         link_plain e side.Out i = plain_aside n key (queue.Link e side.Out) i (refl, refl)
@@ -127,7 +140,7 @@ module _ (configs : List Config) (n : ℕ) (key : Key) (log : List Entry) where
         let r : Row = recv_step_row configs log conn m at in
         let shape : Shape configs log a r = recv_step_shape configs log conn m at in
         weighs.step_weighs configs n key log at seed a m conn r shape read_away (half_aside a m conn r shape (λ q h. h)) refl refl (λ k. refl)
-        (receive_is configs log conn m at (Plain n key) (λ i. plain_aside n key (queue.Held m conn) i (refl, refl)) (λ c i. plain_aside n key (queue.Channel m c) i (refl, refl))) (λ k. refl)
+        (receive_is configs log conn m at (Plain n key) (λ i. plain_aside n key (queue.Held m conn) i (refl, refl)) (λ c i. plain_aside n key (queue.Channel m c) i (refl, refl))) (untried a r refl)
       where
         read_away : Away n (reads configs log (act.RecvStep conn m))
         read_away = record { dialer = refl; handshakes = λ h. refl; spawner = refl; tracker = refl }
@@ -141,7 +154,7 @@ module _ (configs : List Config) (n : ℕ) (key : Key) (log : List Entry) where
 
     asked_weighs : (what : Asked) (m : ℕ) → Weighs (event at seed (act.Ask what m)) (rows.asked_row configs log m)
     asked_weighs what m =
-        asks (act.Ask what m) (rows.asked_row configs log m) refl refl (λ k. refl) refl refl (plain_item n key (queue.Tracker m) (item.Call (length log)) refl refl, tt) (λ k. refl)
+        asks (act.Ask what m) (rows.asked_row configs log m) refl refl (λ k. refl) refl refl (plain_item n key (queue.Tracker m) (item.Call (length log)) refl refl, tt) (untried (act.Ask what m) (rows.asked_row configs log m) refl)
 
     ask_weighs : (what : Asked) (m : ℕ) → Weighs (event at seed (act.Ask what m)) (rows.ask_row configs log m what)
     ask_weighs (ask.Track index peers) m = by_size (nat_lt (rows.most_peers_at configs m) (rows.size_at configs m peers))
@@ -149,7 +162,8 @@ module _ (configs : List Config) (n : ℕ) (key : Key) (log : List Entry) where
         by_size : (b : Bool) → Weighs (event at seed (act.Ask (ask.Track index peers) m))
             (cond b (only (reply.PeerSetTooLarge (rows.size_at configs m peers) (rows.most_peers_at configs m))) (rows.asked_row configs log m))
         by_size true =
-            asks (act.Ask (ask.Track index peers) m) (only (reply.PeerSetTooLarge (rows.size_at configs m peers) (rows.most_peers_at configs m))) refl refl (λ k. refl) refl refl tt (λ k. refl)
+            asks (act.Ask (ask.Track index peers) m) (only (reply.PeerSetTooLarge (rows.size_at configs m peers) (rows.most_peers_at configs m))) refl refl (λ k. refl) refl refl tt
+            (untried (act.Ask (ask.Track index peers) m) (only (reply.PeerSetTooLarge (rows.size_at configs m peers) (rows.most_peers_at configs m))) refl)
         by_size false = asked_weighs (ask.Track index peers) m
     ask_weighs what m = asked_weighs what m
 
@@ -168,7 +182,7 @@ module _ (configs : List Config) (n : ℕ) (key : Key) (log : List Entry) where
         let items : taken log e ≡ map (λ x. x.item) m.taken = taken_items log (event at seed (act.Tracker n)) r m in
         let grants : g.grants log e ≡ step.turned.grants = ap (λ b. b && list_any (puts_grant n key) r.puts) here ∙ step.turned.granted in
         let frees : g.frees log e ≡ step.frees = ap (λ b. b && list_any (releases_key key) (taken log e)) here ∙ (ap (list_any (releases_key key)) items ∙ step.freed) in
-        let held = holds_kept configs n key log e (λ k. refl) in
+        let held = holds_kept configs n key log e (untried (act.Tracker n) r refl) in
         let connected = connections_kept n key log e refl (λ k. refl) in
         let granted : one (g.grants log e) ≡ one step.turned.grants = ap one grants in
         let freed : one (g.frees log e) ≡ one step.frees = ap one frees in
@@ -205,7 +219,7 @@ module _ (configs : List Config) (n : ℕ) (key : Key) (log : List Entry) where
         let items : taken log e ≡ map (λ x. x.item) m.taken = taken_items log (event at seed (act.Dialer n)) r m in
         let begun : Option Attempt = begun_of rules.timeout at (map (λ x. x.item) m.taken) in
         let held = holds_begun configs n key log e begun
-        (λ k. ap (λ b. cond b (with_begun (begun_of rules.timeout at (taken log e)) (length log) f k) (f k)) here ∙ ap (λ l. with_begun (begun_of rules.timeout at l) (length log) f k) items) in
+        (λ k. tried (act.Dialer n) r tt k ∙ ap (λ b. cond b (with_begun (begun_of rules.timeout at (taken log e)) (length log) f k) (f k)) here ∙ ap (λ l. with_begun (begun_of rules.timeout at l) (length log) f k) items) in
         let taken_here = hand.begun in
         let ended = no_grants_stand n key m.ended hand.ended in
         let granted = no_grants n key r.puts hand.puts in
@@ -224,11 +238,15 @@ module _ (configs : List Config) (n : ℕ) (key : Key) (log : List Entry) where
         let m : Moves log r = ends.moves in
         let e : Entry = entry_of (event at seed (act.Attempt i n)) r in
         let items : taken log e ≡ map (λ x. x.item) m.taken = taken_items log (event at seed (act.Attempt i n)) r m in
+        let heeds : HeedsAttempt configs n log e f = λ node b stood.
+        subst (λ (x : Attempt). Agrees rules n i at seed r.reply (taken log e) r.puts x) (same_Some a b (sym stands ∙ stood)) (turn_agrees configs log i n at seed (event at seed (act.Attempt i n)) full a (line log (queue.Attempt n i)) refl)
+        in
         let left : Option Attempt = stepped_attempt rules at seed r.reply (map (λ x. x.item) m.taken) a in
         let held = holds_changed configs n key log e i a left stands
-        (λ k. ap (λ b. cond b (with_named i (and_then (stepped_attempt rules at seed r.reply (taken log e)) (f i)) f k) (f k)) here
+        (λ k. tried (act.Attempt i n) r heeds k
+        ∙ (ap (λ b. cond b (with_named i (and_then (stepped_attempt rules at seed r.reply (taken log e)) (f i)) f k) (f k)) here
         ∙ (ap (λ l. with_named i (and_then (stepped_attempt rules at seed r.reply l) (f i)) f k) items
-        ∙ ap (λ o. with_named i (and_then (stepped_attempt rules at seed r.reply (map (λ x. x.item) m.taken)) o) f k) stands)) in
+        ∙ ap (λ o. with_named i (and_then (stepped_attempt rules at seed r.reply (map (λ x. x.item) m.taken)) o) f k) stands))) in
         let kept = ends.kept in
         let taken_here = no_grants_stand n key m.taken ends.taken in
         let ended = no_grants_stand n key m.ended ends.ended in
@@ -237,12 +255,16 @@ module _ (configs : List Config) (n : ℕ) (key : Key) (log : List Entry) where
     attempt_weighs : (i : ℕ) → Weighs (event at seed (act.Attempt i n)) (attempt_step_row configs log i n at seed)
     attempt_weighs i =
         let r : Row = attempt_row configs log i n at seed in
-        weighs.dropped_weighs configs n key log at seed (event at seed (act.Attempt i n)) r (cond (gave_up r.puts) (dialing_end (f i)) None) (by_attempt (f i) refl) (attempt_shape configs log i n at seed).moves
+        weighs.dropped_weighs configs n key log at seed (event at seed (act.Attempt i n)) r (cond (gave_up r.puts) (dialing_end log n i) None) (by_attempt (f i) refl) (attempt_shape configs log i n at seed).moves
       where
+        never : (b : Attempt) → None ≡ Some b → ⊥
+        never b is = cc
+
         by_attempt : (o : Option Attempt) → f i ≡ o → Weighs (event at seed (act.Attempt i n)) (attempt_by o n at seed (is_spawner_full configs log n) (dial_rules_at configs n).private (line log (queue.Attempt n i)))
         by_attempt None none =
             asks (act.Attempt i n) (only reply.Gone) refl refl (λ k. refl) refl refl tt
-            (λ k. none_kept key (n == n) (stepped_attempt (dial_rules_at configs n) at seed reply.Gone (taken log (entry_of (event at seed (act.Attempt i n)) (only reply.Gone)))) i k f none)
+            (λ k. ap (is_attempt_of key) (tried (act.Attempt i n) (only reply.Gone) (λ node b stood. absurd (never b (sym none ∙ stood))) k)
+            ∙ none_kept key (n == n) (stepped_attempt (dial_rules_at configs n) at seed reply.Gone (taken log (entry_of (event at seed (act.Attempt i n)) (only reply.Gone)))) i k f none)
         by_attempt (Some a) stands = stands_weighs i a stands
 
     -- ---- a handshake's, of which only the first that waits grants
@@ -250,7 +272,7 @@ module _ (configs : List Config) (n : ℕ) (key : Key) (log : List Entry) where
     hands_weighs : (h : ℕ) (r : Row) → Hands n key log h r → Weighs (event at seed (act.Handshake h n)) r
     hands_weighs h r hands =
         let m : Moves log r = hands.moves in
-        let held = holds_kept configs n key log (entry_of (event at seed (act.Handshake h n)) r) (λ k. refl) in
+        let held = holds_kept configs n key log (entry_of (event at seed (act.Handshake h n)) r) (untried (act.Handshake h n) r refl) in
         let handed = hands.handed in
         let ended = no_grants_stand n key m.ended hands.ended in
         weighs.moved configs n key log (event at seed (act.Handshake h n)) r refl refl (λ k. refl) m (omega (arith, held, handed, ended)) hands.no_release (no_releases_stand n key m.ended hands.ended)
@@ -279,14 +301,14 @@ module _ (configs : List Config) (n : ℕ) (key : Key) (log : List Entry) where
     finish_weighs link ok = by_opening (openings_of log link)
       where
         by_verdict : (o : Opening) (dialing : Option Attempt) (end : Option ListeningEnd) (v : Option Bool) → Weighs (event at seed (act.Finish link ok)) (finished_row o dialing end v)
-        by_verdict o dialing end None = asks (act.Finish link ok) (only reply.Pending) refl refl (λ k. refl) refl refl tt (λ k. refl)
-        by_verdict o dialing end (Some agree) = asks (act.Finish link ok) (finished_row o dialing end (Some agree)) refl refl (λ k. refl) refl refl (finish_plain n key o agree dialing end) (λ k. refl)
+        by_verdict o dialing end None = asks (act.Finish link ok) (only reply.Pending) refl refl (λ k. refl) refl refl tt (untried (act.Finish link ok) (only reply.Pending) refl)
+        by_verdict o dialing end (Some agree) = asks (act.Finish link ok) (finished_row o dialing end (Some agree)) refl refl (λ k. refl) refl refl (finish_plain n key o agree dialing end) (untried (act.Finish link ok) (finished_row o dialing end (Some agree)) refl)
 
         by_opening : (p : Option Opening) → Weighs (event at seed (act.Finish link ok)) (elim p [
           | None ↦ only reply.Gone
           | Some o ↦ finish_by configs log ok o (attempts_of configs log o.node o.attempt) (listening_ends_of log o.to link)
         ])
-        by_opening None = asks (act.Finish link ok) (only reply.Gone) refl refl (λ k. refl) refl refl tt (λ k. refl)
+        by_opening None = asks (act.Finish link ok) (only reply.Gone) refl refl (λ k. refl) refl refl tt (untried (act.Finish link ok) (only reply.Gone) refl)
         by_opening (Some o) =
             let dialing : Option Attempt = attempts_of configs log o.node o.attempt in
             let end : Option ListeningEnd = listening_ends_of log o.to link in
@@ -301,7 +323,7 @@ module _ (configs : List Config) (n : ℕ) (key : Key) (log : List Entry) where
         let m : Moves log r = hand.moves in
         let e : Entry = entry_of (event at seed (act.Spawner n)) r in
         let items : taken log e ≡ map (λ x. x.item) m.taken = taken_items log (event at seed (act.Spawner n)) r m in
-        let held = holds_kept configs n key log e (λ k. refl) in
+        let held = holds_kept configs n key log e (untried (act.Spawner n) r refl) in
         let made = connections_made n key log e here unended in
         let by_items : one (is_connection_of key (spawned_of (taken log e))) ≡ one (is_connection_of key (spawned_of (map (λ x. x.item) m.taken))) =
         ap (λ l. one (is_connection_of key (spawned_of l))) items
@@ -320,7 +342,7 @@ module _ (configs : List Config) (n : ℕ) (key : Key) (log : List Entry) where
     tracker_at m false differ =
         weighs.other configs n key log at seed (act.Tracker m) (rows.tracker_row configs log m at) (row_shape configs log at seed (act.Tracker m))
         (record { dialer = refl; handshakes = λ h. refl; spawner = refl; tracker = ap (λ b. b && true) differ })
-        (record { dialer = other_way m n differ; handshakes = λ h. other_way m n differ; spawner = refl; tracker = other_way m n differ }) differ refl (λ k. refl) (λ k. refl)
+        (record { dialer = other_way m n differ; handshakes = λ h. other_way m n differ; spawner = refl; tracker = other_way m n differ }) differ refl (λ k. refl) (untried (act.Tracker m) (rows.tracker_row configs log m at) refl)
 
     dialer_at : (m : ℕ) (b : Bool) → (m == n) ≡ b → Weighs (event at seed (act.Dialer m)) (row configs log at seed (act.Dialer m))
     unfolding row
@@ -329,7 +351,7 @@ module _ (configs : List Config) (n : ℕ) (key : Key) (log : List Entry) where
         let r : Row = dialer_row configs log m at seed in
         weighs.other configs n key log at seed (act.Dialer m) r (row_shape configs log at seed (act.Dialer m)) (record { dialer = ap (λ b. b && true) differ; handshakes = λ h. refl; spawner = refl; tracker = refl })
         (record { dialer = refl; handshakes = λ h. refl; spawner = refl; tracker = ap (λ b. b && true) differ }) refl refl (λ k. refl)
-        (λ k. others_kept key (m == n) (with_begun (begun_of (dial_rules_at configs n).timeout at (taken log (entry_of (event at seed (act.Dialer m)) r))) (length log) f k) (f k) differ)
+        (untried (act.Dialer m) r differ)
 
     attempt_at : (i m : ℕ) (b : Bool) → (m == n) ≡ b → Weighs (event at seed (act.Attempt i m)) (row configs log at seed (act.Attempt i m))
     unfolding row
@@ -338,7 +360,7 @@ module _ (configs : List Config) (n : ℕ) (key : Key) (log : List Entry) where
         let r : Row = attempt_step_row configs log i m at seed in
         weighs.other configs n key log at seed (act.Attempt i m) r (row_shape configs log at seed (act.Attempt i m)) (record { dialer = refl; handshakes = λ h. refl; spawner = refl; tracker = refl })
         (record { dialer = refl; handshakes = λ h. refl; spawner = ap (λ b. (b && true) || false) differ; tracker = ap (λ b. (b && true) || false) differ }) refl refl (λ k. refl)
-        (λ k. others_kept key (m == n) (with_named i (and_then (stepped_attempt (dial_rules_at configs n) at seed r.reply (taken log (entry_of (event at seed (act.Attempt i m)) r))) (f i)) f k) (f k) differ)
+        (untried (act.Attempt i m) r differ)
 
     handshake_at : (i m : ℕ) (b : Bool) → (m == n) ≡ b → GrantsFirst n key log i → Weighs (event at seed (act.Handshake i m)) (row configs log at seed (act.Handshake i m))
     unfolding row
@@ -352,7 +374,7 @@ module _ (configs : List Config) (n : ℕ) (key : Key) (log : List Entry) where
           handshakes = λ h. ap (λ b. b && (i == h)) differ;
           spawner = ap (λ b. (b && true) || false) differ;
           tracker = ap (λ b. (b && true) || false) differ;
-        }) refl refl (λ k. refl) (λ k. refl)
+        }) refl refl (λ k. refl) (untried (act.Handshake i m) (handshake_step_row configs log i m at) refl)
 
     spawner_at : (m : ℕ) (b : Bool) → (m == n) ≡ b → Each StandsFit (live log) → is_ended log n (length log) ≡ false → Weighs (event at seed (act.Spawner m)) (row configs log at seed (act.Spawner m))
     unfolding row
@@ -360,7 +382,7 @@ module _ (configs : List Config) (n : ℕ) (key : Key) (log : List Entry) where
     spawner_at m false differ fitting unended =
         weighs.other configs n key log at seed (act.Spawner m) (spawner_row log m) (row_shape configs log at seed (act.Spawner m))
         (record { dialer = refl; handshakes = λ h. refl; spawner = ap (λ b. b && true) differ; tracker = refl })
-        (record { dialer = refl; handshakes = λ h. refl; spawner = refl; tracker = refl }) refl differ (λ k. refl) (λ k. refl)
+        (record { dialer = refl; handshakes = λ h. refl; spawner = refl; tracker = refl }) refl differ (λ k. refl) (untried (act.Spawner m) (spawner_row log m) refl)
 
     pub each_weighs : Each StandsFit (live log) → ((h : ℕ) → GrantsFirst n key log h) → is_ended log n (length log) ≡ false → (a : Act) → Weighs (event at seed a) (row configs log at seed a)
     unfolding row
@@ -368,9 +390,9 @@ module _ (configs : List Config) (n : ℕ) (key : Key) (log : List Entry) where
     each_weighs fitting first unended (act.RecvStep conn m) = receiver_weighs conn m
     each_weighs fitting first unended (act.Ask what m) = ask_weighs what m
     each_weighs fitting first unended (act.Answer e) =
-        weighs.other configs n key log at seed (act.Answer e) (rows.answer_row log e) (row_shape configs log at seed (act.Answer e)) (told_aside (asked_by log e) e n) (nowhere n) refl refl (λ k. refl) (λ k. refl)
+        weighs.other configs n key log at seed (act.Answer e) (rows.answer_row log e) (row_shape configs log at seed (act.Answer e)) (told_aside (asked_by log e) e n) (nowhere n) refl refl (λ k. refl) (untried (act.Answer e) (rows.answer_row log e) refl)
     each_weighs fitting first unended (act.Next e) =
-        weighs.other configs n key log at seed (act.Next e) (rows.next_row log e) (row_shape configs log at seed (act.Next e)) (told_aside (asked_by log e) e n) (nowhere n) refl refl (λ k. refl) (λ k. refl)
+        weighs.other configs n key log at seed (act.Next e) (rows.next_row log e) (row_shape configs log at seed (act.Next e)) (told_aside (asked_by log e) e n) (nowhere n) refl refl (λ k. refl) (untried (act.Next e) (rows.next_row log e) refl)
     each_weighs fitting first unended (act.Tracker m) = tracker_at m (m == n) refl
     each_weighs fitting first unended (act.Dialer m) = dialer_at m (m == n) refl
     each_weighs fitting first unended (act.Spawner m) = spawner_at m (m == n) refl fitting unended
@@ -378,23 +400,26 @@ module _ (configs : List Config) (n : ℕ) (key : Key) (log : List Entry) where
     each_weighs fitting first unended (act.Handshake i m) = handshake_at i m (m == n) refl (first i)
     each_weighs fitting first unended (act.Finish link ok) = finish_weighs link ok
     each_weighs fitting first unended (act.Listener m) =
-        let aside = listener_plain configs log m at n key in
-        weighs.plain_weighs configs n key log (event at seed (act.Listener m)) (listener_row configs log m at) refl refl (λ k. refl) aside.0 aside.1 (λ k. refl)
+        let aside = (listener_aside configs log m at).plain n key in
+        let r : Row = listener_row configs log m at in
+        let ev : Event = event at seed (act.Listener m) in
+        weighs.dropped_weighs configs n key log at seed ev r (cond (turns_away r.reply) (arriving_end log m) None)
+        (weighs.plain_weighs configs n key log ev r refl refl (λ k. refl) aside.0 aside.1 (untried (act.Listener m) r refl)) (listener_shape configs log m at).moves
     each_weighs fitting first unended (act.Resolve addresses i m) =
         let r : Row = resolve_row configs log addresses i m in
         weighs.other configs n key log at seed (act.Resolve addresses i m) r (row_shape configs log at seed (act.Resolve addresses i m)) (record { dialer = refl; handshakes = λ h. refl; spawner = refl; tracker = refl })
         (record { dialer = refl; handshakes = λ h. refl; spawner = refl; tracker = refl }) refl refl (λ k. refl)
-        (λ k. told_kept key (m == n) (told_addresses r.reply) i k f (addresses_kept key r.reply))
+        (λ k. ap (is_attempt_of key) (tried (act.Resolve addresses i m) r tt k) ∙ told_kept key (m == n) (told_addresses r.reply) i k f (addresses_kept key r.reply))
     each_weighs fitting first unended (act.Connect i from m to) =
         let r : Row = connect_row configs log i from m to in
         weighs.other configs n key log at seed (act.Connect i from m to) r (row_shape configs log at seed (act.Connect i from m to)) (record { dialer = refl; handshakes = λ h. refl; spawner = refl; tracker = refl })
         (record { dialer = refl; handshakes = λ h. refl; spawner = refl; tracker = refl }) refl refl (λ k. refl)
-        (λ k. told_kept key (m == n) (told_answer (length log) r.reply) i k f (answer_kept key (length log) r.reply))
+        (λ k. ap (is_attempt_of key) (tried (act.Connect i from m to) r tt k) ∙ told_kept key (m == n) (told_link (length log) r.reply r.puts) i k f (link_kept key (length log) r.reply r.puts))
     each_weighs fitting first unended (act.Refuse i m) =
         let r : Row = refuse_row configs log i m in
         weighs.other configs n key log at seed (act.Refuse i m) r (row_shape configs log at seed (act.Refuse i m)) (record { dialer = refl; handshakes = λ h. refl; spawner = refl; tracker = refl })
         (record { dialer = refl; handshakes = λ h. refl; spawner = refl; tracker = refl }) refl refl (λ k. refl)
-        (λ k. told_kept key (m == n) (told_answer (length log) r.reply) i k f (answer_kept key (length log) r.reply))
+        (λ k. ap (is_attempt_of key) (tried (act.Refuse i m) r tt k) ∙ told_kept key (m == n) (told_answer (length log) r.reply) i k f (answer_kept key (length log) r.reply))
     each_weighs fitting first unended a =
         weighs.other configs n key log at seed a (row configs log at seed a) (row_shape configs log at seed a) (record { dialer = refl; handshakes = λ h. refl; spawner = refl; tracker = refl })
-        (record { dialer = refl; handshakes = λ h. refl; spawner = refl; tracker = refl }) refl refl (λ k. refl) (λ k. refl)
+        (record { dialer = refl; handshakes = λ h. refl; spawner = refl; tracker = refl }) refl refl (λ k. refl) (untried a (row configs log at seed a) refl)

@@ -15,10 +15,11 @@ use Rattle.p2p_log.specs.declared.event.Act.TheVariants as act
 use Rattle.p2p_log.specs.declared.event.Event.{Event}
 use Rattle.p2p_log_rules.specs.declared.row.Opening.{Opening}
 use Rattle.p2p_log_rules.specs.declared.row.Row.{Row}
-use Rattle.p2p_log_rules.specs.Attempting.{Attempt, attempts_of, told_answer, connect_row}
+use Rattle.p2p_log_rules.specs.Attempting.{Attempt, attempts_of, connect_row}
+use Rattle.p2p_log_rules.proofs.Attempts.{told_link}
 use Rattle.p2p_log_rules.specs.Effect.{effect, entry_of, row}
 use Rattle.p2p_log_rules.specs.Links.{with_opened, without_finished, acted_openings, openings_of}
-use Rattle.p2p_log_rules.proofs.Attempts.{attempts_of-append}
+use Rattle.p2p_log_rules.proofs.Trying.{attempts_of-effect}
 use Rattle.p2p_log_rules.proofs.Links.{openings_of-append}
 use Rattle.p2p_log_laws.proofs.Linking.{IsAnswer, IsLinked, connect_is, links_now}
 use Rattle.p2p_log_laws.proofs.Saying.{IsOpened, AreOpened, early_still, opened_still}
@@ -76,6 +77,11 @@ module _ (configs : List Config) (log : List Entry) (at seed : ℕ) where
   linked e n from to r (inr (inl refused)) x y rest puts = absurd (let t = sym refused.1 ∙ puts in cc)
   linked e n from to r (inr (inr so)) x y rest puts = so
 
+  link_answers : (name : ℕ) (puts : List (Queue × Item)) (a : Attempt) → (told_link name reply.Ok puts a).answer ≡ Some name
+  link_answers name (told ∷ arrival ∷ puts) a = refl
+  link_answers name (told ∷ []) a = refl
+  link_answers name [] a = refl
+
   module _ (o : Opening) (from : SocketAddr) where
     abbrev connects : Act
     connects = act.Connect o.attempt from o.node o.to
@@ -91,13 +97,13 @@ module _ (configs : List Config) (log : List Entry) (at seed : ℕ) where
           links = links_now configs log o.attempt o.node from o.to at seed r so;
           early = early_still configs log (event connects) o.attempt (stands_before configs o.node log o.attempt a so.0.1);
           answered = λ b stands.
-              let told : attempts_of configs (log ++ d ∷ []) o.node o.attempt ≡ Some (told_answer (length log) reply.Ok a) =
-              attempts_of-append configs log d o.node o.attempt
-              ∙ (ap (λ t. cond t (cond (o.attempt == o.attempt) (option_map (told_answer (length log) r.reply) (f o.attempt)) (f o.attempt)) (f o.attempt)) (eq-eqb o.node o.node refl)
-              ∙ (ap (λ t. cond t (option_map (told_answer (length log) r.reply) (f o.attempt)) (f o.attempt)) (eq-eqb o.attempt o.attempt refl)
-              ∙ (ap (λ s. option_map (told_answer (length log) s) (f o.attempt)) so.1 ∙ ap (option_map (told_answer (length log) reply.Ok)) so.0.1)))
+              let told : attempts_of configs (log ++ d ∷ []) o.node o.attempt ≡ Some (told_link (length log) reply.Ok r.puts a) =
+              attempts_of-effect configs log (event connects) o.node o.attempt
+              ∙ (ap (λ t. cond t (cond (o.attempt == o.attempt) (option_map (told_link (length log) r.reply r.puts) (f o.attempt)) (f o.attempt)) (f o.attempt)) (eq-eqb o.node o.node refl)
+              ∙ (ap (λ t. cond t (option_map (told_link (length log) r.reply r.puts) (f o.attempt)) (f o.attempt)) (eq-eqb o.attempt o.attempt refl)
+              ∙ (ap (λ s. option_map (told_link (length log) s r.puts) (f o.attempt)) so.1 ∙ ap (option_map (told_link (length log) reply.Ok r.puts)) so.0.1)))
               in
-              ap (λ (c : Attempt). c.answer) (sym (same_Some (told_answer (length log) reply.Ok a) b (sym told ∙ stands)));
+              ap (λ (c : Attempt). c.answer) (sym (same_Some (told_link (length log) reply.Ok r.puts a) b (sym told ∙ stands))) ∙ link_answers (length log) r.puts a;
         }
 
     new_opened : (a : Act) → a ≡ connects → (x y : Queue × Item) (rest : List (Queue × Item)) → (row configs log at seed a).puts ≡ x ∷ y ∷ rest

@@ -342,7 +342,7 @@ module _ (configs : List Config) (log : List Entry) (conn n moment : ℕ) where
 
   receive_shape : (half : Half) (xs : List Envelope) → live_half log n conn ≡ Some half → line log (queue.Held n conn) ≡ []
       → line log (queue.Link half.link (Effect.other_side half.writes)) ≡ xs → Shape configs log step (Effect.receive_row configs log n conn moment half xs)
-  receive_shape half [] lived none e = by_dropped (is_dropped configs log half.link (Effect.other_side half.writes))
+  receive_shape half [] lived none e = by_dropped (is_dropped log half.link (Effect.other_side half.writes))
     where
       by_dropped : (b : Bool) → Shape configs log step (cond b (end_row log n conn half ended.ReceiveFailed cause.ConnectionEnded []) (Effect.only reply.Idle))
       by_dropped true = receive_failed half lived

@@ -22,7 +22,9 @@ use Rattle.p2p_log.specs.declared.event.Event.{Event}
 use Rattle.p2p_log.proofs.Each.{Each-weaker, count_by-none}
 use Rattle.p2p_log.proofs.Queues.{same_queue-refl}
 use Rattle.p2p_log_rules.specs.declared.row.Row.{Row}
-use Rattle.p2p_log_rules.specs.Attempting.{Attempt, dial_rules_at, acted_attempts, attempts_by, attempts_of}
+use Rattle.p2p_log_rules.specs.Attempting.{Attempt, dial_rules_at, attempts_of}
+use Rattle.p2p_log_rules.specs.Told.{act_tells, tells, told}
+use Rattle.p2p_log_rules.proofs.Attempts.{attempt_told, attempts_by}
 use Rattle.p2p_log_rules.specs.Connections.{steps_sender, steps_receiver, is_end, ends_connection, is_ended, live_connection}
 use Rattle.p2p_log_rules.specs.Dropping.{LinkEnd, other_side, dropping}
 use Rattle.p2p_log_rules.specs.Effect.{entry_of}
@@ -207,6 +209,7 @@ module _ (configs : List Config) (n : ℕ) (key : Key) (log : List Entry) where
     -- ---- a row that drops the end of a link too
 
     beginners_same : (ev : Event) (r : Row) (cut : LinkEnd) → beginners_of n key configs (log ++ entry_of ev (dropping log (Some cut) r) ∷ []) ≡ beginners_of n key configs (log ++ entry_of ev r ∷ [])
+    unfolding tells
     beginners_same ev r cut = sums attempts_now connections_now
       where
         s : Row
@@ -226,7 +229,7 @@ module _ (configs : List Config) (n : ℕ) (key : Key) (log : List Entry) where
             counted (λ k. is_attempt_of key (attempts_of configs (log ++ entry_of ev s ∷ []) n k)) (λ k. is_attempt_of key (attempts_of configs (log ++ entry_of ev r ∷ []) n k))
             (λ k. ap (is_attempt_of key)
             (attempts_of-append configs log (entry_of ev s) n k
-            ∙ (ap (λ items. acted_attempts (dial_rules_at configs n) n (length log) ev.at ev.seed r.reply items ev.act f k) took ∙ sym (attempts_of-append configs log (entry_of ev r) n k))))
+            ∙ (ap (λ items. attempt_told (dial_rules_at configs n) n k (act_tells (told log) log (length log) ev.at ev.seed r.reply items r.puts ev.act) (f k)) took ∙ sym (attempts_of-append configs log (entry_of ev r) n k))))
 
         connections_now : held_by_connections n key (log ++ entry_of ev s ∷ []) ≡ held_by_connections n key (log ++ entry_of ev r ∷ [])
         connections_now =

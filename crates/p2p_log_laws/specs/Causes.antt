@@ -22,7 +22,7 @@ use Rattle.p2p_log_rules.specs.declared.row.Half.{Half}
 use Rattle.p2p_log.specs.Lines.{name_of, line}
 use Rattle.p2p_log_rules.specs.Closing.{is_closed}
 use Rattle.p2p_log_rules.specs.Connections.{half_at, live_half, ends_connection, is_ended}
-use Rattle.p2p_log_rules.specs.Dropping.{LinkEnd, acted_drops, frames_towards}
+use Rattle.p2p_log_rules.specs.Dropping.{LinkEnd, drops_of, frames_towards}
 use Rattle.p2p_log_rules.specs.Ending.{queues_with}
 use Rattle.p2p_log_rules.specs.Facts.{is_up, channels, capacity_in, key_at, taken, routes, route_to}
 use Rattle.p2p_log_rules.specs.Frames.{message_in, is_ping_in}
@@ -83,15 +83,15 @@ pub record IsEndedWith (before : List Entry) (e : Entry) (copy : ℕ × ℕ) : T
   pub stood : slice_get (line before from) place ≡ Some left
   pub carried : carries copy left ≡ true
 
--- an act is a step of an attempt or of a handshake
-abbrev pub StepsBeginner : Act → Type 0
-StepsBeginner a = (name : ℕ) × (node : ℕ) × ((a ≡ act.Attempt name node) ⊎ (a ≡ act.Handshake name node))
+-- an act is a step of a gate: of a listener, of an attempt or of a handshake
+abbrev pub StepsGate : Act → Type 0
+StepsGate a = (node : ℕ) × ((a ≡ act.Listener node) ⊎ ((name : ℕ) × ((a ≡ act.Attempt name node) ⊎ (a ≡ act.Handshake name node))))
 
 -- the entry is such a step, which drops an end of a link: the copy's frame was in flight towards it
 pub record IsCutOff (configs : List Config) (before : List Entry) (e : Entry) (copy : ℕ × ℕ) : Type 0 where
-  pub steps : StepsBeginner e.event.act
+  pub steps : StepsGate e.event.act
   pub cut : LinkEnd
-  pub drops : acted_drops configs before e.reply (taken before e) e.puts e.event.act ≡ Some cut
+  pub drops : IsAmong (drops_of before e) cut
   pub place : ℕ
   pub left : Envelope
   pub stood : slice_get (frames_towards before cut) place ≡ Some left

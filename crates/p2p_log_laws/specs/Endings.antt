@@ -46,8 +46,8 @@ IsOnNoChannel configs before n _ = ⊥
 -- what is true where a half ends its connection for this reason, and takes these
 abbrev pub HasReason : List Config → List Entry → ℕ → ℕ → Half → List (ℕ × ℕ) → Ended → Type 0
 HasReason configs before n conn half takes ended.Killed = TakesOldest before (queue.Control n conn) takes (λ i. i ≡ item.Kill)
-HasReason configs before n conn half takes ended.SendFailed = is_dropped configs before half.link (other_side half.writes) ≡ true
-HasReason configs before n conn half takes ended.ReceiveFailed = is_dropped configs before half.link (other_side half.writes) ≡ true
+HasReason configs before n conn half takes ended.SendFailed = is_dropped before half.link (other_side half.writes) ≡ true
+HasReason configs before n conn half takes ended.ReceiveFailed = is_dropped before half.link (other_side half.writes) ≡ true
 HasReason configs before n conn half takes ended.DecodeFailed = TakesOldest before (queue.Link half.link (other_side half.writes)) takes (IsNoFrame (limit_at configs n))
 HasReason configs before n conn half takes ended.InvalidChannel = TakesOldest before (queue.Link half.link (other_side half.writes)) takes (IsOnNoChannel configs before n)
 

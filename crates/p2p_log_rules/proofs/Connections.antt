@@ -13,7 +13,7 @@ use Rattle.p2p_log.proofs.Sending.{get_longer}
 use Rattle.p2p_log_rules.specs.declared.row.Half.{Half}
 use Rattle.p2p_log_rules.specs.Connections.{half_over, half_of, half_at, begins, is_begun, answers_by, is_running, steps_sender, steps_receiver, is_end, ends_connection, is_ended, live_connection, live_half}
 use Rattle.p2p_log_rules.specs.Facts.{history, with_named}
-use Rattle.p2p_log_rules.specs.Links.{dialed_by, dialer_in, dialer_of}
+use Rattle.p2p_log_rules.specs.Dialed.{dialed_by, dialer_in, dialer_of}
 use Rattle.p2p_log_rules.specs.Spawning.{Spawned, connections_of}
 use Rattle.p2p_log_rules.proofs.Facts.{history_from-append, list_any-last}
 use Rattle.p2p_log_rules.proofs.Spawning.{connections_of-longer}

@@ -3,7 +3,11 @@ pub mod Calls
 pub mod Checking
 pub mod Closing
 pub mod Connections
+pub mod Dialing
+pub mod Dropping
 pub mod Facts
+pub mod Families
+pub mod First
 pub mod Handshakes
 pub mod Lawful
 pub mod Links
@@ -12,4 +16,7 @@ pub mod Named
 pub mod Recorded
 pub mod Spawning
 pub mod TakenAt
+pub mod Tellings
+pub mod Told
 pub mod Touches
+pub mod Trying

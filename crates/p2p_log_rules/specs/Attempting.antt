@@ -1,6 +1,6 @@
 -- The attempts of a node's dialer, by the log, and the rows of what they are told and of their steps.
-use Rattle.std.specs.Prelude.{ℕ, ◌+◌, ◌-◌, Bool, true, false, ◌==◌, ◌||◌, cond, nat_le, min, List, [], ◌∷◌, map, filter, length, Option, Some, None, slice_get, is_some}
-use Rattle.std.specs.Option.{option_map}
+use Rattle.std.specs.Prelude.{ℕ, ◌+◌, ◌-◌, Bool, true, false, ◌==◌, ◌||◌, ◌&&◌, cond, nat_le, List, [], ◌∷◌, map, filter, length, Option, Some, None, slice_get, is_some}
+use Rattle.std.specs.List.{list_any}
 use Rattle.p2p_base.specs.declared.key.Key.{Key}
 use Rattle.p2p_address.specs.Addresses.{is_global}
 use Rattle.p2p_address.specs.declared.ip.SocketAddr.{SocketAddr}
@@ -21,8 +21,11 @@ use Rattle.p2p_log.specs.declared.event.Act.{Act}
 use Rattle.p2p_log.specs.declared.event.Act.TheVariants as act
 use Rattle.p2p_log.specs.Lines.{name_of, line}
 use Rattle.p2p_log_rules.specs.declared.row.Row.{Row}
-use Rattle.p2p_log_rules.specs.Facts.{is_up, key_at, taken, state_from, with_named, with_begun}
+use Rattle.p2p_log_rules.specs.Facts.{is_up, key_at}
 use Rattle.p2p_log_rules.specs.Rows.{only, is_spawner_full}
+use Rattle.p2p_log_rules.specs.Tellings.{Telling, Last, last_told, last_or, first_or, any_or, least_or}
+use Rattle.p2p_log_rules.specs.Tellings as telling
+use Rattle.p2p_log_rules.specs.Told.{Begun, begins, ends, opens, told}
 
 -- how long a dial may take, and how long the keys of a link may be exchanged; and whether a dial may reach addresses that aren't
 -- global
@@ -39,7 +42,8 @@ abbrev pub dial_rules_at : List Config → ℕ → DialRules
 dial_rules_at configs n = dial_rules_in (slice_get configs n)
 
 -- an attempt that has not ended: who is reserved for it, and where it dials; the address that it dials, once there is one; the moment at
--- which it gives up; whether it was told addresses; and the event that answered its dial, with a link or a refusal, once one did
+-- which it gives up; whether it was told addresses; the event that answered its dial, with a link or a refusal,
+-- once one did; and the link of which it has the dialing end
 pub record Attempt : Type 0 where
   pub key : Key
   pub ingress : Ingress
@@ -47,6 +51,7 @@ pub record Attempt : Type 0 where
   pub deadline : ℕ
   pub is_resolved : Bool
   pub answer : Option ℕ
+  pub link : Option ℕ
 
 -- the address of an ingress that needs no look-up
 abbrev pub socket_of : Ingress → Option SocketAddr
@@ -59,20 +64,6 @@ drawn_address private addresses seed =
     let allowed = filter (λ s. private || is_global s.ip) addresses in
     slice_get allowed (drawn (length allowed - 1) (seeded seed)).0
 
--- ---- what an entry makes of an attempt
-
--- the attempt that is begun at this moment once these were taken: by a grant alone
-abbrev pub begun_of : ℕ → ℕ → List Item → Option Attempt
-begun_of timeout at (item.Dial (Some grant) ∷ items) = Some (record {
-  key = grant.0;
-  ingress = grant.1;
-  address = socket_of grant.1;
-  deadline = at + timeout;
-  is_resolved = false;
-  answer = None;
-})
-begun_of timeout at _ = None
-
 -- once it dials this address: without one it ends
 abbrev pub dialing : Option SocketAddr → Attempt → Option Attempt
 dialing None a = None
@@ -83,49 +74,49 @@ abbrev pub resolved : Option SocketAddr → Bool → List SocketAddr → ℕ →
 resolved (Some s) private addresses seed a = Some a
 resolved None private addresses seed a = dialing (drawn_address private addresses seed) a
 
--- once it is linked, it waits no longer than for the keys to be exchanged
-abbrev pub linked : ℕ → Attempt → Attempt
-linked until a = record a { deadline = min a.deadline until }
+-- ---- what is told of it
 
--- after its step of this reply at a moment, in which it took these: it ends by all but addresses and a link
-abbrev pub stepped_attempt : DialRules → ℕ → ℕ → Reply → List Item → Attempt → Option Attempt
-stepped_attempt rules at seed reply.Ok (item.Resolved addresses ∷ items) a = resolved a.address rules.private addresses seed a
-stepped_attempt rules at seed reply.Ok (item.Linked ∷ items) a = Some (linked (at + rules.handshake_timeout) a)
-stepped_attempt rules at seed reply.Ok _ a = None
-stepped_attempt rules at seed _ items a = Some a
+module _ (n k : ℕ) where
+  abbrev pub tells_addresses : Telling → Bool
+  tells_addresses (telling.addresses_told m j) = (m == n) && (k == j)
+  tells_addresses _ = false
 
-abbrev pub told_addresses : Reply → Attempt → Attempt
-told_addresses reply.Ok a = record a { is_resolved = true }
-told_addresses _ a = a
+  abbrev pub answers : Telling → Option (Option ℕ)
+  answers (telling.dial_answered m j event) = cond ((m == n) && (k == j)) (Some (Some event)) None
+  answers _ = None
 
-abbrev pub told_answer : ℕ → Reply → Attempt → Attempt
-told_answer name reply.Ok a = record a { answer = Some name }
-told_answer name _ a = a
+  -- the address that is drawn of those that it took
+  abbrev pub draws : Bool → Telling → Option SocketAddr
+  draws private (telling.addresses_taken m j seed addresses) = cond ((m == n) && (k == j)) (drawn_address private addresses seed) None
+  draws private _ = None
 
--- what comes of an attempt, if there is one
-abbrev pub and_then : (Attempt → Option Attempt) → Option Attempt → Option Attempt
-and_then f None = None
-and_then f (Some a) = f a
+  -- until when keys may be exchanged over the link that it took
+  abbrev pub waits : ℕ → Telling → Option ℕ
+  waits timeout (telling.link_taken m j at) = cond ((m == n) && (k == j)) (Some (at + timeout)) None
+  waits timeout _ = None
 
-module _ (rules : DialRules) (n name : ℕ) (at seed : ℕ) (r : Reply) (items : List Item) where
-  -- after an act of this name at a moment, with this seed and reply, which took these
-  abbrev pub acted_attempts : Act → (ℕ → Option Attempt) → ℕ → Option Attempt
-  acted_attempts (act.Dialer m) attempts k = cond (m == n) (with_begun (begun_of rules.timeout at items) name attempts k) (attempts k)
-  acted_attempts (act.Attempt e m) attempts k =
-      cond (m == n) (with_named e (and_then (stepped_attempt rules at seed r items) (attempts e)) attempts k) (attempts k)
-  acted_attempts (act.Resolve addresses e m) attempts k = cond (m == n) (with_named e (option_map (told_addresses r) (attempts e)) attempts k) (attempts k)
-  acted_attempts (act.Connect e from m to) attempts k = cond (m == n) (with_named e (option_map (told_answer name r) (attempts e)) attempts k) (attempts k)
-  acted_attempts (act.Refuse e m) attempts k = cond (m == n) (with_named e (option_map (told_answer name r) (attempts e)) attempts k) (attempts k)
-  acted_attempts _ attempts k = attempts k
+  -- by what begins it, and what was told since
+  abbrev pub attempt_since : DialRules → Begun → List Telling → Attempt
+  attempt_since rules b ts = record {
+    key = b.key;
+    ingress = b.ingress;
+    address = first_or (socket_of b.ingress) (draws rules.private) ts;
+    deadline = least_or (b.at + rules.timeout) (waits rules.handshake_timeout) ts;
+    is_resolved = any_or false tells_addresses ts;
+    answer = last_or None answers ts;
+    link = last_or None (opens n k) ts;
+  }
 
--- after an entry, given those before it
-abbrev pub attempts_by : List Config → ℕ → List Entry → Entry → (ℕ → Option Attempt) → ℕ → Option Attempt
-attempts_by configs n before e attempts =
-    acted_attempts (dial_rules_at configs n) n (length before) e.event.at e.event.seed e.reply (taken before e) e.event.act attempts
+  abbrev pub attempt_by_last : DialRules → Option (Last Begun) → Option Attempt
+  attempt_by_last rules None = None
+  attempt_by_last rules (Some l) = cond (list_any (ends n k) l.since) None (Some (attempt_since rules l.told l.since))
+
+  abbrev pub attempt_in : DialRules → List Telling → Option Attempt
+  attempt_in rules ts = attempt_by_last rules (last_told (begins n k) ts)
 
 -- the attempts of a node that have not ended, by the events that began them
 unfoldable pub attempts_of : List Config → List Entry → ℕ → ℕ → Option Attempt
-attempts_of configs log n = state_from (attempts_by configs n) [] log (λ k. None)
+attempts_of configs log n k = attempt_in n k (dial_rules_at configs n) (told log)
 
 -- ---- its step
 

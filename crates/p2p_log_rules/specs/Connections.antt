@@ -13,22 +13,10 @@ use Rattle.p2p_log.specs.declared.event.Act.{Act}
 use Rattle.p2p_log.specs.declared.event.Act.TheVariants as act
 use Rattle.p2p_log_rules.specs.declared.row.Half.{Half}
 use Rattle.p2p_log_rules.specs.Facts.{taken, history}
-use Rattle.p2p_log_rules.specs.Links.{dialer_of}
+pub use Rattle.p2p_log_rules.specs.Halves.{side_at, half_over, half_of}
 use Rattle.p2p_log_rules.specs.Spawning.{Spawned, connections_of}
 
 -- ---- halves
-
--- the direction in which a node writes to a link, by the node that dialed it
-abbrev pub side_at : ℕ → ℕ → Side
-side_at n dialer = cond (dialer == n) side.Out side.In
-
--- the node's half of a connection that its spawner made, by the node that dialed its link
-abbrev pub half_over : ℕ → Spawned → ℕ → Half
-half_over n c dialer = record { peer = c.key; link = c.link; writes = side_at n dialer }
-
-abbrev pub half_of : List Entry → ℕ → Option Spawned → Option Half
-half_of log n None = None
-half_of log n (Some c) = option_map (half_over n c) (dialer_of log c.link)
 
 -- the node's half of the connection of this name
 unfoldable pub half_at : List Entry → ℕ → ℕ → Option Half

@@ -1,5 +1,5 @@
 -- A node's dialer, by the log: whom it dials next and when, and the row of its step.
-use Rattle.std.specs.Prelude.{ℕ, ◌+◌, ◌-◌, Bool, true, false, ◌==◌, ◌&&◌, not, cond, nat_le, min, max, take, List, [], ◌∷◌, length, Option, Some, None, unwrap_or, slice_get}
+use Rattle.std.specs.Prelude.{ℕ, zero, suc, count_by, ◌+◌, ◌-◌, Bool, true, false, ◌==◌, ◌&&◌, not, cond, nat_le, min, max, take, List, [], ◌∷◌, length, Option, Some, None, unwrap_or, slice_get}
 use Rattle.p2p_base.specs.declared.key.Key.{Key}
 use Rattle.p2p_runtime.specs.Draws.{seeded, shuffled}
 use Rattle.p2p_log.specs.declared.config.Config.{Config}
@@ -15,8 +15,11 @@ use Rattle.p2p_log.specs.declared.event.Act.{Act}
 use Rattle.p2p_log.specs.declared.event.Act.TheVariants as act
 use Rattle.p2p_log.specs.Lines.{name_of, line}
 use Rattle.p2p_log_rules.specs.declared.row.Row.{Row}
-use Rattle.p2p_log_rules.specs.Facts.{is_up, taken, state_from}
+use Rattle.p2p_log_rules.specs.Facts.{is_up}
 use Rattle.p2p_log_rules.specs.Rows.{only}
+use Rattle.p2p_log_rules.specs.Tellings.{Telling, Last, last_told, last_or}
+use Rattle.p2p_log_rules.specs.Tellings as telling
+use Rattle.p2p_log_rules.specs.Told.{told, asks_list}
 
 -- how long a dialer waits after a dial, and at most before it asks again whom to dial
 pub record Pace : Type 0 where
@@ -64,44 +67,68 @@ last_key ks = slice_get ks (length ks - 1)
 abbrev pub without_last : List Key → List Key
 without_last ks = take (length ks - 1) ks
 
--- ---- what an entry makes of it
+-- ---- what is told of it
 
--- once it took an answer: a list is kept in an order that is drawn
-abbrev pub told_dials : Pace → ℕ → List Item → Dials → Dials
-told_dials pace seed (item.Dialable next peers ∷ items) d = record d { peers = in_drawn_order seed peers; deadline = next_deadline pace d.asked_at peers next }
-told_dials pace seed _ d = d
+-- the keys that a dialer took, in the order that was drawn: none at the start of its node
+abbrev pub lists : ℕ → Telling → Option (List Key)
+lists n (telling.node_started m at) = cond (m == n) (Some []) None
+lists n (telling.list_taken m asked seed next peers) = cond (m == n) (Some (in_drawn_order seed peers)) None
+lists n _ = None
 
--- once it came to its deadline, where it took nothing: the next one is that after a dial
-abbrev pub due_dials : Pace → ℕ → List Item → Dials → Dials
-due_dials pace at [] d = record d { deadline = after_dial pace at }
-due_dials pace at (i ∷ items) d = d
+abbrev pub dials : ℕ → Telling → Bool
+dials n (telling.dial_asked m) = m == n
+dials n _ = false
 
--- once it asked this
-abbrev pub asked_dials : Pace → ℕ → List Item → List (Queue × Item) → Dials → Dials
-asked_dials pace at items ((q, item.AskDial k) ∷ puts) d = record (due_dials pace at items d) { peers = without_last d.peers; is_asking = true }
-asked_dials pace at items ((q, item.AskDialable) ∷ puts) d = record d { asked_at = at; is_asking = true }
-asked_dials pace at items _ d = record d { is_asking = false }
+-- less one from the end for each of so many
+abbrev pub less : ℕ → List Key → List Key
+less zero keys = keys
+less (suc c) keys = without_last (less c keys)
 
-abbrev pub stepped_dials : Pace → ℕ → ℕ → Reply → List Item → List (Queue × Item) → Dials → Dials
-stepped_dials pace at seed reply.Ok items puts d = asked_dials pace at items puts (told_dials pace seed items d)
-stepped_dials pace at seed _ items puts d = d
+abbrev pub left_of : ℕ → Option (Last (List Key)) → List Key
+left_of n None = []
+left_of n (Some l) = less (count_by (dials n) l.since) l.told
+
+-- the keys of the last list that it took, in the order that was drawn, less one from the end for each that it asked for since
+abbrev pub dial_list : List Telling → ℕ → List Key
+dial_list ts n = left_of n (last_told (lists n) ts)
+
+-- whether it waits for an answer
+abbrev pub asks : ℕ → Telling → Option Bool
+asks n (telling.node_started m at) = cond (m == n) (Some false) None
+asks n (telling.answer_taken m) = cond (m == n) (Some false) None
+asks n (telling.list_asked m at) = cond (m == n) (Some true) None
+asks n (telling.dial_asked m) = cond (m == n) (Some true) None
+asks n _ = None
+
+-- it asked a question whose answer it has not taken
+abbrev pub is_asking : List Telling → ℕ → Bool
+is_asking ts n = last_or false (asks n) ts
+
+-- the moment from which it dials or asks again
+abbrev pub sets_deadline : Pace → ℕ → Telling → Option ℕ
+sets_deadline pace n (telling.node_started m at) = cond (m == n) (Some at) None
+sets_deadline pace n (telling.list_taken m asked seed next peers) = cond (m == n) (Some (next_deadline pace asked peers next)) None
+sets_deadline pace n (telling.dial_due m at) = cond (m == n) (Some (after_dial pace at)) None
+sets_deadline pace n _ = None
+
+-- the start of its node, and then as the last list that it took or the last deadline with a list says
+abbrev pub dial_deadline : Pace → List Telling → ℕ → ℕ
+dial_deadline pace ts n = last_or 0 (sets_deadline pace n) ts
+
+abbrev pub dials_in : Pace → List Telling → ℕ → Dials
+dials_in pace ts n = record {
+  peers = dial_list ts n;
+  deadline = dial_deadline pace ts n;
+  asked_at = last_or 0 (asks_list n) ts;
+  is_asking = is_asking ts n;
+}
+
+unfoldable pub dials_of : List Config → List Entry → ℕ → Dials
+dials_of configs log n = dials_in (pace_at configs n) (told log) n
 
 abbrev pub steps_dialer : ℕ → Act → Bool
 steps_dialer n (act.Dialer m) = m == n
 steps_dialer n _ = false
-
--- after an act of this reply, which took and put these
-abbrev pub acted_dials : Pace → ℕ → Act → ℕ → ℕ → Reply → List Item → List (Queue × Item) → Dials → Dials
-acted_dials pace n (act.Start m) at seed r items puts d = cond (m == n) (new_dials at) d
-acted_dials pace n (act.Dialer m) at seed r items puts d = cond (m == n) (stepped_dials pace at seed r items puts d) d
-acted_dials pace n _ at seed r items puts d = d
-
--- after an entry, given those before it
-abbrev pub dials_by : List Config → ℕ → List Entry → Entry → Dials → Dials
-dials_by configs n before e d = acted_dials (pace_at configs n) n e.event.act e.event.at e.event.seed e.reply (taken before e) e.puts d
-
-unfoldable pub dials_of : List Config → List Entry → ℕ → Dials
-dials_of configs log n = state_from (dials_by configs n) [] log (new_dials 0)
 
 -- ---- its step
 

@@ -23,21 +23,6 @@ use Rattle.p2p_log_rules.specs.Facts.{key_at, taken, state_from, with_named}
 use Rattle.p2p_log_rules.specs.Handshakes.{ends_handshake, is_accepted, peer_at}
 use Rattle.p2p_log_rules.specs.Rows.{only}
 
--- ---- who dialed them
-
--- the node that dialed, where an act of this reply and these puts made a link
-abbrev pub dialed_by : Act → Reply → List (Queue × Item) → Option ℕ
-dialed_by (act.Connect e from n to) reply.Ok (told ∷ arrival ∷ puts) = Some n
-dialed_by _ r puts = None
-
-abbrev pub dialer_in : Option Entry → Option ℕ
-dialer_in None = None
-dialer_in (Some e) = dialed_by e.event.act e.reply e.puts
-
--- the node that dialed the link of this name
-unfoldable pub dialer_of : List Entry → ℕ → Option ℕ
-dialer_of log link = dialer_in (slice_get log link)
-
 -- ---- between whom keys are exchanged
 
 -- a dial that was answered with a link, of the name of its entry, puts an arrival too

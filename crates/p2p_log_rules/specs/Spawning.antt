@@ -10,13 +10,11 @@ use Rattle.p2p_log.specs.declared.event.Act.{Act}
 use Rattle.p2p_log.specs.declared.event.Act.TheVariants as act
 use Rattle.p2p_log.specs.Lines.{line}
 use Rattle.p2p_log_rules.specs.declared.row.Row.{Row}
-use Rattle.p2p_log_rules.specs.Facts.{is_up, taken, state_from, with_begun}
+use Rattle.p2p_log_rules.specs.Facts.{is_up}
+pub use Rattle.p2p_log_rules.specs.Halves.{Spawned}
+use Rattle.p2p_log_rules.specs.Halves.{connection_in}
+use Rattle.p2p_log_rules.specs.Told.{told}
 use Rattle.p2p_log_rules.specs.Rows.{only, takes_oldest}
-
--- a connection that a spawner made: with whom, who is reserved for it, and over which link
-pub record Spawned : Type 0 where
-  pub key : Key
-  pub link : ℕ
 
 abbrev pub steps_spawner : ℕ → Act → Bool
 steps_spawner n (act.Spawner m) = m == n
@@ -27,19 +25,9 @@ abbrev pub spawned_of : List Item → Option Spawned
 spawned_of (item.Spawn key link ∷ items) = Some (record { key = key; link = link })
 spawned_of _ = None
 
-module _ (n name : ℕ) (items : List Item) where
-  -- after an act of this name, which took these
-  abbrev pub acted_connections : Act → (ℕ → Option Spawned) → ℕ → Option Spawned
-  acted_connections (act.Spawner m) connections k = cond (m == n) (with_begun (spawned_of items) name connections k) (connections k)
-  acted_connections _ connections k = connections k
-
--- after an entry, given those before it
-abbrev pub connections_by : ℕ → List Entry → Entry → (ℕ → Option Spawned) → ℕ → Option Spawned
-connections_by n before e connections = acted_connections n (length before) (taken before e) e.event.act connections
-
 -- the connections that a node's spawner made, by the events that made them, those that have ended too
 unfoldable pub connections_of : List Entry → ℕ → ℕ → Option Spawned
-connections_of log n = state_from (connections_by n) [] log (λ k. None)
+connections_of log n k = connection_in (told log) n k
 
 -- the spawner's step: the oldest message of its mailbox makes a connection of this event's name
 abbrev pub spawner_row : List Entry → ℕ → Row

@@ -14,7 +14,8 @@ use Rattle.p2p_log.specs.declared.event.Act.TheVariants as act
 use Rattle.p2p_log.specs.QueueCode.{same_queue}
 use Rattle.p2p_log.specs.Lines.{line}
 use Rattle.p2p_log_rules.specs.declared.row.Row.{Row}
-use Rattle.p2p_log_rules.specs.Dropping.{LinkEnd, is_spawn, broke_off, handshake_step_row}
+use Rattle.p2p_log_rules.specs.Dropping.{LinkEnd, handshake_step_row}
+use Rattle.p2p_log_rules.specs.Puts.{is_spawn, broke_off}
 use Rattle.p2p_log_rules.specs.Effect.{row, entry_of}
 use Rattle.p2p_log_rules.specs.Facts.{taken}
 use Rattle.p2p_log_rules.specs.Handshakes.{peer_at}

@@ -101,7 +101,7 @@ module _ (configs : List Config) (log : List Entry) (at seed conn n : ℕ) (half
   size_is = ap (beside_ping due) (sym (ap (λ (o : Option Config). elim o [ None ↦ 0 | Some c ↦ c.send_batch_size ]) s.own.config))
 
   abbrev dropped : Bool
-  dropped = is_dropped configs log half.link (other_side half.writes)
+  dropped = is_dropped log half.link (other_side half.writes)
 
   abbrev written : Row
   written = written_row log n conn half dropped due (batch log n conn most)

@@ -13,6 +13,7 @@ use Rattle.p2p_log.specs.declared.item.Envelope.{Envelope}
 use Rattle.p2p_log.specs.declared.entry.Entry.{Entry}
 use Rattle.p2p_log.specs.QueueCode.{kind_of, owner_of, detail_of, same_queue}
 use Rattle.p2p_log.specs.Lines.{stands_in, placed}
+use Rattle.p2p_log_rules.specs.Told.{told}
 use Rattle.p2p_log_rules.specs.Connections.{begins, is_begun, answers_by, is_running, is_ended}
 use Rattle.p2p_log_rules.specs.Facts.{history_from, state_from}
 use Rattle.p2p_log_rules.specs.Metering.{pings, ping_quota, limit_at, admitted_by, admitted}
@@ -67,7 +68,7 @@ is_ping_quota frequency = record { some_burst = omega arith; some_period = omega
 
 -- no connections stand for no log
 pub connections_new : (configs : List Config) (n : ℕ) → ConnectionsStand configs [] n (no_connections (ping_frequency_at configs n))
-unfolding is_begun is_running is_ended last_pinged admitted history_from state_from connections_of
+unfolding is_begun is_running is_ended last_pinged admitted history_from state_from told connections_of
 connections_new configs n = record {
   spawned = λ conn. refl;
   begun = λ conn. refl;

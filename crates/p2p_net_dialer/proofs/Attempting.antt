@@ -16,11 +16,10 @@ use Rattle.p2p_log.specs.declared.item.Envelope.{Envelope}
 use Rattle.p2p_log.specs.declared.entry.Entry.{Entry}
 use Rattle.p2p_log.specs.Lines.{name_of, line}
 use Rattle.p2p_log_rules.specs.declared.row.Row.{Row}
-use Rattle.p2p_log_rules.specs.Attempting.{Attempt, attempts_by, attempts_of}
-use Rattle.p2p_log_rules.specs.Dialing.{dials_by, dials_of}
+use Rattle.p2p_log_rules.specs.Attempting.{Attempt, attempts_of}
+use Rattle.p2p_log_rules.specs.Dialing.{dials_of}
 use Rattle.p2p_log_rules.specs.Facts.{starts}
 use Rattle.p2p_log_rules.specs.Links.{dialing_puts}
-use Rattle.p2p_log_rules.proofs.Attempts.{attempts_of-append}
 use Rattle.p2p_net_queues.specs.Tables as table
 use Rattle.p2p_net_queues.specs.Tables.{AreBut}
 use Rattle.p2p_net_dialer.specs.Attempts.{dialed_key, told_under, Finishes}
@@ -34,10 +33,10 @@ use Rattle.p2p_net_dialer.proofs.Changes.{actor_kept}
 -- the entry changes the attempt of this name alone, which is this then, and stands for that
 pub record ChangesAttempt (configs : List Config) (log : List Entry) (e : Entry) (n name : ℕ) (d u : Dialing) (now : Option RunningAttempt) (next : Option Attempt) : Type 0 where
   pub no_start : starts n e.event.act ≡ false
-  pub dials : dials_by configs n log e (dials_of configs log n) ≡ dials_of configs log n
+  pub dials : dials_of configs (log ++ e ∷ []) n ≡ dials_of configs log n
   pub actor : u.actor ≡ d.actor
   pub others : AreBut name now d.attempts u.attempts
-  pub tried : (k : ℕ) → attempts_by configs n log e (attempts_of configs log n) k ≡ cond (k == name) next (attempts_of configs log n k)
+  pub tried : (k : ℕ) → attempts_of configs (log ++ e ∷ []) n k ≡ cond (k == name) next (attempts_of configs log n k)
   pub lines : (k : ℕ) → (k == name) ≡ false → line (log ++ e ∷ []) (queue.Attempt n k) ≡ line log (queue.Attempt n k)
   pub stands : AttemptStands (gates_at configs n) name now next (line (log ++ e ∷ []) (queue.Attempt n name))
 
@@ -47,7 +46,7 @@ attempt_changed configs log e n name d u now next s q = record {
   actor = q.actor ∙ actor_kept configs log e n d s q.no_start q.dials;
   attempts = λ k.
       subst (λ r. AttemptStands g k r (attempts_of configs (log ++ e ∷ []) n k) (after k)) (sym (q.others k))
-      (subst (λ a. AttemptStands g k (cond (k == name) now (table.at d.attempts k)) a (after k)) (sym (attempts_of-append configs log e n k ∙ q.tried k)) (by k (k == name) refl));
+      (subst (λ a. AttemptStands g k (cond (k == name) now (table.at d.attempts k)) a (after k)) (sym (q.tried k)) (by k (k == name) refl));
 }
   where
     g : Gates
@@ -110,8 +109,8 @@ module _ (configs : List Config) (log : List Entry) (n name : ℕ) (ok : Bool) (
       by (Some w) None stands h = absurd stands
 
   -- the dialer after an entry by which nothing else waits for its attempts, and that changes none of them
-  pub dialer_finished : (e : Entry) → starts n e.event.act ≡ false → dials_by configs n log e (dials_of configs log n) ≡ dials_of configs log n
-      → ((k : ℕ) → attempts_by configs n log e attempts k ≡ attempts k) → u.actor ≡ d.actor
+  pub dialer_finished : (e : Entry) → starts n e.event.act ≡ false → dials_of configs (log ++ e ∷ []) n ≡ dials_of configs log n
+      → ((k : ℕ) → attempts_of configs (log ++ e ∷ []) n k ≡ attempts k) → u.actor ≡ d.actor
       → ((k : ℕ) → (k == name) ≡ false → line (log ++ e ∷ []) (queue.Attempt n k) ≡ line log (queue.Attempt n k))
       → line (log ++ e ∷ []) q ≡ line log q ++ finished_line n name (length log) (length row.puts) ok (attempts name)
       → DialerStands configs (log ++ e ∷ []) n u
@@ -120,7 +119,7 @@ module _ (configs : List Config) (log : List Entry) (n name : ℕ) (ok : Bool) (
       g : Gates
       g = gates_at configs n
 
-      same_tried : (b : Option Attempt) → attempts name ≡ b → (k : ℕ) → attempts_by configs n log e attempts k ≡ cond (k == name) b (attempts k)
+      same_tried : (b : Option Attempt) → attempts name ≡ b → (k : ℕ) → attempts_of configs (log ++ e ∷ []) n k ≡ cond (k == name) b (attempts k)
       same_tried b is k = tries k ∙ at (k == name) refl
         where
           at : (c : Bool) → (k == name) ≡ c → attempts k ≡ cond c b (attempts k)

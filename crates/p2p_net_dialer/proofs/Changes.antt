@@ -18,13 +18,17 @@ use Rattle.p2p_log.specs.declared.queue.Queue.TheVariants as queue
 use Rattle.p2p_log.specs.declared.item.Item.{Item}
 use Rattle.p2p_log.specs.declared.item.Envelope.{Envelope}
 use Rattle.p2p_log.specs.declared.entry.Entry.{Entry}
-use Rattle.p2p_log.specs.declared.entry.Reply.{Reply}
+use Rattle.p2p_log.specs.declared.entry.Reply.TheVariants as reply
 use Rattle.p2p_log.specs.declared.event.Act.{Act}
 use Rattle.p2p_log.specs.declared.event.Act.TheVariants as act
 use Rattle.p2p_log.specs.Lines.{live_from, line}
-use Rattle.p2p_log_rules.specs.Attempting.{Attempt, DialRules, dial_rules_in, dial_rules_at, socket_of, begun_of, stepped_attempt, told_addresses, told_answer, and_then, acted_attempts, attempts_by, attempts_of}
+use Rattle.p2p_log_rules.specs.Attempting.{Attempt, DialRules, dial_rules_in, dial_rules_at, socket_of, attempts_of}
+use Rattle.p2p_log_rules.proofs.Attempts.{begun_of, acted_attempts, Heeds, tries, attempts_kept, attempts_acted}
+use Rattle.p2p_log_rules.proofs.Dialing.{dials_by, dials_of-kept, dials_of-starts}
+use Rattle.p2p_log_rules.specs.Tellings.{last_told}
+use Rattle.p2p_log_rules.specs.Told.{told}
 use Rattle.p2p_log_rules.specs.Facts.{events_of, starts, has_started, is_up, taken, state_from, with_named, with_begun}
-use Rattle.p2p_log_rules.specs.Dialing.{Pace, pace_at, Dials, new_dials, steps_dialer, stepped_dials, acted_dials, dials_by, dials_of}
+use Rattle.p2p_log_rules.specs.Dialing.{Pace, pace_at, Dials, new_dials, dials_of}
 use Rattle.p2p_log_rules.proofs.Attempts.{attempts_of-append, attempts_of-late}
 use Rattle.p2p_log_rules.proofs.Facts.{events_of-append, has_started-append, state_from-append}
 use Rattle.p2p_net_queues.specs.Tables as table
@@ -35,31 +39,24 @@ use Rattle.p2p_net_dialer.specs.Stands.{no_gates, gates_at, actor_of, attempt_of
 use Rattle.p2p_net_dialer.specs.declared.attempt.RunningAttempt.{RunningAttempt}
 use Rattle.p2p_net_dialer.specs.declared.dialing.Dialing.{Dialing}
 
-pub dials_of-append : (configs : List Config) (log : List Entry) (e : Entry) (n : ℕ) → dials_of configs (log ++ e ∷ []) n ≡ dials_by configs n log e (dials_of configs log n)
-unfolding dials_of
-dials_of-append configs log e n = state_from-append (dials_by configs n) [] log e (new_dials 0)
-
 is_up-append : (log : List Entry) (e : Entry) (n : ℕ) → is_up (log ++ e ∷ []) n ≡ (is_up log n || starts n e.event.act)
 is_up-append log e n = ap (λ l. has_started l n) (events_of-append log e) ∙ has_started-append (events_of log) e.event n
 
 -- ---- an entry that leaves it alone
 
-none_acted : (pace : Pace) (n : ℕ) (a : Act) (at seed : ℕ) (r : Reply) (items : List Item) (puts : List (Queue × Item)) (d : Dials) → starts n a ≡ false → steps_dialer n a ≡ false → acted_dials pace n a at seed r items puts d ≡ d
-none_acted pace n (act.Start m) at seed r items puts d h k = ap (λ b. cond b (new_dials at) d) h
-none_acted pace n (act.Dialer m) at seed r items puts d h k = ap (λ b. cond b (stepped_dials pace at seed r items puts d) d) k
-none_acted pace n _ at seed r items puts d h k = refl
+-- which the act is not of
+none_dials : (n : ℕ) (a : Act) → starts n a ≡ false → is_of_dialer n a ≡ false → dials_by n a ≡ false
+none_dials n (act.Start m) h k = h
+none_dials n (act.Dialer m) h k = k
+none_dials n _ h k = refl
 
-none_steps : (n : ℕ) (a : Act) → is_of_dialer n a ≡ false → steps_dialer n a ≡ false
-none_steps n (act.Dialer m) h = h
-none_steps n _ h = refl
-
-none_tried : (rules : DialRules) (n name at seed : ℕ) (r : Reply) (items : List Item) (a : Act) (attempts : ℕ → Option Attempt) (k : ℕ) → is_of_dialer n a ≡ false → acted_attempts rules n name at seed r items a attempts k ≡ attempts k
-none_tried rules n name at seed r items (act.Dialer m) attempts k h = ap (λ b. cond b (with_begun (begun_of rules.timeout at items) name attempts k) (attempts k)) h
-none_tried rules n name at seed r items (act.Attempt e m) attempts k h = ap (λ b. cond b (with_named e (and_then (stepped_attempt rules at seed r items) (attempts e)) attempts k) (attempts k)) h
-none_tried rules n name at seed r items (act.Resolve addresses e m) attempts k h = ap (λ b. cond b (with_named e (option_map (told_addresses r) (attempts e)) attempts k) (attempts k)) h
-none_tried rules n name at seed r items (act.Connect e from m to) attempts k h = ap (λ b. cond b (with_named e (option_map (told_answer name r) (attempts e)) attempts k) (attempts k)) h
-none_tried rules n name at seed r items (act.Refuse e m) attempts k h = ap (λ b. cond b (with_named e (option_map (told_answer name r) (attempts e)) attempts k) (attempts k)) h
-none_tried rules n name at seed r items _ attempts k h = refl
+none_tries : (n : ℕ) (a : Act) → is_of_dialer n a ≡ false → tries n a ≡ false
+none_tries n (act.Dialer m) h = h
+none_tries n (act.Attempt e m) h = h
+none_tries n (act.Resolve addresses e m) h = h
+none_tries n (act.Connect e from m to) h = h
+none_tries n (act.Refuse e m) h = h
+none_tries n _ h = refl
 
 or_false : (b c : Bool) → c ≡ false → (b || c) ≡ b
 or_false true c h = refl
@@ -67,10 +64,10 @@ or_false false c h = h
 
 -- an attempt of which nothing changed
 still_tried : (configs : List Config) (log : List Entry) (e : Entry) (n k : ℕ) (d : Dialing) → DialerStands configs log n d
-    → attempts_by configs n log e (attempts_of configs log n) k ≡ attempts_of configs log n k → line (log ++ e ∷ []) (queue.Attempt n k) ≡ line log (queue.Attempt n k)
+    → attempts_of configs (log ++ e ∷ []) n k ≡ attempts_of configs log n k → line (log ++ e ∷ []) (queue.Attempt n k) ≡ line log (queue.Attempt n k)
     → AttemptStands (gates_at configs n) k (table.at d.attempts k) (attempts_of configs (log ++ e ∷ []) n k) (line (log ++ e ∷ []) (queue.Attempt n k))
 still_tried configs log e n k d s same waits =
-    subst (λ o. AttemptStands (gates_at configs n) k (table.at d.attempts k) o (line (log ++ e ∷ []) (queue.Attempt n k))) (sym (attempts_of-append configs log e n k ∙ same))
+    subst (λ o. AttemptStands (gates_at configs n) k (table.at d.attempts k) o (line (log ++ e ∷ []) (queue.Attempt n k))) (sym same)
     (subst (AttemptStands (gates_at configs n) k (table.at d.attempts k) (attempts_of configs log n k)) (sym waits) (s.attempts k))
 
 -- the actor of a node that has started or not
@@ -80,11 +77,11 @@ actor_now configs log n up d is same = ap (λ b. cond b (Some (actor_of (gates_a
 
 -- and where the dialer itself is left alone
 pub actor_kept : (configs : List Config) (log : List Entry) (e : Entry) (n : ℕ) (d : Dialing) → DialerStands configs log n d → starts n e.event.act ≡ false
-    → dials_by configs n log e (dials_of configs log n) ≡ dials_of configs log n
+    → dials_of configs (log ++ e ∷ []) n ≡ dials_of configs log n
     → d.actor ≡ cond (is_up (log ++ e ∷ []) n) (Some (actor_of (gates_at configs n) (dials_of configs (log ++ e ∷ []) n))) None
 actor_kept configs log e n d s no_start same =
     s.actor
-    ∙ actor_now configs (log ++ e ∷ []) n (is_up log n) (dials_of configs log n) (is_up-append log e n ∙ or_false (is_up log n) (starts n e.event.act) no_start) (dials_of-append configs log e n ∙ same)
+    ∙ actor_now configs (log ++ e ∷ []) n (is_up log n) (dials_of configs log n) (is_up-append log e n ∙ or_false (is_up log n) (starts n e.event.act) no_start) same
 
 pub dialer_frame : (configs : List Config) (log : List Entry) (e : Entry) (n : ℕ) (d : Dialing) → DialerStands configs log n d → LeavesDialer configs log e n → DialerStands configs (log ++ e ∷ []) n d
 dialer_frame configs log e n d s q = record {
@@ -97,8 +94,8 @@ pub dialer_unmoved : (configs : List Config) (log : List Entry) (e : Entry) (n :
     → ((k : ℕ) → line (log ++ e ∷ []) (queue.Attempt n k) ≡ line log (queue.Attempt n k)) → LeavesDialer configs log e n
 dialer_unmoved configs log e n no_start no_dialer waits = record {
   no_start = no_start;
-  dials = none_acted (pace_at configs n) n e.event.act e.event.at e.event.seed e.reply (taken log e) e.puts (dials_of configs log n) no_start (none_steps n e.event.act no_dialer);
-  tries = λ k. none_tried (dial_rules_at configs n) n (length log) e.event.at e.event.seed e.reply (taken log e) e.event.act (attempts_of configs log n) k no_dialer;
+  dials = dials_of-kept configs log e n (none_dials n e.event.act no_start no_dialer);
+  tries = λ k. attempts_of-append configs log e n k ∙ attempts_kept configs log e n k (attempts_of configs log n k) (none_tries n e.event.act no_dialer);
   lines = waits;
 }
 
@@ -109,7 +106,7 @@ unfolding has_started
 none_up n = refl
 
 no_attempts : (configs : List Config) (n k : ℕ) → attempts_of configs [] n k ≡ None
-unfolding attempts_of state_from
+unfolding attempts_of told last_told state_from
 no_attempts configs n k = refl
 
 none_waits : (q : Queue) → line [] q ≡ []
@@ -129,25 +126,16 @@ or_true : (b : Bool) → (b || true) ≡ true
 or_true true = refl
 or_true false = refl
 
--- what an entry of this act makes of the attempts
-acted : (configs : List Config) (log : List Entry) (e : Entry) (n k : ℕ) (a : Act) → e.event.act ≡ a
-    → attempts_by configs n log e (attempts_of configs log n) k ≡ acted_attempts (dial_rules_at configs n) n (length log) e.event.at e.event.seed e.reply (taken log e) a (attempts_of configs log n) k
-acted configs log e n k a acts = ap (λ b. acted_attempts (dial_rules_at configs n) n (length log) e.event.at e.event.seed e.reply (taken log e) b (attempts_of configs log n) k) acts
-
-pub dialer_starts : (configs : List Config) (log : List Entry) (e : Entry) (n : ℕ) (c : Config) (d : Dialing) → DialerStands configs log n d → slice_get configs n ≡ Some c → e.event.act ≡ act.Start n
+pub dialer_starts : (configs : List Config) (log : List Entry) (e : Entry) (n : ℕ) (c : Config) (d : Dialing) → DialerStands configs log n d → slice_get configs n ≡ Some c → e.event.act ≡ act.Start n → e.reply ≡ reply.Ok
     → ((k : ℕ) → line (log ++ e ∷ []) (queue.Attempt n k) ≡ line log (queue.Attempt n k)) → DialerStands configs (log ++ e ∷ []) n (started c e.event.at d)
-dialer_starts configs log e n c d s is acts waits =
+dialer_starts configs log e n c d s is acts ok waits =
     let here : starts n e.event.act ≡ true = ap (starts n) acts ∙ eq-eqb n n refl in
-    let now : dials_of configs (log ++ e ∷ []) n ≡ new_dials e.event.at =
-    dials_of-append configs log e n
-    ∙ (ap (λ a. acted_dials (pace_at configs n) n a e.event.at e.event.seed e.reply (taken log e) e.puts (dials_of configs log n)) acts
-    ∙ ap (λ b. cond b (new_dials e.event.at) (dials_of configs log n)) (eq-eqb n n refl))
-    in
+    let now : dials_of configs (log ++ e ∷ []) n ≡ new_dials e.event.at = dials_of-starts configs log e n acts ok in
     record {
       actor =
           ap (λ g. Some (actor_of g (new_dials e.event.at))) (gates_is configs n c is)
           ∙ actor_now configs (log ++ e ∷ []) n true (new_dials e.event.at) (is_up-append log e n ∙ (ap (λ b. is_up log n || b) here ∙ or_true (is_up log n))) now;
-      attempts = λ k. still_tried configs log e n k d s (acted configs log e n k (act.Start n) acts) (waits k);
+      attempts = λ k. still_tried configs log e n k d s (attempts_of-append configs log e n k ∙ attempts_kept configs log e n k (attempts_of configs log n k) (ap (tries n) acts)) (waits k);
     }
 
 -- ---- a step
@@ -167,7 +155,7 @@ IsBegun gates name _ _ = ⊥
 -- an attempt that begins is what is said of it
 pub begun_is : (g : Gates) (rules : DialRules) (name : ℕ) (m : Metadata Key) (key : Key) (at : ℕ) (to : Ingress) → g.dial_timeout ≡ rules.timeout
     → running (new_attempt name m to g at)
-    ≡ attempt_of g name m (record { key = key; ingress = to; address = socket_of to; deadline = at + rules.timeout; is_resolved = false; answer = None }) []
+    ≡ attempt_of g name m (record { key = key; ingress = to; address = socket_of to; deadline = at + rules.timeout; is_resolved = false; answer = None; link = None }) []
 begun_is g rules name m key at (ingress.Socket s) same = ap (λ t. running (record (new_attempt name m (ingress.Socket s) g at) { deadline = at + t })) same
 begun_is g rules name m key at (ingress.Dns host port) same = ap (λ t. running (record (new_attempt name m (ingress.Dns host port) g at) { deadline = at + t })) same
 
@@ -223,22 +211,17 @@ late_waits configs log n d s = by (table.at d.attempts (length log)) (attempts_o
     by (Some r) None h none = absurd h
 
 -- a step of the dialer of a node that has started, which comes to this
-pub dialer_stepped : (configs : List Config) (log : List Entry) (e : Entry) (n : ℕ) (d u : Dialing) (begun : Option (Attempting Key)) → DialerStands configs log n d → e.event.act ≡ act.Dialer n → is_up log n ≡ true
-    → u.actor ≡ Some (actor_of (gates_at configs n) (stepped_dials (pace_at configs n) e.event.at e.event.seed e.reply (taken log e) e.puts (dials_of configs log n)))
+pub dialer_stepped : (configs : List Config) (log : List Entry) (e : Entry) (n : ℕ) (d u : Dialing) (begun : Option (Attempting Key)) (next : Dials) → DialerStands configs log n d → e.event.act ≡ act.Dialer n → is_up log n ≡ true
+    → dials_of configs (log ++ e ∷ []) n ≡ next → u.actor ≡ Some (actor_of (gates_at configs n) next)
     → IsBegun (gates_at configs n) (length log) begun (begun_of (dial_rules_at configs n).timeout e.event.at (taken log e)) → u.attempts ≡ attempts_with begun (length log) d.attempts
     → ((k : ℕ) → line (log ++ e ∷ []) (queue.Attempt n k) ≡ line log (queue.Attempt n k)) → DialerStands configs (log ++ e ∷ []) n u
-dialer_stepped configs log e n d u begun s acts up actor new attempts waits =
-    let next = stepped_dials (pace_at configs n) e.event.at e.event.seed e.reply (taken log e) e.puts (dials_of configs log n) in
+dialer_stepped configs log e n d u begun next s acts up now actor new attempts waits =
     let what = begun_of (dial_rules_at configs n).timeout e.event.at (taken log e) in
     let no_start : starts n e.event.act ≡ false = ap (starts n) acts in
-    let now : dials_of configs (log ++ e ∷ []) n ≡ next =
-    dials_of-append configs log e n
-    ∙ (ap (λ a. acted_dials (pace_at configs n) n a e.event.at e.event.seed e.reply (taken log e) e.puts (dials_of configs log n)) acts
-    ∙ ap (λ b. cond b next (dials_of configs log n)) (eq-eqb n n refl))
-    in
     let tried : (k : ℕ) → attempts_of configs (log ++ e ∷ []) n k ≡ with_begun what (length log) (attempts_of configs log n) k = λ k.
     attempts_of-append configs log e n k
-    ∙ (acted configs log e n k (act.Dialer n) acts ∙ ap (λ b. cond b (with_begun what (length log) (attempts_of configs log n) k) (attempts_of configs log n k)) (eq-eqb n n refl))
+    ∙ (attempts_acted configs log e n k (attempts_of configs log n) (subst (λ a. Heeds (dial_rules_at configs n) n (length log) e.event.at e.event.seed e.reply (taken log e) e.puts a (attempts_of configs log n)) (sym acts) tt)
+    ∙ (ap (λ a. acted_attempts (dial_rules_at configs n) n (length log) e.event.at e.event.seed e.reply (taken log e) e.puts a (attempts_of configs log n) k) acts ∙ ap (λ b. cond b (with_begun what (length log) (attempts_of configs log n) k) (attempts_of configs log n k)) (eq-eqb n n refl)))
     in
     record {
       actor = actor ∙ actor_now configs (log ++ e ∷ []) n true next (is_up-append log e n ∙ (or_false (is_up log n) (starts n e.event.act) no_start ∙ up)) now;

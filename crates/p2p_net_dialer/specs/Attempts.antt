@@ -40,17 +40,17 @@ is_name (ingress.Dns host port) = true
 
 -- one that has begun
 abbrev pub running : Attempting Key → RunningAttempt
-running a = record { actor = a; names = []; is_resolved = false; answer = None }
+running a = record { actor = a; names = []; is_resolved = false; answer = None; link = None }
 
 -- the key of an attempt that stands
 abbrev pub dialed_key : Option RunningAttempt → Option Key
 dialed_key None = None
 dialed_key (Some a) = option_map peer_of a.actor.reserved
 
--- the event that answered the dial of an attempt that stands, where one did
-abbrev pub answer_of : Option RunningAttempt → Option ℕ
-answer_of None = None
-answer_of (Some a) = a.answer
+-- the link of which an attempt that stands has the dialing end
+abbrev pub link_at : Option RunningAttempt → Option ℕ
+link_at None = None
+link_at (Some a) = a.link
 
 -- ---- what it is told
 
@@ -78,7 +78,7 @@ link_told false = told.Refused
 
 -- once its dial may have been answered: it has an address, and that comes once
 abbrev pub answered : Option SocketAddr → Bool → Bool → ℕ → RunningAttempt → RunningAttempt
-answered (Some s) false links k a = record (with_told k (link_told links) a) { answer = Some k }
+answered (Some s) false links k a = record (with_told k (link_told links) a) { answer = Some k; link = cond links (Some k) a.link }
 answered _ _ links k a = a
 
 -- ---- its step

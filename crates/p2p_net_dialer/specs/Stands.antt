@@ -16,9 +16,9 @@ use Rattle.p2p_log.specs.declared.entry.Entry.{Entry}
 use Rattle.p2p_log.specs.declared.event.Act.{Act}
 use Rattle.p2p_log.specs.declared.event.Act.TheVariants as act
 use Rattle.p2p_log.specs.Lines.{name_of, line}
-use Rattle.p2p_log_rules.specs.Attempting.{Attempt, attempts_by, attempts_of}
+use Rattle.p2p_log_rules.specs.Attempting.{Attempt, attempts_of}
 use Rattle.p2p_log_rules.specs.Facts.{starts, is_up}
-use Rattle.p2p_log_rules.specs.Dialing.{Dials, dials_by, dials_of}
+use Rattle.p2p_log_rules.specs.Dialing.{Dials, dials_of}
 use Rattle.p2p_net_queues.specs.Tables as table
 use Rattle.p2p_net_dialer.specs.Dialing.{gates_of}
 use Rattle.p2p_net_dialer.specs.declared.attempt.RunningAttempt.{RunningAttempt}
@@ -69,6 +69,7 @@ attempt_of gates name reserved a waiting = record {
   names = map name_of waiting;
   is_resolved = a.is_resolved;
   answer = a.answer;
+  link = a.link;
 }
 
 -- the attempt of this name stands for what is said of it, by a reservation of its key; where there is none, nothing waits for it
@@ -93,6 +94,6 @@ is_of_dialer n _ = false
 -- an entry that leaves it alone
 pub record LeavesDialer (configs : List Config) (log : List Entry) (e : Entry) (n : ℕ) : Type 0 where
   pub no_start : starts n e.event.act ≡ false
-  pub dials : dials_by configs n log e (dials_of configs log n) ≡ dials_of configs log n
-  pub tries : (k : ℕ) → attempts_by configs n log e (attempts_of configs log n) k ≡ attempts_of configs log n k
+  pub dials : dials_of configs (log ++ e ∷ []) n ≡ dials_of configs log n
+  pub tries : (k : ℕ) → attempts_of configs (log ++ e ∷ []) n k ≡ attempts_of configs log n k
   pub lines : (k : ℕ) → line (log ++ e ∷ []) (queue.Attempt n k) ≡ line log (queue.Attempt n k)

@@ -1,5 +1,5 @@
 //! `RunningAttempt`, an attempt of a node's dialer.
-ghost use Rattle.std.specs.Prelude.{◌≡◌, ◌++◌, ◌∷◌, [], IfOk, OnOk, is_some, length};
+ghost use Rattle.std.specs.Prelude.{◌≡◌, ◌++◌, ◌∷◌, [], IfOk, OnOk, is_some, length, cond, Some, None};
 ghost use Rattle.p2p_log.specs.declared.queue.Queue.TheVariants as queue;
 ghost use Rattle.p2p_log_rules.specs.Attempting.{link_item, link_of, resolve_by, answered_row};
 ghost use Rattle.p2p_gates.specs.AttemptTurns.{attempt_turn};
@@ -26,6 +26,8 @@ pub struct RunningAttempt {
     pub is_resolved: bool,
     /// The event that answered its dial, with a link or a refusal, once one did.
     pub answer: Option<u64>,
+    /// The link of which it has the dialing end.
+    pub link: Option<u64>,
 }
 
 /// What an attempt did in a step.
@@ -79,6 +81,16 @@ fn ready(outcome: Outcome<Key>, link: u64) -> Option<(u64, Reservation<Key>)>
     Some((link, reservation))
 }
 
+/// The link of this name, where there is one, or else the one of before.
+fn linked(links: bool, name: u64, before: Option<u64>) -> Option<u64>
+    ensures { result ≡ cond links (Some name) before }
+{
+    if links {
+        return Some(name);
+    }
+    before
+}
+
 /// What an attempt is told of its dial: that there is a link, or that there is none.
 fn link_told(links: bool) -> (AttemptItem, Item)
     ensures { result ≡ (link_told links, link_item links) }
@@ -99,6 +111,7 @@ impl RunningAttempt {
             names: Deque::new(alloc),
             is_resolved: false,
             answer: None,
+            link: None,
         }
     }
 
@@ -229,6 +242,7 @@ impl RunningAttempt {
             return Ok(only(turn.alloc, Reply::Gone));
         }
         self.answer = Some(turn.entry);
+        self.link = linked(links, turn.entry, self.link);
         let (told, item) = link_told(links);
         let mut row = only(turn.alloc, Reply::Ok);
         self.tell(turn, attempt, told, item, &mut row)?;

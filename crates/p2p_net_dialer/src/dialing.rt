@@ -3,7 +3,7 @@ ghost use Rattle.std.specs.Prelude.{◌≡◌, [], None, Some, true, ◌&&◌, I
 ghost use Rattle.p2p_log_rules.specs.Valid.{is_quota};
 ghost use Rattle.p2p_net_queues.specs.Tables as table;
 ghost use Rattle.p2p_net_queues.specs.Tables.{kept_with};
-ghost use Rattle.p2p_net_dialer.specs.Attempts.{dialed_key, answer_of, Tries, Resolves, AnswersDial, Finishes, has_ended};
+ghost use Rattle.p2p_net_dialer.specs.Attempts.{dialed_key, link_at, Tries, Resolves, AnswersDial, Finishes, has_ended};
 ghost use Rattle.p2p_net_dialer.specs.Dialing.{gates_of, no_dialing, started, asked_item, is_answer as answer_test, begun_by, Steps};
 
 use crate::attempt::{RunningAttempt, Tried};
@@ -239,13 +239,12 @@ impl Dialing {
         running.actor.public_key()
     }
 
-    /// The event that answered the dial of the attempt of this name, where it stands and one did. It is the name of the
-    /// attempt's link, where the dial was not refused.
-    pub fn answer(&self, attempt: u64) -> Option<u64>
-        ensures { result ≡ answer_of (table.at self.now.attempts attempt) }
+    /// The link of which the attempt of this name has the dialing end, where it stands and has one.
+    pub fn link(&self, attempt: u64) -> Option<u64>
+        ensures { result ≡ link_at (table.at self.now.attempts attempt) }
     {
         let running = self.attempts.find(attempt)?;
-        running.answer
+        running.link
     }
 
     /// The attempt of this name, where it stands, is told whether the keys were exchanged over its link.

@@ -25,7 +25,8 @@ use Rattle.p2p_log_rules.specs.declared.row.Opening.{Opening}
 use Rattle.p2p_log_rules.specs.Dropping.{is_dropped}
 use Rattle.p2p_log_rules.specs.Effect.{ping_puts}
 use Rattle.p2p_log_rules.specs.Facts.{state_from, with_named}
-use Rattle.p2p_log_rules.specs.Links.{dialed_by, dialer_of, with_opened, without_finished, acted_openings, openings_by, openings_of}
+use Rattle.p2p_log_rules.specs.Links.{with_opened, without_finished, acted_openings, openings_by, openings_of}
+use Rattle.p2p_log_rules.specs.Dialed.{dialed_by, dialer_of}
 use Rattle.p2p_log_rules.specs.Pings.{ping_frame}
 use Rattle.p2p_log_rules.proofs.Connections.{dialer_of-append, dialer_of-unmade}
 use Rattle.p2p_log_rules.proofs.Links.{openings_of-append}
@@ -36,7 +37,8 @@ use Rattle.p2p_net_links.specs.Dropping.{dropped_of, is_dropped_at}
 use Rattle.p2p_net_links.specs.Links.{no_links, way_of, with_way, written_way, batch_way, opened_with}
 use Rattle.p2p_net_links.specs.Stands.{LinksStand}
 use Rattle.p2p_net_links.specs.declared.links.Links.{Links}
-use Rattle.p2p_net_links.proofs.Drops.{DropsNone, is_dropped-none, is_dropped-kept}
+use Rattle.p2p_log_rules.proofs.Dropping.{is_dropped-none, is_dropped-kept}
+use Rattle.p2p_net_links.proofs.Drops.{DropsNone}
 
 -- whether two sides are the same
 abbrev pub same_side : Side → Side → Bool
@@ -218,20 +220,20 @@ named name k o openings before is = ap (λ v. cond (k == name) o v) (is k)
 -- ---- which ends were dropped
 
 -- no links stand for no log
-pub dropped_new : (configs : List Config) (link : ℕ) (s : Side) → is_dropped_at no_links s link ≡ is_dropped configs [] link s
-dropped_new configs link side.Out = sym (is_dropped-none configs link side.Out)
-dropped_new configs link side.In = sym (is_dropped-none configs link side.In)
+pub dropped_new : (link : ℕ) (s : Side) → is_dropped_at no_links s link ≡ is_dropped [] link s
+dropped_new link side.Out = sym (is_dropped-none link side.Out)
+dropped_new link side.In = sym (is_dropped-none link side.In)
 
 -- ---- the links
 
 -- an entry that leaves them alone
 pub links_frame : (configs : List Config) (log : List Entry) (e : Entry) (l : Links) → LinksStand configs log l → ((s : Side) (link : ℕ) → line (log ++ e ∷ []) (queue.Link link s) ≡ line log (queue.Link link s))
-    → OpensNone log e → DropsNone configs log e → LinksStand configs (log ++ e ∷ []) l
+    → OpensNone log e → DropsNone log e → LinksStand configs (log ++ e ∷ []) l
 links_frame configs log e l st lines same none = record {
   waits = λ s link. st.waits s link ∙ sym (lines s link);
   dialers = dialers_kept log e l.dialers st.dialers same.0;
   openings = openings_kept log e l.openings st.openings same.1;
-  dropped = λ link s. st.dropped link s ∙ sym (is_dropped-kept configs log e none link s);
+  dropped = λ link s. st.dropped link s ∙ sym (is_dropped-kept log e none link s);
 }
 
 same_ways : (l : Links) (s : Side) (ds : List (ℕ × ℕ)) (os : List (ℕ × Opening)) → way_of (record l { dialers = ds; openings = os }) s ≡ way_of l s
@@ -253,13 +255,13 @@ same_dropped l side.In side.Out w = refl
 same_dropped l side.In side.In w = refl
 
 -- an entry that changes one direction, which is this one after it, and not who dialed, between whom keys are exchanged, and which ends were dropped
-pub with_way_kept : (configs : List Config) (log : List Entry) (e : Entry) (l : Links) (s : Side) (w : List (ℕ × List Envelope)) → LinksStand configs log l → OpensNone log e → DropsNone configs log e
+pub with_way_kept : (configs : List Config) (log : List Entry) (e : Entry) (l : Links) (s : Side) (w : List (ℕ × List Envelope)) → LinksStand configs log l → OpensNone log e → DropsNone log e
     → ((t : Side) (j : ℕ) → waiting (way_of (with_way l s w) t) j ≡ line (log ++ e ∷ []) (queue.Link j t)) → LinksStand configs (log ++ e ∷ []) (with_way l s w)
 with_way_kept configs log e l s w st same none now = record {
   waits = now;
   dialers = λ k. ap (λ (m : List (ℕ × ℕ)). at m k) (same_dialers l s w) ∙ dialers_kept log e l.dialers st.dialers same.0 k;
   openings = λ k. ap (λ (m : List (ℕ × Opening)). at m k) (same_openings l s w) ∙ openings_kept log e l.openings st.openings same.1 k;
-  dropped = λ link t. ap (λ (m : List (ℕ × Unit {0})). is_some (at m link)) (same_dropped l s t w) ∙ (st.dropped link t ∙ sym (is_dropped-kept configs log e none link t));
+  dropped = λ link t. ap (λ (m : List (ℕ × Unit {0})). is_some (at m link)) (same_dropped l s t w) ∙ (st.dropped link t ∙ sym (is_dropped-kept log e none link t));
 }
 
 same_drops : (l : Links) (s : Side) (ds : List (ℕ × ℕ)) (os : List (ℕ × Opening)) → dropped_of (record l { dialers = ds; openings = os }) s ≡ dropped_of l s
@@ -269,18 +271,18 @@ same_drops l side.In ds os = refl
 -- an entry that changes no direction and drops no end, where these are who dialed and between whom keys are exchanged after it
 with_openings : (configs : List Config) (log : List Entry) (e : Entry) (l : Links) (ds : List (ℕ × ℕ)) (os : List (ℕ × Opening)) → LinksStand configs log l
     → ((s : Side) (link : ℕ) → line (log ++ e ∷ []) (queue.Link link s) ≡ line log (queue.Link link s))
-    → ((k : ℕ) → at ds k ≡ dialer_of (log ++ e ∷ []) k) → ((k : ℕ) → at os k ≡ openings_of (log ++ e ∷ []) k) → DropsNone configs log e → LinksStand configs (log ++ e ∷ []) (record l { dialers = ds; openings = os })
+    → ((k : ℕ) → at ds k ≡ dialer_of (log ++ e ∷ []) k) → ((k : ℕ) → at os k ≡ openings_of (log ++ e ∷ []) k) → DropsNone log e → LinksStand configs (log ++ e ∷ []) (record l { dialers = ds; openings = os })
 with_openings configs log e l ds os st lines dials is none = record {
   waits = λ s link. ap (λ w. waiting w link) (same_ways l s ds os) ∙ (st.waits s link ∙ sym (lines s link));
   dialers = dials;
   openings = is;
-  dropped = λ link s. ap (λ (m : List (ℕ × Unit {0})). is_some (at m link)) (same_drops l s ds os) ∙ (st.dropped link s ∙ sym (is_dropped-kept configs log e none link s));
+  dropped = λ link s. ap (λ (m : List (ℕ × Unit {0})). is_some (at m link)) (same_drops l s ds os) ∙ (st.dropped link s ∙ sym (is_dropped-kept log e none link s));
 }
 
 -- the link of the entry's name is made, and keys are exchanged over it from then on
 pub links_opened : (configs : List Config) (log : List Entry) (e : Entry) (l : Links) (o : Opening) → LinksStand configs log l
     → ((s : Side) (link : ℕ) → line (log ++ e ∷ []) (queue.Link link s) ≡ line log (queue.Link link s))
-    → Opens log e o → DropsNone configs log e → LinksStand configs (log ++ e ∷ []) (opened_with (length log) o l)
+    → Opens log e o → DropsNone log e → LinksStand configs (log ++ e ∷ []) (opened_with (length log) o l)
 links_opened configs log e l o st lines opened none =
     with_openings configs log e l (insert_entry nat_cmp l.dialers (length log) o.node) (insert_entry nat_cmp l.openings (length log) o) st lines
     (λ k. at-inserted (length log) k o.node l.dialers ∙ (ap (λ v. cond (k == length log) (Some o.node) v) (st.dialers k) ∙ sym (dialer_of-append log e o.node opened.dialer k)))
@@ -292,7 +294,7 @@ pub links_finished : (configs : List Config) (log : List Entry) (e : Entry) (l l
     → ((s : Side) (j : ℕ) → line (log ++ e ∷ []) (queue.Link j s) ≡ line log (queue.Link j s))
     → DialsNone e × ((k : ℕ) → openings_of (log ++ e ∷ []) k ≡ with_named link None (openings_of log) k)
     → ((k : ℕ) → at ls.openings k ≡ cond (k == link) None (at l.openings k)) → ls ≡ record l { openings = ls.openings }
-    → DropsNone configs log e → LinksStand configs (log ++ e ∷ []) ls
+    → DropsNone log e → LinksStand configs (log ++ e ∷ []) ls
 links_finished configs log e l ls link st lines finished out rest none =
     subst (LinksStand configs (log ++ e ∷ [])) (sym rest)
     (with_openings configs log e l l.dialers ls.openings st lines (dialers_kept log e l.dialers st.dialers finished.0)
@@ -312,7 +314,7 @@ same_end side.In side.Out k j log h = cc
 -- the oldest frame of one direction is taken
 pub links_taken : (configs : List Config) (log : List Entry) (e : Entry) (l : Links) (s : Side) (k : ℕ) (x : Envelope) (rest : List Envelope) → LinksStand configs log l → line log (queue.Link k s) ≡ x ∷ rest
     → ((t : Side) (j : ℕ) → line (log ++ e ∷ []) (queue.Link j t) ≡ cond (same_queue (queue.Link k s) (queue.Link j t)) rest (line log (queue.Link j t)))
-    → OpensNone log e → DropsNone configs log e → LinksStand configs (log ++ e ∷ []) (with_way l s (popped_at (way_of l s) k))
+    → OpensNone log e → DropsNone log e → LinksStand configs (log ++ e ∷ []) (with_way l s (popped_at (way_of l s) k))
 links_taken configs log e l s k x rest st first lines kept none =
     with_way_kept configs log e l s (popped_at (way_of l s) k) st kept none
     (λ t j.
@@ -357,7 +359,7 @@ placed_in entry p k j s t (f ∷ fs) b e =
 -- these frames are written to one direction
 frames_written : (configs : List Config) (log : List Entry) (e : Entry) (l : Links) (s : Side) (k entry : ℕ) (fs : List ((ℕ × ℕ) × Item)) → LinksStand configs log l
     → ((t : Side) (j : ℕ) → line (log ++ e ∷ []) (queue.Link j t) ≡ line log (queue.Link j t) ++ filter (stands_in (queue.Link j t)) (placed entry 0 (frames_put k s fs)))
-    → OpensNone log e → DropsNone configs log e → LinksStand configs (log ++ e ∷ []) (with_way l s (written_way entry k s 0 fs (way_of l s)))
+    → OpensNone log e → DropsNone log e → LinksStand configs (log ++ e ∷ []) (with_way l s (written_way entry k s 0 fs (way_of l s)))
 frames_written configs log e l s k entry fs st lines kept none =
     with_way_kept configs log e l s (written_way entry k s 0 fs (way_of l s)) st kept none
     (λ t j.
@@ -375,6 +377,6 @@ ping_before fs = ((0, 0), item.Frame None ping_frame) ∷ fs
 -- a batch is written to one direction, with a ping before it where one is due
 pub links_written : (configs : List Config) (log : List Entry) (e : Entry) (l : Links) (s : Side) (k entry : ℕ) (due : Bool) (fs : List ((ℕ × ℕ) × Item)) → LinksStand configs log l
     → ((t : Side) (j : ℕ) → line (log ++ e ∷ []) (queue.Link j t) ≡ line log (queue.Link j t) ++ filter (stands_in (queue.Link j t)) (placed entry 0 (ping_puts due (queue.Link k s) ++ frames_put k s fs)))
-    → OpensNone log e → DropsNone configs log e → LinksStand configs (log ++ e ∷ []) (with_way l s (batch_way due entry k s fs (way_of l s)))
+    → OpensNone log e → DropsNone log e → LinksStand configs (log ++ e ∷ []) (with_way l s (batch_way due entry k s fs (way_of l s)))
 links_written configs log e l s k entry true fs st lines kept none = frames_written configs log e l s k entry (ping_before fs) st lines kept none
 links_written configs log e l s k entry false fs st lines kept none = frames_written configs log e l s k entry fs st lines kept none

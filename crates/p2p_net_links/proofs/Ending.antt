@@ -1,6 +1,7 @@
 -- The links after an entry that drops an end of one of them.
 use Rattle.std.proofs.Common.{◌≡◌, ℕ, Bool, true, false, cond, List, [], ◌∷◌, ◌++◌, drop, refl, ap, sym, ◌∙◌, subst, Option, Some}
 use Rattle.std.specs.Prelude.{◌==◌, ◌&&◌, ◌||◌, is_some}
+use Rattle.std.specs.List.{list_any}
 use Rattle.std.specs.BTreeMap.{is_at, insert_entry}
 use Rattle.std.specs.Ordering.{nat_cmp}
 use Rattle.p2p_log.specs.declared.config.Config.{Config}
@@ -18,7 +19,7 @@ use Rattle.p2p_log.specs.QueueCode.{same_queue}
 use Rattle.p2p_log.specs.Lines.{line}
 use Rattle.p2p_log.proofs.QueueNames.{queue_from_same}
 use Rattle.p2p_log_rules.specs.declared.row.Opening.{Opening}
-use Rattle.p2p_log_rules.specs.Dropping.{LinkEnd, other_side, is_side, acted_drops}
+use Rattle.p2p_log_rules.specs.Dropping.{LinkEnd, other_side, is_side, is_dropped, drops_of}
 use Rattle.p2p_log_rules.specs.Facts.{taken}
 use Rattle.p2p_net_queues.specs.Tables.{at, waiting, popped_at, cleared_at}
 use Rattle.p2p_net_queues.proofs.Tables.{waiting-popped_at, waiting-cleared_at, at-inserted}
@@ -27,23 +28,23 @@ use Rattle.p2p_net_links.specs.Links.{way_of, with_way}
 use Rattle.p2p_net_links.specs.Stands.{LinksStand}
 use Rattle.p2p_net_links.specs.declared.links.Links.{Links}
 use Rattle.p2p_net_links.proofs.Changes.{same_link, same_side, opens_none, OpensNone, openings_unmoved, dialers_kept, openings_kept}
-use Rattle.p2p_net_links.proofs.Drops.{drop_of, is_dropped-more}
+use Rattle.p2p_log_rules.proofs.Dropping.{drops_none, drops_of-none, is_end_at, is_dropped-append}
 
 -- an entry drops the end of this link that writes in this direction: nothing is in flight towards it after it, and what is in flight
 -- elsewhere is what was
-pub record DropsEnd (configs : List Config) (log : List Entry) (e : Entry) (link : ℕ) (s : Side) : Type 0 where
-  pub drops : acted_drops configs log e.reply (taken log e) e.puts e.event.act ≡ Some (link, s)
+pub record DropsEnd (log : List Entry) (e : Entry) (link : ℕ) (s : Side) : Type 0 where
+  pub drops : drops_of log e ≡ (link, s) ∷ []
   pub emptied : line (log ++ e ∷ []) (queue.Link link (other_side s)) ≡ []
   pub kept : (t : Side) (j : ℕ) → same_queue (queue.Link link (other_side s)) (queue.Link j t) ≡ false → line (log ++ e ∷ []) (queue.Link j t) ≡ line log (queue.Link j t)
 
 -- what drops an end makes no link, and ends no exchange of keys
-opens_by : (configs : List Config) (log : List Entry) (r : Reply) (items : List Item) (puts : List (Queue × Item)) (one : LinkEnd) (a : Act) → acted_drops configs log r items puts a ≡ Some one → opens_none a ≡ true
-opens_by configs log r items puts one (act.Connect d from n to) h = cc
-opens_by configs log r items puts one (act.Finish link ok) h = cc
-opens_by configs log r items puts one _ h = refl
+opens_by : (one : LinkEnd) (ends : List LinkEnd) (a : Act) → (drops_none a ≡ true → ends ≡ []) → ends ≡ one ∷ [] → opens_none a ≡ true
+opens_by one ends (act.Connect d from n to) none some = let h : ends ≡ [] = none refl in cc
+opens_by one ends (act.Finish link ok) none some = let h : ends ≡ [] = none refl in cc
+opens_by one ends _ none some = refl
 
-pub drops_opens_none : (configs : List Config) (log : List Entry) (e : Entry) (one : LinkEnd) → drop_of configs log e ≡ Some one → OpensNone log e
-drops_opens_none configs log e one drops = openings_unmoved log e (opens_by configs log e.reply (taken log e) e.puts one e.event.act drops)
+pub drops_opens_none : (log : List Entry) (e : Entry) (one : LinkEnd) → drops_of log e ≡ one ∷ [] → OpensNone log e
+drops_opens_none log e one drops = openings_unmoved log e (opens_by one (drops_of log e) e.event.act (drops_of-none log e) drops)
 
 -- ---- the links as they are then, with this direction in the place of the one that leads to the end
 
@@ -79,6 +80,15 @@ noted l side.In side.In link j w = ap (λ (o : Option (Unit {0})). is_some o) (a
 noted l side.Out side.In link j w = no_more (j == link) (at l.dropped_inward j)
 noted l side.In side.Out link j w = no_more (j == link) (at l.dropped_outward j)
 
+or_swap : (a b : Bool) → (a || b) ≡ (b || (a || false))
+or_swap true true = refl
+or_swap true false = refl
+or_swap false true = refl
+or_swap false false = refl
+
+is_dropped-one : (log : List Entry) (e : Entry) (one : LinkEnd) → drops_of log e ≡ one ∷ [] → (link : ℕ) (s : Side) → is_dropped (log ++ e ∷ []) link s ≡ (is_dropped log link s || (is_end_at link s one || false))
+is_dropped-one log e one drops link s = is_dropped-append log e link s ∙ ap (λ l. is_dropped log link s || list_any (is_end_at link s) l) drops
+
 -- whatever it was before
 first_taken : (l : Links) (s : Side) (link : ℕ) (v : List (ℕ × List Envelope)) → end_dropped link s (with_way l (other_side s) v) ≡ dropped_with link s l (cleared_at v link)
 first_taken l side.Out link v = refl
@@ -90,7 +100,7 @@ twice false xs ys = refl
 
 -- ---- they stand
 
-module _ (configs : List Config) (log : List Entry) (e : Entry) (l : Links) (link : ℕ) (s : Side) (st : LinksStand configs log l) (d : DropsEnd configs log e link s) where
+module _ (configs : List Config) (log : List Entry) (e : Entry) (l : Links) (link : ℕ) (s : Side) (st : LinksStand configs log l) (d : DropsEnd log e link s) where
   abbrev p : Queue
   p = queue.Link link (other_side s)
 
@@ -123,13 +133,13 @@ module _ (configs : List Config) (log : List Entry) (e : Entry) (l : Links) (lin
 
   dropped_stand : (w : List (ℕ × List Envelope)) → ((j : ℕ) → waiting w j ≡ cond (is_at (nat_cmp j) link) [] (waiting (way_of l (other_side s)) j)) → LinksStand configs (log ++ e ∷ []) (dropped_with link s l w)
   dropped_stand w cleared =
-      let same = drops_opens_none configs log e (link, s) d.drops in
+      let same = drops_opens_none log e (link, s) d.drops in
       record {
         waits = dropped_line w cleared;
         dialers = λ k. ap (λ (m : List (ℕ × ℕ)). at m k) (dropped_dialers l s link w) ∙ dialers_kept log e l.dialers st.dialers same.0 k;
         openings = λ k. ap (λ (m : List (ℕ × Opening)). at m k) (dropped_openings l s link w) ∙ openings_kept log e l.openings st.openings same.1 k;
         dropped = λ j t.
-            noted l s t link j w ∙ (ap (λ b. ((j == link) && is_side t s) || b) (st.dropped j t) ∙ sym (is_dropped-more configs log e (link, s) d.drops j t));
+            noted l s t link j w ∙ (ap (λ b. ((j == link) && is_side t s) || b) (st.dropped j t) ∙ (or_swap ((j == link) && is_side t s) (is_dropped log j t) ∙ sym (is_dropped-one log e (link, s) d.drops j t)));
       }
 
   -- the end is dropped

@@ -5,7 +5,8 @@ use Rattle.p2p_log.specs.declared.queue.Queue.TheVariants as queue
 use Rattle.p2p_log.specs.declared.queue.Side.{Side}
 use Rattle.p2p_log.specs.declared.entry.Entry.{Entry}
 use Rattle.p2p_log_rules.specs.Dropping.{is_dropped}
-use Rattle.p2p_log_rules.specs.Links.{dialer_of, openings_of}
+use Rattle.p2p_log_rules.specs.Links.{openings_of}
+use Rattle.p2p_log_rules.specs.Dialed.{dialer_of}
 use Rattle.p2p_net_queues.specs.Lines.{HoldsLines}
 use Rattle.p2p_net_queues.specs.Tables as table
 use Rattle.p2p_net_links.specs.Dropping.{is_dropped_at}
@@ -18,4 +19,4 @@ pub record LinksStand (configs : List Config) (log : List Entry) (l : Links) : T
   pub waits : (s : Side) → HoldsLines (λ link. queue.Link link s) log (way_of l s)
   pub dialers : (k : ℕ) → table.at l.dialers k ≡ dialer_of log k
   pub openings : (k : ℕ) → table.at l.openings k ≡ openings_of log k
-  pub dropped : (link : ℕ) (s : Side) → is_dropped_at l s link ≡ is_dropped configs log link s
+  pub dropped : (link : ℕ) (s : Side) → is_dropped_at l s link ≡ is_dropped log link s

@@ -1,11 +1,13 @@
 -- Each entry is computed by the definitions, which stand open here.
 use Rattle.std.proofs.Common.{◌≡◌, [], ◌∷◌, ◌++◌, refl}
 use Rattle.p2p_log.specs.Lines.{line, live_from}
+use Rattle.p2p_log_rules.specs.Tellings.{last_told}
+use Rattle.p2p_log_rules.specs.Told.{tells, told}
 use Rattle.p2p_log_rules.specs.Closing.{is_closed}
 use Rattle.p2p_log_rules.specs.Connections.{half_at, is_begun, is_running, is_ended}
 use Rattle.p2p_log_rules.specs.Effect.{effect, row}
 use Rattle.p2p_log_rules.specs.Facts.{has_started, registered, rates, taken, taken_at, history_from, state_from}
-use Rattle.p2p_log_rules.specs.Links.{dialer_of}
+use Rattle.p2p_log_rules.specs.Dialed.{dialer_of}
 use Rattle.p2p_log_rules.specs.Metering.{admitted}
 use Rattle.p2p_log_rules.specs.Spawning.{connections_of}
 use Rattle.p2p_runtime.specs.QuotaLaw.{admits}
@@ -32,7 +34,7 @@ unfolding effect row line live_from registered is_closed
 leaves = refl
 
 late : effect two_nodes (message_comes ++ reader_leaves ∷ []) message_late.event ≡ message_late
-unfolding effect row line live_from has_started registered rates admits admitted taken taken_at history_from state_from decode_frame varint_at half_at is_begun is_running is_ended dialer_of connections_of is_closed
+unfolding effect row line live_from has_started registered rates admits admitted taken taken_at history_from state_from decode_frame varint_at half_at is_begun is_running is_ended dialer_of connections_of told tells last_told is_closed
 late = refl
 
 pub returns : goal.returns

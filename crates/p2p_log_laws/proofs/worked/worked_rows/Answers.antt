@@ -13,9 +13,12 @@ use Rattle.p2p_log_rules.specs.Closing.{is_closed}
 use Rattle.p2p_log_rules.specs.Connections.{half_at, is_begun, is_running, is_ended}
 use Rattle.p2p_log_rules.specs.Dialing.{dials_of}
 use Rattle.p2p_log_rules.specs.Dropping.{is_dropped}
+use Rattle.p2p_log_rules.specs.Tellings.{last_told}
+use Rattle.p2p_log_rules.specs.Told.{tells, told}
 use Rattle.p2p_log_rules.specs.Facts.{has_started, registered, rates, taken, taken_at, history_from, state_from, routed, subscribers, routes}
 use Rattle.p2p_log_rules.specs.Handshakes.{handshakes_of, has_taken}
-use Rattle.p2p_log_rules.specs.Links.{dialer_of, openings_of, listening_ends_of}
+use Rattle.p2p_log_rules.specs.Links.{openings_of, listening_ends_of}
+use Rattle.p2p_log_rules.specs.Dialed.{dialer_of}
 use Rattle.p2p_log_rules.specs.Listening.{known_of}
 use Rattle.p2p_log_rules.specs.Metering.{admitted}
 use Rattle.p2p_log_rules.specs.Pings.{last_pinged}
@@ -38,11 +41,11 @@ use Rattle.p2p_log_laws.proofs.Following.{Follow, lawful_following}
 use Rattle.p2p_log_laws.proofs.worked.worked_rows.Goals as goal
 
 overwritten : effect two_nodes delivery_begins list_overwritten.event ≡ list_overwritten
-unfolding effect row line live_from has_started registered rates sent_moments admits taken taken_at history_from state_from routed subscribers routes half_at is_begun is_running is_ended is_dropped connections_of dialer_of
+unfolding effect row line live_from has_started registered rates sent_moments admits taken taken_at history_from state_from routed subscribers routes half_at is_begun is_running is_ended told tells last_told is_dropped connections_of dialer_of
 overwritten = refl
 
 delivery_follows : Follow two_nodes [] delivery
-unfolding effect row line live_from has_started registered rates sent_moments admits taken taken_at history_from state_from routed subscribers routes half_at is_begun is_running is_ended is_dropped attempts_of dials_of handshakes_of has_taken dialer_of openings_of listening_ends_of known_of connections_of calls_of update_subscriptions blocked_subscriptions block_of is_held address_of last_grant is_stale is_connected all_names how_many accepted_sets kept_sets is_tracked is_primary primary_sets secondary_sets kept_of written_over frame decode_frame spelling varint_at exchanged last_pinged admitted is_closed
+unfolding effect row line live_from has_started registered rates sent_moments admits taken taken_at history_from state_from routed subscribers routes half_at is_begun is_running is_ended told tells last_told is_dropped attempts_of dials_of handshakes_of has_taken dialer_of openings_of listening_ends_of known_of connections_of calls_of update_subscriptions blocked_subscriptions block_of is_held address_of last_grant is_stale is_connected all_names how_many accepted_sets kept_sets is_tracked is_primary primary_sets secondary_sets kept_of written_over frame decode_frame spelling varint_at exchanged last_pinged admitted is_closed
 delivery_follows =
     (refl, (refl, (refl, (refl, (refl, (refl, (refl, (refl, (refl, (refl, (refl, (refl, (refl, (refl, (refl, (refl, (refl, (refl, (refl, (refl, (refl, (refl, (refl, (refl, (refl, (refl, (refl, (refl, (refl, (refl, (refl, (refl, (refl, (refl, (refl, (refl, (refl, (refl, (refl, (refl, (refl, tt)))))))))))))))))))))))))))))))))))))))))
 

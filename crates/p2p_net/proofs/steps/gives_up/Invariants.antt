@@ -1,6 +1,6 @@
 -- What is left of the puts answers as all of them do.
 use Rattle.std.proofs.Common.{◌≡◌, drop}
-use Rattle.p2p_log_rules.specs.Dropping.{gave_up}
+use Rattle.p2p_log_rules.specs.Puts.{gave_up}
 use Rattle.p2p_net.proofs.steps.gives_up.Given as goal
 
 abbrev pub invariant-loop-put : goal.invariant-loop-put

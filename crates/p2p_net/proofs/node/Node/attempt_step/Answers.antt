@@ -2,8 +2,8 @@ use Rattle.std.proofs.Common.{ℕ, Bool, ap, subst, ◌∙◌, Option}
 use Rattle.std.specs.Prelude.{not}
 use Rattle.p2p_log.specs.declared.queue.Side.TheVariants as side
 use Rattle.p2p_log_rules.specs.declared.row.Row.{Row}
-use Rattle.p2p_log_rules.specs.Dropping.{gave_up}
-use Rattle.p2p_net_dialer.specs.Attempts.{answer_of}
+use Rattle.p2p_log_rules.specs.Puts.{gave_up}
+use Rattle.p2p_net_dialer.specs.Attempts.{link_at}
 use Rattle.p2p_net_links.specs.declared.links.Links.{Links}
 use Rattle.p2p_net_queues.specs.Tables as table
 use Rattle.p2p_net.specs.Acts.{DropsUnless}
@@ -21,6 +21,6 @@ returns-clause-does c =
       row = row;
       steps = c.in_ok-row.ensures.does;
       drops =
-          subst (λ (b : Bool). DropsUnless (not b) (answer_of (table.at x.dialing.attempts c.args.attempt)) side.Out l ls row after) (c.gives_up-kept.ensures ∙ ap gave_up c.as_slice.ensures)
-          (subst (λ (o : Option ℕ). DropsUnless (not c.gives_up-kept.result) o side.Out l ls row after) c.answer-link.ensures c.in_ok-drop_unless.ensures);
+          subst (λ (b : Bool). DropsUnless (not b) (link_at (table.at x.dialing.attempts c.args.attempt)) side.Out l ls row after) (c.gives_up-kept.ensures ∙ ap gave_up c.as_slice.ensures)
+          (subst (λ (o : Option ℕ). DropsUnless (not c.gives_up-kept.result) o side.Out l ls row after) c.link-link.ensures c.in_ok-drop_unless.ensures);
     }

@@ -3,7 +3,7 @@ use Rattle.std.specs.Prelude.{◌||◌, is_some}
 use Rattle.std.specs.List.{list_any}
 use Rattle.p2p_log.specs.declared.queue.Side.TheVariants as side
 use Rattle.p2p_log_rules.specs.declared.row.Row.{Row}
-use Rattle.p2p_log_rules.specs.Dropping.{is_spawn}
+use Rattle.p2p_log_rules.specs.Puts.{is_spawn}
 use Rattle.p2p_net_links.specs.declared.links.Links.{Links}
 use Rattle.p2p_net_queues.specs.Tables as table
 use Rattle.p2p_net.specs.Acts.{link_over, DropsUnless}

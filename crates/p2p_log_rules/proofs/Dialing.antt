@@ -1,0 +1,273 @@
+-- What stands of a node's dialer after one more entry.
+use Rattle.std.proofs.Common.{◌≡◌, ℕ, zero, suc, ◌+◌, Bool, true, false, cond, List, [], ◌∷◌, ◌++◌, length, refl, ap, sym, ◌∙◌, append_assoc, append-nil, arith, eq-eqb, Option, Some, None}
+use Rattle.std.specs.Prelude.{◌==◌, unwrap_or, count_by}
+use Rattle.std.specs.List.{list_any}
+use Rattle.std.proofs.lemmas.List.Sums.{sum_by-append}
+use Rattle.p2p_base.specs.declared.key.Key.{Key}
+use Rattle.p2p_log.specs.declared.config.Config.{Config}
+use Rattle.p2p_log.specs.declared.queue.Queue.{Queue}
+use Rattle.p2p_log.specs.declared.item.Item.{Item}
+use Rattle.p2p_log.specs.declared.item.Item.TheVariants as item
+use Rattle.p2p_log.specs.declared.entry.Entry.{Entry}
+use Rattle.p2p_log.specs.declared.entry.Reply.TheVariants as reply
+use Rattle.p2p_log.specs.declared.event.Act.{Act}
+use Rattle.p2p_log.specs.declared.event.Act.TheVariants as act
+use Rattle.p2p_log_rules.specs.Dialing.{Pace, pace_at, after_dial, next_deadline, Dials, in_drawn_order, new_dials, without_last, lists, dials, less, left_of, dial_list, asks, is_asking, sets_deadline, dial_deadline, dials_in, dials_of}
+use Rattle.p2p_log_rules.specs.Facts.{starts, taken}
+use Rattle.p2p_log_rules.specs.Tellings.{Telling, Last, last_told, last_or}
+use Rattle.p2p_log_rules.specs.Tellings as telling
+use Rattle.p2p_log_rules.specs.Told.{done_tells, asks_list, answer_tells, ask_tells, act_tells, tells, told}
+use Rattle.p2p_log_rules.proofs.Families.{kind, kinds_of, has, are_apart, untold_of}
+use Rattle.p2p_log_rules.proofs.Told.{NoneDialed, NoneTried, NoneTold, quiet_act}
+use Rattle.p2p_log_rules.proofs.Tellings.{told-append, or_left, or_right, last_or-append, with_last, last_told-one}
+
+-- ---- after one telling more
+
+module _ (pace : Pace) (n : ℕ) where
+  -- the keys that it is to dial
+  abbrev pub keys_after : Option (List Key) → Bool → List Key → List Key
+  keys_after None b keys = cond b (without_last keys) keys
+  keys_after (Some l) b keys = l
+
+  abbrev pub dials_after : Telling → Dials → Dials
+  dials_after t d = record {
+    peers = keys_after (lists n t) (dials n t) d.peers;
+    deadline = unwrap_or (sets_deadline pace n t) d.deadline;
+    asked_at = unwrap_or (asks_list n t) d.asked_at;
+    is_asking = unwrap_or (asks n t) d.is_asking;
+  }
+
+  abbrev pub dials_told : List Telling → Dials → Dials
+  dials_told [] d = d
+  dials_told (t ∷ ts) d = dials_told ts (dials_after t d)
+
+  count-one : (ts : List Telling) (t : Telling) → count_by (dials n) (ts ++ t ∷ []) ≡ cond (dials n t) (suc (count_by (dials n) ts)) (count_by (dials n) ts)
+  count-one ts t = sum_by-append (λ (u : Telling). cond (dials n u) 1 0) ts (t ∷ []) ∙ by (dials n t) (count_by (dials n) ts)
+    where
+      by : (b : Bool) (c : ℕ) → c + (0 + cond b 1 0) ≡ cond b (suc c) c
+      by true c = omega arith
+      by false c = omega arith
+
+  list-one : (ts : List Telling) (t : Telling) → dial_list (ts ++ t ∷ []) n ≡ keys_after (lists n t) (dials n t) (dial_list ts n)
+  list-one ts t = ap (left_of n) (last_told-one (lists n) ts t) ∙ by (lists n t) (last_told (lists n) ts)
+    where
+      none : (b : Bool) → [] ≡ cond b (without_last []) []
+      none true = refl
+      none false = refl
+
+      more : (b : Bool) (c : ℕ) (keys : List Key) → less (cond b (suc c) c) keys ≡ cond b (without_last (less c keys)) (less c keys)
+      more true c keys = refl
+      more false c keys = refl
+
+      by : (new : Option (List Key)) (o : Option (Last (List Key))) → left_of n (with_last new t o) ≡ keys_after new (dials n t) (left_of n o)
+      by (Some l) o = refl
+      by None None = none (dials n t)
+      by None (Some l) = ap (λ c. less c l.told) (count-one l.since t) ∙ more (dials n t) (count_by (dials n) l.since) l.told
+
+  pub dials_in-one : (ts : List Telling) (t : Telling) → dials_in pace (ts ++ t ∷ []) n ≡ dials_after t (dials_in pace ts n)
+  dials_in-one ts t =
+      let d : Dials = dials_in pace (ts ++ t ∷ []) n in
+      let o : Dials = dials_after t (dials_in pace ts n) in
+      ap (λ x. record d { peers = x }) (list-one ts t)
+      ∙ (ap (λ x. record d { peers = o.peers; deadline = x }) (last_or-append 0 (sets_deadline pace n) ts (t ∷ []))
+      ∙ (ap (λ x. record d { peers = o.peers; deadline = o.deadline; asked_at = x }) (last_or-append 0 (asks_list n) ts (t ∷ []))
+      ∙ ap (λ x. record d { peers = o.peers; deadline = o.deadline; asked_at = o.asked_at; is_asking = x }) (last_or-append false (asks n) ts (t ∷ []))))
+
+  pub dials_in-more : (ts us : List Telling) → dials_in pace (ts ++ us) n ≡ dials_told us (dials_in pace ts n)
+  dials_in-more ts [] = ap (λ l. dials_in pace l n) (append-nil ts)
+  dials_in-more ts (u ∷ us) = ap (λ l. dials_in pace l n) (sym (append_assoc ts (u ∷ []) us)) ∙ (dials_in-more (ts ++ u ∷ []) us ∙ ap (dials_told us) (dials_in-one ts u))
+
+  -- ---- a telling of another thing
+
+  abbrev pub of_dialer : Telling → Bool
+  of_dialer (telling.node_started m at) = m == n
+  of_dialer (telling.list_asked m at) = m == n
+  of_dialer (telling.list_taken m asked seed next peers) = m == n
+  of_dialer (telling.answer_taken m) = m == n
+  of_dialer (telling.dial_asked m) = m == n
+  of_dialer (telling.dial_due m at) = m == n
+  of_dialer _ = false
+
+  pub other_dialed : (t : Telling) (d : Dials) → of_dialer t ≡ false → dials_after t d ≡ d
+  other_dialed (telling.node_started m at) d h =
+      ap (λ b. record { peers = keys_after (cond b (Some []) None) false d.peers; deadline = unwrap_or (cond b (Some at) None) d.deadline; asked_at = unwrap_or (cond b (Some at) None) d.asked_at; is_asking = unwrap_or (cond b (Some false) None) d.is_asking }) h
+  other_dialed (telling.list_asked m at) d h = ap (λ b. record d { asked_at = unwrap_or (cond b (Some at) None) d.asked_at; is_asking = unwrap_or (cond b (Some true) None) d.is_asking }) h
+  other_dialed (telling.list_taken m asked seed next peers) d h =
+      ap (λ b. record d { peers = keys_after (cond b (Some (in_drawn_order seed peers)) None) false d.peers; deadline = unwrap_or (cond b (Some (next_deadline pace asked peers next)) None) d.deadline }) h
+  other_dialed (telling.answer_taken m) d h = ap (λ b. record d { is_asking = unwrap_or (cond b (Some false) None) d.is_asking }) h
+  other_dialed (telling.dial_asked m) d h = ap (λ b. record d { peers = cond b (without_last d.peers) d.peers; is_asking = unwrap_or (cond b (Some true) None) d.is_asking }) h
+  other_dialed (telling.dial_due m at) d h = ap (λ b. record d { deadline = unwrap_or (cond b (Some (after_dial pace at)) None) d.deadline }) h
+  other_dialed _ d h = refl
+
+  pub others_dialed : (ts : List Telling) (d : Dials) → list_any of_dialer ts ≡ false → dials_told ts d ≡ d
+  others_dialed [] d h = refl
+  others_dialed (t ∷ ts) d h = ap (dials_told ts) (other_dialed t d (or_left (of_dialer t) (list_any of_dialer ts) h)) ∙ others_dialed ts d (or_right (of_dialer t) (list_any of_dialer ts) h)
+
+-- ---- after one entry more
+
+pub dials_of-append : (configs : List Config) (log : List Entry) (e : Entry) (n : ℕ) → dials_of configs (log ++ e ∷ []) n ≡ dials_told (pace_at configs n) n (tells (told log) log e) (dials_of configs log n)
+unfolding dials_of
+dials_of-append configs log e n = ap (λ l. dials_in (pace_at configs n) l n) (told-append log e) ∙ dials_in-more (pace_at configs n) n (told log) (tells (told log) log e)
+
+-- whether an act is of a node's dialer, or of its start
+abbrev pub dials_by : ℕ → Act → Bool
+dials_by n (act.Start m) = m == n
+dials_by n (act.Dialer m) = m == n
+dials_by n _ = false
+
+none_dialed : (pace : Pace) (n name at : ℕ) (a : Act) → dials_by n a ≡ false → NoneTold (of_dialer pace n) name at a
+none_dialed pace n name at (act.Start m) h = h
+none_dialed pace n name at (act.SendStep conn m) h = λ link s. refl
+none_dialed pace n name at (act.RecvStep conn m) h = λ link s. refl
+none_dialed pace n name at (act.Dialer m) h = record { list = λ asked seed next peers. h; answer = h; begun = λ key ingress. refl; due = h; dials = h; asks = h }
+none_dialed pace n name at (act.Listener m) h = λ link. refl
+none_dialed pace n name at (act.Handshake e m) h = λ link. refl
+none_dialed pace n name at (act.Spawner m) h = λ key link. refl
+none_dialed pace n name at (act.Attempt e m) h = record { addresses = λ seed addresses. refl; link = refl; ended = refl; drops = λ link. refl }
+none_dialed pace n name at (act.Resolve addresses e m) h = refl
+none_dialed pace n name at (act.Connect e from m to) h = (refl, refl)
+none_dialed pace n name at (act.Refuse e m) h = refl
+none_dialed pace n name at _ h = tt
+
+pub dials_of-kept : (configs : List Config) (log : List Entry) (e : Entry) (n : ℕ) → dials_by n e.event.act ≡ false → dials_of configs (log ++ e ∷ []) n ≡ dials_of configs log n
+unfolding tells
+dials_of-kept configs log e n h =
+    dials_of-append configs log e n
+    ∙ others_dialed (pace_at configs n) n (tells (told log) log e) (dials_of configs log n)
+    (quiet_act (of_dialer (pace_at configs n) n) (length log) e.event.at (told log) log e.event.seed e.reply (taken log e) e.puts e.event.act (none_dialed (pace_at configs n) n (length log) e.event.at e.event.act h))
+
+-- ---- by its act
+
+-- one that takes and puts nothing, and starts no node
+pub dials_of-still : (configs : List Config) (log : List Entry) (e : Entry) (n : ℕ) → starts n e.event.act ≡ false → taken log e ≡ [] → e.puts ≡ [] → dials_of configs (log ++ e ∷ []) n ≡ dials_of configs log n
+unfolding tells
+dials_of-still configs log e n no_start none no_puts = by e.event.act refl
+  where
+    pace : Pace
+    pace = pace_at configs n
+
+    d : Dials
+    d = dials_of configs log n
+
+    by : (a : Act) → e.event.act ≡ a → dials_of configs (log ++ e ∷ []) n ≡ dials_of configs log n
+    by (act.Start m) is = dials_of-kept configs log e n (ap (dials_by n) is ∙ (sym (ap (starts n) is) ∙ no_start))
+    by (act.Dialer m) is =
+        let asked : ℕ = last_or 0 (asks_list m) (told log) in
+        dials_of-append configs log e n
+        ∙ (ap (λ a. dials_told pace n (act_tells (told log) log (length log) e.event.at e.event.seed e.reply (taken log e) e.puts a) d) is
+        ∙ (ap (λ items. dials_told pace n (answer_tells m asked (length log) e.event.at e.event.seed items ++ ask_tells m e.event.at items e.puts) d) none
+        ∙ ap (λ puts. dials_told pace n (ask_tells m e.event.at [] puts) d) no_puts))
+    by a is = dials_of-kept configs log e n (ap (dials_by n) is)
+
+-- at the start of its node
+pub dials_of-starts : (configs : List Config) (log : List Entry) (e : Entry) (n : ℕ) → e.event.act ≡ act.Start n → e.reply ≡ reply.Ok → dials_of configs (log ++ e ∷ []) n ≡ new_dials e.event.at
+unfolding tells
+dials_of-starts configs log e n is ok =
+    dials_of-append configs log e n
+    ∙ (ap (λ a. dials_told pace n (act_tells (told log) log (length log) e.event.at e.event.seed e.reply (taken log e) e.puts a) d) is
+    ∙ (ap (λ r. dials_told pace n (done_tells r (telling.node_started n e.event.at ∷ [])) d) ok
+    ∙ ap (λ b. record { peers = keys_after pace n (cond b (Some []) None) false d.peers; deadline = unwrap_or (cond b (Some e.event.at) None) d.deadline; asked_at = unwrap_or (cond b (Some e.event.at) None) d.asked_at; is_asking = unwrap_or (cond b (Some false) None) d.is_asking }) (eq-eqb n n refl)))
+  where
+    pace : Pace
+    pace = pace_at configs n
+
+    d : Dials
+    d = dials_of configs log n
+
+-- once it took an answer: a list is kept in an order that is drawn
+abbrev pub told_dials : Pace → ℕ → List Item → Dials → Dials
+told_dials pace seed (item.Dialable next peers ∷ items) d = record d { peers = in_drawn_order seed peers; deadline = next_deadline pace d.asked_at peers next }
+told_dials pace seed _ d = d
+
+-- once it came to its deadline, where it took nothing: the next one is that after a dial
+abbrev pub due_dials : Pace → ℕ → List Item → Dials → Dials
+due_dials pace at [] d = record d { deadline = after_dial pace at }
+due_dials pace at (i ∷ items) d = d
+
+-- once it asked this
+abbrev pub asked_dials : Pace → ℕ → List Item → List (Queue × Item) → Dials → Dials
+asked_dials pace at items ((q, item.AskDial k) ∷ puts) d = record (due_dials pace at items d) { peers = without_last d.peers; is_asking = true }
+asked_dials pace at items ((q, item.AskDialable) ∷ puts) d = record d { asked_at = at; is_asking = true }
+asked_dials pace at items _ d = record d { is_asking = false }
+
+abbrev pub stepped_dials : Pace → ℕ → ℕ → List Item → List (Queue × Item) → Dials → Dials
+stepped_dials pace at seed items puts d = asked_dials pace at items puts (told_dials pace seed items d)
+
+-- a step that did something took an answer or asked
+abbrev pub works : List Item → List (Queue × Item) → Bool
+works (i ∷ items) puts = true
+works [] ((q, item.AskDial k) ∷ puts) = true
+works [] ((q, item.AskDialable) ∷ puts) = true
+works [] _ = false
+
+module _ (pace : Pace) (n name at seed : ℕ) where
+  told_append : (ts us : List Telling) (d : Dials) → dials_told pace n (ts ++ us) d ≡ dials_told pace n us (dials_told pace n ts d)
+  told_append [] us d = refl
+  told_append (t ∷ ts) us d = told_append ts us (dials_after pace n t d)
+
+  here : (n == n) ≡ true
+  here = eq-eqb n n refl
+
+  -- what it is once it took an answer
+  abbrev taken_dials : List Item → Dials → Dials
+  taken_dials [] d = d
+  taken_dials (i ∷ items) d = record (told_dials pace seed (i ∷ items) d) { is_asking = false }
+
+  answer_told : (items : List Item) (d : Dials) → dials_told pace n (answer_tells n d.asked_at name at seed items) d ≡ taken_dials items d
+  answer_told [] d = refl
+  answer_told (item.Dialable next peers ∷ items) d =
+      ap (λ b. record {
+        peers = keys_after pace n (cond b (Some (in_drawn_order seed peers)) None) false d.peers;
+        deadline = unwrap_or (cond b (Some (next_deadline pace d.asked_at peers next)) None) d.deadline;
+        asked_at = d.asked_at;
+        is_asking = unwrap_or (cond b (Some false) None) d.is_asking;
+      }) here
+  answer_told (item.Dial (Some grant) ∷ items) d = ap (λ b. record d { is_asking = unwrap_or (cond b (Some false) None) d.is_asking }) here
+  answer_told (i ∷ items) d = ap (λ b. record d { is_asking = unwrap_or (cond b (Some false) None) d.is_asking }) here
+
+  abbrev dialed : (b : Bool) → Dials → Dials
+  dialed b d = record d { peers = cond b (without_last d.peers) d.peers; is_asking = unwrap_or (cond b (Some true) None) d.is_asking }
+
+  abbrev asked : (b : Bool) → Dials → Dials
+  asked b d = record d { asked_at = unwrap_or (cond b (Some at) None) d.asked_at; is_asking = unwrap_or (cond b (Some true) None) d.is_asking }
+
+  ask_told : (items : List Item) (puts : List (Queue × Item)) (d : Dials) → works items puts ≡ true → dials_told pace n (ask_tells n at items puts) (taken_dials items d) ≡ stepped_dials pace at seed items puts d
+  ask_told [] ((q, item.AskDial k) ∷ puts) d h = ap (λ b. dialed b (record d { deadline = unwrap_or (cond b (Some (after_dial pace at)) None) d.deadline })) here
+  ask_told (i ∷ items) ((q, item.AskDial k) ∷ puts) d h = ap (λ b. dialed b (record (told_dials pace seed (i ∷ items) d) { is_asking = false })) here
+  ask_told [] ((q, item.AskDialable) ∷ puts) d h = ap (λ b. asked b d) here
+  ask_told (i ∷ items) ((q, item.AskDialable) ∷ puts) d h = ap (λ b. asked b (record (told_dials pace seed (i ∷ items) d) { is_asking = false })) here
+  ask_told [] _ d h = cc
+  ask_told (i ∷ items) _ d h = refl
+
+-- after its step, in which it took these and put these
+pub dials_of-stepped : (configs : List Config) (log : List Entry) (e : Entry) (n : ℕ) → e.event.act ≡ act.Dialer n → works (taken log e) e.puts ≡ true
+    → dials_of configs (log ++ e ∷ []) n ≡ stepped_dials (pace_at configs n) e.event.at e.event.seed (taken log e) e.puts (dials_of configs log n)
+unfolding tells dials_of
+dials_of-stepped configs log e n is h =
+    let pace : Pace = pace_at configs n in
+    let d : Dials = dials_of configs log n in
+    dials_of-append configs log e n
+    ∙ (ap (λ a. dials_told pace n (act_tells (told log) log (length log) e.event.at e.event.seed e.reply (taken log e) e.puts a) d) is
+    ∙ (told_append pace n (length log) e.event.at e.event.seed (answer_tells n d.asked_at (length log) e.event.at e.event.seed (taken log e)) (ask_tells n e.event.at (taken log e) e.puts) d
+    ∙ (ap (dials_told pace n (ask_tells n e.event.at (taken log e) e.puts)) (answer_told pace n (length log) e.event.at e.event.seed (taken log e) d)
+    ∙ ask_told pace n (length log) e.event.at e.event.seed (taken log e) e.puts d h)))
+
+-- ---- the kinds that tell of it
+
+abbrev pub dialer_kinds : List ℕ
+dialer_kinds = 0 ∷ 2 ∷ 3 ∷ 4 ∷ 5 ∷ 6 ∷ []
+
+of_kinds : (pace : Pace) (n : ℕ) (t : Telling) → has dialer_kinds (kind t) ≡ false → of_dialer pace n t ≡ false
+of_kinds pace n (telling.node_started m at) h = cc
+of_kinds pace n (telling.list_asked m at) h = cc
+of_kinds pace n (telling.list_taken m asked seed next peers) h = cc
+of_kinds pace n (telling.answer_taken m) h = cc
+of_kinds pace n (telling.dial_asked m) h = cc
+of_kinds pace n (telling.dial_due m at) h = cc
+of_kinds pace n _ h = refl
+
+-- an entry whose act tells none of these
+pub dials_of-apart : (configs : List Config) (log : List Entry) (e : Entry) (n : ℕ) → are_apart (kinds_of e.event.act) dialer_kinds ≡ true → dials_of configs (log ++ e ∷ []) n ≡ dials_of configs log n
+dials_of-apart configs log e n h =
+    dials_of-append configs log e n
+    ∙ others_dialed (pace_at configs n) n (tells (told log) log e) (dials_of configs log n) (untold_of (of_dialer (pace_at configs n) n) dialer_kinds (of_kinds (pace_at configs n) n) (told log) log e h)

@@ -1,0 +1,133 @@
+-- What an act may tell: where a test holds of none of that, it holds of nothing that the act tells. The one proof that looks at acts.
+use Rattle.std.proofs.Common.{◌≡◌, ℕ, Bool, true, false, List, [], ◌∷◌, ◌++◌, refl, ap, ◌∙◌, Option, Some, None}
+use Rattle.std.specs.Prelude.{◌||◌}
+use Rattle.std.specs.List.{list_any}
+use Rattle.p2p_base.specs.declared.key.Key.{Key}
+use Rattle.p2p_address.specs.declared.ip.SocketAddr.{SocketAddr}
+use Rattle.p2p_address.specs.declared.peer.Ingress.{Ingress}
+use Rattle.p2p_log.specs.declared.queue.Queue.{Queue}
+use Rattle.p2p_log.specs.declared.queue.Side.{Side}
+use Rattle.p2p_log.specs.declared.queue.Side.TheVariants as side
+use Rattle.p2p_log.specs.declared.item.Item.{Item}
+use Rattle.p2p_log.specs.declared.item.Item.TheVariants as item
+use Rattle.p2p_log.specs.declared.entry.Entry.{Entry}
+use Rattle.p2p_log.specs.declared.entry.Reply.{Reply}
+use Rattle.p2p_log.specs.declared.entry.Reply.TheVariants as reply
+use Rattle.p2p_log.specs.declared.event.Act.{Act}
+use Rattle.p2p_log.specs.declared.event.Act.TheVariants as act
+use Rattle.p2p_log_rules.specs.declared.row.Half.{Half}
+use Rattle.p2p_log_rules.specs.Handshakes.{peer_at}
+use Rattle.p2p_log_rules.specs.Puts.{gave_up, ends_attempt, broke_off, turns_away, arrival_link}
+use Rattle.p2p_log_rules.specs.Tellings.{Telling, last_or}
+use Rattle.p2p_log_rules.specs.Tellings as telling
+use Rattle.p2p_log_rules.specs.Told.{half_in, spawn_tells, when, done_tells, asks_list, link_in, dialing_dropped, listening_dropped, half_dropped, half_tells, gates_tell, answer_tells, due_tells, ask_tells, took_tells, left_tells, link_tells, act_tells}
+use Rattle.p2p_log_rules.proofs.Tellings.{append_quiet, when_quiet, done_quiet}
+
+-- a test holds of nothing that a step of a node's dialer may tell
+pub record NoneDialed (test : Telling → Bool) (m name at : ℕ) : Type 0 where
+  pub list : (asked seed : ℕ) (next : Option ℕ) (peers : List Key) → test (telling.list_taken m asked seed next peers) ≡ false
+  pub answer : test (telling.answer_taken m) ≡ false
+  pub begun : (key : Key) (ingress : Ingress) → test (telling.attempt_begun m name key ingress at) ≡ false
+  pub due : test (telling.dial_due m at) ≡ false
+  pub dials : test (telling.dial_asked m) ≡ false
+  pub asks : test (telling.list_asked m at) ≡ false
+
+-- nor a step of an attempt
+pub record NoneTried (test : Telling → Bool) (m e at : ℕ) : Type 0 where
+  pub addresses : (seed : ℕ) (addresses : List SocketAddr) → test (telling.addresses_taken m e seed addresses) ≡ false
+  pub link : test (telling.link_taken m e at) ≡ false
+  pub ended : test (telling.attempt_ended m e) ≡ false
+  pub drops : (link : ℕ) → test (telling.end_dropped link side.Out) ≡ false
+
+module _ (test : Telling → Bool) (name at : ℕ) where
+  abbrev pub NoneTold : Act → Type 0
+  NoneTold (act.Start m) = test (telling.node_started m at) ≡ false
+  NoneTold (act.SendStep conn m) = (link : ℕ) (s : Side) → test (telling.end_dropped link s) ≡ false
+  NoneTold (act.RecvStep conn m) = (link : ℕ) (s : Side) → test (telling.end_dropped link s) ≡ false
+  NoneTold (act.Dialer m) = NoneDialed test m name at
+  NoneTold (act.Listener m) = (link : ℕ) → test (telling.end_dropped link side.In) ≡ false
+  NoneTold (act.Handshake h m) = (link : ℕ) → test (telling.end_dropped link side.In) ≡ false
+  NoneTold (act.Spawner m) = (key : Key) (link : ℕ) → test (telling.connection_made m name key link) ≡ false
+  NoneTold (act.Attempt e m) = NoneTried test m e at
+  NoneTold (act.Resolve addresses e m) = test (telling.addresses_told m e) ≡ false
+  NoneTold (act.Connect e from m to) = (test (telling.dial_answered m e name) ≡ false) × (test (telling.link_opened m e name) ≡ false)
+  NoneTold (act.Refuse e m) = test (telling.dial_answered m e name) ≡ false
+  NoneTold _ = Unit {0}
+
+  pub one : (t : Telling) → test t ≡ false → list_any test (t ∷ []) ≡ false
+  one t h = ap (λ b. b || false) h
+
+  more : (t : Telling) (ts : List Telling) → test t ≡ false → list_any test ts ≡ false → list_any test (t ∷ ts) ≡ false
+  more t ts h k = ap (λ b. b || list_any test ts) h ∙ k
+
+  half_quiet : (r : Reply) (o : Option Half) → ((link : ℕ) (s : Side) → test (telling.end_dropped link s) ≡ false) → list_any test (half_tells r o) ≡ false
+  half_quiet (reply.Ended why) None h = refl
+  half_quiet (reply.Ended why) (Some half) h = one (telling.end_dropped half.link half.writes) (h half.link half.writes)
+  half_quiet _ o h = refl
+
+  heard_quiet : (o : Option ℕ) → ((link : ℕ) → test (telling.end_dropped link side.In) ≡ false) → list_any test (listening_dropped o) ≡ false
+  heard_quiet None h = refl
+  heard_quiet (Some link) h = one (telling.end_dropped link side.In) (h link)
+
+  gates_quiet : (r : Reply) (items : List Item) → ((link : ℕ) → test (telling.end_dropped link side.In) ≡ false) → list_any test (gates_tell r items) ≡ false
+  gates_quiet r items h = when_quiet test (turns_away r) (listening_dropped (arrival_link items)) (heard_quiet (arrival_link items) h)
+
+  answer_quiet : (m asked seed : ℕ) (items : List Item) → NoneDialed test m name at → list_any test (answer_tells m asked name at seed items) ≡ false
+  answer_quiet m asked seed (item.Dialable next peers ∷ items) h = more (telling.list_taken m asked seed next peers) (telling.answer_taken m ∷ []) (h.list asked seed next peers) (one (telling.answer_taken m) h.answer)
+  answer_quiet m asked seed (item.Dial (Some grant) ∷ items) h = more (telling.attempt_begun m name grant.0 grant.1 at) (telling.answer_taken m ∷ []) (h.begun grant.0 grant.1) (one (telling.answer_taken m) h.answer)
+  answer_quiet m asked seed [] h = refl
+  answer_quiet m asked seed _ h = one (telling.answer_taken m) h.answer
+
+  pub ask_quiet : (m : ℕ) (items : List Item) (puts : List (Queue × Item)) → test (telling.dial_due m at) ≡ false → test (telling.dial_asked m) ≡ false → test (telling.list_asked m at) ≡ false
+      → list_any test (ask_tells m at items puts) ≡ false
+  ask_quiet m [] ((q, item.AskDial key) ∷ puts) due dials asks = more (telling.dial_due m at) (telling.dial_asked m ∷ []) due (one (telling.dial_asked m) dials)
+  ask_quiet m (i ∷ items) ((q, item.AskDial key) ∷ puts) due dials asks = one (telling.dial_asked m) dials
+  ask_quiet m items ((q, item.AskDialable) ∷ puts) due dials asks = one (telling.list_asked m at) asks
+  ask_quiet m items _ due dials asks = refl
+
+  took_quiet : (m e seed : ℕ) (items : List Item) → NoneTried test m e at → list_any test (took_tells m e at seed items) ≡ false
+  took_quiet m e seed (item.Resolved addresses ∷ items) h = one (telling.addresses_taken m e seed addresses) (h.addresses seed addresses)
+  took_quiet m e seed (item.Linked ∷ items) h = one (telling.link_taken m e at) h.link
+  took_quiet m e seed _ h = refl
+
+  pub cut_quiet : (o : Option ℕ) → ((link : ℕ) → test (telling.end_dropped link side.Out) ≡ false) → list_any test (dialing_dropped o) ≡ false
+  cut_quiet None h = refl
+  cut_quiet (Some link) h = one (telling.end_dropped link side.Out) (h link)
+
+  spawn_quiet : (m : ℕ) (items : List Item) → ((key : Key) (link : ℕ) → test (telling.connection_made m name key link) ≡ false) → list_any test (spawn_tells m name items) ≡ false
+  spawn_quiet m (item.Spawn key link ∷ items) h = one (telling.connection_made m name key link) (h key link)
+  spawn_quiet m _ h = refl
+
+  left_quiet : (m e : ℕ) (link : Option ℕ) (puts : List (Queue × Item)) → NoneTried test m e at → list_any test (left_tells m e link puts) ≡ false
+  left_quiet m e link puts h =
+      when_quiet test (ends_attempt puts) (telling.attempt_ended m e ∷ when (gave_up puts) (dialing_dropped link))
+      (more (telling.attempt_ended m e) (when (gave_up puts) (dialing_dropped link)) h.ended (when_quiet test (gave_up puts) (dialing_dropped link) (cut_quiet link h.drops)))
+
+  pub link_quiet : (m e : ℕ) (puts : List (Queue × Item)) → test (telling.link_opened m e name) ≡ false → list_any test (link_tells m e name puts) ≡ false
+  link_quiet m e (told ∷ arrival ∷ puts) h = one (telling.link_opened m e name) h
+  link_quiet m e _ h = refl
+
+  pub step_quiet : (m e seed : ℕ) (items : List Item) (link : Option ℕ) (puts : List (Queue × Item)) → NoneTried test m e at → list_any test (took_tells m e at seed items ++ left_tells m e link puts) ≡ false
+  step_quiet m e seed items link puts h = append_quiet test (took_tells m e at seed items) (left_tells m e link puts) (took_quiet m e seed items h) (left_quiet m e link puts h)
+
+  pub connect_quiet : (m e : ℕ) (r : Reply) (puts : List (Queue × Item)) → test (telling.dial_answered m e name) ≡ false → test (telling.link_opened m e name) ≡ false
+      → list_any test (done_tells r (telling.dial_answered m e name ∷ link_tells m e name puts)) ≡ false
+  connect_quiet m e r puts h k =
+      done_quiet test r (telling.dial_answered m e name ∷ link_tells m e name puts) (more (telling.dial_answered m e name) (link_tells m e name puts) h (link_quiet m e puts k))
+
+  pub quiet_act : (ts : List Telling) (before : List Entry) (seed : ℕ) (r : Reply) (items : List Item) (puts : List (Queue × Item)) (a : Act) → NoneTold a
+      → list_any test (act_tells ts before name at seed r items puts a) ≡ false
+  quiet_act ts before seed r items puts (act.Start m) h = done_quiet test r (telling.node_started m at ∷ []) (one (telling.node_started m at) h)
+  quiet_act ts before seed r items puts (act.SendStep conn m) h = half_quiet r (half_in ts before m conn) h
+  quiet_act ts before seed r items puts (act.RecvStep conn m) h = half_quiet r (half_in ts before m conn) h
+  quiet_act ts before seed r items puts (act.Dialer m) h =
+      append_quiet test (answer_tells m (last_or 0 (asks_list m) ts) name at seed items) (ask_tells m at items puts) (answer_quiet m (last_or 0 (asks_list m) ts) seed items h) (ask_quiet m items puts h.due h.dials h.asks)
+  quiet_act ts before seed r items puts (act.Listener m) h = gates_quiet r items h
+  quiet_act ts before seed r items puts (act.Handshake e m) h =
+      when_quiet test (broke_off r items puts) (telling.end_dropped (peer_at before e).link side.In ∷ []) (one (telling.end_dropped (peer_at before e).link side.In) (h (peer_at before e).link))
+  quiet_act ts before seed r items puts (act.Spawner m) h = spawn_quiet m items h
+  quiet_act ts before seed r items puts (act.Attempt e m) h = step_quiet m e seed items (link_in ts m e) puts h
+  quiet_act ts before seed r items puts (act.Resolve addresses e m) h = done_quiet test r (telling.addresses_told m e ∷ []) (one (telling.addresses_told m e) h)
+  quiet_act ts before seed r items puts (act.Connect e from m to) h = connect_quiet m e r puts h.0 h.1
+  quiet_act ts before seed r items puts (act.Refuse e m) h = done_quiet test r (telling.dial_answered m e name ∷ []) (one (telling.dial_answered m e name) h)
+  quiet_act ts before seed r items puts _ h = refl

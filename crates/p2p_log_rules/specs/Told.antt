@@ -1,0 +1,170 @@
+-- What an entry tells, and what a log does: the one place that looks at acts.
+use Rattle.std.specs.Prelude.{ℕ, Bool, true, false, ◌==◌, ◌&&◌, cond, List, [], ◌∷◌, ◌++◌, length, Option, Some, None}
+use Rattle.std.specs.List.{list_any}
+use Rattle.p2p_base.specs.declared.key.Key.{Key}
+use Rattle.p2p_address.specs.declared.peer.Ingress.{Ingress}
+use Rattle.p2p_log.specs.declared.queue.Queue.{Queue}
+use Rattle.p2p_log.specs.declared.queue.Side.TheVariants as side
+use Rattle.p2p_log.specs.declared.item.Item.{Item}
+use Rattle.p2p_log.specs.declared.item.Item.TheVariants as item
+use Rattle.p2p_log.specs.declared.entry.Entry.{Entry}
+use Rattle.p2p_log.specs.declared.entry.Reply.{Reply}
+use Rattle.p2p_log.specs.declared.entry.Reply.TheVariants as reply
+use Rattle.p2p_log.specs.declared.event.Act.{Act}
+use Rattle.p2p_log.specs.declared.event.Act.TheVariants as act
+use Rattle.p2p_log_rules.specs.declared.row.Half.{Half}
+use Rattle.p2p_log_rules.specs.Halves.{connection_in, half_of}
+use Rattle.p2p_log_rules.specs.Facts.{taken, state_from}
+use Rattle.p2p_log_rules.specs.Handshakes.{ends_handshake, peer_at}
+use Rattle.p2p_log_rules.specs.Puts.{gave_up, ends_attempt, broke_off, turns_away, arrival_link}
+use Rattle.p2p_log_rules.specs.Tellings.{Telling, Last, last_told, last_or}
+use Rattle.p2p_log_rules.specs.Tellings as telling
+
+-- ---- what is asked of what was told before
+
+-- the moment at which a dialer asked last whom to dial, or began
+abbrev pub asks_list : ℕ → Telling → Option ℕ
+asks_list n (telling.node_started m at) = cond (m == n) (Some at) None
+asks_list n (telling.list_asked m at) = cond (m == n) (Some at) None
+asks_list n _ = None
+
+-- what begins an attempt, of this node and name
+pub record Begun : Type 0 where
+  pub key : Key
+  pub ingress : Ingress
+  pub at : ℕ
+
+abbrev pub begins : ℕ → ℕ → Telling → Option Begun
+begins n k (telling.attempt_begun m j key ingress at) = cond ((m == n) && (k == j)) (Some (record { key = key; ingress = ingress; at = at })) None
+begins n k _ = None
+
+abbrev pub ends : ℕ → ℕ → Telling → Bool
+ends n k (telling.attempt_ended m j) = (m == n) && (k == j)
+ends n k _ = false
+
+-- the link of which it has the dialing end
+abbrev pub opens : ℕ → ℕ → Telling → Option (Option ℕ)
+opens n k (telling.link_opened m j link) = cond ((m == n) && (k == j)) (Some (Some link)) None
+opens n k _ = None
+
+abbrev pub opened_since : ℕ → ℕ → Option (Last Begun) → Option ℕ
+opened_since n k None = None
+opened_since n k (Some l) = cond (list_any (ends n k) l.since) None (last_or None (opens n k) l.since)
+
+-- that of an attempt that has not ended
+abbrev pub link_in : List Telling → ℕ → ℕ → Option ℕ
+link_in ts n k = opened_since n k (last_told (begins n k) ts)
+
+-- ---- what an entry tells
+
+-- this, where it is so
+abbrev pub when : Bool → List Telling → List Telling
+when b ts = cond b ts []
+
+-- this, where something was done
+abbrev pub done_tells : Reply → List Telling → List Telling
+done_tells reply.Ok ts = ts
+done_tells r ts = []
+
+-- the end of a link, where there is one
+abbrev pub dialing_dropped : Option ℕ → List Telling
+dialing_dropped None = []
+dialing_dropped (Some link) = telling.end_dropped link side.Out ∷ []
+
+abbrev pub listening_dropped : Option ℕ → List Telling
+listening_dropped None = []
+listening_dropped (Some link) = telling.end_dropped link side.In ∷ []
+
+abbrev pub half_dropped : Option Half → List Telling
+half_dropped None = []
+half_dropped (Some half) = telling.end_dropped half.link half.writes ∷ []
+
+-- a half that ended its connection dropped the end to which it writes
+abbrev pub half_tells : Reply → Option Half → List Telling
+half_tells (reply.Ended why) half = half_dropped half
+half_tells r half = []
+
+-- an answer that a dialer took at a moment in an entry of this name and seed, which had asked at that moment whom to dial
+abbrev pub answer_tells : ℕ → ℕ → ℕ → ℕ → ℕ → List Item → List Telling
+answer_tells n asked name at seed (item.Dialable next peers ∷ items) = telling.list_taken n asked seed next peers ∷ telling.answer_taken n ∷ []
+answer_tells n asked name at seed (item.Dial (Some grant) ∷ items) = telling.attempt_begun n name grant.0 grant.1 at ∷ telling.answer_taken n ∷ []
+answer_tells n asked name at seed (i ∷ items) = telling.answer_taken n ∷ []
+answer_tells n asked name at seed [] = []
+
+-- that it came to its deadline, where it took nothing
+abbrev pub due_tells : ℕ → ℕ → List Item → List Telling
+due_tells n at [] = telling.dial_due n at ∷ []
+due_tells n at (i ∷ items) = []
+
+-- what it asked
+abbrev pub ask_tells : ℕ → ℕ → List Item → List (Queue × Item) → List Telling
+ask_tells n at items ((q, item.AskDial k) ∷ puts) = due_tells n at items ++ telling.dial_asked n ∷ []
+ask_tells n at items ((q, item.AskDialable) ∷ puts) = telling.list_asked n at ∷ []
+ask_tells n at items _ = []
+
+-- what an attempt took
+abbrev pub took_tells : ℕ → ℕ → ℕ → ℕ → List Item → List Telling
+took_tells n k at seed (item.Resolved addresses ∷ items) = telling.addresses_taken n k seed addresses ∷ []
+took_tells n k at seed (item.Linked ∷ items) = telling.link_taken n k at ∷ []
+took_tells n k at seed _ = []
+
+-- that its reservation left it, and where that was given back, that the end of its link was dropped
+abbrev pub left_tells : ℕ → ℕ → Option ℕ → List (Queue × Item) → List Telling
+left_tells n k link puts = when (ends_attempt puts) (telling.attempt_ended n k ∷ when (gave_up puts) (dialing_dropped link))
+
+-- the link that an answer to a dial made, of this name, where there was an arrival
+abbrev pub link_tells : ℕ → ℕ → ℕ → List (Queue × Item) → List Telling
+link_tells n k name (told ∷ arrival ∷ puts) = telling.link_opened n k name ∷ []
+link_tells n k name _ = []
+
+-- that a listener dropped the end of an arrival, where it turned it away
+abbrev pub gates_tell : Reply → List Item → List Telling
+gates_tell r items = when (turns_away r) (listening_dropped (arrival_link items))
+
+-- the connection that a spawner made of what it took, in an entry of this name
+abbrev pub spawn_tells : ℕ → ℕ → List Item → List Telling
+spawn_tells n name (item.Spawn key link ∷ items) = telling.connection_made n name key link ∷ []
+spawn_tells n name _ = []
+
+-- a node's half of a connection
+abbrev pub half_in : List Telling → List Entry → ℕ → ℕ → Option Half
+half_in ts before n conn = half_of before n (connection_in ts n conn)
+
+-- after these tellings and entries, with this name, at a moment and with a seed; of this reply, which took and put these
+module _ (ts : List Telling) (before : List Entry) (name at seed : ℕ) (r : Reply) (items : List Item) (puts : List (Queue × Item)) where
+  abbrev pub act_tells : Act → List Telling
+  act_tells (act.Register c n rate) = []
+  act_tells (act.Start n) = done_tells r (telling.node_started n at ∷ [])
+  act_tells (act.Send bytes c n priority to) = []
+  act_tells (act.Check c n to) = []
+  act_tells (act.SendChecked bytes check priority) = []
+  act_tells (act.Router n) = []
+  act_tells (act.SendStep conn n) = half_tells r (half_in ts before n conn)
+  act_tells (act.RecvStep conn n) = half_tells r (half_in ts before n conn)
+  act_tells (act.Recv c n) = []
+  act_tells (act.Close c n) = []
+  act_tells (act.Ask what n) = []
+  act_tells (act.Answer question) = []
+  act_tells (act.Next question) = []
+  act_tells (act.Tracker n) = []
+  act_tells (act.Dialer n) = answer_tells n (last_or 0 (asks_list n) ts) name at seed items ++ ask_tells n at items puts
+  act_tells (act.Listener n) = gates_tell r items
+  act_tells (act.Handshake h n) = when (broke_off r items puts) (telling.end_dropped (peer_at before h).link side.In ∷ [])
+  act_tells (act.Spawner n) = spawn_tells n name items
+  act_tells (act.Attempt k n) = took_tells n k at seed items ++ left_tells n k (link_in ts n k) puts
+  act_tells (act.Resolve addresses k n) = done_tells r (telling.addresses_told n k ∷ [])
+  act_tells (act.Connect k from n to) = done_tells r (telling.dial_answered n k name ∷ link_tells n k name puts)
+  act_tells (act.Refuse k n) = done_tells r (telling.dial_answered n k name ∷ [])
+  act_tells (act.Finish link ok) = []
+
+-- what an entry tells, given what was told and the entries before it
+unfoldable pub tells : List Telling → List Entry → Entry → List Telling
+tells ts before e = act_tells ts before (length before) e.event.at e.event.seed e.reply (taken before e) e.puts e.event.act
+
+-- ---- what a log tells, in order
+
+abbrev pub told_by : List Entry → Entry → List Telling → List Telling
+told_by before e ts = ts ++ tells ts before e
+
+unfoldable pub told : List Entry → List Telling
+told log = state_from told_by [] log []
