@@ -60,7 +60,7 @@ use Rattle.p2p_net_tracker.proofs.Dialing.{answers_in, answers-after, answers-na
 use Rattle.p2p_log_rules.proofs.Calls.{calls_of-append}
 use Rattle.p2p_net_tracker.proofs.Facts.{update_subscriptions-append, blocked_subscriptions-append}
 use Rattle.p2p_net_tracker.proofs.LateKills.{without_late, heeded-same, named-late, mailbox-late, few-late, grants-late, unblocked-late}
-use Rattle.p2p_net_tracker.proofs.Hearing.{TellsFew, runs_is, unblocked_once, item_few, heard-after, handshakes-after, keys-after}
+use Rattle.p2p_net_tracker.proofs.Hearing.{TellsFew, few_dialed, runs_is, unblocked_once, item_few, heard-after, handshakes-after, keys-after}
 use Rattle.p2p_net_queues.proofs.Matching.{Match-append}
 use Rattle.p2p_net_tracker.proofs.Named.{has_any-is, named-unblocked, named-item}
 use Rattle.p2p_net_tracker.proofs.Rings.{is_same}
@@ -171,14 +171,14 @@ module _ (configs : List Config) (log : List Entry) (at seed n : ℕ) (t u : Tra
       (λ p. tells.told p ∙ ap (λ l. told_to (held t.told) (named_puts n t.tickets put) (length log) (length l) p) none_put)
 
   -- what the dialer is answered, beside what waits for it
-  answers_now : (names : List (ℕ × ℕ)) (put : List (Put Key)) (start : Mailbox Key) → Told log e n names (named_puts n t.tickets put) → u.mailbox ≡ after_puts put start
+  answers_now : (names : List (ℕ × ℕ)) (put : List (Put Key)) (start : Mailbox Key) → Told log e n names (named_puts n t.tickets put) → u.mailbox ≡ after_puts put start → TellsFew (runs_in start) put
       → Match (λ x a. IsAnswer x.item a) (line log (queue.Dialer n)) start.dialer → Match (λ x a. IsAnswer x.item a) (line (log ++ e ∷ []) (queue.Dialer n)) u.mailbox.dialer
-  answers_now names put start told mailbox before =
+  answers_now names put start told mailbox few before =
       let xs = named_puts n t.tickets put in
       let added = filter (stands_in (queue.Dialer n)) (placed (length log) 0 xs) in
       subst (λ l. Match (λ x a. IsAnswer x.item a) l u.mailbox.dialer) (sym (dialer-told log e n names xs told))
       (subst (Match (λ (x : Envelope) a. IsAnswer x.item a) (line log (queue.Dialer n) ++ added)) (sym (ap (λ (m : Mailbox Key). m.dialer) mailbox ∙ answers-after put start))
-      (Match-append (λ (x : Envelope) a. IsAnswer x.item a) (line log (queue.Dialer n)) added start.dialer (answers_in put) before (answers-named n t.tickets (length log) 0 put)))
+      (Match-append (λ (x : Envelope) a. IsAnswer x.item a) (line log (queue.Dialer n)) added start.dialer (answers_in put) before (answers-named n t.tickets (length log) 0 put (few_dialed (runs_in start) put few))))
 
   -- what the listener is told, in place of what waits for it
   heard_now : (names : List (ℕ × ℕ)) (put : List (Put Key)) (start : Mailbox Key) → Told log e n names (named_puts n t.tickets put) → u.mailbox ≡ after_puts put start → TellsFew (runs_in start) put
@@ -252,7 +252,7 @@ module _ (configs : List Config) (log : List Entry) (at seed n : ℕ) (t u : Tra
             sets = ap (λ (m : Mailbox Key). length m.desk.sets) mailbox ∙ desk.sets;
           };
           items = ap (λ (m : Mailbox Key). m.desk.messages.items) mailbox ∙ ap (λ (q : base.Queue (Message Key)). q.items) desk.messages;
-          answered = answers_now [] kept t.mailbox told mailbox s.dialer;
+          answered = answers_now [] kept t.mailbox told mailbox few s.dialer;
           heard_left = heard_now [] kept t.mailbox told mailbox few s.heard;
           told_handshakes = handshakes_now [] kept t.mailbox told mailbox few s.handshakes;
           distinct = distinct_now kept t.mailbox mailbox s.distinct;
@@ -322,7 +322,7 @@ module _ (configs : List Config) (log : List Entry) (at seed n : ℕ) (t u : Tra
             sets = ap (λ (k : Mailbox Key). length k.desk.sets) mailbox ∙ desk.sets;
           };
           items = ap (λ (k : Mailbox Key). k.desk.messages.items) mailbox ∙ (ap (λ (q : base.Queue (Message Key)). q.items) desk.messages ∙ ap (drop 1) items);
-          answered = answers_now (name_of x ∷ []) kept start told mailbox s.dialer;
+          answered = answers_now (name_of x ∷ []) kept start told mailbox few s.dialer;
           heard_left = heard_now (name_of x ∷ []) kept start told mailbox few s.heard;
           told_handshakes = handshakes_now (name_of x ∷ []) kept start told mailbox few s.handshakes;
           distinct = distinct_now kept start mailbox s.distinct;
