@@ -1,6 +1,6 @@
 -- What an arrival that is held against the quotas leaves of other keys.
 use Rattle.std.proofs.Common.{◌≡◌, ℕ, ◌+◌, ◌<◌, Bool, true, false, cond, List, [], ◌∷◌, Option, Some, None, Result, Ok, Err, refl, sym, ap, subst, ◌∙◌}
-use Rattle.std.specs.Prelude.{IfSome, OnOk}
+use Rattle.std.specs.Prelude.{IfSome}
 use Rattle.std.specs.BTreeMap.{is_at, insert_entry}
 use Rattle.std.specs.Cmp.{IsTotalOrder, eq_by_cmp_equiv}
 use Rattle.std.specs.Map.{lookup}
@@ -16,11 +16,6 @@ use Rattle.p2p_tracker_calls.specs.Heard.{ip_cmp}
 use Rattle.p2p_tracker_directory.proofs.Addresses.{ip_total}
 use Rattle.p2p_gates.specs.Quotas.{Quotas, IsHeld, IsCounted, is_pruned, counted_after}
 use Rattle.p2p_gates.proofs.Orders.{derived-is}
-
--- a fact that holds whatever was answered
-pub always : {T E : Type 0} {P : Type 0} (r : Result T E) → P → OnOk r P
-always (Ok x) p = p
-always (Err e) p = tt
 
 module _ {K V : Type 0} {cmp : K → K → Ordering} (total : IsTotalOrder cmp) where
   -- an entry that is written leaves those of other keys

@@ -1,5 +1,5 @@
 -- The turns of gates for which nothing waits.
-use Rattle.std.proofs.Common.{◌≡◌, ℕ, ◌+◌, ◌<◌, arith, true, Result, Ok, Err, IfOk, Bool, cond, false, drop, List, Option, None, sym, ap, ◌∙◌}
+use Rattle.std.proofs.Common.{◌≡◌, ℕ, ◌+◌, ◌<◌, arith, true, Bool, cond, false, drop, List, Option, None, sym, ap, ◌∙◌}
 use Rattle.p2p_address.specs.declared.ip.IpAddr.{IpAddr}
 use Rattle.p2p_tracker_mailbox.specs.Lines.{Lines, line_of, first_of, with_line}
 use Rattle.p2p_tracker_mailbox.specs.declared.answer.HandshakeItem.{HandshakeItem}
@@ -52,9 +52,3 @@ module _ {P : Type 0} where
   place-begins reply.TooMany name timeout now a s before after e f b = absurd (false≢true (sym (ap begins e) ∙ b))
   place-begins reply.Admitted name timeout now a s before after e f b =
       let held : after.held ≡ before.held + 1 = ap (λ (p : Places). p.held) f in omega arith
-
-  pub placed : {E : Type 0} (t : Result (Stepped P) E) (r : Reply) (name timeout now : ℕ) (a : Arrival P)
-      (before after : Places) → IfOk t (λ s. s ≡ stepped_by r name a timeout now) → after ≡ places_after r before
-      → IfOk t (λ s. begins s ≡ true → 0 < after.held)
-  placed (Ok s) r name timeout now a before after e f = place-begins r name timeout now a s before after e f
-  placed (Err x) r name timeout now a before after e f = tt

@@ -6,6 +6,7 @@ pub mod Dialing
 pub mod Gates
 pub mod HandshakeTurns
 pub mod Handshaking
+pub mod ListenerSteps
 pub mod ListenerTurns
 pub mod Listening
 pub mod Quotas

@@ -62,15 +62,19 @@ pub record ListenerTurn (P : Type 0) : Type 0 where
   pub way : Mailbox P
 
 module _ {P : Type 0} (l : Listening P) (k : Known) (m : Mailbox P) (name now : ℕ) where
-  -- an arrival was taken, which is told this
-  abbrev pub arrival_turn : Reply → Arrival P → ListenerTurn P
-  arrival_turn r a = record {
+  -- an arrival that waits no more is told this
+  abbrev pub passed_turn : Reply → Arrival P → ListenerTurn P
+  passed_turn r a = record {
     stepped = stepped_by r name a l.handshake_timeout now;
-    arrivals = drop 1 l.arrivals;
+    arrivals = l.arrivals;
     places = places_after r l.places;
     known = known_after l k a.from.ip now;
     way = way_by r name a m;
   }
+
+  -- an arrival was taken, which is told this
+  abbrev pub arrival_turn : Reply → Arrival P → ListenerTurn P
+  arrival_turn r a = record (passed_turn r a) { arrivals = drop 1 l.arrivals }
 
   -- the oldest arrival is taken, if there is one
   abbrev pub line_turn : Option (Arrival P) → ListenerTurn P

@@ -3,6 +3,7 @@ pub mod Copies
 pub mod Drained
 pub mod Fates
 pub mod Lines
+pub mod Presets
 pub mod QueueCode
 pub mod QueueLaws
 pub mod QueueOrder

@@ -7,7 +7,7 @@ use p2p_flow::AddressableTrackedPeers;
 use std::alloc::AllocError;
 
 /// What a node's tracker is asked.
-#[derive(Drop)]
+#[derive(Drop, PartialEq, Eq, Debug)]
 pub enum Asked {
     /// To track the peers of one more set.
     Track {

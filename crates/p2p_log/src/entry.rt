@@ -1,12 +1,15 @@
 //! What came of an event.
+ghost use Rattle.std.specs.Prelude.{◌≡◌, IfOk};
+
 use crate::end::End;
 use crate::event::Event;
-use crate::item::Item;
+use crate::item::{Item, clone_peers};
 use crate::queue::Queue;
 use bytes::Bytes;
 use p2p_base::{Feedback, Key, List, Set, Unreliable};
 use p2p_flow::{PeerSetUpdate, TrackedPeers};
 use p2p_tracker_calls::gates::Reply as GatesReply;
+use std::alloc::{AllocError, Global};
 
 /// Why a connection ended.
 #[derive(Clone, Copy, Debug, PartialEq, Eq)]
@@ -24,7 +27,7 @@ pub enum Ended {
 }
 
 /// The answer to an event.
-#[derive(Drop)]
+#[derive(Drop, PartialEq, Eq, Debug)]
 pub enum Reply {
     /// It was done.
     Ok,
@@ -80,6 +83,7 @@ pub enum Reply {
 }
 
 /// An event, its reply, the names of the items that it took, what it put in which queue, and what it ended.
+#[derive(PartialEq, Eq, Debug)]
 pub struct Entry {
     pub event: Event,
     pub reply: Reply,
@@ -98,4 +102,78 @@ impl Drop for Entry {
             ends: _ends,
         } = self;
     }
+}
+
+impl Reply {
+    /// An equal reply. `Err` only where memory runs out.
+    pub fn try_clone(&self, alloc: Global) -> Result<Reply, AllocError>
+        ensures { IfOk result (λ r. r ≡ self.now) }
+    {
+        match self {
+            Reply::Ok => Ok(Reply::Ok),
+            Reply::Idle => Ok(Reply::Idle),
+            Reply::Pending => Ok(Reply::Pending),
+            Reply::Gone => Ok(Reply::Gone),
+            Reply::Capacity(places) => Ok(Reply::Capacity(*places)),
+            Reply::Sent(keys) => Ok(Reply::Sent(keys.try_clone(alloc)?)),
+            Reply::Checked(keys) => Ok(Reply::Checked(keys.try_clone(alloc)?)),
+            Reply::Retry(moment) => Ok(Reply::Retry(*moment)),
+            Reply::Outcome {
+                outcome,
+                node,
+                channel,
+                keys,
+            } => Ok(Reply::Outcome {
+                outcome: *outcome,
+                node: *node,
+                channel: *channel,
+                keys: keys.try_clone(alloc)?,
+            }),
+            Reply::Message { bytes, from } => Ok(Reply::Message {
+                bytes: bytes.clone()?,
+                from: *from,
+            }),
+            Reply::MessageTooLarge { size, limit } => Ok(Reply::MessageTooLarge {
+                size: *size,
+                limit: *limit,
+            }),
+            Reply::Feedback(feedback) => Ok(Reply::Feedback(*feedback)),
+            Reply::PeerSetTooLarge { count, limit } => Ok(Reply::PeerSetTooLarge {
+                count: *count,
+                limit: *limit,
+            }),
+            Reply::PeerSet(peers) => Ok(Reply::PeerSet(clone_peers(peers)?)),
+            Reply::Update(update) => Ok(Reply::Update(update.try_clone()?)),
+            Reply::Blocked(keys) => Ok(Reply::Blocked(keys.try_clone()?)),
+            Reply::Gates(told) => Ok(Reply::Gates(*told)),
+            Reply::Ended(reason) => Ok(Reply::Ended(*reason)),
+        }
+    }
+}
+
+impl Entry {
+    /// An equal entry. `Err` only where memory runs out.
+    pub fn try_clone(&self, alloc: Global) -> Result<Entry, AllocError>
+        ensures { IfOk result (λ e. e ≡ self.now) }
+    {
+        Ok(Entry {
+            event: self.event.try_clone(alloc)?,
+            reply: self.reply.try_clone(alloc)?,
+            takes: self.takes.try_clone(alloc)?,
+            puts: List::new(clone_puts(alloc, self.puts.as_slice())?),
+            ends: self.ends.try_clone(alloc)?,
+        })
+    }
+}
+
+/// Equal puts.
+fn clone_puts(alloc: Global, puts: &[(Queue, Item)]) -> Result<Vec<(Queue, Item)>, AllocError>
+    ensures { IfOk result (λ p. p.items ≡ puts.now) }
+{
+    let mut copies = Vec::with_capacity(alloc, puts.len())?;
+    for put in puts {
+        let item = put.1.try_clone(alloc)?;
+        copies.push((put.0, item))?;
+    }
+    Ok(copies)
 }

@@ -15,7 +15,7 @@ pub struct Rate {
 }
 
 /// Whom a message is for.
-#[derive(Drop)]
+#[derive(Drop, PartialEq, Eq, Debug)]
 pub enum Recipients {
     /// Each peer of the newest list that the channel was told of.
     All,
@@ -26,7 +26,7 @@ pub enum Recipients {
 }
 
 /// One call, one step of one actor, or one event of a link.
-#[derive(Drop)]
+#[derive(Drop, PartialEq, Eq, Debug)]
 pub enum Act {
     /// Makes a sender and a receiver of a channel at a node.
     Register {
@@ -148,6 +148,7 @@ pub enum Act {
 }
 
 /// An act at a moment, in nanoseconds, with the seed of what it draws.
+#[derive(PartialEq, Eq, Debug)]
 pub struct Event {
     pub at: u64,
     pub seed: u64,

@@ -9,7 +9,7 @@ use p2p_flow::{PeerSetUpdate, TrackedPeers};
 use std::alloc::{AllocError, Global};
 
 /// What stands in a queue. A copy is named by its send and its place among that send's copies.
-#[derive(Drop)]
+#[derive(Drop, PartialEq, Eq, Debug)]
 pub enum Item {
     /// To the router: this channel wants the lists of connected peers.
     Subscribe(u64),
@@ -115,7 +115,7 @@ pub enum Item {
 }
 
 /// An item in its queue, under its name: the entry that put it there, and its place among that entry's puts.
-#[derive(Drop)]
+#[derive(Drop, PartialEq, Eq, Debug)]
 pub struct Envelope {
     pub entry: u64,
     pub place: u64,
@@ -213,6 +213,20 @@ impl Item {
     }
 }
 
+impl Envelope {
+    /// An equal item under the same name. `Err` only where memory runs out.
+    pub fn try_clone(&self, alloc: Global) -> Result<Envelope, AllocError>
+        ensures { IfOk result (λ e. e ≡ self.now) }
+    {
+        Ok(Envelope {
+            entry: self.entry,
+            place: self.place,
+            queue: self.queue,
+            item: self.item.try_clone(alloc)?,
+        })
+    }
+}
+
 /// An equal grant of a dial.
 fn clone_grant(
     alloc: Global,
@@ -227,7 +241,9 @@ fn clone_grant(
 }
 
 /// An equal answer to a question for the peers of a set.
-fn clone_peers(peers: &Option<TrackedPeers<Key>>) -> Result<Option<TrackedPeers<Key>>, AllocError>
+pub(crate) fn clone_peers(
+    peers: &Option<TrackedPeers<Key>>,
+) -> Result<Option<TrackedPeers<Key>>, AllocError>
     ensures { IfOk result (λ p. p ≡ peers.now) }
 {
     match peers {

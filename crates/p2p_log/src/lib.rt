@@ -9,6 +9,7 @@ pub mod entry;
 pub mod event;
 pub mod fate;
 pub mod item;
+mod preset;
 pub mod queue;
 pub mod report;
 

@@ -64,7 +64,7 @@ no_more : (k : ℕ) → k ≤ k
 no_more k = grind arith
 
 -- each of them, a line each
-node_performs : (configs : List Config) (log : List Entry) (moment seed : ℕ) (a : Act) (x y : Node) (l links : Links) (r : Row) → NodeStands configs log (node_of log a) x → LinksStand configs log l
+pub node_performs : (configs : List Config) (log : List Entry) (moment seed : ℕ) (a : Act) (x y : Node) (l links : Links) (r : Row) → NodeStands configs log (node_of log a) x → LinksStand configs log l
     → IsLawful configs (events_of log) log → may_act configs (events_of log) a ≡ true → latest_moment (events_of log) ≤ moment → meeting_of a ≡ None → NodeDoes (length log) (node_of log a) moment seed a x y l links r
     → Performs configs log (asked moment seed a) (node_of log a) y links r
 node_performs configs log moment seed (act.Register c n rate) x y l links r s t lawful valid late one d = register_performs configs log moment seed n c rate x y l links r s t valid d.0 d.1

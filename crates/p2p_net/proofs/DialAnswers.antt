@@ -4,8 +4,8 @@ use Rattle.std.specs.Prelude.{◌==◌, is_some}
 use Rattle.std.specs.Option.{option_map}
 use Rattle.p2p_base.specs.declared.key.Key.{Key}
 use Rattle.p2p_address.specs.declared.ip.SocketAddr.{SocketAddr}
-use Rattle.p2p_tracker_directory.specs.Reserved.{peer_of}
 use Rattle.p2p_tracker_directory.specs.declared.metadata.Metadata.{Metadata}
+use Rattle.p2p_tracker_directory.specs.declared.metadata.Metadata.TheVariants as metadata
 use Rattle.p2p_log.specs.declared.config.Config.{Config}
 use Rattle.p2p_log.specs.declared.queue.Queue.{Queue}
 use Rattle.p2p_log.specs.declared.queue.Queue.TheVariants as queue
@@ -102,7 +102,7 @@ module _ (configs : List Config) (log : List Entry) (moment seed name n : ℕ) (
       ap (λ i. record (with_told (length log) i (now_of b m)) { answer = Some (length log); link = cond links (Some (length log)) b.link }) (link_same links)
       ∙ ap (λ (w : RunningAttempt). record w { answer = Some (length log); link = cond links (Some (length log)) b.link }) (told_is (gates_at configs n) name (length log) n m b (line log q) (link_item links))
 
-  by_address : (b : Attempt) (m : Metadata Key) (to : Option SocketAddr) (done : Bool) (told : Row) → peer_of m ≡ b.key → attempts name ≡ Some b → table.at d.attempts name ≡ Some (now_of b m)
+  by_address : (b : Attempt) (m : Metadata Key) (to : Option SocketAddr) (done : Bool) (told : Row) → m ≡ metadata.Dialer b.key → attempts name ≡ Some b → table.at d.attempts name ≡ Some (now_of b m)
       → told ≡ answered_row to done links name n → DoesTo q (length log) due told → AreBut name (Some (answered to done links (length log) (now_of b m))) d.attempts u.attempts → Answers told → Stands
   by_address b m None done told reserved is there row_is does but answers = unanswered (Some (now_of b m)) reply.Pending told pending_same row_is does but (sym there)
   by_address b m (Some to) true told reserved is there row_is does but answers = unanswered (Some (now_of b m)) reply.Gone told gone_same row_is does but (sym there)

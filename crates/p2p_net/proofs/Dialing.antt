@@ -4,8 +4,7 @@ use Rattle.std.specs.Prelude.{◌-◌, ◌&&◌, not, nat_le, filter, slice_get}
 use Rattle.p2p_base.specs.declared.key.Key.{Key}
 use Rattle.p2p_base.specs.Queue.{has_room}
 use Rattle.p2p_address.specs.declared.peer.Ingress.{Ingress}
-use Rattle.p2p_tracker_directory.specs.Reserved.{peer_of}
-use Rattle.p2p_tracker_directory.specs.declared.metadata.Metadata.{Metadata}
+use Rattle.p2p_tracker_directory.specs.declared.metadata.Metadata.TheVariants as metadata
 use Rattle.p2p_tracker_mailbox.specs.Desk.{Desk, with_message}
 use Rattle.p2p_tracker_mailbox.specs.Mailboxes.{with_message_in}
 use Rattle.p2p_tracker_mailbox.specs.declared.answer.DialerAnswer.{DialerAnswer}
@@ -51,7 +50,7 @@ use Rattle.p2p_net_dialer.proofs.Changes.{attempts_with, IsBegun, begun_is, time
 use Rattle.p2p_net_links.specs.Stands.{LinksStand}
 use Rattle.p2p_net_links.specs.declared.links.Links.{Links}
 use Rattle.p2p_net_tracker.specs.Dialed.{taken_names, asked_puts, names_asked, dialed_row}
-use Rattle.p2p_net_tracker.specs.Naming.{grant_of}
+use Rattle.p2p_net_tracker.specs.Naming.{dialed_grant}
 use Rattle.p2p_net_queues.specs.Matching.{Match}
 use Rattle.p2p_net_tracker.specs.Stands.{is_told, IsMessage, IsAnswer, TrackerStands}
 use Rattle.p2p_net_tracker.specs.declared.naming.Tickets.{Tickets}
@@ -408,24 +407,25 @@ module _ (configs : List Config) (log : List Entry) (moment seed n : ℕ) (x y :
         after (Some key) = refl
 
     -- one that was granted
-    granted : (p : Metadata Key × Ingress) (what : Option Dialed) → z.item ≡ item.Dial (Some (peer_of p.0, p.1)) → TurnsTo (turns.answer_turn (answer.Dial (Some p)) (actor_of g ds) way_left k moment seed) what → Tracks what
+    granted : (p : Key × Ingress) (what : Option Dialed) → z.item ≡ item.Dial (Some p) → TurnsTo (turns.answer_turn (answer.Dial (Some (metadata.Dialer p.0, p.1))) (actor_of g ds) way_left k moment seed) what → Tracks what
         → Performs configs log ev n y ls r
     granted p what is h tracks =
-        let i : Item = item.Dial (Some (peer_of p.0, p.1)) in
+        let i : Item = item.Dial (Some p) in
+        let reserved = metadata.Dialer p.0 in
         let now = actor_of g (record ds { is_asking = false }) in
-        let a = new_attempt k p.0 p.1 g moment in
+        let a = new_attempt k reserved p.1 g moment in
         let later = attempts_with (Some a) k x.dialing.attempts in
         moved true None tt (subst Tracks h.0 tracks) (ap (λ (w : Mailbox Key). w.desk) h.1.1) (ap (λ (w : Mailbox Key). w.dialer) h.1.1)
         (h.1.1 ∙ ap (λ (w : Mailbox Key). record m { desk = w.desk; dialer = w.dialer }) (sym h.1.1)) (first_gone None) (i ∷ []) (Some a) (answer_row i is ∙ takes_are []) (one_taken i is None)
-        (actor_now now later h.1.0) (p.0, refl, begun_is g rules k p.0 (peer_of p.0) moment p.1 (timeout_is configs n)) (attempts_now now later h.1.0) refl
+        (actor_now now later h.1.0) (reserved, refl, begun_is g rules k reserved p.0 moment p.1 (timeout_is configs n)) (attempts_now now later h.1.0) refl
 
     by_answer : (i : Item) (a : DialerAnswer Key) (what : Option Dialed) → z.item ≡ i → IsAnswer i a → TurnsTo (turns.answer_turn a (actor_of g ds) way_left k moment seed) what → Tracks what → Performs configs log ev n y ls r
     by_answer (item.Dialable next peers) a what is h turn tracks = told next peers what is (subst (λ b. TurnsTo (turns.answer_turn b (actor_of g ds) way_left k moment seed) what) h turn) tracks
-    by_answer (item.Dial grant) a what is h turn tracks = by_grant h.0 h.2 (subst (λ b. TurnsTo (turns.answer_turn b (actor_of g ds) way_left k moment seed) what) h.1 turn)
+    by_answer (item.Dial grant) a what is h turn tracks = by_grant grant is (subst (λ b. TurnsTo (turns.answer_turn b (actor_of g ds) way_left k moment seed) what) h turn)
       where
-        by_grant : (o : Option (Metadata Key × Ingress)) → grant ≡ grant_of o → TurnsTo (turns.answer_turn (answer.Dial o) (actor_of g ds) way_left k moment seed) what → Performs configs log ev n y ls r
-        by_grant None same turn = refused what (is ∙ ap item.Dial same) turn tracks
-        by_grant (Some p) same turn = granted p what (is ∙ ap item.Dial same) turn tracks
+        by_grant : (o : Option (Key × Ingress)) → z.item ≡ item.Dial o → TurnsTo (turns.answer_turn (answer.Dial (dialed_grant o)) (actor_of g ds) way_left k moment seed) what → Performs configs log ev n y ls r
+        by_grant None is turn = refused what is turn tracks
+        by_grant (Some p) is turn = granted p what is turn tracks
     by_answer _ a what is h turn tracks = absurd h
 
   by_line : (zs : List Envelope) (given : List (DialerAnswer Key)) (what : Option Dialed) → answers ≡ zs → m.dialer ≡ given → Match (λ z a. IsAnswer z.item a) zs given

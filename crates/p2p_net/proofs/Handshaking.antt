@@ -6,10 +6,10 @@ use Rattle.std.specs.Option.{option_map}
 use Rattle.p2p_base.specs.declared.key.Key.{Key}
 use Rattle.p2p_tracker_directory.specs.Reserved.{peer_of}
 use Rattle.p2p_tracker_directory.specs.declared.metadata.Metadata.{Metadata}
+use Rattle.p2p_tracker_directory.specs.declared.metadata.Metadata.TheVariants as metadata
 use Rattle.p2p_tracker_mailbox.specs.Lines.{line_of, first_of, with_line, ended}
 use Rattle.p2p_tracker_mailbox.specs.Mailboxes.{with_message_in}
 use Rattle.p2p_tracker_mailbox.specs.declared.answer.HandshakeItem.{HandshakeItem}
-use Rattle.p2p_tracker_mailbox.specs.declared.answer.HandshakeItem.TheVariants as shake
 use Rattle.p2p_tracker_mailbox.specs.declared.mailbox.Mailbox.{Mailbox}
 use Rattle.p2p_tracker_mailbox.specs.declared.message.Message.TheVariants as message
 use Rattle.p2p_gates.specs.Handshaking.{Handshaking}
@@ -434,22 +434,13 @@ module _ (configs : List Config) (log : List Entry) (moment seed name n : ℕ) (
           (subst (λ b. HandshakeIs (facts_after items (facts_of configs log n name)) name true (cond b None (Some (record h { is_finished = true })))) (sym is.runs)
           (refl, record { name = is.name; deadline = is.deadline; accepted = is.accepted; finished = refl; key = is.key; link = is.link; source = is.source; runs = is.runs; works = is.works }))
 
-      -- it is granted its peer, or is not
-      granted : (key : Key) (g : Option (Metadata Key)) → z.item ≡ item.Listen (Some key) → turn ≡ item_turn (shake.Listen g) h way_left → Some key ≡ option_map peer_of g → Done
-      granted key (Some reserved) said so same = by_room full reserved refl (said ∙ ap (λ o. item.Listen o) same) so
-      granted key None said so same = cc
-
-      denied : (g : Option (Metadata Key)) → z.item ≡ item.Listen None → turn ≡ item_turn (shake.Listen g) h way_left → None ≡ option_map peer_of g → Done
-      denied None said so same = refused (item.Listen None) said so refl refl
-      denied (Some reserved) said so same = cc
-
       by_item : (i : Item) (a : HandshakeItem Key) → z.item ≡ i → turn ≡ item_turn a h way_left → IsToldHandshake i a → Done
       by_item (item.Acceptable true) a said so told = accepted said (so ∙ ap (λ b. item_turn b h way_left) told)
       by_item (item.Acceptable false) a said so told = refused (item.Acceptable false) said (so ∙ ap (λ b. item_turn b h way_left) told) refl refl
       by_item (item.Finished true) a said so told = exchanged said (so ∙ ap (λ b. item_turn b h way_left) told)
       by_item (item.Finished false) a said so told = refused (item.Finished false) said (so ∙ ap (λ b. item_turn b h way_left) told) refl refl
-      by_item (item.Listen (Some key)) a said so told = granted key told.0 said (so ∙ ap (λ b. item_turn b h way_left) told.1) told.2
-      by_item (item.Listen None) a said so told = denied told.0 said (so ∙ ap (λ b. item_turn b h way_left) told.1) told.2
+      by_item (item.Listen (Some key)) a said so told = by_room full (metadata.Listener key) refl said (so ∙ ap (λ b. item_turn b h way_left) told)
+      by_item (item.Listen None) a said so told = refused (item.Listen None) said (so ∙ ap (λ b. item_turn b h way_left) told) refl refl
       by_item _ a said so told = absurd told
 
     -- whether its deadline has come

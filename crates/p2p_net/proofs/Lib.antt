@@ -1,5 +1,6 @@
 pub mod ActKinds
 pub mod Acting
+pub mod Applied
 pub mod Arrivals
 pub mod Arriving
 pub mod Attempting

@@ -6,8 +6,8 @@ use Rattle.p2p_base.specs.declared.key.Key.{Key}
 use Rattle.p2p_address.specs.declared.ip.SocketAddr.{SocketAddr}
 use Rattle.p2p_address.specs.declared.peer.Ingress.{Ingress}
 use Rattle.p2p_address.specs.declared.peer.Ingress.TheVariants as ingress
-use Rattle.p2p_tracker_directory.specs.Reserved.{peer_of}
 use Rattle.p2p_tracker_directory.specs.declared.metadata.Metadata.{Metadata}
+use Rattle.p2p_tracker_directory.specs.declared.metadata.Metadata.TheVariants as metadata
 use Rattle.p2p_log.specs.declared.config.Config.{Config}
 use Rattle.p2p_log.specs.declared.queue.Queue.{Queue}
 use Rattle.p2p_log.specs.declared.queue.Queue.TheVariants as queue
@@ -67,7 +67,7 @@ module _ (configs : List Config) (log : List Entry) (moment seed : ℕ) (address
       same None = refl
       same (Some b) = refl
 
-  by_ingress : (b : Attempt) (m : Metadata Key) (at : Ingress) (done : Bool) → peer_of m ≡ b.key → attempts name ≡ Some b → table.at x.dialing.attempts name ≡ Some (attempt_of (gates_at configs n) name m b (line log (queue.Attempt n name)))
+  by_ingress : (b : Attempt) (m : Metadata Key) (at : Ingress) (done : Bool) → m ≡ metadata.Dialer b.key → attempts name ≡ Some b → table.at x.dialing.attempts name ≡ Some (attempt_of (gates_at configs n) name m b (line log (queue.Attempt n name)))
       → b.ingress ≡ at → b.is_resolved ≡ done → row configs log moment seed a ≡ resolve_by at done name n addresses → r ≡ resolve_by at done name n addresses
       → AreBut name (Some (resolved at done (length log) addresses (attempt_of (gates_at configs n) name m b (line log (queue.Attempt n name))))) x.dialing.attempts y.dialing.attempts → Done
   by_ingress b m (ingress.Dns host port) false reserved is there at_is done_is row_is is_row but =

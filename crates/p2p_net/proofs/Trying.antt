@@ -6,6 +6,7 @@ use Rattle.p2p_base.specs.declared.key.Key.{Key}
 use Rattle.p2p_address.specs.declared.ip.SocketAddr.{SocketAddr}
 use Rattle.p2p_tracker_directory.specs.Reserved.{peer_of}
 use Rattle.p2p_tracker_directory.specs.declared.metadata.Metadata.{Metadata}
+use Rattle.p2p_tracker_directory.specs.declared.metadata.Metadata.TheVariants as metadata
 use Rattle.p2p_tracker_mailbox.specs.Mailboxes.{with_message_in}
 use Rattle.p2p_tracker_mailbox.specs.declared.mailbox.Mailbox.{Mailbox}
 use Rattle.p2p_tracker_mailbox.specs.declared.message.Message.TheVariants as message
@@ -292,9 +293,12 @@ module _ (configs : List Config) (log : List Entry) (moment seed name n : ℕ) (
   abbrev TurnsTo : Turn (Attempting Key) Key → RunningAttempt → Type 0
   TurnsTo turn w = (steps.tried ≡ tried turn w.answer w.names) × (AreBut name (unless_ended (after_turn turn w)) x.dialing.attempts mid.dialing.attempts × (mid.tracker.mailbox ≡ turn.way))
 
-  module _ (b : Attempt) (reserved : Metadata Key) (peer : peer_of reserved ≡ b.key) (there : table.at x.dialing.attempts name ≡ Some (attempt_of g name reserved b (line log q))) (is : attempts name ≡ Some b) where
+  module _ (b : Attempt) (reserved : Metadata Key) (dialed : reserved ≡ metadata.Dialer b.key) (there : table.at x.dialing.attempts name ≡ Some (attempt_of g name reserved b (line log q))) (is : attempts name ≡ Some b) where
     abbrev w : RunningAttempt
     w = attempt_of g name reserved b (line log q)
+
+    peer : peer_of reserved ≡ b.key
+    peer = ap peer_of dialed
 
     due_row : (xs : List Envelope) → line log q ≡ xs → attempt_row configs log name n moment seed ≡ attempt_turn n moment seed full private b xs
     due_row xs first = row_by (Some b) is ∙ ap (attempt_turn n moment seed full private b) first
@@ -359,7 +363,7 @@ module _ (configs : List Config) (log : List Entry) (moment seed name n : ℕ) (
           → AreBut name (Some (attempt_of g name reserved next zs)) x.dialing.attempts mid.dialing.attempts → mid.tracker.mailbox ≡ m → Done
       lasts next key row_is becomes tried_is but same =
           turned (gone_on_row (name_of z)) nothing m zs (Some (attempt_of g name reserved next zs)) (Some next) refl (asked_nothing (gone_on_row (name_of z)) tried_is same) row_is refl tt but
-          (becoming (gone_on_row (name_of z)) (Some next) refl becomes) (first_left log q z zs first) (reserved, peer ∙ sym key, refl)
+          (becoming (gone_on_row (name_of z)) (Some next) refl becomes) (first_left log q z zs first) (reserved, dialed ∙ ap metadata.Dialer (sym key), refl)
 
       -- it dials the address that was drawn, if there is one
       by_drawn : (to : Option SocketAddr) → attempt_row configs log name n moment seed ≡ resolved_row (dialing to b) n b.key (name_of z) zs → stepped_attempt rules moment seed reply.Ok (z.item ∷ []) b ≡ dialing to b

@@ -15,7 +15,7 @@ ghost use Rattle.p2p_net_tracker.specs.Begins.{IsNew};
 ghost use Rattle.p2p_net.specs.Places.{asked_node as asked_node_of, node_asked as node_asked_by, nodes_linked as nodes_linked_by, node_of as node_of_act, other_of as other_of_act};
 ghost use Rattle.p2p_net.specs.Ready.{is_started as started_test, IsReady};
 ghost use Rattle.p2p_net.specs.Acts.{NodeDoes};
-ghost use Rattle.p2p_net.specs.Applying.{NodeRecords, NodeApplies, NodeRefused};
+ghost use Rattle.p2p_net.specs.Applying.{NodeRecords, NodeApplies, NodeStandsWith, NodeRefused};
 
 use crate::configs::retained;
 use crate::error::NodeError;
@@ -250,7 +250,8 @@ impl Node {
         self.router.messenger.bound()
     }
 
-    /// Does this node's part of the event of this number, which names it alone, and gives the entry that comes of it.
+    /// Does this node's part of the event of this number, which names it alone, and gives the entry that comes of it. Where this node and
+    /// the links stand for a log that the event may follow, that is its effect, and they stand for the log with it.
     ///
     /// Where there is no memory, the answer is `NodeError::Memory`, and `NodeError::Failed` at each later event, which then
     /// changes nothing.
@@ -262,6 +263,7 @@ impl Node {
         links: &mut Links,
     ) -> Result<Entry, NodeError>
         requires { IsReady event.now.act self.old }
+        ensures stands { IfOk result (λ e. NodeStandsWith number event.now self.old self.new links.old links.new e) }
         ensures does { IfOk result (λ e. NodeApplies number event.now self.old self.new links.old links.new e) }
         ensures works { OnOk result (self.new.failed ≡ false) }
         ensures err { IfErr result (λ e. NodeRefused e self.old self.new links.old links.new) }

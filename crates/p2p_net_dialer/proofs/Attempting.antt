@@ -4,6 +4,7 @@ use Rattle.std.specs.Prelude.{◌==◌}
 use Rattle.std.specs.Option.{option_map}
 use Rattle.std.proofs.lemmas.List.{map-append}
 use Rattle.p2p_base.specs.declared.key.Key.{Key}
+use Rattle.p2p_tracker_directory.specs.Reserved.{peer_of}
 use Rattle.p2p_tracker_directory.specs.declared.metadata.Metadata.{Metadata}
 use Rattle.p2p_gates.specs.declared.attempt.item.AttemptItem.TheVariants as told
 use Rattle.p2p_gates.specs.declared.config.Config.{Config as Gates}
@@ -69,7 +70,7 @@ dialed_key_is configs log n name d s = by (table.at d.attempts name) (attempts_o
     by : (o : Option RunningAttempt) (b : Option Attempt) → AttemptStands (gates_at configs n) name o b (line log (queue.Attempt n name))
         → dialed_key o ≡ option_map (λ (a : Attempt). a.key) b
     by None None stands = refl
-    by (Some w) (Some b) stands = ap (λ (z : RunningAttempt). dialed_key (Some z)) stands.2 ∙ ap (λ k. Some k) stands.1
+    by (Some w) (Some b) stands = ap (λ (z : RunningAttempt). dialed_key (Some z)) stands.2 ∙ ap (λ m. Some (peer_of m)) stands.1
     by None (Some b) stands = absurd stands
     by (Some w) None stands = absurd stands
 

@@ -6,8 +6,8 @@ use Rattle.std.specs.BTreeMap.{is_at, insert_entry}
 use Rattle.std.specs.Ordering.{nat_cmp}
 use Rattle.std.proofs.lemmas.Bool.Decides.{nat_tests}
 use Rattle.p2p_base.specs.declared.key.Key.{Key}
-use Rattle.p2p_tracker_directory.specs.Reserved.{peer_of}
 use Rattle.p2p_tracker_directory.specs.declared.metadata.Metadata.{Metadata}
+use Rattle.p2p_tracker_directory.specs.declared.metadata.Metadata.TheVariants as metadata
 use Rattle.p2p_gates.specs.Attempting.{Attempting, new_attempt}
 use Rattle.p2p_gates.specs.declared.config.Config.{Config as Gates}
 use Rattle.p2p_address.specs.declared.peer.Ingress.{Ingress}
@@ -139,11 +139,11 @@ abbrev pub attempts_with : Option (Attempting Key) → ℕ → List (ℕ × Runn
 attempts_with None name l = l
 attempts_with (Some a) name l = insert_entry nat_cmp l name (running a)
 
--- the attempt of this name is what was begun, with a reservation of its key
+-- the attempt of this name is what was begun, with the dialer's reservation of its key
 abbrev pub IsBegun : Gates → ℕ → Option (Attempting Key) → Option Attempt → Type 0
 IsBegun gates name None None = Unit {0}
 IsBegun gates name (Some a) (Some b) =
-    (m : Metadata Key) × (peer_of m ≡ b.key) × (running a ≡ attempt_of gates name m b [])
+    (m : Metadata Key) × (m ≡ metadata.Dialer b.key) × (running a ≡ attempt_of gates name m b [])
 IsBegun gates name _ _ = ⊥
 
 -- an attempt that begins is what is said of it

@@ -1,8 +1,8 @@
 -- When the dialer of a node stands for a log.
 use Rattle.std.specs.Prelude.{◌≡◌, ◌==◌, ℕ, Bool, false, cond, map, List, [], ◌∷◌, ◌++◌, Option, Some, None, slice_get}
 use Rattle.p2p_base.specs.declared.key.Key.{Key}
-use Rattle.p2p_tracker_directory.specs.Reserved.{peer_of}
 use Rattle.p2p_tracker_directory.specs.declared.metadata.Metadata.{Metadata}
+use Rattle.p2p_tracker_directory.specs.declared.metadata.Metadata.TheVariants as metadata
 use Rattle.p2p_gates.specs.Dialing.{Dialing as Actor}
 use Rattle.p2p_gates.specs.declared.attempt.item.AttemptItem.{AttemptItem}
 use Rattle.p2p_gates.specs.declared.attempt.item.AttemptItem.TheVariants as told
@@ -72,10 +72,10 @@ attempt_of gates name reserved a waiting = record {
   link = a.link;
 }
 
--- the attempt of this name stands for what is said of it, by a reservation of its key; where there is none, nothing waits for it
+-- the attempt of this name stands for what is said of it, by the dialer's reservation of its key; where there is none, nothing waits for it
 abbrev pub AttemptStands : Gates → ℕ → Option RunningAttempt → Option Attempt → List Envelope → Type 0
 AttemptStands gates name None None waiting = waiting ≡ []
-AttemptStands gates name (Some r) (Some a) waiting = (m : Metadata Key) × (peer_of m ≡ a.key) × (r ≡ attempt_of gates name m a waiting)
+AttemptStands gates name (Some r) (Some a) waiting = (m : Metadata Key) × (m ≡ metadata.Dialer a.key) × (r ≡ attempt_of gates name m a waiting)
 AttemptStands gates name _ _ waiting = ⊥
 
 pub record DialerStands (configs : List Config) (log : List Entry) (n : ℕ) (d : Dialing) : Type 0 where

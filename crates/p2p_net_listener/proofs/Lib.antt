@@ -3,3 +3,4 @@ pub mod Ends
 pub mod Finishing
 pub mod Handshakes
 pub mod Peers
+pub mod Steps

@@ -1,7 +1,9 @@
 -- What a node's tracker answers the dialer.
-use Rattle.std.proofs.Common.{◌≡◌, ℕ, ◌+◌, cond, List, [], ◌∷◌, ◌++◌, refl, sym, subst, ◌∙◌, append_assoc, append-nil}
+use Rattle.std.proofs.Common.{◌≡◌, ℕ, ◌+◌, cond, List, [], ◌∷◌, ◌++◌, Option, refl, sym, ap, subst, ◌∙◌, append_assoc, append-nil}
 use Rattle.std.specs.Prelude.{filter}
+use Rattle.p2p_address.specs.declared.peer.Ingress.{Ingress}
 use Rattle.p2p_base.specs.declared.key.Key.{Key}
+use Rattle.p2p_tracker_directory.specs.declared.metadata.Metadata.{Metadata}
 use Rattle.p2p_tracker_mailbox.specs.declared.answer.DialerAnswer.{DialerAnswer}
 use Rattle.p2p_tracker_mailbox.specs.declared.answer.DialerAnswer.TheVariants as answer
 use Rattle.p2p_tracker_mailbox.specs.declared.mailbox.Mailbox.{Mailbox}
@@ -16,9 +18,19 @@ use Rattle.p2p_log.specs.declared.item.Envelope.{Envelope}
 use Rattle.p2p_log.specs.Lines.{placed, stands_in}
 use Rattle.p2p_log.proofs.Queues.{same_queue-refl}
 use Rattle.p2p_net_tracker.specs.declared.naming.Tickets.{Tickets}
-use Rattle.p2p_net_tracker.specs.Naming.{named_puts, grant_of}
+use Rattle.p2p_net_tracker.specs.Naming.{named_puts, grant_of, dialed_grant}
 use Rattle.p2p_net_queues.specs.Matching.{Match}
 use Rattle.p2p_net_tracker.specs.Stands.{IsAnswer}
+
+-- the reservation of a grant is the dialer's
+abbrev pub IsDialed : Option (Metadata Key × Ingress) → Type 0
+IsDialed grant = grant ≡ dialed_grant (grant_of grant)
+
+-- so is that of each grant to the dialer
+abbrev pub AreDialed : List (Put Key) → Type 0
+AreDialed [] = Unit {0}
+AreDialed (put.Dial grant ∷ ps) = IsDialed grant × AreDialed ps
+AreDialed (_ ∷ ps) = AreDialed ps
 
 -- what the dialer is answered, of what was put
 abbrev pub answers_in : List (Put Key) → List (DialerAnswer Key)
@@ -51,14 +63,14 @@ module _ (n : ℕ) (t : Tickets) (k : ℕ) where
       let others = filter (stands_in (queue.Dialer n)) (placed k (p + 1) xs) in
       subst (λ b. Match IsAnswered (cond b (x ∷ others) others) (a ∷ more)) (sym (same_queue-refl (queue.Dialer n))) (h, rest)
 
-  pub answers-named : (p : ℕ) (ps : List (Put Key)) → Match IsAnswered (filter (stands_in (queue.Dialer n)) (placed k p (named_puts n t ps))) (answers_in ps)
-  answers-named p [] = tt
-  answers-named p (put.Dialable list ∷ ps) = answered_first p (item.Dialable list.next_query_at list.peers) (named_puts n t ps) (answer.Dialable list) (answers_in ps) refl (answers-named (p + 1) ps)
-  answers-named p (put.Dial grant ∷ ps) = answered_first p (item.Dial (grant_of grant)) (named_puts n t ps) (answer.Dial grant) (answers_in ps) (grant, refl, refl) (answers-named (p + 1) ps)
-  answers-named p (put.Kill peer conn ∷ ps) = answers-named (p + 1) ps
-  answers-named p (put.Listenable addresses dropped ∷ ps) = answers-named (p + 1) ps
-  answers-named p (put.Update ticket update ∷ ps) = answers-named (p + 1) ps
-  answers-named p (put.Blocked ticket keys dropped ∷ ps) = answers-named (p + 1) ps
-  answers-named p (put.PeerSet ticket peers ∷ ps) = answers-named (p + 1) ps
-  answers-named p (put.Acceptable handshake acceptable ∷ ps) = answers-named (p + 1) ps
-  answers-named p (put.Listen handshake grant ∷ ps) = answers-named (p + 1) ps
+  pub answers-named : (p : ℕ) (ps : List (Put Key)) → AreDialed ps → Match IsAnswered (filter (stands_in (queue.Dialer n)) (placed k p (named_puts n t ps))) (answers_in ps)
+  answers-named p [] h = tt
+  answers-named p (put.Dialable list ∷ ps) h = answered_first p (item.Dialable list.next_query_at list.peers) (named_puts n t ps) (answer.Dialable list) (answers_in ps) refl (answers-named (p + 1) ps h)
+  answers-named p (put.Dial grant ∷ ps) h = answered_first p (item.Dial (grant_of grant)) (named_puts n t ps) (answer.Dial grant) (answers_in ps) (ap answer.Dial h.0) (answers-named (p + 1) ps h.1)
+  answers-named p (put.Kill peer conn ∷ ps) h = answers-named (p + 1) ps h
+  answers-named p (put.Listenable addresses dropped ∷ ps) h = answers-named (p + 1) ps h
+  answers-named p (put.Update ticket update ∷ ps) h = answers-named (p + 1) ps h
+  answers-named p (put.Blocked ticket keys dropped ∷ ps) h = answers-named (p + 1) ps h
+  answers-named p (put.PeerSet ticket peers ∷ ps) h = answers-named (p + 1) ps h
+  answers-named p (put.Acceptable handshake acceptable ∷ ps) h = answers-named (p + 1) ps h
+  answers-named p (put.Listen handshake grant ∷ ps) h = answers-named (p + 1) ps h

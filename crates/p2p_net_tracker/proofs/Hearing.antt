@@ -7,18 +7,19 @@ use Rattle.std.specs.Map.{keys_of}
 use Rattle.std.specs.Option.{option_map}
 use Rattle.std.specs.Ordering.{nat_cmp}
 use Rattle.std.proofs.lemmas.Bool.Decides.{nat_tests}
+use Rattle.p2p_address.specs.Addresses.{ingress_of}
 use Rattle.p2p_address.specs.declared.ip.IpAddr.{IpAddr}
 use Rattle.p2p_address.specs.declared.peer.Address.{Address}
 use Rattle.p2p_base.specs.declared.key.Key.{Key}
 use Rattle.p2p_flow.specs.declared.update.PeerSetUpdate.{PeerSetUpdate}
 use Rattle.p2p_tracker_calls.specs.declared.call.Call.{Call}
 use Rattle.p2p_tracker_calls.specs.declared.call.Call.TheVariants as call
-use Rattle.p2p_tracker_calls.specs.Allows.{is_acceptable}
+use Rattle.p2p_tracker_calls.specs.Allows.{is_acceptable, allows_dial, allows_listen}
 use Rattle.p2p_tracker_calls.specs.BlockedKeys.{blocked_keys}
 use Rattle.p2p_tracker_calls.specs.Blocks.{is_blockable}
 use Rattle.p2p_tracker_calls.specs.Keeping.{kept_of}
 use Rattle.p2p_tracker_calls.specs.Kills.{killed_keys}
-use Rattle.p2p_tracker_calls.specs.Lives.{accepts, is_overwritten}
+use Rattle.p2p_tracker_calls.specs.Lives.{address_of, accepts, is_overwritten}
 use Rattle.p2p_tracker_calls.specs.Overwrites.{overwritten, overwritten_keys}
 use Rattle.p2p_tracker_calls.specs.Peers.{latest_update}
 use Rattle.p2p_tracker_calls.specs.Rules.{Rules}
@@ -31,6 +32,8 @@ use Rattle.p2p_tracker_mailbox.specs.declared.mailbox.Mailbox.{Mailbox}
 use Rattle.p2p_tracker_mailbox.specs.declared.message.Message.{Message}
 use Rattle.p2p_tracker_mailbox.proofs.Lines.{line_of-with_line}
 use Rattle.p2p_tracker_directory.specs.Reserved.{peer_of}
+use Rattle.p2p_tracker_directory.specs.declared.metadata.Metadata.{Metadata}
+use Rattle.p2p_tracker_directory.specs.declared.metadata.Metadata.TheVariants as metadata
 use Rattle.p2p_tracker.specs.Putting.{kills_of, overwrite_kills, listen_grant}
 use Rattle.p2p_tracker.specs.Steps.{heard_put, registered, unblocked, puts_for}
 use Rattle.p2p_tracker.specs.Telling.{has_any, kill_put, updates_put, told_of_sets, sets_put, after_put, after_puts}
@@ -53,31 +56,38 @@ use Rattle.p2p_log_rules.specs.Tracking.{key_cmp}
 use Rattle.p2p_log_rules.specs.TrackerRows.{rings_of}
 use Rattle.p2p_net_tracker.specs.declared.naming.Tickets.{Tickets}
 use Rattle.p2p_net_tracker.specs.Asking.{message_of}
-use Rattle.p2p_net_tracker.specs.Naming.{named_puts, event_at}
+use Rattle.p2p_net_tracker.specs.Naming.{named_puts, event_at, listened_grant}
 use Rattle.p2p_net_tracker.specs.Stands.{Says, IsMessage, HeardStands, IsToldHandshake, HandshakeStands}
+use Rattle.p2p_net_tracker.proofs.Dialing.{IsDialed, AreDialed}
 use Rattle.p2p_net_tracker.proofs.Distinct.{keys-with_line}
 use Rattle.p2p_net_queues.proofs.Matching.{Match-last}
 use Rattle.p2p_net_tracker.proofs.Rings.{is_same, count-first}
 
--- neither the listener nor a handshake is told this
+-- neither the listener nor a handshake is told this, and it is no grant to the dialer
 abbrev pub IsAside : Put Key → Type 0
 IsAside (put.Listenable addresses dropped) = ⊥
 IsAside (put.Acceptable handshake acceptable) = ⊥
 IsAside (put.Listen handshake grant) = ⊥
+IsAside (put.Dial grant) = ⊥
 IsAside _ = Unit {0}
 
--- the listener is told at most once, and no handshake is told anything
+-- the reservation of a grant is the listener's
+abbrev IsListened : Option (Metadata Key) → Type 0
+IsListened grant = grant ≡ listened_grant (option_map peer_of grant)
+
+-- the listener is told at most once, no handshake is told anything, and the dialer is granted its own reservations
 abbrev pub HearsOnce : List (Put Key) → Type 0
 HearsOnce [] = Unit {0}
 HearsOnce (put.Listenable addresses dropped ∷ ps) = Each IsAside ps
 HearsOnce (put.Acceptable handshake acceptable ∷ ps) = ⊥
 HearsOnce (put.Listen handshake grant ∷ ps) = ⊥
+HearsOnce (put.Dial grant ∷ ps) = IsDialed grant × HearsOnce ps
 HearsOnce (_ ∷ ps) = HearsOnce ps
 
--- this handshake is told it
+-- this handshake is told it, and is granted the listener's reservation
 abbrev pub IsFor : ℕ → Put Key → Type 0
 IsFor h (put.Acceptable handshake acceptable) = handshake ≡ h
-IsFor h (put.Listen handshake grant) = handshake ≡ h
+IsFor h (put.Listen handshake grant) = (handshake ≡ h) × IsListened grant
 IsFor h _ = ⊥
 
 -- or one handshake is told one thing, where it runs, and that is all
@@ -89,6 +99,7 @@ aside_once [] h = tt
 aside_once (put.Listenable addresses dropped ∷ ps) h = absurd h.0
 aside_once (put.Acceptable handshake acceptable ∷ ps) h = absurd h.0
 aside_once (put.Listen handshake grant ∷ ps) h = absurd h.0
+aside_once (put.Dial grant ∷ ps) h = absurd h.0
 aside_once (_ ∷ ps) h = aside_once ps h.1
 
 aside_then : (xs ys : List (Put Key)) → Each IsAside xs → HearsOnce ys → HearsOnce (xs ++ ys)
@@ -96,6 +107,7 @@ aside_then [] ys h k = k
 aside_then (put.Listenable addresses dropped ∷ xs) ys h k = absurd h.0
 aside_then (put.Acceptable handshake acceptable ∷ xs) ys h k = absurd h.0
 aside_then (put.Listen handshake grant ∷ xs) ys h k = absurd h.0
+aside_then (put.Dial grant ∷ xs) ys h k = absurd h.0
 aside_then (_ ∷ xs) ys h k = aside_then xs ys h.1 k
 
 then_aside : (xs ys : List (Put Key)) → HearsOnce xs → Each IsAside ys → HearsOnce (xs ++ ys)
@@ -103,7 +115,31 @@ then_aside [] ys h k = aside_once ys k
 then_aside (put.Listenable addresses dropped ∷ xs) ys h k = Each-append IsAside xs ys h k
 then_aside (put.Acceptable handshake acceptable ∷ xs) ys h k = absurd h
 then_aside (put.Listen handshake grant ∷ xs) ys h k = absurd h
+then_aside (put.Dial grant ∷ xs) ys h k = (h.0, then_aside xs ys h.1 k)
 then_aside (_ ∷ xs) ys h k = then_aside xs ys h k
+
+aside_dialed : (ps : List (Put Key)) → Each IsAside ps → AreDialed ps
+aside_dialed [] h = tt
+aside_dialed (put.Dial grant ∷ ps) h = absurd h.0
+aside_dialed (_ ∷ ps) h = aside_dialed ps h.1
+
+once_dialed : (ps : List (Put Key)) → HearsOnce ps → AreDialed ps
+once_dialed [] h = tt
+once_dialed (put.Listenable addresses dropped ∷ ps) h = aside_dialed ps h
+once_dialed (put.Acceptable handshake acceptable ∷ ps) h = absurd h
+once_dialed (put.Listen handshake grant ∷ ps) h = absurd h
+once_dialed (put.Dial grant ∷ ps) h = (h.0, once_dialed ps h.1)
+once_dialed (_ ∷ ps) h = once_dialed ps h
+
+-- what is told so few grants the dialer its own reservations
+pub few_dialed : (runs : ℕ → Bool) (ps : List (Put Key)) → TellsFew runs ps → AreDialed ps
+few_dialed runs ps few = elim few [ inl once ↦ once_dialed ps once | inr one ↦ subst AreDialed (sym one.3) (by (runs one.0) one.0 one.1 one.2) ]
+  where
+    by : (b : Bool) (h : ℕ) (p : Put Key) → IsFor h p → AreDialed (cond b (p ∷ []) [])
+    by false h p is = tt
+    by true h (put.Acceptable g acceptable) is = tt
+    by true h (put.Listen g grant) is = tt
+    by true h _ is = absurd is
 
 once_if : (b : Bool) (xs : List (Put Key)) → HearsOnce xs → HearsOnce (cond b xs [])
 once_if true xs h = h
@@ -188,9 +224,18 @@ module _ (rules : Rules Key) where
         killed_once true = tt
         killed_once false = tt
     item_few t log item.AskDialable m h = subst PutsFew (sym h) (inl tt)
-    item_few t log (item.AskDial key) m h = subst PutsFew (sym h) (inl tt)
+    item_few t log (item.AskDial key) m h = subst PutsFew (sym h) (inl (dialed (allows_dial key_cmp rules calls key now) (address_of key_cmp rules calls key), tt))
+      where
+        dialed : (b : Bool) (o : Option Address) → IsDialed (cond b (option_map (λ a. (metadata.Dialer key, ingress_of a)) o) None)
+        dialed true None = refl
+        dialed true (Some a) = refl
+        dialed false o = refl
     item_few t log (item.AskAcceptable name key) m h = subst PutsFew (sym h.2) (inr (name, put.Acceptable name (is_acceptable key_cmp rules calls key h.0 now), refl, refl))
-    item_few t log (item.AskListen name key) m h = subst PutsFew (sym h.2) (inr (name, put.Listen name (listen_grant key_cmp rules calls now key h.0), refl, refl))
+    item_few t log (item.AskListen name key) m h = subst PutsFew (sym h.2) (inr (name, put.Listen name (listen_grant key_cmp rules calls now key h.0), (refl, listened (allows_listen key_cmp rules calls key h.0 now)), refl))
+      where
+        listened : (b : Bool) → IsListened (cond b (Some (metadata.Listener key)) None)
+        listened true = refl
+        listened false = refl
     item_few t log (item.Release key) m h = subst PutsFew (sym h.2) (inl tt)
     item_few t log _ m h = absurd h
 
@@ -215,6 +260,7 @@ once_handshakes [] m h = refl
 once_handshakes (put.Listenable addresses dropped ∷ ps) m h = aside_handshakes ps (record m { heard = Some addresses }) h
 once_handshakes (put.Acceptable handshake acceptable ∷ ps) m h = absurd h
 once_handshakes (put.Listen handshake grant ∷ ps) m h = absurd h
+once_handshakes (put.Dial grant ∷ ps) m h = once_handshakes ps (after_put (put.Dial grant) m) h.1
 once_handshakes (p ∷ ps) m h = once_handshakes ps (after_put p m) h
 
 -- an item that is told to the listener takes the place of one that waits
@@ -282,6 +328,7 @@ module _ (n : ℕ) (t : Tickets) (j : ℕ) where
   once_to_handshake k p (put.Listenable addresses dropped ∷ ps) h = aside_to_handshake k (p + 1) ps h
   once_to_handshake k p (put.Acceptable handshake acceptable ∷ ps) h = absurd h
   once_to_handshake k p (put.Listen handshake grant ∷ ps) h = absurd h
+  once_to_handshake k p (put.Dial grant ∷ ps) h = once_to_handshake k (p + 1) ps h.1
   once_to_handshake k p (_ ∷ ps) h = once_to_handshake k (p + 1) ps h
 
   once_heard : (p : ℕ) (ps : List (Put Key)) (m : Mailbox Key) (l : List Envelope) → HearsOnce ps → HeardStands m.heard l
@@ -305,6 +352,7 @@ module _ (n : ℕ) (t : Tickets) (j : ℕ) where
       (sym (aside_heard ps (record m { heard = Some addresses }) h)) (x, left, refl)
   once_heard p (put.Acceptable handshake acceptable ∷ ps) m l h s = absurd h
   once_heard p (put.Listen handshake grant ∷ ps) m l h s = absurd h
+  once_heard p (put.Dial grant ∷ ps) m l h s = once_heard (p + 1) ps (after_put (put.Dial grant) m) l h.1 s
   once_heard p (put.Blocked ticket keys dropped ∷ ps) m l h s =
       let d = put.Blocked ticket keys dropped in
       let same : overwrites (d ∷ ps) ≡ overwrites ps = count-first (queue.Update n) (queue.Blocked n (event_at t.blocked ticket)) (rings_of (named_puts n t ps)) ∙ zero_more (overwrites ps) in
@@ -357,7 +405,7 @@ module _ (n : ℕ) (t : Tickets) (j : ℕ) where
 
     told_one : (h k : ℕ) (p : Put Key) → IsFor h p → runs_in m h ≡ true → HandshakeTold k (p ∷ [])
     told_one h k (put.Acceptable g b) is there = told_here g k (item.Acceptable b) (shake.Acceptable b) refl (ap (runs_in m) is ∙ there)
-    told_one h k (put.Listen g grant) is there = told_here g k (item.Listen (option_map peer_of grant)) (shake.Listen grant) (grant, refl, refl) (ap (runs_in m) is ∙ there)
+    told_one h k (put.Listen g grant) is there = told_here g k (item.Listen (option_map peer_of grant)) (shake.Listen grant) (ap shake.Listen is.1) (ap (runs_in m) is.0 ∙ there)
     told_one h k _ is there = absurd is
 
     pub handshakes-after : (ps : List (Put Key)) → TellsFew (runs_in m) ps → (k : ℕ) → HandshakeTold k ps

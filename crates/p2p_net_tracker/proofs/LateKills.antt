@@ -77,6 +77,7 @@ module _ (ended : ℕ → Bool) where
   once-late (put.Listenable addresses dropped ∷ ps) h = aside-late ps h
   once-late (put.Acceptable handshake acceptable ∷ ps) h = absurd h
   once-late (put.Listen handshake grant ∷ ps) h = absurd h
+  once-late (put.Dial grant ∷ ps) h = (h.0, once-late ps h.1)
   once-late (put.Kill peer conn ∷ ps) h = by (ended conn) (once-late ps h)
     where
       by : (b : Bool) → HearsOnce (without_late ended ps) → HearsOnce (cond b (without_late ended ps) (put.Kill peer conn ∷ without_late ended ps))

@@ -59,7 +59,7 @@ use Rattle.p2p_net_tracker.proofs.Desk.{all_left}
 use Rattle.p2p_net_tracker.proofs.Dialing.{answers_in, answers-after, answers-named}
 use Rattle.p2p_log_rules.proofs.Calls.{item_calls, step_calls, call_where, subscribes, subscribes_blocked, calls_of-append, update_subscriptions-append, blocked_subscriptions-append}
 use Rattle.p2p_net_tracker.proofs.LateKills.{without_late, heeded-same, named-late, mailbox-late, few-late, grants-late, unblocked-late}
-use Rattle.p2p_net_tracker.proofs.Hearing.{TellsFew, runs_is, unblocked_once, item_few, heard-after, handshakes-after, keys-after}
+use Rattle.p2p_net_tracker.proofs.Hearing.{TellsFew, few_dialed, runs_is, unblocked_once, item_few, heard-after, handshakes-after, keys-after}
 use Rattle.p2p_net_queues.proofs.Matching.{Match-append}
 use Rattle.p2p_net_tracker.proofs.Named.{has_any-is, named-unblocked, named-item}
 use Rattle.p2p_net_tracker.proofs.Rings.{is_same}
@@ -170,14 +170,14 @@ module _ (configs : List Config) (log : List Entry) (at seed n : ℕ) (t u : Tra
       (λ p. tells.told p ∙ ap (λ l. told_to (held t.told) (named_puts n t.tickets put) (length log) (length l) p) none_put)
 
   -- what the dialer is answered, beside what waits for it
-  answers_now : (names : List (ℕ × ℕ)) (put : List (Put Key)) (start : Mailbox Key) → Told log e n names (named_puts n t.tickets put) → u.mailbox ≡ after_puts put start
+  answers_now : (names : List (ℕ × ℕ)) (put : List (Put Key)) (start : Mailbox Key) → Told log e n names (named_puts n t.tickets put) → u.mailbox ≡ after_puts put start → TellsFew (runs_in start) put
       → Match (λ x a. IsAnswer x.item a) (line log (queue.Dialer n)) start.dialer → Match (λ x a. IsAnswer x.item a) (line (log ++ e ∷ []) (queue.Dialer n)) u.mailbox.dialer
-  answers_now names put start told mailbox before =
+  answers_now names put start told mailbox few before =
       let xs = named_puts n t.tickets put in
       let added = filter (stands_in (queue.Dialer n)) (placed (length log) 0 xs) in
       subst (λ l. Match (λ x a. IsAnswer x.item a) l u.mailbox.dialer) (sym (dialer-told log e n names xs told))
       (subst (Match (λ (x : Envelope) a. IsAnswer x.item a) (line log (queue.Dialer n) ++ added)) (sym (ap (λ (m : Mailbox Key). m.dialer) mailbox ∙ answers-after put start))
-      (Match-append (λ (x : Envelope) a. IsAnswer x.item a) (line log (queue.Dialer n)) added start.dialer (answers_in put) before (answers-named n t.tickets (length log) 0 put)))
+      (Match-append (λ (x : Envelope) a. IsAnswer x.item a) (line log (queue.Dialer n)) added start.dialer (answers_in put) before (answers-named n t.tickets (length log) 0 put (few_dialed (runs_in start) put few))))
 
   -- what the listener is told, in place of what waits for it
   heard_now : (names : List (ℕ × ℕ)) (put : List (Put Key)) (start : Mailbox Key) → Told log e n names (named_puts n t.tickets put) → u.mailbox ≡ after_puts put start → TellsFew (runs_in start) put
@@ -216,7 +216,7 @@ module _ (configs : List Config) (log : List Entry) (at seed n : ℕ) (t u : Tra
       let none = none_taken log e told.takes in
       let reply_is : r.reply ≡ reply.Ok = ap (λ (k : Row). k.reply) tells.0.row in
       let desk = all_left kept t.mailbox in
-      let mailbox : u.mailbox ≡ after_puts kept t.mailbox = steps.put ∙ sym (mailbox-late (is_noted t.ended) put t.mailbox) in
+      let mailbox : u.mailbox ≡ after_puts kept t.mailbox = steps.step.put ∙ sym (mailbox-late (is_noted t.ended) put t.mailbox) in
       let waits = mailbox-told log e n [] (named_puts n t.tickets kept) told ∙ away_none log (queue.Tracker n) in
       let few : TellsFew (runs_in t.mailbox) kept =
       few-late (is_noted t.ended) (runs_in t.mailbox) put
@@ -232,14 +232,14 @@ module _ (configs : List Config) (log : List Entry) (at seed n : ℕ) (t u : Tra
         row_now [] (only reply.Ok) kept due telling refl (λ p own. away_none log p) named,
         stands_after configs log at seed n t u r (line log (queue.Tracker n)) t.mailbox.desk.messages.items s (record {
           rest = rest;
-          rules = steps.rules;
-          cooldown = steps.cooldown;
+          rules = steps.step.rules;
+          cooldown = steps.step.cooldown;
           works = steps.works;
-          follows = follows_next (stepped.EndedBlocks put) (next_message t.mailbox.desk) (calls_of configs (log ++ e ∷ []) n) (steps.follows calls s.follows)
+          follows = follows_next (stepped.EndedBlocks put) (next_message t.mailbox.desk) (calls_of configs (log ++ e ∷ []) n) (steps.step.follows calls s.follows)
               (sym (calls-step configs log at seed n r [] none ∙ ap (λ k. step_calls log k [] at (jitter_of rules.cooldown seed) (list_any grants_peer r.puts) calls) reply_is));
-          subscribed = subst (λ ts. Match (IsTicket t.tickets.updates) ts (update_subscriptions (log ++ e ∷ []) n)) (sym steps.updates)
+          subscribed = subst (λ ts. Match (IsTicket t.tickets.updates) ts (update_subscriptions (log ++ e ∷ []) n)) (sym steps.step.updates)
               (subst (Match (IsTicket t.tickets.updates) t.actor.updates) (sym (updates-step log at seed n r [] none ∙ append-nil us)) s.subscribed);
-          subscribed_blocked = subst (λ ts. Match (IsTicket t.tickets.blocked) ts (blocked_subscriptions (log ++ e ∷ []) n)) (sym steps.sets)
+          subscribed_blocked = subst (λ ts. Match (IsTicket t.tickets.blocked) ts (blocked_subscriptions (log ++ e ∷ []) n)) (sym steps.step.sets)
               (subst (Match (IsTicket t.tickets.blocked) t.actor.sets) (sym (sets-step log at seed n r [] none ∙ append-nil bs)) s.subscribed_blocked);
           mailbox = waits;
           names_left = tells.1 ∙ s.names;
@@ -251,7 +251,7 @@ module _ (configs : List Config) (log : List Entry) (at seed n : ℕ) (t u : Tra
             sets = ap (λ (m : Mailbox Key). length m.desk.sets) mailbox ∙ desk.sets;
           };
           items = ap (λ (m : Mailbox Key). m.desk.messages.items) mailbox ∙ ap (λ (q : base.Queue (Message Key)). q.items) desk.messages;
-          answered = answers_now [] kept t.mailbox told mailbox s.dialer;
+          answered = answers_now [] kept t.mailbox told mailbox few s.dialer;
           heard_left = heard_now [] kept t.mailbox told mailbox few s.heard;
           told_handshakes = handshakes_now [] kept t.mailbox told mailbox few s.handshakes;
           distinct = distinct_now kept t.mailbox mailbox s.distinct;
@@ -280,7 +280,7 @@ module _ (configs : List Config) (log : List Entry) (at seed n : ℕ) (t u : Tra
       let reply_is : r.reply ≡ reply.Ok = ap (λ (k : Row). k.reply) telling.row in
       let start = left_in (stepped.Message put) t.mailbox in
       let desk = all_left kept start in
-      let mailbox : u.mailbox ≡ after_puts kept start = steps.put ∙ sym (mailbox-late (is_noted t.ended) put start) in
+      let mailbox : u.mailbox ≡ after_puts kept start = steps.step.put ∙ sym (mailbox-late (is_noted t.ended) put start) in
       let xs = puts.item_puts rules n at us bs calls log i in
       let due = heeded (is_ended log n) xs in
       let named : named_puts n t.tickets kept ≡ due =
@@ -298,18 +298,18 @@ module _ (configs : List Config) (log : List Entry) (at seed n : ℕ) (t u : Tra
         row_is ∙ ap (λ k. told_row log (name_of x ∷ []) (heeded (is_ended log n) (puts.item_puts rules n at us bs calls log k))) (sym is),
         stands_after configs log at seed n t u r waits ms s (record {
           rest = rest;
-          rules = steps.rules;
-          cooldown = steps.cooldown;
+          rules = steps.step.rules;
+          cooldown = steps.step.cooldown;
           works = steps.works;
-          follows = follows_next (stepped.Message put) (next_message t.mailbox.desk) (calls_of configs (log ++ e ∷ []) n) (steps.follows calls s.follows)
+          follows = follows_next (stepped.Message put) (next_message t.mailbox.desk) (calls_of configs (log ++ e ∷ []) n) (steps.step.follows calls s.follows)
               (ap (λ o. calls_by key_cmp rules (stepped.Message put) o at (jitter_of rules.cooldown seed) calls) next
               ∙ (item-calls rules n t.tickets log i m at (jitter_of rules.cooldown seed) us bs calls says asker
               ∙ sym (calls-step configs log at seed n r (i ∷ []) taken_is
               ∙ (ap (λ k. step_calls log k (i ∷ []) at (jitter_of rules.cooldown seed) (list_any grants_peer r.puts) calls) reply_is
               ∙ ap (λ b. item_calls log i at (jitter_of rules.cooldown seed) b calls) grants))));
-          subscribed = subst (λ ts. Match (IsTicket t.tickets.updates) ts (update_subscriptions (log ++ e ∷ []) n)) (sym (steps.updates ∙ ap (λ o. by_step (stepped.Message put) o updates_for t.actor.updates) next))
+          subscribed = subst (λ ts. Match (IsTicket t.tickets.updates) ts (update_subscriptions (log ++ e ∷ []) n)) (sym (steps.step.updates ∙ ap (λ o. by_step (stepped.Message put) o updates_for t.actor.updates) next))
               (subst (Match (IsTicket t.tickets.updates) (updates_for m t.actor.updates)) (sym (updates-step log at seed n r (i ∷ []) taken_is)) (item-updates t.tickets log i m t.actor.updates us says s.subscribed));
-          subscribed_blocked = subst (λ ts. Match (IsTicket t.tickets.blocked) ts (blocked_subscriptions (log ++ e ∷ []) n)) (sym (steps.sets ∙ ap (λ o. by_step (stepped.Message put) o sets_for t.actor.sets) next))
+          subscribed_blocked = subst (λ ts. Match (IsTicket t.tickets.blocked) ts (blocked_subscriptions (log ++ e ∷ []) n)) (sym (steps.step.sets ∙ ap (λ o. by_step (stepped.Message put) o sets_for t.actor.sets) next))
               (subst (Match (IsTicket t.tickets.blocked) (sets_for m t.actor.sets)) (sym (sets-step log at seed n r (i ∷ []) taken_is)) (item-sets t.tickets log i m t.actor.sets bs says s.subscribed_blocked));
           mailbox = mailbox-told log e n (name_of x ∷ []) (named_puts n t.tickets kept) told ∙ mailbox_first log n x waits first;
           names_left = tells.1 ∙ ap (drop 1) (s.names ∙ ap (map name_of) first);
@@ -321,7 +321,7 @@ module _ (configs : List Config) (log : List Entry) (at seed n : ℕ) (t u : Tra
             sets = ap (λ (k : Mailbox Key). length k.desk.sets) mailbox ∙ desk.sets;
           };
           items = ap (λ (k : Mailbox Key). k.desk.messages.items) mailbox ∙ (ap (λ (q : base.Queue (Message Key)). q.items) desk.messages ∙ ap (drop 1) items);
-          answered = answers_now (name_of x ∷ []) kept start told mailbox s.dialer;
+          answered = answers_now (name_of x ∷ []) kept start told mailbox few s.dialer;
           heard_left = heard_now (name_of x ∷ []) kept start told mailbox few s.heard;
           told_handshakes = handshakes_now (name_of x ∷ []) kept start told mailbox few s.handshakes;
           distinct = distinct_now kept start mailbox s.distinct;
@@ -340,18 +340,18 @@ module _ (configs : List Config) (log : List Entry) (at seed n : ℕ) (t u : Tra
       let puts_none : e.puts ≡ [] = ap (λ (k : Row). k.puts) is in
       let same : (q : Queue) → line (log ++ e ∷ []) q ≡ line log q = λ q.
       line-kept log e q goes_none ∙ (ap (λ l. line log q ++ filter (stands_in q) (placed (length log) 0 l)) puts_none ∙ append-nil (line log q)) in
-      let mailbox : u.mailbox ≡ t.mailbox = steps.put in (
+      let mailbox : u.mailbox ≡ t.mailbox = steps.step.put in (
         is,
         stands_after configs log at seed n t u r (line log (queue.Tracker n)) t.mailbox.desk.messages.items s (record {
           rest = rest;
-          rules = steps.rules;
-          cooldown = steps.cooldown;
+          rules = steps.step.rules;
+          cooldown = steps.step.cooldown;
           works = steps.works;
-          follows = follows_next stepped.Idle (next_message t.mailbox.desk) (calls_of configs (log ++ e ∷ []) n) (steps.follows calls s.follows)
+          follows = follows_next stepped.Idle (next_message t.mailbox.desk) (calls_of configs (log ++ e ∷ []) n) (steps.step.follows calls s.follows)
               (sym (calls-step configs log at seed n r [] none ∙ ap (λ (k : Row). step_calls log k.reply [] at (jitter_of rules.cooldown seed) (list_any grants_peer r.puts) calls) is));
-          subscribed = subst (λ ts. Match (IsTicket t.tickets.updates) ts (update_subscriptions (log ++ e ∷ []) n)) (sym steps.updates)
+          subscribed = subst (λ ts. Match (IsTicket t.tickets.updates) ts (update_subscriptions (log ++ e ∷ []) n)) (sym steps.step.updates)
               (subst (Match (IsTicket t.tickets.updates) t.actor.updates) (sym (updates-step log at seed n r [] none ∙ append-nil us)) s.subscribed);
-          subscribed_blocked = subst (λ ts. Match (IsTicket t.tickets.blocked) ts (blocked_subscriptions (log ++ e ∷ []) n)) (sym steps.sets)
+          subscribed_blocked = subst (λ ts. Match (IsTicket t.tickets.blocked) ts (blocked_subscriptions (log ++ e ∷ []) n)) (sym steps.step.sets)
               (subst (Match (IsTicket t.tickets.blocked) t.actor.sets) (sym (sets-step log at seed n r [] none ∙ append-nil bs)) s.subscribed_blocked);
           mailbox = same (queue.Tracker n);
           names_left = tells.1 ∙ s.names;

@@ -5,6 +5,7 @@ use Rattle.p2p_base.specs.declared.key.Key.{Key}
 use Rattle.p2p_address.specs.declared.peer.Ingress.{Ingress}
 use Rattle.p2p_tracker_directory.specs.Reserved.{peer_of}
 use Rattle.p2p_tracker_directory.specs.declared.metadata.Metadata.{Metadata}
+use Rattle.p2p_tracker_directory.specs.declared.metadata.Metadata.TheVariants as metadata
 use Rattle.p2p_tracker.specs.declared.stepped.Put.{Put}
 use Rattle.p2p_tracker.specs.declared.stepped.Put.TheVariants as put
 use Rattle.p2p_log.specs.declared.queue.Queue.{Queue}
@@ -17,9 +18,19 @@ use Rattle.p2p_net_tracker.specs.declared.naming.Tickets.{Tickets}
 abbrev pub event_at : List ℕ → ℕ → ℕ
 event_at tickets t = slice_index_or tickets t 0
 
+-- whom a dial is granted, and where to dial
 abbrev pub grant_of : Option (Metadata Key × Ingress) → Option (Key × Ingress)
 grant_of None = None
 grant_of (Some g) = Some (peer_of g.0, g.1)
+
+-- the dialer's reservation of it, and the listener's of whom a listen is granted
+abbrev pub dialed_grant : Option (Key × Ingress) → Option (Metadata Key × Ingress)
+dialed_grant None = None
+dialed_grant (Some g) = Some (metadata.Dialer g.0, g.1)
+
+abbrev pub listened_grant : Option Key → Option (Metadata Key)
+listened_grant None = None
+listened_grant (Some key) = Some (metadata.Listener key)
 
 abbrev pub named_put : ℕ → Tickets → Put Key → Option (Queue × Item)
 named_put n t (put.Kill peer conn) = Some (queue.Control n conn, item.Kill)

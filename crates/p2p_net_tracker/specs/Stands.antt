@@ -2,11 +2,9 @@
 use Rattle.std.specs.Prelude.{◌≡◌, ℕ, ◌≤◌, Bool, true, false, ◌==◌, cond, is_some, Option, None, List, [], ◌∷◌, ◌++◌, map, length, Some, slice_get}
 use Rattle.std.specs.List.{IsDistinct}
 use Rattle.std.specs.Map.{keys_of}
-use Rattle.std.specs.Option.{option_map}
 use Rattle.std.specs.Ordering.{nat_cmp, eq_by_cmp}
 use Rattle.p2p_base.specs.declared.key.Key.{Key}
 use Rattle.p2p_address.specs.declared.ip.IpAddr.{IpAddr}
-use Rattle.p2p_address.specs.declared.peer.Ingress.{Ingress}
 use Rattle.p2p_tracker_calls.specs.Blocks.{is_local}
 use Rattle.p2p_tracker_calls.specs.Grants.{is_held}
 use Rattle.p2p_tracker_calls.specs.Lives.{is_connected}
@@ -43,7 +41,7 @@ use Rattle.p2p_net_queues.specs.Board.{held}
 use Rattle.p2p_net_queues.specs.Tables as table
 use Rattle.p2p_net_tracker.specs.Asking.{message_of}
 use Rattle.p2p_net_tracker.specs.Heeding.{is_noted}
-use Rattle.p2p_net_tracker.specs.Naming.{grant_of}
+use Rattle.p2p_net_tracker.specs.Naming.{dialed_grant, listened_grant}
 use Rattle.p2p_net_tracker.specs.declared.question.Question.{Question}
 use Rattle.p2p_net_tracker.specs.declared.question.Question.TheVariants as question
 use Rattle.p2p_net_tracker.specs.declared.naming.Tickets.{Tickets}
@@ -99,10 +97,10 @@ IsMessage t log (item.AskListen name key) m = (source : IpAddr) × (source_at lo
 IsMessage t log (item.Release key) m = (reserved : Metadata Key) × (peer_of reserved ≡ key) × (m ≡ message.Release reserved)
 IsMessage t log _ m = ⊥
 
--- the item is what the dialer is answered
+-- the item is what the dialer is answered: of a grant, the dialer's reservation
 abbrev pub IsAnswer : Item → DialerAnswer Key → Type 0
 IsAnswer (item.Dialable next peers) a = a ≡ answer.Dialable (record { peers = peers; next_query_at = next })
-IsAnswer (item.Dial grant) a = (g : Option (Metadata Key × Ingress)) × (a ≡ answer.Dial g) × (grant ≡ grant_of g)
+IsAnswer (item.Dial grant) a = a ≡ answer.Dial (dialed_grant grant)
 IsAnswer _ a = ⊥
 
 -- the addresses that the listener was told and did not take are all that its line holds
@@ -110,11 +108,11 @@ abbrev pub HeardStands : Option (List IpAddr) → List Envelope → Type 0
 HeardStands None xs = xs ≡ []
 HeardStands (Some ips) xs = (x : Envelope) × (xs ≡ x ∷ []) × (x.item ≡ item.Addresses ips)
 
--- the item is what a handshake is told
+-- the item is what a handshake is told: of a grant, the listener's reservation
 abbrev pub IsToldHandshake : Item → HandshakeItem Key → Type 0
 IsToldHandshake (item.Acceptable b) i = i ≡ shake.Acceptable b
 IsToldHandshake (item.Finished b) i = i ≡ shake.Finished b
-IsToldHandshake (item.Listen grant) i = (g : Option (Metadata Key)) × (i ≡ shake.Listen g) × (grant ≡ option_map peer_of g)
+IsToldHandshake (item.Listen grant) i = i ≡ shake.Listen (listened_grant grant)
 IsToldHandshake _ i = ⊥
 
 -- what waits for a handshake is its line, and it waits for one that runs

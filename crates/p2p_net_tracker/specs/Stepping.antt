@@ -2,15 +2,13 @@
 use Rattle.std.specs.Prelude.{◌≡◌, ℕ, false, List, Option, Some, None, slice_get, length, drop}
 use Rattle.p2p_base.specs.declared.key.Key.{Key}
 use Rattle.p2p_tracker_calls.specs.declared.call.Call.{Call}
-use Rattle.p2p_tracker_calls.specs.Jitter.{jitter_of}
 use Rattle.p2p_tracker_calls.specs.Named.{EqualKeysAreOne}
 use Rattle.p2p_tracker_mailbox.specs.Desk.{next_message}
 use Rattle.p2p_tracker_mailbox.specs.Mailboxes.{runs_in}
 use Rattle.p2p_tracker_mailbox.specs.declared.mailbox.Mailbox.{Mailbox}
 use Rattle.p2p_tracker.specs.Following.{Follows}
-use Rattle.p2p_tracker.specs.Serving.{puts_of, left_in, calls_by}
-use Rattle.p2p_tracker.specs.Steps.{stepped_of, by_step, updates_for, sets_for}
-use Rattle.p2p_tracker.specs.Telling.{after_puts}
+use Rattle.p2p_tracker.specs.Stepping.{IsStepOf}
+use Rattle.p2p_tracker.specs.Steps.{stepped_of}
 use Rattle.p2p_tracker.specs.Tracking.{Tracking}
 use Rattle.p2p_tracker.specs.declared.stepped.Stepped.{Stepped}
 use Rattle.p2p_tracker.specs.declared.stepped.Stepped.TheVariants as stepped
@@ -29,15 +27,9 @@ use Rattle.p2p_net_tracker.specs.declared.tracker.Tracker.{Tracker}
 
 -- a step of the actor at a moment, with a seed
 pub record ActorSteps (old new : Tracking Key) (way after : Mailbox Key) (now seed : ℕ) (s : Stepped Key) : Type 0 where
-  pub follows : (calls : List (Call Key)) → Follows key_cmp old.directory old.controls calls
-      → Follows key_cmp new.directory new.controls (calls_by key_cmp old.directory.rules s (next_message way.desk) now (jitter_of old.cooldown seed) calls)
+  pub step : IsStepOf key_cmp old way now seed s new after
   pub answer : (calls : List (Call Key)) → EqualKeysAreOne key_cmp → Follows key_cmp old.directory old.controls calls
       → s ≡ stepped_of key_cmp old.directory.rules old.updates old.sets way.desk.sets way.heard (runs_in way) calls now (next_message way.desk)
-  pub put : after ≡ after_puts (puts_of s) (left_in s way)
-  pub updates : new.updates ≡ by_step s (next_message way.desk) updates_for old.updates
-  pub sets : new.sets ≡ by_step s (next_message way.desk) sets_for old.sets
-  pub rules : new.directory.rules ≡ old.directory.rules
-  pub cooldown : new.cooldown ≡ old.cooldown
   pub works : new.has_failed ≡ false
 
 -- the entry k puts these beside what its row does, and they overwrite what stands in rings

@@ -6,7 +6,7 @@ use Rattle.serde_json.specs.Find.{as_bool}
 use Rattle.p2p_log.specs.declared.config.Config.{Config}
 use Rattle.p2p_sim_script.specs.Tree.{◌>>=◌, ◌>>◌, absent_or, field, only, whole, within}
 use Rattle.p2p_sim_script.specs.Parts.{key_of, rate_of}
-use Rattle.p2p_sim_script.specs.Presets.{preset_of}
+use Rattle.p2p_sim_script.specs.Presets.{preset_of, preset_config}
 
 abbrev pub names : List Name
 names =
@@ -24,26 +24,7 @@ named_of d = do
   peers ← field "max_peers_per_set" (within 1 (2 ^ 64 - 1)) d
   bytes ← field "max_message_size" (within 0 (2 ^ 32 - 1)) d
   messages ← field "mailbox_size" (within 1 (2 ^ 64 - 1)) d
-  Some (record {
-    public_key = key;
-    max_peers_per_set = peers;
-    max_message_size = bytes;
-    mailbox_size = messages;
-    tracked_peer_sets = preset.tracked_peer_sets;
-    send_batch_size = preset.send_batch_size;
-    ping_frequency = preset.ping_frequency;
-    allow_private_ips = preset.allow_private_ips;
-    allow_dns = preset.allow_dns;
-    bypass_ip_check = preset.bypass_ip_check;
-    peer_connection_cooldown = preset.peer_connection_cooldown;
-    block_duration = preset.block_duration;
-    max_concurrent_handshakes = preset.max_concurrent_handshakes;
-    allowed_handshake_rate_per_ip = preset.allowed_handshake_rate_per_ip;
-    allowed_handshake_rate_per_subnet = preset.allowed_handshake_rate_per_subnet;
-    handshake_timeout = preset.handshake_timeout;
-    dial_timeout = preset.dial_timeout;
-    dial_frequency = preset.dial_frequency;
-  })
+  Some (preset_config preset key peers bytes messages)
 
 -- this configuration with what is said of peer sets, batches, pings, addresses and blocks, where it is said
 abbrev pub with_peers : Config → Data → Option Config

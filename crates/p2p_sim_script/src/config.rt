@@ -44,26 +44,12 @@ fn read_named(tree: &Value) -> Option<Config>
     let max_peers_per_set = within(tree, "max_peers_per_set", 1, u64::MAX)? as usize;
     let max_message_size = within(tree, "max_message_size", 0, u32::MAX as u64)? as u32;
     let mailbox_size = within(tree, "mailbox_size", 1, u64::MAX)? as usize;
-    Some(Config {
+    Some(preset.config(
         public_key,
         max_peers_per_set,
         max_message_size,
         mailbox_size,
-        tracked_peer_sets: preset.tracked_peer_sets as usize,
-        send_batch_size: preset.send_batch_size as usize,
-        ping_frequency: preset.ping_frequency,
-        allow_private_ips: preset.allow_private_ips,
-        allow_dns: preset.allow_dns,
-        bypass_ip_check: preset.bypass_ip_check,
-        peer_connection_cooldown: preset.peer_connection_cooldown,
-        block_duration: preset.block_duration,
-        max_concurrent_handshakes: preset.max_concurrent_handshakes,
-        allowed_handshake_rate_per_ip: preset.allowed_handshake_rate_per_ip,
-        allowed_handshake_rate_per_subnet: preset.allowed_handshake_rate_per_subnet,
-        handshake_timeout: preset.handshake_timeout,
-        dial_timeout: preset.dial_timeout,
-        dial_frequency: preset.dial_frequency,
-    })
+    ))
 }
 
 // `base` with what `tree` says of peer sets, batches, pings, addresses and blocks, where it does.

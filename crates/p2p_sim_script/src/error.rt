@@ -6,7 +6,7 @@ use std::alloc::{AllocError, AllocFailed};
 use thiserror::Error;
 
 /// Why a tree gives no script.
-#[derive(Clone, Copy, Debug, Drop, Error)]
+#[derive(Clone, Copy, PartialEq, Eq, Debug, Drop, Error)]
 pub enum ScriptError {
     /// The tree hasn't the form of a script.
     #[error("not a script")]

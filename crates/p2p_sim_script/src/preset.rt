@@ -1,83 +1,60 @@
 //! The presets of a configuration.
 ghost use Rattle.std.specs.Prelude.{◌≡◌};
 ghost use Rattle.serde_json.specs.View.{view};
-ghost use Rattle.p2p_sim_script.specs.Presets.{preset_of};
+ghost use Rattle.p2p_sim_script.specs.Presets.{preset_of, preset_config};
 
-use p2p_log::Rate;
+use p2p_base::Key;
+use p2p_log::Config;
 use serde_json::Value;
 
-/// What a preset gives. Times are in nanoseconds.
+/// Which call of `Config` gives what a configuration doesn't say.
 #[derive(Clone, Copy)]
-pub struct Preset {
-    pub tracked_peer_sets: u64,
-    pub send_batch_size: u64,
-    pub ping_frequency: u64,
-    pub allow_private_ips: bool,
-    pub allow_dns: bool,
-    pub bypass_ip_check: bool,
-    pub peer_connection_cooldown: u64,
-    pub block_duration: u64,
-    pub max_concurrent_handshakes: u32,
-    pub allowed_handshake_rate_per_ip: Rate,
-    pub allowed_handshake_rate_per_subnet: Rate,
-    pub handshake_timeout: u64,
-    pub dial_timeout: u64,
-    pub dial_frequency: u64,
+pub enum Preset {
+    /// `Config::local`.
+    Local,
+    /// `Config::recommended`.
+    Recommended,
 }
-
-const RECOMMENDED: Preset = Preset {
-    tracked_peer_sets: 4,
-    send_batch_size: 8,
-    ping_frequency: 50_000_000_000,
-    allow_private_ips: false,
-    allow_dns: true,
-    bypass_ip_check: false,
-    peer_connection_cooldown: 60_000_000_000,
-    block_duration: 14_400_000_000_000,
-    max_concurrent_handshakes: 512,
-    allowed_handshake_rate_per_ip: Rate {
-        burst: 1,
-        period: 5_000_000_000,
-    },
-    allowed_handshake_rate_per_subnet: Rate {
-        burst: 64,
-        period: 15_625_000,
-    },
-    handshake_timeout: 5_000_000_000,
-    dial_timeout: 15_000_000_000,
-    dial_frequency: 1_000_000_000,
-};
-
-const LOCAL: Preset = Preset {
-    tracked_peer_sets: 4,
-    send_batch_size: 8,
-    ping_frequency: 5_000_000_000,
-    allow_private_ips: true,
-    allow_dns: true,
-    bypass_ip_check: false,
-    peer_connection_cooldown: 1_000_000_000,
-    block_duration: 3_600_000_000_000,
-    max_concurrent_handshakes: 1024,
-    allowed_handshake_rate_per_ip: Rate {
-        burst: 16,
-        period: 62_500_000,
-    },
-    allowed_handshake_rate_per_subnet: Rate {
-        burst: 128,
-        period: 7_812_500,
-    },
-    handshake_timeout: 5_000_000_000,
-    dial_timeout: 15_000_000_000,
-    dial_frequency: 500_000_000,
-};
 
 /// The preset that `tree` names.
 pub(crate) fn read_preset(tree: &Value) -> Option<Preset>
     ensures { result ≡ preset_of (view tree.now) }
 {
     match tree.as_str()? {
-        "local" => Some(LOCAL),
-        "recommended" => Some(RECOMMENDED),
+        "local" => Some(Preset::Local),
+        "recommended" => Some(Preset::Recommended),
         _ => None,
+    }
+}
+
+impl Preset {
+    /// The configuration of this key and these sizes that the preset gives.
+    pub(crate) fn config(
+        self,
+        public_key: Key,
+        max_peers_per_set: usize,
+        max_message_size: u32,
+        mailbox_size: usize,
+    ) -> Config
+        ensures { result ≡ preset_config self public_key max_peers_per_set max_message_size mailbox_size }
+    {
+        match self {
+            Preset::Local => {
+                Config::local(
+                    public_key,
+                    max_peers_per_set,
+                    max_message_size,
+                    mailbox_size,
+                )
+            }
+            Preset::Recommended => {
+                Config::recommended(
+                    public_key,
+                    max_peers_per_set,
+                    max_message_size,
+                    mailbox_size,
+                )
+            }
+        }
     }
 }

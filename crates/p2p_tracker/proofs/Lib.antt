@@ -5,6 +5,6 @@ pub mod Following
 pub mod Putting
 pub mod Readdressing
 pub mod Standing
-pub mod Taking
+pub mod Stepping
 pub mod Told
 pub mod Turns

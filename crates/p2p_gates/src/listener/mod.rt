@@ -1,5 +1,5 @@
 //! `Listener`, who takes arrivals through the gates.
-ghost use Rattle.std.specs.Prelude.{◌≡◌, ℕ, ◌<◌, ◌+◌, ◌∷◌, ◌++◌, max, true, false, [], Some, None, IfOk, OnOk, IfSome, IsErr, OnErr, drop, slice_get};
+ghost use Rattle.std.specs.Prelude.{◌≡◌, ℕ, ◌<◌, ◌+◌, ◌∷◌, ◌++◌, max, true, false, [], Some, None, IfOk, OnOk, IfSome, IsErr, OnErr, drop};
 ghost use Rattle.std.specs.BTreeSet.{IsFromIterResult};
 ghost use Rattle.p2p_address.specs.declared.ip.IpAddr.{IpAddr as Address};
 ghost use Rattle.p2p_runtime.specs.QuotaPlaces.{Places};
@@ -7,9 +7,10 @@ ghost use Rattle.p2p_gates.specs.Gates.{has_place, rules_of, reply_to, known_aft
 ghost use Rattle.p2p_tracker_calls.specs.Gates.{Known, is_registered, nothing_known, limited_reply, turned_away, charged_by};
 ghost use Rattle.p2p_tracker_calls.specs.Quotas.{verdict};
 ghost use Rattle.p2p_gates.specs.Listening.{StandsFor, with_arrival, with_rest, new_listener};
-ghost use Rattle.p2p_gates.specs.ListenerTurns.{begins, stepped_by, way_by, refused_over, receive_turn, listener_turn};
+ghost use Rattle.p2p_gates.specs.ListenerSteps.{Passes, Receives, IsStepOf};
+ghost use Rattle.p2p_gates.specs.ListenerTurns.{stepped_by, way_by, refused_over};
 ghost use Rattle.p2p_gates.specs.Quotas.{KeepsRates, rates_of, IsCounted};
-ghost use Rattle.p2p_gates.specs.Counting.{CountsFrom, CountsOldest, Counts};
+ghost use Rattle.p2p_gates.specs.Counting.{CountsFrom};
 ghost use Rattle.p2p_gates.specs.Stepping.{gone_on};
 ghost use Rattle.p2p_gates.specs.declared.stepped.Input.TheVariants as input;
 ghost use Rattle.p2p_tracker_calls.specs.declared.gates.Reply.TheVariants as reply;
@@ -164,20 +165,7 @@ impl<P: PublicKey> Listener<P> {
         name: u64,
         now: u64,
     ) -> Result<Stepped<P>, AllocError>
-        ensures answer { (k : Known) → StandsFor self.old k
-            → IfOk result (λ s. s ≡ (listener_turn self.old k way.old name now).stepped) }
-        ensures stands { (k : Known) → StandsFor self.old k
-            → OnOk result (StandsFor self.new (listener_turn self.old k way.old name now).known) }
-        ensures way { (k : Known) → StandsFor self.old k
-            → OnOk result (way.new ≡ (listener_turn self.old k way.old name now).way) }
-        ensures arrivals { (k : Known) → StandsFor self.old k
-            → OnOk result (self.new.arrivals ≡ (listener_turn self.old k way.old name now).arrivals) }
-        ensures places { (k : Known) → StandsFor self.old k
-            → OnOk result (self.new.places ≡ (listener_turn self.old k way.old name now).places) }
-        ensures placed { IfOk result (λ s. begins s ≡ true → 0 < self.new.places.held) }
-        ensures rest { OnOk result (self.new ≡ with_rest self.old self.new) }
-        ensures rates { OnOk result (KeepsRates self.old.quotas self.new.quotas) }
-        ensures quotas { OnOk result (Counts self.old way.old self.new.quotas) }
+        ensures step { IfOk result (λ s. IsStepOf self.old way.old name now s self.new way.new) }
         ensures memory { OnErr result (self.new.has_failed ≡ true) }
         ensures failed { self.old.has_failed ≡ true → IsErr result }
     {
@@ -195,20 +183,7 @@ impl<P: PublicKey> Listener<P> {
 
     // What a step does.
     fn work(&mut self, way: &mut Mailbox<P>, name: u64, now: u64) -> Result<Stepped<P>, AllocError>
-        ensures answer { (k : Known) → StandsFor self.old k
-            → IfOk result (λ s. s ≡ (listener_turn self.old k way.old name now).stepped) }
-        ensures stands { (k : Known) → StandsFor self.old k
-            → OnOk result (StandsFor self.new (listener_turn self.old k way.old name now).known) }
-        ensures way { (k : Known) → StandsFor self.old k
-            → OnOk result (way.new ≡ (listener_turn self.old k way.old name now).way) }
-        ensures arrivals { (k : Known) → StandsFor self.old k
-            → OnOk result (self.new.arrivals ≡ (listener_turn self.old k way.old name now).arrivals) }
-        ensures places { (k : Known) → StandsFor self.old k
-            → OnOk result (self.new.places ≡ (listener_turn self.old k way.old name now).places) }
-        ensures placed { IfOk result (λ s. begins s ≡ true → 0 < self.new.places.held) }
-        ensures rest { OnOk result (self.new ≡ with_rest self.old self.new) }
-        ensures rates { OnOk result (KeepsRates self.old.quotas self.new.quotas) }
-        ensures quotas { OnOk result (Counts self.old way.old self.new.quotas) }
+        ensures step { IfOk result (λ s. IsStepOf self.old way.old name now s self.new way.new) }
     {
         match way.heard.take() {
             Some(addresses) => self.register(addresses.as_slice()),
@@ -234,20 +209,7 @@ impl<P: PublicKey> Listener<P> {
         name: u64,
         now: u64,
     ) -> Result<Stepped<P>, AllocError>
-        ensures answer { (k : Known) → StandsFor self.old k
-            → IfOk result (λ s. s ≡ (receive_turn self.old k way.old name now).stepped) }
-        ensures stands { (k : Known) → StandsFor self.old k
-            → OnOk result (StandsFor self.new (receive_turn self.old k way.old name now).known) }
-        ensures way { (k : Known) → StandsFor self.old k
-            → OnOk result (way.new ≡ (receive_turn self.old k way.old name now).way) }
-        ensures arrivals { (k : Known) → StandsFor self.old k
-            → OnOk result (self.new.arrivals ≡ (receive_turn self.old k way.old name now).arrivals) }
-        ensures places { (k : Known) → StandsFor self.old k
-            → OnOk result (self.new.places ≡ (receive_turn self.old k way.old name now).places) }
-        ensures placed { IfOk result (λ s. begins s ≡ true → 0 < self.new.places.held) }
-        ensures rest { OnOk result (self.new ≡ with_rest self.old self.new) }
-        ensures rates { OnOk result (KeepsRates self.old.quotas self.new.quotas) }
-        ensures quotas { OnOk result (CountsOldest self.old self.new.quotas (slice_get self.old.arrivals 0)) }
+        ensures step { IfOk result (λ s. Receives self.old way.old name now s self.new way.new) }
     {
         match self.arrivals.pop() {
             Some(arrival) => self.pass(way, name, now, arrival),
@@ -263,20 +225,7 @@ impl<P: PublicKey> Listener<P> {
         now: u64,
         arrival: Arrival<P>,
     ) -> Result<Stepped<P>, AllocError>
-        ensures answer { (k : Known) → StandsFor self.old k
-            → IfOk result (λ s. s
-            ≡ stepped_by (reply_to self.old k arrival.from.ip now) name arrival self.old.handshake_timeout now) }
-        ensures stands { (k : Known) → StandsFor self.old k
-            → OnOk result (StandsFor self.new (known_after self.old k arrival.from.ip now)) }
-        ensures way { (k : Known) → StandsFor self.old k
-            → OnOk result (way.new ≡ way_by (reply_to self.old k arrival.from.ip now) name arrival way.old) }
-        ensures arrivals { self.new.arrivals ≡ self.old.arrivals }
-        ensures places { (k : Known) → StandsFor self.old k
-            → OnOk result (self.new.places ≡ places_after (reply_to self.old k arrival.from.ip now) self.old.places) }
-        ensures placed { IfOk result (λ s. begins s ≡ true → 0 < self.new.places.held) }
-        ensures rest { self.new ≡ with_rest self.old self.new }
-        ensures rates { KeepsRates self.old.quotas self.new.quotas }
-        ensures quotas { OnOk result (CountsFrom self.old self.new.quotas arrival.from.ip) }
+        ensures step { IfOk result (λ s. Passes self.old way.old name now arrival s self.new way.new) }
     {
         let reply = self.judge(&arrival.from.ip, now)?;
         self.tell(way, name, now, arrival, reply)

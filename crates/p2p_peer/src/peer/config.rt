@@ -1,12 +1,15 @@
 //! `Config`, the sizes and quotas of a connection.
+ghost use Rattle.std.specs.Prelude.{◌≡◌, IfOk};
+
 use p2p_base::List;
 use p2p_flow::Channel;
 use p2p_runtime::Quota;
+use std::alloc::{AllocError, Global};
 
 /// The sizes and quotas of a connection.
 ///
 /// Ports `Config` of commonware-p2p's peer.
-#[derive(Drop, Debug)]
+#[derive(Drop, PartialEq, Eq, Debug)]
 pub struct Config {
     /// The channels with their quotas, no channel twice.
     pub channels: List<(Channel, Quota)>,
@@ -18,6 +21,22 @@ pub struct Config {
     pub ping_frequency: u64,
     /// How many bytes a message has at most.
     pub max_message_size: u32,
+}
+
+impl Config {
+    /// An equal configuration. `Err` only where memory runs out.
+    pub fn try_clone(&self, alloc: Global) -> Result<Config, AllocError>
+        ensures { IfOk result (λ cfg. cfg ≡ self.now) }
+    {
+        let channels = self.channels.try_clone(alloc)?;
+        Ok(Config {
+            channels,
+            mailbox_size: self.mailbox_size,
+            send_batch_size: self.send_batch_size,
+            ping_frequency: self.ping_frequency,
+            max_message_size: self.max_message_size,
+        })
+    }
 }
 
 /// The sizes of a connection.

@@ -6,7 +6,7 @@ ghost use Rattle.p2p_peer.specs.Spawning.{new_spawner};
 
 use super::{Config, Mailbox, Message, Stepped};
 use crate::peer;
-use p2p_base::{List, PublicKey};
+use p2p_base::PublicKey;
 use std::alloc::{AllocError, Global};
 use std::marker::{Model, PhantomData};
 
@@ -74,19 +74,6 @@ impl<P: PublicKey> Actor<P> {
     }
 }
 
-// An equal list of sizes and quotas.
-fn copy_of(alloc: Global, cfg: &Config) -> Result<Config, AllocError>
-    ensures { IfOk result (λ c. c ≡ cfg.now) }
-{
-    Ok(Config {
-        channels: List::from_slice(alloc, cfg.channels.as_slice())?,
-        mailbox_size: cfg.mailbox_size,
-        send_batch_size: cfg.send_batch_size,
-        ping_frequency: cfg.ping_frequency,
-        max_message_size: cfg.max_message_size,
-    })
-}
-
 // Makes the connection that the oldest message asks for.
 fn spawn<P: PublicKey>(
     alloc: Global,
@@ -99,7 +86,7 @@ fn spawn<P: PublicKey>(
     ensures stepped { IfOk result (λ s. IsSpawned cfg.now name (oldest mailbox.old) s) }
     ensures mailbox { OnOk result (mailbox.new ≡ without_oldest mailbox.old) }
 {
-    let cfg = copy_of(alloc, cfg)?;
+    let cfg = cfg.try_clone(alloc)?;
     let Some(message) = mailbox.take() else {
         return Ok(Stepped::Idle);
     };

@@ -1,11 +1,6 @@
 //! `Actor`, the tracker itself: the blocks that have ended, or one message, a step.
-ghost use Rattle.std.specs.Prelude.{◌≡◌, ℕ, ◌≤◌, List, [], length, true, false, is_some, IfOk, OnOk, OnErr, IsErr, IfSome};
-ghost use Rattle.std.specs.Map.{lookup};
-ghost use Rattle.std.specs.BTreeMap.{is_at};
-ghost use Rattle.p2p_tracker_calls.specs.Blocks.{is_over, block_of};
+ghost use Rattle.std.specs.Prelude.{◌≡◌, ℕ, ◌≤◌, List, [], length, true, false, IfOk, OnOk, OnErr, IsErr, IfSome};
 ghost use Rattle.p2p_tracker_calls.specs.Jitter.{jitter_of};
-ghost use Rattle.p2p_tracker_calls.specs.Keeping.{all_connect_by};
-ghost use Rattle.p2p_tracker_calls.specs.Lives.{is_eligible, is_stale};
 ghost use Rattle.p2p_tracker_calls.specs.Named.{EqualKeysAreOne};
 ghost use Rattle.p2p_tracker_calls.specs.Turns.{grants_none_held};
 ghost use Rattle.p2p_tracker_calls.specs.declared.call.Call.{Call};
@@ -15,8 +10,9 @@ ghost use Rattle.p2p_flow.specs.Provided.{is_open};
 ghost use Rattle.p2p_tracker_mailbox.specs.Mailboxes.{new_mailbox, runs_in};
 ghost use Rattle.p2p_tracker.specs.Following.{Follows};
 ghost use Rattle.p2p_tracker.specs.Putting.{IsPut, IsPutBy};
-ghost use Rattle.p2p_tracker.specs.Serving.{IsQuiet, IsQuietIn, ends, serves, puts_of, left_in, left_by, MayTake, calls_after, calls_by};
-ghost use Rattle.p2p_tracker.specs.Steps.{stepped_of, by_step, updates_for, sets_for};
+ghost use Rattle.p2p_tracker.specs.Serving.{IsQuietIn, MayTake, calls_after};
+ghost use Rattle.p2p_tracker.specs.Stepping.{calls_then, IsStepOf, KeepsEligible};
+ghost use Rattle.p2p_tracker.specs.Steps.{stepped_of, updates_for, sets_for};
 ghost use Rattle.p2p_tracker.specs.Telling.{after_puts};
 ghost use Rattle.p2p_tracker.specs.Tracking.{new_tracking, rules_for};
 
@@ -136,6 +132,9 @@ impl<C: PublicKey> Actor<C> {
     /// Takes away the blocks that have ended at the moment `now`. Where there is none, takes the oldest message of the mailbox and does
     /// what it says. `seed` draws the jitter of a grant.
     ///
+    /// Its `requires` speaks of the oldest message, where no block is due. Of a connect it holds where `may_connect` says so of the peer, of
+    /// a release where `may_release` does, and of each other message it holds. Whoever puts the messages knows which one is the oldest.
+    ///
     /// `Err` only where memory runs out. Each later step then answers so.
     ///
     /// Ports the turn of the loop of commonware-p2p's lookup tracker.
@@ -145,38 +144,21 @@ impl<C: PublicKey> Actor<C> {
         now: u64,
         seed: u64,
     ) -> Result<Stepped<C>, AllocError>
-        requires may_take { self.old.has_failed ≡ false → IsQuietIn C.cmp self.old.directory now → IfSome (next_message way.old.desk) (λ m. MayTake C.cmp self.old.directory m now) }
-        ensures stands { IfOk result (λ s. (calls : List (Call C)) → StandsFor C.cmp self.old.directory calls
-            → StandsFor C.cmp self.new.directory (calls_by C.cmp self.old.directory.rules s (next_message way.old.desk) now (jitter_of self.old.cooldown seed) calls)) }
-        ensures due { IfOk result (λ s. ends s ≡ true → (calls : List (Call C)) → StandsFor C.cmp self.old.directory calls
-            → (q : C) × (is_over (block_of C.cmp self.old.directory.rules calls q) now ≡ true)) }
-        ensures quiet { IfOk result (λ s. ends s ≡ false → (calls : List (Call C)) → StandsFor C.cmp self.old.directory calls
-            → IsQuiet C.cmp self.old.directory.rules calls now) }
-        ensures served { IfOk result (λ s. ends s ≡ false → serves s ≡ is_some (next_message way.old.desk)) }
-        ensures taken { IfOk result (λ s. way.new.desk.messages ≡ left_by s way.old.desk.messages) }
-        ensures follows { IfOk result (λ s. (calls : List (Call C)) → Follows C.cmp self.old.directory self.old.controls calls
-            → Follows C.cmp self.new.directory self.new.controls (calls_by C.cmp self.old.directory.rules s (next_message way.old.desk) now (jitter_of self.old.cooldown seed) calls)) }
-        ensures eligible { IfOk result (λ s. (calls : List (Call C)) → all_connect_by now calls ≡ true → Follows C.cmp self.old.directory self.old.controls calls
-            → (q : C) → is_some (lookup (is_at (C.cmp q)) self.new.controls) ≡ true
-            → is_eligible C.cmp self.new.directory.rules (calls_by C.cmp self.old.directory.rules s (next_message way.old.desk) now (jitter_of self.old.cooldown seed) calls) q now ≡ true) }
-        ensures fresh { IfOk result (λ s. (calls : List (Call C)) → Follows C.cmp self.old.directory self.old.controls calls
-            → (q : C) → is_some (lookup (is_at (C.cmp q)) self.new.controls) ≡ true
-            → is_stale C.cmp self.new.directory.rules (calls_by C.cmp self.old.directory.rules s (next_message way.old.desk) now (jitter_of self.old.cooldown seed) calls) q ≡ false) }
-        ensures turns { IfOk result (λ s. (calls : List (Call C)) → grants_none_held C.cmp calls ≡ true
-            → grants_none_held C.cmp (calls_by C.cmp self.old.directory.rules s (next_message way.old.desk) now (jitter_of self.old.cooldown seed) calls) ≡ true) }
-        ensures rules { OnOk result (self.new.directory.rules ≡ self.old.directory.rules) }
-        ensures cooldown { self.new.cooldown ≡ self.old.cooldown }
-        ensures memory { OnErr result (self.new.has_failed ≡ true) }
-        ensures works { OnOk result (self.new.has_failed ≡ false) }
-        ensures failed { self.old.has_failed ≡ true → IsErr result }
+        requires may_take { self.old.has_failed ≡ false → IsQuietIn C.cmp self.old.directory now
+            → IfSome (next_message way.old.desk) (λ m. MayTake C.cmp self.old.directory m now) }
+        ensures step { IfOk result (λ s. IsStepOf C.cmp self.old way.old now seed s self.new way.new) }
         ensures answer { IfOk result (λ s. (calls : List (Call C)) → EqualKeysAreOne C.cmp → Follows C.cmp self.old.directory self.old.controls calls
             → s ≡ stepped_of C.cmp self.old.directory.rules self.old.updates self.old.sets way.old.desk.sets way.old.heard (runs_in way.old) calls now (next_message way.old.desk)) }
-        ensures put { IfOk result (λ s. way.new ≡ after_puts (puts_of s) (left_in s way.old)) }
-        ensures updates { IfOk result (λ s. self.new.updates ≡ by_step s (next_message way.old.desk) updates_for self.old.updates) }
-        ensures sets { IfOk result (λ s. self.new.sets ≡ by_step s (next_message way.old.desk) sets_for self.old.sets) }
+        ensures kept { IfOk result (λ s. KeepsEligible C.cmp self.old way.old now seed s self.new) }
+        ensures turns { IfOk result (λ s. (calls : List (Call C)) → grants_none_held C.cmp calls ≡ true
+            → grants_none_held C.cmp (calls_then C.cmp self.old way.old now seed s calls) ≡ true) }
         ensures subscribed { OnOk result (length way.new.desk.updates ≡ length way.old.desk.updates) }
         ensures blocked_subscribed { OnOk result (length way.new.desk.sets ≡ length way.old.desk.sets) }
         ensures open { OnOk result ((n : ℕ) → is_open (question_at way.old.desk n) ≡ true → is_open (question_at way.new.desk n) ≡ true) }
+        ensures cooldown { self.new.cooldown ≡ self.old.cooldown }
+        ensures works { OnOk result (self.new.has_failed ≡ false) }
+        ensures memory { OnErr result (self.new.has_failed ≡ true) }
+        ensures failed { self.old.has_failed ≡ true → IsErr result }
     {
         if self.has_failed {
             return Err(AllocError);
@@ -192,23 +174,10 @@ impl<C: PublicKey> Actor<C> {
     // What a step does.
     fn work(&mut self, way: &mut Mailbox<C>, now: u64, seed: u64) -> Result<Stepped<C>, AllocError>
         requires { IsQuietIn C.cmp self.old.directory now → IfSome (next_message way.old.desk) (λ m. MayTake C.cmp self.old.directory m now) }
-        ensures stands { IfOk result (λ s. (calls : List (Call C)) → StandsFor C.cmp self.old.directory calls
-            → StandsFor C.cmp self.new.directory (calls_by C.cmp self.old.directory.rules s (next_message way.old.desk) now (jitter_of self.old.cooldown seed) calls)) }
-        ensures due { IfOk result (λ s. ends s ≡ true → (calls : List (Call C)) → StandsFor C.cmp self.old.directory calls
-            → (q : C) × (is_over (block_of C.cmp self.old.directory.rules calls q) now ≡ true)) }
-        ensures quiet { IfOk result (λ s. ends s ≡ false → (calls : List (Call C)) → StandsFor C.cmp self.old.directory calls
-            → IsQuiet C.cmp self.old.directory.rules calls now) }
-        ensures served { IfOk result (λ s. ends s ≡ false → serves s ≡ is_some (next_message way.old.desk)) }
-        ensures taken { IfOk result (λ s. way.new.desk.messages ≡ left_by s way.old.desk.messages) }
-        ensures follows { IfOk result (λ s. (calls : List (Call C)) → Follows C.cmp self.old.directory self.old.controls calls
-            → Follows C.cmp self.new.directory self.new.controls (calls_by C.cmp self.old.directory.rules s (next_message way.old.desk) now (jitter_of self.old.cooldown seed) calls)) }
-        ensures rules { OnOk result (self.new.directory.rules ≡ self.old.directory.rules) }
+        ensures step { IfOk result (λ s. IsStepOf C.cmp self.old way.old now seed s self.new way.new) }
+        ensures put { IfOk result (λ s. IsPutBy C.cmp self.old self.new way.old.desk.sets way.old.heard (runs_in way.old) now s (next_message way.old.desk)) }
         ensures cooldown { self.new.cooldown ≡ self.old.cooldown }
         ensures has_failed { self.new.has_failed ≡ self.old.has_failed }
-        ensures put { IfOk result (λ s. IsPutBy C.cmp self.old self.new way.old.desk.sets way.old.heard (runs_in way.old) now s (next_message way.old.desk)) }
-        ensures desk { IfOk result (λ s. way.new ≡ after_puts (puts_of s) (left_in s way.old)) }
-        ensures updates { IfOk result (λ s. self.new.updates ≡ by_step s (next_message way.old.desk) updates_for self.old.updates) }
-        ensures sets { IfOk result (λ s. self.new.sets ≡ by_step s (next_message way.old.desk) sets_for self.old.sets) }
     {
         if self.directory.unblock_expired(now) {
             let put = self.ended_blocks(way, now)?;

@@ -20,13 +20,8 @@ returns-in_ok-tell-in-Message c =
     record {
       stepped = c.in_ok-step.field-0;
       steps = record {
-        follows = c.in_ok-step.ensures.follows;
+        step = c.in_ok-step.ensures.step;
         answer = c.in_ok-step.ensures.answer;
-        put = c.in_ok-step.ensures.put;
-        updates = c.in_ok-step.ensures.updates;
-        sets = c.in_ok-step.ensures.sets;
-        rules = c.in_ok-step.ensures.rules;
-        cooldown = c.step.ensures.cooldown;
         works = c.in_ok-step.ensures.works;
       };
       tells = subst (λ s. TellsBy s c.args.turn.entry c.args.turn.node t new c.tell-in-Message.new.row) (sym c.in-Message.is) (

@@ -1,0 +1,9 @@
+mod Parts
+mod Narrow
+mod Ingresses
+mod Hosts
+mod Bits
+mod Infos
+mod Payloads
+mod Loops
+mod Sizes
