@@ -17,15 +17,15 @@ use Rattle.p2p_log.specs.declared.event.Act.{Act}
 use Rattle.p2p_log.specs.declared.event.Act.TheVariants as act
 use Rattle.p2p_log_rules.specs.declared.row.Half.{Half}
 use Rattle.p2p_log_rules.specs.Connections.{half_at, is_end}
-use Rattle.p2p_log_rules.specs.Dropping.{LinkEnd, is_side, drops, is_dropped, drop_in, drops_in, drops_of, dialing_end, half_end}
+use Rattle.p2p_log_rules.specs.Dropping.{LinkEnd, is_side, drops, is_dropped, drop_in, drops_in, drops_of, dialing_end, arrival_end, half_end}
 use Rattle.p2p_log_rules.specs.Facts.{taken, state_from}
 use Rattle.p2p_log_rules.specs.Halves.{half_in}
 use Rattle.p2p_log_rules.specs.Handshakes.{ends_handshake, peer_at}
-use Rattle.p2p_log_rules.specs.Puts.{is_spawn, gave_up, broke_off, is_answer}
+use Rattle.p2p_log_rules.specs.Puts.{is_spawn, gave_up, broke_off, is_answer, turns_away, arrival_link}
 use Rattle.p2p_log_rules.specs.Spawning.{connections_of}
 use Rattle.p2p_log_rules.specs.Tellings.{Telling}
 use Rattle.p2p_log_rules.specs.Tellings as telling
-use Rattle.p2p_log_rules.specs.Told.{when, done_tells, link_in, dialing_dropped, half_tells, end_tells, sender_tells, handshake_tells, admitted_as, begun_tells, arrival_tells, gates_tell, took_tells, left_tells, act_tells, tells, told}
+use Rattle.p2p_log_rules.specs.Told.{when, done_tells, link_in, dialing_dropped, listening_dropped, half_tells, end_tells, sender_tells, handshake_tells, admitted_as, begun_tells, arrival_tells, gates_tell, took_tells, left_tells, act_tells, tells, told}
 use Rattle.p2p_log_rules.proofs.Families.{kind, kinds_of, has, are_apart, untold_of}
 use Rattle.p2p_log_rules.proofs.Tellings.{told-append}
 
@@ -128,6 +128,11 @@ arrival_drops n name r items =
     begins None = refl
     begins (Some h) = refl
 
+heard_drops : (b : Bool) (o : Option ℕ) → drops_in (when b (listening_dropped o)) ≡ all_of (cond b (option_map (λ l. (l, side.In)) o) None)
+heard_drops true None = refl
+heard_drops true (Some link) = refl
+heard_drops false o = refl
+
 module _ (log : List Entry) (e : Entry) where
   abbrev acts_tell : Act → List Telling
   acts_tell a = act_tells (told log) log (length log) e.event.at e.event.seed e.reply (taken log e) e.puts a
@@ -159,9 +164,9 @@ module _ (log : List Entry) (e : Entry) where
   unfolding half_at connections_of
   drops_of-receive conn n is = tells_act (act.RecvStep conn n) is ∙ over_drops n conn e.reply (half_at log n conn)
 
-  -- a step that does not admit an arrival drops its end
-  pub drops_of-listener : (n : ℕ) → e.event.act ≡ act.Listener n → drops_of log e ≡ drops_in (gates_tell e.reply (taken log e))
-  drops_of-listener n is = tells_act (act.Listener n) is ∙ arrival_drops n (length log) e.reply (taken log e)
+  -- a step that turns an arrival away drops its end
+  pub drops_of-listener : (n : ℕ) → e.event.act ≡ act.Listener n → drops_of log e ≡ all_of (cond (turns_away e.reply) (arrival_end (taken log e)) None)
+  drops_of-listener n is = tells_act (act.Listener n) is ∙ (arrival_drops n (length log) e.reply (taken log e) ∙ heard_drops (turns_away e.reply) (arrival_link (taken log e)))
 
 -- where no end is told of, none is dropped
 none_dropped : (ts : List Telling) → list_any is_drop ts ≡ false → drops_in ts ≡ []

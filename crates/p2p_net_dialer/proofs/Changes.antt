@@ -50,7 +50,6 @@ none_dials n _ h k = refl
 
 none_tries : (n : ℕ) (a : Act) → is_of_dialer n a ≡ false → tries n a ≡ false
 none_tries n (act.Dialer m) h = h
-none_tries n (act.Stop m) h = h
 none_tries n (act.Attempt e m) h = h
 none_tries n (act.Resolve addresses e m) h = h
 none_tries n (act.Connect e from m to) h = h
@@ -132,23 +131,6 @@ dialer_starts configs log e n c d s is acts ok waits =
           ∙ actor_now configs (log ++ e ∷ []) n true (new_dials e.event.at) (is_up-append log e n ∙ (ap (λ b. is_up log n || b) here ∙ or_true (is_up log n))) now;
       attempts = λ k. still_tried configs log e n k d s (attempts_of-append configs log e n k ∙ attempts_kept configs log e n k (attempts_of configs log n k) (ap (tries n) acts)) (waits k);
     }
-
--- ---- its node stops
-
--- no attempt is left of a node that stops, where what waited for them has ended
-pub dialer_stops : (configs : List Config) (log : List Entry) (e : Entry) (n : ℕ) (d : Dialing) → DialerStands configs log n d → e.event.act ≡ act.Stop n
-    → ((k : ℕ) → line (log ++ e ∷ []) (queue.Attempt n k) ≡ []) → DialerStands configs (log ++ e ∷ []) n (record d { attempts = [] })
-dialer_stops configs log e n d s acts waits = record {
-  actor = actor_kept configs log e n d s (ap (starts n) acts) (dials_of-kept configs log e n (ap (dials_by n) acts));
-  attempts = λ k. subst (λ o. AttemptStands (gates_at configs n) k None o (line (log ++ e ∷ []) (queue.Attempt n k))) (sym (gone k)) (waits k);
-}
-  where
-    gone : (k : ℕ) → attempts_of configs (log ++ e ∷ []) n k ≡ None
-    gone k =
-        attempts_of-append configs log e n k
-        ∙ (attempts_acted configs log e n k (attempts_of configs log n) (subst (λ a. Heeds (dial_rules_at configs n) n (length log) e.event.at e.event.seed e.reply (taken log e) e.puts a (attempts_of configs log n)) (sym acts) tt)
-        ∙ (ap (λ a. acted_attempts (dial_rules_at configs n) n (length log) e.event.at e.event.seed e.reply (taken log e) e.puts a (attempts_of configs log n) k) acts
-        ∙ ap (λ b. cond b None (attempts_of configs log n k)) (eq-eqb n n refl)))
 
 -- ---- a step
 

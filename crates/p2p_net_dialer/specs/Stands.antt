@@ -85,7 +85,6 @@ pub record DialerStands (configs : List Config) (log : List Entry) (n : ℕ) (d 
 -- whether an act is of the node's dialer, or of an attempt of it
 abbrev pub is_of_dialer : ℕ → Act → Bool
 is_of_dialer n (act.Dialer m) = m == n
-is_of_dialer n (act.Stop m) = m == n
 is_of_dialer n (act.Attempt e m) = m == n
 is_of_dialer n (act.Resolve addresses e m) = m == n
 is_of_dialer n (act.Connect e from m to) = m == n
