@@ -1,5 +1,5 @@
 -- What an act may tell: where a test holds of none of that, it holds of nothing that the act tells. The one proof that looks at acts.
-use Rattle.std.proofs.Common.{◌≡◌, ℕ, Bool, true, false, List, [], ◌∷◌, ◌++◌, refl, ap, ◌∙◌, Option, Some, None}
+use Rattle.std.proofs.Common.{◌≡◌, ℕ, Bool, false, List, [], ◌∷◌, ◌++◌, refl, ap, ◌∙◌, Option, Some, None}
 use Rattle.std.specs.Prelude.{◌||◌}
 use Rattle.std.specs.List.{list_any}
 use Rattle.p2p_base.specs.declared.key.Key.{Key}
@@ -16,14 +16,13 @@ use Rattle.p2p_log.specs.declared.entry.Reply.{Reply}
 use Rattle.p2p_log.specs.declared.entry.Reply.TheVariants as reply
 use Rattle.p2p_log.specs.declared.event.Act.{Act}
 use Rattle.p2p_log.specs.declared.event.Act.TheVariants as act
-use Rattle.p2p_log.specs.declared.event.Rate.{Rate}
 use Rattle.p2p_log_rules.specs.declared.row.Half.{Half}
 use Rattle.p2p_log_rules.specs.Halves.{half_in}
 use Rattle.p2p_log_rules.specs.HandshakeSteps.{ends_handshake, peer_at}
 use Rattle.p2p_log_rules.specs.Puts.{gave_up, ends_attempt, broke_off, is_answer, turns_away, arrival_link}
 use Rattle.p2p_log_rules.specs.Tellings.{Telling, last_or}
 use Rattle.p2p_log_rules.specs.Tellings as telling
-use Rattle.p2p_log_rules.specs.Told.{spawn_tells, admitted_as, begun_tells, arrival_tells, handshake_tells, sender_tells, end_tells, when, done_tells, asks_list, link_in, dialing_dropped, listening_dropped, half_dropped, half_tells, gates_tell, answer_tells, due_tells, ask_tells, took_tells, left_tells, link_tells, act_tells}
+use Rattle.p2p_log_rules.specs.Told.{spawn_tells, admitted_as, begun_tells, arrival_tells, handshake_tells, sender_tells, end_tells, when, done_tells, asks_list, link_in, dialing_dropped, listening_dropped, half_tells, gates_tell, answer_tells, ask_tells, took_tells, left_tells, link_tells, act_tells}
 use Rattle.p2p_log_rules.proofs.Tellings.{append_quiet, when_quiet, done_quiet}
 
 -- a test holds of nothing that a step of a node's dialer may tell
