@@ -1,8 +1,8 @@
 -- The peer of each handshake that runs dialed its node: it is that of the arrival that the listener took.
-use Rattle.std.proofs.Common.{◌≡◌, ℕ, Bool, true, false, cond, List, [], ◌∷◌, ◌++◌, length, ◌⊎◌, inl, inr, refl, ap, sym, subst, ◌∙◌, eqb-true}
+use Rattle.std.proofs.Common.{◌≡◌, ℕ, Bool, true, false, cond, List, [], ◌∷◌, ◌++◌, length, ◌⊎◌, inl, inr, refl, ap, sym, subst, ◌∙◌, eqb-true, Option, Some, None}
 use Rattle.std.specs.Prelude.{◌==◌, ◌||◌, not, flat_map}
 use Rattle.std.specs.List.{AllByRecursion as Each, list_any}
-use Rattle.std.proofs.lemmas.Bool.{and_parts}
+use Rattle.std.proofs.lemmas.Bool.{and_parts, false≢true}
 use Rattle.std.proofs.lemmas.List.Folds.{list_any-append}
 use Rattle.p2p_base.specs.declared.key.Key.{Key}
 use Rattle.p2p_address.specs.declared.ip.SocketAddr.{SocketAddr}
@@ -21,10 +21,12 @@ use Rattle.p2p_log.specs.declared.event.Act.TheVariants as act
 use Rattle.p2p_log.specs.declared.event.Event.{Event}
 use Rattle.p2p_log.specs.Lines.{name_of, ended_item, live, line}
 use Rattle.p2p_log_rules.specs.declared.row.Row.{Row}
+use Rattle.p2p_log_rules.specs.Dropping.{LinkEnd, arriving_end, dropping, listener_step_row}
 use Rattle.p2p_log_rules.specs.Effect.{effect, row}
 use Rattle.p2p_log_rules.specs.Facts.{is_up, taken}
 use Rattle.p2p_log_rules.specs.Handshakes.{with_admitted, ends_handshake, unless_ended, acted_handshakes, handshakes_of, is_handshaking, Peer, peer_of, peer_at}
 use Rattle.p2p_log_rules.specs.Listening.{known_of, gate_rules_at, arrived_row, arrival_turn, listener_turn, has_place, listener_row}
+use Rattle.p2p_log_rules.specs.Puts.{turns_away}
 use Rattle.p2p_log_rules.specs.Rows.{only}
 use Rattle.p2p_log_rules.proofs.Handshakes.{is_among, among-without, handshakes_of-append, handshaking_early}
 use Rattle.p2p_log_rules.proofs.TakenAt.{taken_at-longer, taken_at-last}
@@ -64,13 +66,25 @@ module _ (configs : List Config) (log : List Entry) (n : ℕ) where
     turn_admits [] so = arrives (line log (queue.Arrivals n)) refl so
     turn_admits (x ∷ rest) so = absurd (cc)
 
-  pub listener_admits : (at : ℕ) → Admits (listener_row configs log n at)
-  listener_admits at = by (is_up log n)
+  row_admits : (at : ℕ) → Admits (listener_row configs log n at)
+  row_admits at = by (is_up log n)
     where
       by : (b : Bool) → Admits
           (cond b (listener_turn (gate_rules_at configs n) (known_of configs log n) (has_place configs log n) n (length log) at (line log (queue.Update n)) (line log (queue.Arrivals n))) (only reply.Gone))
       by true so = turn_admits at (known_of configs log n) (has_place configs log n) (line log (queue.Update n)) so
       by false so = absurd (cc)
+
+  -- nobody who is admitted is turned away
+  through : (r : Row) (b : Bool) → turns_away r.reply ≡ b → Admits r → Admits (dropping log (cond b (arriving_end log n) None) r)
+  through r false is h = h
+  through r true is h = λ so. absurd (false≢true (sym (ap turns_away (same_reply (arriving_end log n) so)) ∙ is))
+    where
+      same_reply : (o : Option LinkEnd) → (dropping log o r).reply ≡ reply.Gates gates.Admitted → r.reply ≡ reply.Gates gates.Admitted
+      same_reply None so = so
+      same_reply (Some cut) so = so
+
+  pub listener_admits : (at : ℕ) → Admits (listener_step_row configs log n at)
+  listener_admits at = let r : Row = listener_row configs log n at in through r (turns_away r.reply) refl (row_admits at)
 
 -- ---- a handshake that runs ran before, or begins so
 

@@ -36,8 +36,8 @@ use Rattle.p2p_log_rules.specs.Connections.{is_ended}
 use Rattle.p2p_log_rules.specs.declared.row.Row.{Row}
 use Rattle.p2p_log_rules.specs.Attempting.{Attempt, dial_rules_at, attempts_of, resolved, given_up_row, resolved_row, ready_row, link_of, took_row as attempt_took_row, attempt_turn, attempt_by, attempt_row}
 use Rattle.p2p_log_rules.specs.Dialing.{Dials, dials_of, in_drawn_order, last_key, dial_puts, answered_row, due_row, dialer_turn, dialer_row}
-use Rattle.p2p_log_rules.specs.Dropping.{LinkEnd, dialing_end, dropping, attempt_step_row}
-use Rattle.p2p_log_rules.specs.Puts.{gave_up}
+use Rattle.p2p_log_rules.specs.Dropping.{LinkEnd, dialing_end, arriving_end, dropping, attempt_step_row, listener_step_row}
+use Rattle.p2p_log_rules.specs.Puts.{gave_up, turns_away}
 use Rattle.p2p_log_rules.specs.Effect.{entry_of, row, send_step_row, recv_step_row}
 use Rattle.p2p_log_rules.specs.Facts.{is_up, taken}
 use Rattle.p2p_log_rules.specs.Handshakes.{is_handshaking, is_accepted, source_at, steps_handshake, takes_acceptance}
@@ -396,12 +396,19 @@ module _ (w : Words) (n name : ℕ) where
     turn_asks m known place [] arrivals = arrival_asks m known place arrivals
     turn_asks m known place (x ∷ xs) arrivals = inl refl
 
-    pub listener_asks : (m : ℕ) → Asks m (listener_row configs log m at).puts
-    listener_asks m = by (is_up log m)
+    row_asks : (m : ℕ) → Asks m (listener_row configs log m at).puts
+    row_asks m = by (is_up log m)
       where
         by : (b : Bool) → Asks m (cond b (listener_turn (gate_rules_at configs m) (known_of configs log m) (has_place configs log m) m (length log) at (line log (queue.Update m)) (line log (queue.Arrivals m))) (only reply.Gone)).puts
         by true = turn_asks m (known_of configs log m) (has_place configs log m) (line log (queue.Update m)) (line log (queue.Arrivals m))
         by false = inl refl
+
+    pub listener_asks : (m : ℕ) → Asks m (listener_step_row configs log m at).puts
+    listener_asks m = let r : Row = listener_row configs log m at in through (cond (turns_away r.reply) (arriving_end log m) None) r (row_asks m)
+      where
+        through : (o : Option LinkEnd) (r : Row) → Asks m r.puts → Asks m (dropping log o r).puts
+        through None r h = h
+        through (Some cut) r h = h
 
     question_counts : (m : ℕ) (key : Key) → one (is_for w n name (queue.Tracker m, item.AskAcceptable (length log) key)) ≤ one w.acceptance
     question_counts m key = by (same_queue (queue.Tracker n) (queue.Tracker m)) w.acceptance (length log == name)
@@ -412,11 +419,11 @@ module _ (w : Words) (n name : ℕ) where
         by true false c = omega arith
         by false b c = omega arith
 
-    pub listening : (m : ℕ) → Asks m (listener_row configs log m at).puts → Answers log (event (act.Listener m)) (listener_row configs log m at)
-    listening m (inl is) = puts_none (act.Listener m) (listener_row configs log m at) (listener_shape configs log m at) (subst (Each Silent) (sym is) tt) refl
+    pub listening : (m : ℕ) → Asks m (listener_step_row configs log m at).puts → Answers log (event (act.Listener m)) (listener_step_row configs log m at)
+    listening m (inl is) = puts_none (act.Listener m) (listener_step_row configs log m at) (listener_shape configs log m at) (subst (Each Silent) (sym is) tt) refl
     listening m (inr asked) = by_name (length log == name) refl
       where
-        by_name : (b : Bool) → (length log == name) ≡ b → Answers log (event (act.Listener m)) (listener_row configs log m at)
+        by_name : (b : Bool) → (length log == name) ≡ b → Answers log (event (act.Listener m)) (listener_step_row configs log m at)
         by_name true same =
             let question : Queue × Item = (queue.Tracker m, item.AskAcceptable (length log) asked.0) in
             record {
@@ -429,5 +436,5 @@ module _ (w : Words) (n name : ℕ) where
               }));
             }
         by_name false differ =
-            puts_none (act.Listener m) (listener_row configs log m at) (listener_shape configs log m at)
+            puts_none (act.Listener m) (listener_step_row configs log m at) (listener_shape configs log m at)
             (subst (Each Silent) (sym asked.1) (silent_item (queue.Tracker m) (item.AskAcceptable (length log) asked.0) (ap (λ b. w.acceptance && b) differ ∙ and_false w.acceptance) refl, tt)) refl

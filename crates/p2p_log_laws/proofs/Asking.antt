@@ -26,12 +26,11 @@ use Rattle.p2p_log.specs.Lines.{line}
 use Rattle.p2p_log.proofs.Each.{Each-weaker}
 use Rattle.p2p_log_rules.specs.Connections.{is_ended}
 use Rattle.p2p_log_rules.specs.declared.row.Row.{Row}
-use Rattle.p2p_log_rules.specs.Dropping.{attempt_step_row, handshake_step_row}
+use Rattle.p2p_log_rules.specs.Dropping.{attempt_step_row, handshake_step_row, listener_step_row}
 use Rattle.p2p_log_rules.specs.Dialing.{dialer_row}
 use Rattle.p2p_log_rules.specs.Effect.{row, send_step_row, recv_step_row}
 use Rattle.p2p_log_rules.specs.Facts.{is_up}
 use Rattle.p2p_log_rules.specs.Handshakes.{is_handshaking, source_at, steps_handshake}
-use Rattle.p2p_log_rules.specs.Listening.{listener_row}
 use Rattle.p2p_log_rules.specs.Rows.{only}
 use Rattle.p2p_log_rules.specs.Tracking.{key_cmp, rules_at, asked_by, calls_of, update_subscriptions, blocked_subscriptions}
 use Rattle.p2p_log_rules.specs.TrackerPuts as puts
@@ -150,7 +149,7 @@ module _ (n name : ℕ) where
     each_unasked (act.Tracker m) other = tracker_at m (m == n) refl
     each_unasked (act.Dialer m) other = all_unasked (dialer_row configs log m at seed).puts (dialer_silent exchanges n name configs log at seed m)
     each_unasked (act.Attempt e m) other = all_unasked (attempt_step_row configs log e m at seed).puts (attempt_silent exchanges n name configs log at seed e m)
-    each_unasked (act.Listener m) other = listens_unasked m (listener_row configs log m at).puts (listener_asks exchanges n name configs log at seed m)
+    each_unasked (act.Listener m) other = listens_unasked m (listener_step_row configs log m at).puts (listener_asks exchanges n name configs log at seed m)
     each_unasked (act.Handshake k m) other = all_unasked (handshake_step_row configs log k m at).puts (row_silent exchanges n name configs log at seed k m other)
     each_unasked (act.Finish link ok) other = out_of_reach (act.Finish link ok) (row configs log at seed (act.Finish link ok)) (row_shape configs log at seed (act.Finish link ok)) (ends_aside (openings_of log link))
     each_unasked (act.SendStep conn m) other =

@@ -103,7 +103,7 @@ module _ (configs : List Config) (log : List Entry) (e n : ℕ) where
       dropping_shape configs log a q r (attempt_within at seed) (cond (gave_up r.puts) o None)
       (λ cut is. attempt_aside cut.0 (other_side cut.1) n e) (λ cut is. towards cut (gave cut (gave_up r.puts) is))
       (λ cut is ev acts x place stands copy bears. inr (inl (record {
-        steps = (e, n, inl acts);
+        steps = (n, inr (e, inl acts));
         cut = cut;
         drops = (0, ap (λ l. slice_get l 0) (drops_of-attempt log (entry_of ev (dropping log (Some cut) r)) e n acts ∙ ap all_of is));
         place = place;

@@ -19,8 +19,7 @@ use Rattle.p2p_log.proofs.Lines.{live-append}
 use Rattle.p2p_log.proofs.QueueNames.{queue_from_same}
 use Rattle.p2p_log.proofs.Taken.{Each-taken}
 use Rattle.p2p_log_rules.specs.Standing.{standing}
-use Rattle.p2p_log_rules.specs.Tellings.{last_told}
-use Rattle.p2p_log_rules.specs.Told.{tells, told}
+use Rattle.p2p_log_rules.specs.Told.{told}
 use Rattle.p2p_log_rules.specs.declared.row.Row.{Row}
 use Rattle.p2p_log_rules.specs.Effect.{effect, entry_of, row}
 use Rattle.p2p_log_rules.specs.Facts.{taken, state_from, with_begun}

@@ -139,7 +139,7 @@ module _ (configs : List Config) (log : List Entry) (e n : ℕ) where
       dropping_shape configs log a q r s.within (cond broke (Some over) None)
       (λ cut is. handshake_aside cut.0 (other_side cut.1) n e) (λ cut is. towards cut (gave cut broke is))
       (λ cut is ev acts x place stands copy bears. inr (inl (record {
-        steps = (e, n, inr acts);
+        steps = (n, inr (e, inr acts));
         cut = cut;
         drops = (0, ap (λ l. slice_get l 0) (drops_of-handshake log (entry_of ev (dropping log (Some cut) r)) e n acts ∙ ap all_of (ap (λ b. cond (b && not (list_any is_spawn r.puts)) (Some over) None) (ends ev cut) ∙ is)));
         place = place;

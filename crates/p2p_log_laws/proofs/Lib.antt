@@ -65,6 +65,7 @@ pub mod HandshakeShape
 pub mod Heeded
 pub mod HeldCalls
 pub mod HeldPeers
+pub mod HeldEnds
 pub mod Holding
 pub mod KeptKnown
 pub mod KillCauses

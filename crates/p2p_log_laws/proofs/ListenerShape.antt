@@ -1,6 +1,7 @@
--- The shape of a listener's step: it moves no copy, and neither grants a key nor releases one.
-use Rattle.std.proofs.Common.{◌≡◌, ℕ, Bool, true, false, cond, List, [], ◌∷◌, refl, subst, sym, ap}
-use Rattle.std.specs.Prelude.{◌||◌, length}
+-- The shape of a listener's step: it neither grants a key nor releases one, and moves no copy, but those end that are in flight towards
+-- the end of an arrival that it turns away.
+use Rattle.std.proofs.Common.{◌≡◌, ℕ, Bool, true, false, cond, List, [], ◌∷◌, map, inl, inr, refl, subst, sym, ap, ◌∙◌, Option, Some, None}
+use Rattle.std.specs.Prelude.{◌||◌, length, slice_get}
 use Rattle.std.specs.List.{AllByRecursion as Each}
 use Rattle.p2p_base.specs.declared.key.Key.{Key}
 use Rattle.p2p_tracker_calls.specs.Gates.{Known, reply_to}
@@ -9,57 +10,102 @@ use Rattle.p2p_tracker_calls.specs.declared.gates.Reply.TheVariants as gates
 use Rattle.p2p_log.specs.declared.config.Config.{Config}
 use Rattle.p2p_log.specs.declared.queue.Queue.{Queue}
 use Rattle.p2p_log.specs.declared.queue.Queue.TheVariants as queue
+use Rattle.p2p_log.specs.declared.queue.Side.{Side}
+use Rattle.p2p_log.specs.declared.queue.Side.TheVariants as side
 use Rattle.p2p_log.specs.declared.item.Item.{Item}
 use Rattle.p2p_log.specs.declared.item.Item.TheVariants as item
 use Rattle.p2p_log.specs.declared.item.Envelope.{Envelope}
 use Rattle.p2p_log.specs.declared.entry.Entry.{Entry}
 use Rattle.p2p_log.specs.declared.entry.Reply.{Reply}
 use Rattle.p2p_log.specs.declared.entry.Reply.TheVariants as reply
+use Rattle.p2p_log.specs.declared.event.Event.{Event}
 use Rattle.p2p_log.specs.declared.event.Act.TheVariants as act
 use Rattle.p2p_log.specs.QueueCode.{same_queue}
 use Rattle.p2p_log.specs.Lines.{name_of, line}
 use Rattle.p2p_log_rules.specs.declared.row.Row.{Row}
+use Rattle.p2p_log_rules.specs.Dropping.{LinkEnd, other_side, arrival_end, oldest_end, arriving_end, dropping, listener_step_row}
+use Rattle.p2p_log_rules.specs.Effect.{entry_of}
 use Rattle.p2p_log_rules.specs.Moves.{Moves}
-use Rattle.p2p_log_rules.specs.Facts.{is_up}
+use Rattle.p2p_log_rules.specs.Puts.{turns_away}
+use Rattle.p2p_log_rules.specs.Facts.{is_up, taken}
 use Rattle.p2p_log_rules.specs.Rows.{only}
 use Rattle.p2p_log_rules.specs.Listening.{known_of, gate_rules_at, gates_puts, arrived_row, arrival_turn, listener_turn, has_place, listener_row}
 use Rattle.p2p_log.proofs.Queues.{same_queue-refl}
+use Rattle.p2p_log_rules.proofs.Dropping.{all_of, drops_of-listener}
 use Rattle.p2p_log_rules.proofs.Moves.{one_taken, first_has}
-use Rattle.p2p_log_laws.proofs.Reaching.{reads, writes}
+use Rattle.p2p_log_laws.proofs.DropShape.{moves, dropping_shape}
+use Rattle.p2p_log_laws.proofs.LineShape.{Within, still_within}
+use Rattle.p2p_log_laws.proofs.Reaching.{in_flight, reads, writes, ends_in}
 use Rattle.p2p_log_laws.proofs.Fitting.{StandsFit, fits, holds_bare, bare_there}
 use Rattle.p2p_log_laws.proofs.Plain.{IsAside, Plain, IsPlain, plain_item, plain_aside}
-use Rattle.p2p_log_laws.proofs.Shape.{Shape, IsQuiet, quiet_laws, still, no_moves, one_move, first_in}
+use Rattle.p2p_log_laws.proofs.Shape.{Shape, IsQuiet, quiet_laws, no_moves, one_move, first_in}
+use Rattle.p2p_log_laws.proofs.Weighing.{taken_items}
 use Rattle.p2p_log_rules.specs.Reading.{is_read}
 
--- a row that moves no copy, no grant and no release, whatever the key, at any node
+-- the end that a listener's step with this reply drops, which took these
+abbrev pub lost_of : Reply → Option LinkEnd → Option LinkEnd
+lost_of r o = cond (turns_away r) o None
+
+none_lost : (r : Reply) (o p : Option LinkEnd) → turns_away r ≡ false → lost_of r o ≡ lost_of r p
+none_lost r o p kept = ap (λ b. cond b o None) kept ∙ sym (ap (λ b. cond b p None) kept)
+
+-- a row that takes the oldest of one line, or nothing, and moves no copy, no grant and no release, whatever the key, at any node
 pub record Aside (configs : List Config) (log : List Entry) (m : ℕ) (r : Row) : Type 0 where
-  pub shape : Shape configs log (act.Listener m) r
+  pub from : Queue
+  pub off : (over : ℕ) (s : Side) → same_queue (queue.Link over s) from ≡ false
+  pub within : Within configs log (act.Listener m) from r
+  -- what it took is the oldest arrival, where it turned that away
+  pub lost : lost_of r.reply (arrival_end (map (λ x. x.item) within.shape.moves.taken)) ≡ lost_of r.reply (arriving_end log m)
   pub plain : (n : ℕ) (key : Key) → (moves : Moves log r) × IsPlain n key log r moves
 
 module _ (configs : List Config) (log : List Entry) (m : ℕ) where
-  idle_aside : (rep : Reply) → is_read rep ≡ false → Aside configs log m (only rep)
-  idle_aside rep silent = record {
-    shape = still configs log (act.Listener m) rep refl silent;
-    plain = λ n key. (no_moves log (only rep) refl refl, record { taken = tt; ended = tt; puts = tt });
-  }
+  off_arrivals : (over : ℕ) (s : Side) → same_queue (queue.Link over s) (queue.Arrivals m) ≡ false
+  off_arrivals over side.Out = refl
+  off_arrivals over side.In = refl
 
-  module _ (q : Queue) (x : Envelope) (rest : List Envelope) (first : line log q ≡ x ∷ rest) (read : reads configs log (act.Listener m) q ≡ true) (bare : holds_bare q ≡ true) (aside : (n : ℕ) → IsAside n q) where
+  off_update : (over : ℕ) (s : Side) → same_queue (queue.Link over s) (queue.Update m) ≡ false
+  off_update over side.Out = refl
+  off_update over side.In = refl
+
+  idle_aside : (rep : Reply) → is_read rep ≡ false → turns_away rep ≡ false → Aside configs log m (only rep)
+  idle_aside rep silent kept =
+      let w : Within configs log (act.Listener m) (queue.Arrivals m) (only rep) = still_within configs log (act.Listener m) (queue.Arrivals m) rep refl silent in
+      record {
+        from = queue.Arrivals m;
+        off = off_arrivals;
+        within = w;
+        lost = none_lost rep (arrival_end (map (λ x. x.item) w.shape.moves.taken)) (arriving_end log m) kept;
+        plain = λ n key. (no_moves log (only rep) refl refl, record { taken = tt; ended = tt; puts = tt });
+      }
+
+  module _ (q : Queue) (off : (over : ℕ) (s : Side) → same_queue (queue.Link over s) q ≡ false) (x : Envelope) (rest : List Envelope) (first : line log q ≡ x ∷ rest)
+      (read : reads configs log (act.Listener m) q ≡ true) (bare : holds_bare q ≡ true) (aside : (n : ℕ) → IsAside n q) where
     -- the oldest of a queue is taken
-    taken_aside : (rep : Reply) → is_read rep ≡ false → (puts : List (Queue × Item)) → Each IsQuiet puts → Each (λ p. writes configs log (act.Listener m) p.0 ≡ true) puts
+    taken_aside : (rep : Reply) → is_read rep ≡ false → lost_of rep (arrival_end (x.item ∷ [])) ≡ lost_of rep (arriving_end log m)
+        → (puts : List (Queue × Item)) → Each IsQuiet puts → Each (λ p. writes configs log (act.Listener m) p.0 ≡ true) puts
         → ((n : ℕ) (key : Key) → Each (Plain n key) puts) → Aside configs log m (record { reply = rep; takes = name_of x ∷ []; puts = puts; ends = [] })
-    taken_aside rep silent puts quiet near plain =
+    taken_aside rep silent lost puts quiet near plain =
         let r : Row = record { reply = rep; takes = name_of x ∷ []; puts = puts; ends = [] } in
         let moves : Moves log r = one_move log q x rest first r refl refl in
         let there : x.queue ≡ q = one_taken log q x rest first in
         record {
-          shape = record {
-            moves = moves;
-            reach = record { taken = (first_in (reads configs log (act.Listener m)) log q x rest first read, tt); ended = tt; puts = near };
-            laws = λ fitting.
-                let whole : fits x.queue x.item ≡ true = first_has StandsFit log q x rest fitting first in
-                let fit : fits q x.item ≡ true = subst (λ p. fits p x.item ≡ true) there whole in
-                quiet_laws configs log (act.Listener m) r moves refl silent (bare_there q x.item bare fit, tt) tt tt quiet;
+          from = q;
+          off = off;
+          within = record {
+            shape = record {
+              moves = moves;
+              reach = record { taken = (first_in (reads configs log (act.Listener m)) log q x rest first read, tt); ended = tt; puts = near };
+              laws = λ fitting.
+                  let whole : fits x.queue x.item ≡ true = first_has StandsFit log q x rest fitting first in
+                  let fit : fits q x.item ≡ true = subst (λ p. fits p x.item ≡ true) there whole in
+                  quiet_laws configs log (act.Listener m) r moves refl silent (bare_there q x.item bare fit, tt) tt tt quiet;
+            };
+            taken = (there, tt);
+            ended = tt;
+            items = tt;
+            silent = silent;
           };
+          lost = lost;
           plain = λ n key. (moves, record { taken = (plain_aside n key x.queue x.item (subst (IsAside n) (sym there) (aside n)), tt); ended = tt; puts = plain n key });
         }
 
@@ -86,29 +132,52 @@ module _ (configs : List Config) (log : List Entry) (m : ℕ) where
       → Aside configs log m (arrived_row (gate_rules_at configs m) known place m (length log) at (name_of x) i)
   arrived_aside known place at x rest first (item.Arrival from key link) =
       let told : GatesReply = reply_to (gate_rules_at configs m) known place from.ip at in
-      taken_aside (queue.Arrivals m) x rest first arrivals_read refl (λ n. (refl, refl)) (reply.Gates told) refl (gates_puts m (length log) key told)
+      taken_aside (queue.Arrivals m) off_arrivals x rest first arrivals_read refl (λ n. (refl, refl)) (reply.Gates told) refl (ap (lost_of (reply.Gates told)) (sym (ap oldest_end first))) (gates_puts m (length log) key told)
       (quiet_gates (length log) key told) (near_gates (length log) key told) (plain_gates (length log) key told)
-  arrived_aside known place at x rest first _ = idle_aside reply.Idle refl
+  arrived_aside known place at x rest first _ = idle_aside reply.Idle refl refl
 
   arrival_aside : (known : Known) (place : Bool) (at : ℕ) (xs : List Envelope) → line log (queue.Arrivals m) ≡ xs → Aside configs log m (arrival_turn (gate_rules_at configs m) known place m (length log) at xs)
-  arrival_aside known place at [] none = idle_aside reply.Idle refl
+  arrival_aside known place at [] none = idle_aside reply.Idle refl refl
   arrival_aside known place at (x ∷ rest) first = arrived_aside known place at x rest first x.item
 
   turn_aside : (known : Known) (place : Bool) (at : ℕ) (us : List Envelope) → line log (queue.Update m) ≡ us
       → Aside configs log m (listener_turn (gate_rules_at configs m) known place m (length log) at us (line log (queue.Arrivals m)))
   turn_aside known place at [] none = arrival_aside known place at (line log (queue.Arrivals m)) refl
-  turn_aside known place at (x ∷ rest) first = taken_aside (queue.Update m) x rest first update_read refl (λ n. (refl, refl)) reply.Ok refl [] tt tt (λ n key. tt)
+  turn_aside known place at (x ∷ rest) first = taken_aside (queue.Update m) off_update x rest first update_read refl (λ n. (refl, refl)) reply.Ok refl refl [] tt tt (λ n key. tt)
 
-  listener_aside : (at : ℕ) → Aside configs log m (listener_row configs log m at)
+  pub listener_aside : (at : ℕ) → Aside configs log m (listener_row configs log m at)
   listener_aside at = by_up (is_up log m)
     where
       by_up : (b : Bool) → Aside configs log m
           (cond b (listener_turn (gate_rules_at configs m) (known_of configs log m) (has_place configs log m) m (length log) at (line log (queue.Update m)) (line log (queue.Arrivals m))) (only reply.Gone))
       by_up true = turn_aside (known_of configs log m) (has_place configs log m) at (line log (queue.Update m)) refl
-      by_up false = idle_aside reply.Gone refl
+      by_up false = idle_aside reply.Gone refl refl
 
-pub listener_shape : (configs : List Config) (log : List Entry) (m at : ℕ) → Shape configs log (act.Listener m) (listener_row configs log m at)
-listener_shape configs log m at = (listener_aside configs log m at).shape
+  -- the end of an arrival that it turns away is dropped
+  pub listener_shape : (at : ℕ) → Shape configs log (act.Listener m) (listener_step_row configs log m at)
+  listener_shape at =
+      dropping_shape configs log (act.Listener m) s.from r s.within (lost_of r.reply (arriving_end log m))
+      (λ cut is. s.off cut.0 (other_side cut.1)) (λ cut is. towards cut (turns_away r.reply) is)
+      (λ cut is ev acts x place stands copy bears. inr (inl (record {
+        steps = (m, inl acts);
+        cut = cut;
+        drops = (0, ap (λ l. slice_get l 0) (drops_of-listener log (entry_of ev (dropping log (Some cut) r)) m acts ∙ ap all_of (took ev cut ∙ is)));
+        place = place;
+        left = x;
+        stood = stands;
+        carried = bears;
+      })))
+    where
+      r : Row
+      r = listener_row configs log m at
 
-pub listener_plain : (configs : List Config) (log : List Entry) (m at n : ℕ) (key : Key) → (moves : Moves log (listener_row configs log m at)) × IsPlain n key log (listener_row configs log m at) moves
-listener_plain configs log m at n key = (listener_aside configs log m at).plain n key
+      s : Aside configs log m r
+      s = listener_aside at
+
+      towards : (cut : LinkEnd) (b : Bool) → cond b (arriving_end log m) None ≡ Some cut → ends_in configs log (act.Listener m) (queue.Link cut.0 (other_side cut.1)) ≡ true
+      towards cut true is = ap (λ o. in_flight o (queue.Link cut.0 (other_side cut.1))) is ∙ same_queue-refl (queue.Link cut.0 (other_side cut.1))
+      towards cut false is = cc
+
+      took : (ev : Event) (cut : LinkEnd) → lost_of r.reply (arrival_end (taken log (entry_of ev (dropping log (Some cut) r)))) ≡ lost_of r.reply (arriving_end log m)
+      took ev cut =
+          ap (λ items. lost_of r.reply (arrival_end items)) (taken_items log ev (dropping log (Some cut) r) (moves configs log (act.Listener m) s.from r s.within cut (s.off cut.0 (other_side cut.1)))) ∙ s.lost

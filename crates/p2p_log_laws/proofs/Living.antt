@@ -26,7 +26,7 @@ use Rattle.p2p_log_rules.specs.Dropping.{other_side, is_dropped}
 use Rattle.p2p_log_rules.specs.Effect
 use Rattle.p2p_log_rules.specs.Effect.{row, effect, limit_at}
 use Rattle.p2p_log_rules.specs.Ending.{end_row}
-use Rattle.p2p_log_rules.specs.Facts.{is_up, channels, capacity_in, history_from, taken}
+use Rattle.p2p_log_rules.specs.Facts.{is_up, channels, capacity_in, taken}
 use Rattle.p2p_log_rules.specs.Frames.{message_in, is_ping_in}
 use Rattle.p2p_log_rules.specs.Lawful.{IsLawful}
 use Rattle.p2p_log_rules.specs.Metering.{pings, messages, may_pass}

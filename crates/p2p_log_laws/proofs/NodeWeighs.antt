@@ -36,8 +36,8 @@ use Rattle.p2p_log_rules.specs.Handshaking.{handshake_deadline, is_due, handshak
 use Rattle.p2p_log_rules.specs.Links.{openings_of, listening_ends_of, finished_row, verdict, finish_by, finish_row}
 use Rattle.p2p_log_rules.specs.Listening.{listener_row}
 use Rattle.p2p_log_rules.specs.Connections.{ends_connection, half_at, is_ended}
-use Rattle.p2p_log_rules.specs.Dropping.{dialing_end, attempt_step_row, handshake_step_row}
-use Rattle.p2p_log_rules.specs.Puts.{gave_up, broke_off}
+use Rattle.p2p_log_rules.specs.Dropping.{dialing_end, arriving_end, attempt_step_row, handshake_step_row}
+use Rattle.p2p_log_rules.specs.Puts.{gave_up, broke_off, turns_away}
 use Rattle.p2p_log_rules.specs.Effect.{entry_of, row, send_step_row, recv_step_row}
 use Rattle.p2p_log_rules.specs.Facts.{taken, with_named, with_begun}
 use Rattle.p2p_log_rules.specs.Moves.{Moves}
@@ -62,7 +62,7 @@ use Rattle.p2p_log_laws.proofs.Plain.{IsAside, Away, Plain, StandsPlain, away_as
 use Rattle.p2p_log_laws.proofs.HandshakeShape.{handshake_shape}
 use Rattle.p2p_log_laws.proofs.ReceiverShape.{recv_step_shape}
 use Rattle.p2p_log_laws.proofs.Shape.{Shape, no_moves}
-use Rattle.p2p_log_laws.proofs.ListenerShape.{listener_plain}
+use Rattle.p2p_log_laws.proofs.ListenerShape.{listener_aside, listener_shape}
 use Rattle.p2p_log_laws.proofs.Shapes.{row_shape}
 use Rattle.p2p_log_laws.proofs.HalfSteps.{send_is, receive_is}
 use Rattle.p2p_log_laws.proofs.SpawnerGrants.{Made, spawner_makes}
@@ -400,8 +400,11 @@ module _ (configs : List Config) (n : ℕ) (key : Key) (log : List Entry) where
     each_weighs fitting first unended (act.Handshake i m) = handshake_at i m (m == n) refl (first i)
     each_weighs fitting first unended (act.Finish link ok) = finish_weighs link ok
     each_weighs fitting first unended (act.Listener m) =
-        let aside = listener_plain configs log m at n key in
-        weighs.plain_weighs configs n key log (event at seed (act.Listener m)) (listener_row configs log m at) refl refl (λ k. refl) aside.0 aside.1 (untried (act.Listener m) (listener_row configs log m at) refl)
+        let aside = (listener_aside configs log m at).plain n key in
+        let r : Row = listener_row configs log m at in
+        let ev : Event = event at seed (act.Listener m) in
+        weighs.dropped_weighs configs n key log at seed ev r (cond (turns_away r.reply) (arriving_end log m) None)
+        (weighs.plain_weighs configs n key log ev r refl refl (λ k. refl) aside.0 aside.1 (untried (act.Listener m) r refl)) (listener_shape configs log m at).moves
     each_weighs fitting first unended (act.Resolve addresses i m) =
         let r : Row = resolve_row configs log addresses i m in
         weighs.other configs n key log at seed (act.Resolve addresses i m) r (row_shape configs log at seed (act.Resolve addresses i m)) (record { dialer = refl; handshakes = λ h. refl; spawner = refl; tracker = refl })

@@ -19,7 +19,7 @@ use Rattle.p2p_log_rules.specs.declared.row.Row.{Row}
 use Rattle.p2p_log_rules.specs.declared.row.Half.{Half}
 use Rattle.p2p_log_rules.specs.Attempting.{attempts_of}
 use Rattle.p2p_log_rules.specs.Connections.{half_at}
-use Rattle.p2p_log_rules.specs.Dropping.{LinkEnd, dialing_end, half_end}
+use Rattle.p2p_log_rules.specs.Dropping.{LinkEnd, dialing_end, arriving_end, half_end}
 use Rattle.p2p_log_rules.specs.Handshakes.{peer_at}
 use Rattle.p2p_log_rules.specs.Moves.{Moves}
 use Rattle.p2p_log_rules.proofs.Touches.{away}
@@ -82,6 +82,8 @@ ends_away configs log n (act.Handshake e m) written =
       spawner = far.spawner;
       tracker = far.tracker;
     }
+ends_away configs log n (act.Listener m) written =
+    let far = flying_away n (arriving_end log m) in record { dialer = far.dialer; handshakes = far.handshakes; spawner = far.spawner; tracker = far.tracker }
 ends_away configs log n a written = written
 
 module _ (n : ℕ) (key : Key) where

@@ -17,7 +17,7 @@ use Rattle.p2p_log_rules.specs.declared.row.Half.{Half}
 use Rattle.p2p_log_rules.specs.declared.row.Row.{Row}
 use Rattle.p2p_log_rules.specs.Attempting.{attempts_of}
 use Rattle.p2p_log_rules.specs.Connections.{half_at}
-use Rattle.p2p_log_rules.specs.Dropping.{LinkEnd, other_side, dialing_end, half_end}
+use Rattle.p2p_log_rules.specs.Dropping.{LinkEnd, other_side, dialing_end, arriving_end, half_end}
 use Rattle.p2p_log_rules.specs.Effect.{entry_of, goes_to}
 use Rattle.p2p_log_rules.specs.Handshakes.{peer_at}
 use Rattle.p2p_log_rules.specs.Moves.{Moves}
@@ -60,6 +60,7 @@ ends_in configs log (act.SendStep conn n) q = in_connection (half_at log n conn)
 ends_in configs log (act.RecvStep conn n) q = in_connection (half_at log n conn) n conn q
 ends_in configs log (act.Attempt e n) q = same_queue (queue.Attempt n e) q || in_flight (dialing_end log n e) q
 ends_in configs log (act.Handshake e n) q = same_queue (queue.Handshake n e) q || in_flight (Some ((peer_at log e).link, side.In)) q
+ends_in configs log (act.Listener n) q = in_flight (arriving_end log n) q
 ends_in configs log a q = touches.writes configs log a q
 
 -- a row stays within its act's reach

@@ -83,13 +83,13 @@ pub record IsEndedWith (before : List Entry) (e : Entry) (copy : ℕ × ℕ) : T
   pub stood : slice_get (line before from) place ≡ Some left
   pub carried : carries copy left ≡ true
 
--- an act is a step of an attempt or of a handshake
-abbrev pub StepsBeginner : Act → Type 0
-StepsBeginner a = (name : ℕ) × (node : ℕ) × ((a ≡ act.Attempt name node) ⊎ (a ≡ act.Handshake name node))
+-- an act is a step of a gate: of a listener, of an attempt or of a handshake
+abbrev pub StepsGate : Act → Type 0
+StepsGate a = (node : ℕ) × ((a ≡ act.Listener node) ⊎ ((name : ℕ) × ((a ≡ act.Attempt name node) ⊎ (a ≡ act.Handshake name node))))
 
 -- the entry is such a step, which drops an end of a link: the copy's frame was in flight towards it
 pub record IsCutOff (configs : List Config) (before : List Entry) (e : Entry) (copy : ℕ × ℕ) : Type 0 where
-  pub steps : StepsBeginner e.event.act
+  pub steps : StepsGate e.event.act
   pub cut : LinkEnd
   pub drops : IsAmong (drops_of before e) cut
   pub place : ℕ

@@ -25,7 +25,7 @@ use Rattle.p2p_log_rules.specs.Facts.{taken, with_named, with_begun}
 use Rattle.p2p_log_rules.specs.Tellings.{Telling, Last, last_told, last_or, or_new, first_or, any_or, least_by, least_or}
 use Rattle.p2p_log_rules.specs.Tellings as telling
 use Rattle.p2p_log_rules.specs.Puts.{gave_up, ends_attempt, broke_off}
-use Rattle.p2p_log_rules.specs.Told.{Begun, begins, ends, opens, opened_since, link_in, dialing_dropped, when, done_tells, asks_list, half_tells, turned_away, gates_tell, answer_tells, ask_tells, took_tells, left_tells, link_tells, act_tells, tells, told}
+use Rattle.p2p_log_rules.specs.Told.{Begun, begins, ends, opens, opened_since, link_in, dialing_dropped, when, done_tells, asks_list, half_tells, gates_tell, answer_tells, ask_tells, took_tells, left_tells, link_tells, act_tells, tells, told}
 use Rattle.p2p_log_rules.proofs.Facts.{list_any-last}
 use Rattle.p2p_log_rules.proofs.Families.{kind, has, untold_act}
 use Rattle.p2p_log_rules.proofs.Named.{NoneFrom, either_none, named_none, begun_none}

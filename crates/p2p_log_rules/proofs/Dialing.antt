@@ -147,6 +147,27 @@ dials_of-kept configs log e n h =
 
 -- ---- by its act
 
+-- one that takes and puts nothing, and starts no node
+pub dials_of-still : (configs : List Config) (log : List Entry) (e : Entry) (n : ℕ) → starts n e.event.act ≡ false → taken log e ≡ [] → e.puts ≡ [] → dials_of configs (log ++ e ∷ []) n ≡ dials_of configs log n
+unfolding tells
+dials_of-still configs log e n no_start none no_puts = by e.event.act refl
+  where
+    pace : Pace
+    pace = pace_at configs n
+
+    d : Dials
+    d = dials_of configs log n
+
+    by : (a : Act) → e.event.act ≡ a → dials_of configs (log ++ e ∷ []) n ≡ dials_of configs log n
+    by (act.Start m) is = dials_of-kept configs log e n (ap (dials_by n) is ∙ (sym (ap (starts n) is) ∙ no_start))
+    by (act.Dialer m) is =
+        let asked : ℕ = last_or 0 (asks_list m) (told log) in
+        dials_of-append configs log e n
+        ∙ (ap (λ a. dials_told pace n (act_tells (told log) log (length log) e.event.at e.event.seed e.reply (taken log e) e.puts a) d) is
+        ∙ (ap (λ items. dials_told pace n (answer_tells m asked (length log) e.event.at e.event.seed items ++ ask_tells m e.event.at items e.puts) d) none
+        ∙ ap (λ puts. dials_told pace n (ask_tells m e.event.at [] puts) d) no_puts))
+    by a is = dials_of-kept configs log e n (ap (dials_by n) is)
+
 -- at the start of its node
 pub dials_of-starts : (configs : List Config) (log : List Entry) (e : Entry) (n : ℕ) → e.event.act ≡ act.Start n → e.reply ≡ reply.Ok → dials_of configs (log ++ e ∷ []) n ≡ new_dials e.event.at
 unfolding tells

@@ -18,16 +18,16 @@ use Rattle.p2p_log.specs.declared.event.Act.{Act}
 use Rattle.p2p_log.specs.declared.event.Act.TheVariants as act
 use Rattle.p2p_log_rules.specs.declared.row.Half.{Half}
 use Rattle.p2p_log_rules.specs.Connections.{half_at, is_end}
-use Rattle.p2p_log_rules.specs.Dropping.{LinkEnd, is_side, drops, is_dropped, drop_in, drops_in, drops_of, dialing_end, half_end}
+use Rattle.p2p_log_rules.specs.Dropping.{LinkEnd, is_side, drops, is_dropped, drop_in, drops_in, drops_of, dialing_end, arrival_end, half_end}
 use Rattle.p2p_log_rules.specs.Facts.{taken, state_from}
 use Rattle.p2p_log_rules.specs.HalfSteps.{puts_ping, holds}
 use Rattle.p2p_log_rules.specs.Halves.{half_in}
 use Rattle.p2p_log_rules.specs.Handshakes.{ends_handshake, peer_at}
-use Rattle.p2p_log_rules.specs.Puts.{is_spawn, gave_up, broke_off, is_answer}
+use Rattle.p2p_log_rules.specs.Puts.{is_spawn, gave_up, broke_off, is_answer, turns_away, arrival_link}
 use Rattle.p2p_log_rules.specs.Spawning.{connections_of}
 use Rattle.p2p_log_rules.specs.Tellings.{Telling}
 use Rattle.p2p_log_rules.specs.Tellings as telling
-use Rattle.p2p_log_rules.specs.Told.{pinged_tells, admitted_tells, judged_tells, heard_tells, when, done_tells, link_in, dialing_dropped, half_tells, end_tells, sender_tells, handshake_tells, admitted_as, begun_tells, arrival_tells, gates_tell, took_tells, left_tells, act_tells, tells, told}
+use Rattle.p2p_log_rules.specs.Told.{when, done_tells, link_in, dialing_dropped, listening_dropped, half_tells, end_tells, sender_tells, handshake_tells, admitted_as, begun_tells, arrival_tells, gates_tell, took_tells, left_tells, act_tells, tells, told, pinged_tells, admitted_tells, judged_tells, heard_tells}
 use Rattle.p2p_log_rules.proofs.Families.{kind, kinds_of, has, are_apart, untold_of}
 use Rattle.p2p_log_rules.proofs.Tellings.{told-append}
 
@@ -111,14 +111,14 @@ let_in_drops n conn at _ (i ∷ items) puts = by (holds puts)
     by true = refl
     by false = refl
 
-judged_drops : (n at : ℕ) (from : IpAddr) (r : Reply) → drops_in (judged_tells n at from r) ≡ []
-judged_drops n at from (reply.Gates g) = refl
-judged_drops n at from _ = refl
+said_drops : (n at : ℕ) (from : IpAddr) (r : Reply) → drops_in (judged_tells n at from r) ≡ []
+said_drops n at from (reply.Gates g) = refl
+said_drops n at from _ = refl
 
-heard_drops : (n at : ℕ) (r : Reply) (items : List Item) → drops_in (heard_tells n at r items) ≡ []
-heard_drops n at r (item.Addresses addresses ∷ items) = refl
-heard_drops n at r (item.Arrival from key link ∷ items) = judged_drops n at from.ip r
-heard_drops n at r _ = refl
+judged_drops : (n at : ℕ) (r : Reply) (items : List Item) → drops_in (heard_tells n at r items) ≡ []
+judged_drops n at r (item.Addresses addresses ∷ items) = refl
+judged_drops n at r (item.Arrival from key link ∷ items) = said_drops n at from.ip r
+judged_drops n at r _ = refl
 
 drops_before : (ts us : List Telling) → drops_in us ≡ [] → drops_in (ts ++ us) ≡ drops_in ts
 drops_before ts us none = drops_in-append ts us ∙ (ap (λ l. drops_in ts ++ l) none ∙ append-nil (drops_in ts))
@@ -162,6 +162,11 @@ arrival_drops n name r items =
     begins None = refl
     begins (Some h) = refl
 
+heard_drops : (b : Bool) (o : Option ℕ) → drops_in (when b (listening_dropped o)) ≡ all_of (cond b (option_map (λ l. (l, side.In)) o) None)
+heard_drops true None = refl
+heard_drops true (Some link) = refl
+heard_drops false o = refl
+
 module _ (log : List Entry) (e : Entry) where
   abbrev acts_tell : Act → List Telling
   acts_tell a = act_tells (told log) log (length log) e.event.at e.event.seed e.reply (taken log e) e.puts a
@@ -197,12 +202,12 @@ module _ (log : List Entry) (e : Entry) where
       ∙ (drops_before (end_tells n conn e.reply ++ half_tells e.reply (half_in (told log) n conn)) (admitted_tells n conn e.event.at e.reply (taken log e) e.puts) (let_in_drops n conn e.event.at e.reply (taken log e) e.puts)
       ∙ over_drops n conn e.reply (half_at log n conn))
 
-  -- a step that does not admit an arrival drops its end
-  pub drops_of-listener : (n : ℕ) → e.event.act ≡ act.Listener n → drops_of log e ≡ drops_in (gates_tell e.reply (taken log e))
+  -- a step that turns an arrival away drops its end
+  pub drops_of-listener : (n : ℕ) → e.event.act ≡ act.Listener n → drops_of log e ≡ all_of (cond (turns_away e.reply) (arrival_end (taken log e)) None)
   drops_of-listener n is =
       tells_act (act.Listener n) is
-      ∙ (drops_before (arrival_tells n (admitted_as (length log) e.reply) (taken log e) ++ (begun_tells n (admitted_as (length log) e.reply) ++ gates_tell e.reply (taken log e))) (heard_tells n e.event.at e.reply (taken log e)) (heard_drops n e.event.at e.reply (taken log e))
-      ∙ arrival_drops n (length log) e.reply (taken log e))
+      ∙ (drops_before (arrival_tells n (admitted_as (length log) e.reply) (taken log e) ++ (begun_tells n (admitted_as (length log) e.reply) ++ gates_tell e.reply (taken log e))) (heard_tells n e.event.at e.reply (taken log e)) (judged_drops n e.event.at e.reply (taken log e))
+      ∙ (arrival_drops n (length log) e.reply (taken log e) ∙ heard_drops (turns_away e.reply) (arrival_link (taken log e))))
 
 -- where no end is told of, none is dropped
 none_dropped : (ts : List Telling) → list_any is_drop ts ≡ false → drops_in ts ≡ []

@@ -18,15 +18,14 @@ use Rattle.p2p_log.specs.declared.entry.Reply.{Reply}
 use Rattle.p2p_log.specs.declared.entry.Reply.TheVariants as reply
 use Rattle.p2p_log.specs.declared.event.Act.{Act}
 use Rattle.p2p_log.specs.declared.event.Act.TheVariants as act
-use Rattle.p2p_log.specs.declared.event.Rate.{Rate}
 use Rattle.p2p_log_rules.specs.declared.row.Half.{Half}
 use Rattle.p2p_log_rules.specs.HalfSteps.{puts_ping, holds}
 use Rattle.p2p_log_rules.specs.Halves.{half_in}
 use Rattle.p2p_log_rules.specs.HandshakeSteps.{ends_handshake, peer_at}
-use Rattle.p2p_log_rules.specs.Puts.{gave_up, ends_attempt, broke_off, is_answer}
+use Rattle.p2p_log_rules.specs.Puts.{gave_up, ends_attempt, broke_off, is_answer, turns_away, arrival_link}
 use Rattle.p2p_log_rules.specs.Tellings.{Telling, last_or}
 use Rattle.p2p_log_rules.specs.Tellings as telling
-use Rattle.p2p_log_rules.specs.Told.{pinged_tells, admitted_tells, check_tells, judged_tells, heard_tells, admitted_in, spawn_tells, admitted_as, begun_tells, arrival_tells, handshake_tells, sender_tells, end_tells, when, done_tells, asks_list, link_in, dialing_dropped, half_dropped, half_tells, turned_away, gates_tell, answer_tells, due_tells, ask_tells, took_tells, left_tells, link_tells, act_tells}
+use Rattle.p2p_log_rules.specs.Told.{spawn_tells, admitted_as, begun_tells, arrival_tells, handshake_tells, sender_tells, end_tells, when, done_tells, asks_list, link_in, dialing_dropped, listening_dropped, half_tells, gates_tell, answer_tells, ask_tells, took_tells, left_tells, link_tells, act_tells, pinged_tells, admitted_tells, check_tells, judged_tells, heard_tells, admitted_in}
 use Rattle.std.proofs.lemmas.List.Folds.{list_any-append}
 use Rattle.p2p_log_rules.proofs.Tellings.{append_quiet, when_quiet, done_quiet}
 
@@ -110,14 +109,12 @@ module _ (test : Telling → Bool) (name at : ℕ) where
   half_quiet (reply.Ended why) (Some half) h = one (telling.end_dropped half.link half.writes) (h half.link half.writes)
   half_quiet _ o h = refl
 
-  turned_quiet : (g : Gates) (items : List Item) → ((link : ℕ) → test (telling.end_dropped link side.In) ≡ false) → list_any test (turned_away g items) ≡ false
-  turned_quiet gates.Admitted items h = refl
-  turned_quiet _ (item.Arrival from key link ∷ items) h = one (telling.end_dropped link side.In) (h link)
-  turned_quiet _ _ h = refl
+  heard_quiet : (o : Option ℕ) → ((link : ℕ) → test (telling.end_dropped link side.In) ≡ false) → list_any test (listening_dropped o) ≡ false
+  heard_quiet None h = refl
+  heard_quiet (Some link) h = one (telling.end_dropped link side.In) (h link)
 
   pub gates_quiet : (r : Reply) (items : List Item) → ((link : ℕ) → test (telling.end_dropped link side.In) ≡ false) → list_any test (gates_tell r items) ≡ false
-  gates_quiet (reply.Gates g) items h = turned_quiet g items h
-  gates_quiet _ items h = refl
+  gates_quiet r items h = when_quiet test (turns_away r) (listening_dropped (arrival_link items)) (heard_quiet (arrival_link items) h)
 
   pub begun_quiet : (m : ℕ) (r : Reply) → test (telling.handshake_begun m name) ≡ false → list_any test (begun_tells m (admitted_as name r)) ≡ false
   begun_quiet m (reply.Gates gates.Admitted) h = one (telling.handshake_begun m name) h

@@ -30,7 +30,7 @@ module _ (configs : List Config) (log : List Entry) (k n at seed : ℕ) (ev : Ev
   abbrev q : Queue
   q = queue.Attempt n k
 
-  abbrev RowAgrees : Row → Attempt → Type 0
+  abbrev pub RowAgrees : Row → Attempt → Type 0
   RowAgrees r a = Agrees rules n k at seed r.reply (taken log (entry_of ev r)) r.puts a
 
   took_one : (r : Row) (x : Envelope) (rest : List Envelope) → line log q ≡ x ∷ rest → r.takes ≡ name_of x ∷ [] → taken log (entry_of ev r) ≡ x.item ∷ []
@@ -69,17 +69,19 @@ module _ (configs : List Config) (log : List Entry) (k n at seed : ℕ) (ev : Ev
   turn_agrees full a (x ∷ rest) first = took_agrees a x rest first full x.item refl
 
   -- where it drops its end too
-  dropping_agrees : (o : Option LinkEnd) (r : Row) (a : Attempt) → RowAgrees r a → RowAgrees (dropping log o r) a
+  pub dropping_agrees : (o : Option LinkEnd) (r : Row) (a : Attempt) → RowAgrees r a → RowAgrees (dropping log o r) a
   unfolding taken
   dropping_agrees None r a h = h
   dropping_agrees (Some end) r a h = h
 
+  pub row_agrees : (a : Attempt) → attempts_of configs log n k ≡ Some a → RowAgrees (attempt_row configs log k n at seed) a
+  row_agrees a stands =
+      subst (λ o. RowAgrees (attempt_by o n at seed (is_spawner_full configs log n) rules.private (line log q)) a) (sym stands)
+      (turn_agrees (is_spawner_full configs log n) a (line log q) refl)
+
   pub step_agrees : (a : Attempt) → attempts_of configs log n k ≡ Some a → RowAgrees (attempt_step_row configs log k n at seed) a
   step_agrees a stands =
-      let r : Row = attempt_row configs log k n at seed in
-      dropping_agrees (cond (gave_up r.puts) (dialing_end log n k) None) r a
-      (subst (λ o. RowAgrees (attempt_by o n at seed (is_spawner_full configs log n) rules.private (line log q)) a) (sym stands)
-      (turn_agrees (is_spawner_full configs log n) a (line log q) refl))
+      let r : Row = attempt_row configs log k n at seed in dropping_agrees (cond (gave_up r.puts) (dialing_end log n k) None) r a (row_agrees a stands)
 
 -- an event's entry heeds the attempts that stand
 pub effect_heeds : (configs : List Config) (log : List Entry) (ev : Event) (n : ℕ) → HeedsAttempt configs n log (effect configs log ev) (attempts_of configs log n)

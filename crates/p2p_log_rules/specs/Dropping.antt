@@ -1,4 +1,4 @@
--- Which ends of links were dropped, by the log, and what a step of an attempt or of a handshake comes to that drops one.
+-- Which ends of links were dropped, by the log, and what a step of an attempt, of a handshake or of a listener comes to that drops one.
 use Rattle.std.specs.Prelude.{ℕ, Bool, true, false, ◌==◌, ◌&&◌, cond, List, [], ◌∷◌, ◌++◌, map, flat_map, take, Option, Some, None}
 use Rattle.std.specs.List.{list_any}
 use Rattle.std.specs.Option.{option_map}
@@ -22,7 +22,8 @@ use Rattle.p2p_log_rules.specs.declared.row.Row.{Row}
 use Rattle.p2p_log_rules.specs.Attempting.{attempt_row}
 use Rattle.p2p_log_rules.specs.Handshakes.{peer_at}
 use Rattle.p2p_log_rules.specs.Handshaking.{handshake_row}
-use Rattle.p2p_log_rules.specs.Puts.{gave_up, broke_off}
+use Rattle.p2p_log_rules.specs.Listening.{listener_row}
+use Rattle.p2p_log_rules.specs.Puts.{gave_up, broke_off, turns_away, arrival_link}
 use Rattle.p2p_log_rules.specs.Tellings.{Telling}
 use Rattle.p2p_log_rules.specs.Tellings as telling
 use Rattle.p2p_log_rules.specs.Told.{tells, told, link_in}
@@ -67,6 +68,19 @@ drops_of log e = drops_in (tells (told log) log e)
 abbrev pub dialing_end : List Entry → ℕ → ℕ → Option LinkEnd
 dialing_end log n k = option_map (λ link. (link, side.Out)) (link_in (told log) n k)
 
+-- the end of an arrival
+abbrev pub arrival_end : List Item → Option LinkEnd
+arrival_end items = option_map (λ link. (link, side.In)) (arrival_link items)
+
+-- that of the oldest of these
+abbrev pub oldest_end : List Envelope → Option LinkEnd
+oldest_end [] = None
+oldest_end (x ∷ xs) = arrival_end (x.item ∷ [])
+
+-- that of the oldest at a node's listener
+abbrev pub arriving_end : List Entry → ℕ → Option LinkEnd
+arriving_end log n = oldest_end (line log (queue.Arrivals n))
+
 abbrev pub half_end : Option Half → Option LinkEnd
 half_end o = option_map (λ (half : Half). (half.link, half.writes)) o
 
@@ -81,7 +95,7 @@ abbrev pub dropping : List Entry → Option LinkEnd → Row → Row
 dropping log None r = r
 dropping log (Some e) r = record r { ends = r.ends ++ all_end cause.ConnectionEnded (frames_towards log e) }
 
--- ---- the steps of attempts and handshakes
+-- ---- the steps of attempts, handshakes and listeners
 
 -- an attempt that ends without a connection drops its end
 abbrev pub attempt_drops : List Entry → ℕ → ℕ → Row → Row
@@ -98,3 +112,10 @@ handshake_drops log link waiting r =
 abbrev pub handshake_step_row : List Config → List Entry → ℕ → ℕ → ℕ → Row
 handshake_step_row configs log name n at =
     handshake_drops log (peer_at log name).link (line log (queue.Handshake n name)) (handshake_row configs log name n at)
+
+-- and a listener that of an arrival that it turns away
+abbrev pub listener_drops : List Entry → ℕ → Row → Row
+listener_drops log n r = dropping log (cond (turns_away r.reply) (arriving_end log n) None) r
+
+abbrev pub listener_step_row : List Config → List Entry → ℕ → ℕ → Row
+listener_step_row configs log n at = listener_drops log n (listener_row configs log n at)

@@ -34,7 +34,7 @@ use Rattle.p2p_log.specs.Lines.{line, live, name_of, stands_in, stays}
 use Rattle.p2p_log_rules.specs.Facts.{is_up, channels, capacity_in, capacity_for, sum_capacities, subscribers, routes, with_route, keys_in, route_to}
 use Rattle.p2p_log_rules.specs.Connections.{live_half, is_begun, is_running, is_ended}
 pub use Rattle.p2p_log_rules.specs.Dropping.{other_side}
-use Rattle.p2p_log_rules.specs.Dropping.{is_dropped, attempt_step_row, handshake_step_row}
+use Rattle.p2p_log_rules.specs.Dropping.{is_dropped, attempt_step_row, handshake_step_row, listener_step_row}
 use Rattle.p2p_log_rules.specs.Ending.{end_row}
 use Rattle.p2p_log_rules.specs.Frames.{frame_of, message_in, is_ping_in}
 pub use Rattle.p2p_log_rules.specs.Metering.{limit_at}
@@ -47,7 +47,6 @@ use Rattle.p2p_log_rules.specs.Closing.{is_closed, has_reader, close_row, refuse
 use Rattle.p2p_log_rules.specs.Attempting.{resolve_row, refuse_row, connect_row}
 use Rattle.p2p_log_rules.specs.Dialing.{dialer_row}
 use Rattle.p2p_log_rules.specs.Links.{finish_row}
-use Rattle.p2p_log_rules.specs.Listening.{listener_row}
 use Rattle.p2p_log_rules.specs.Spawning.{spawner_row}
 use Rattle.p2p_log_rules.specs.TrackerRows.{ask_row, answer_row, next_row, tracker_row}
 
@@ -406,7 +405,7 @@ row configs log at seed (act.Ask what n) = ask_row configs log n what
 row configs log at seed (act.Answer question) = answer_row log question
 row configs log at seed (act.Next question) = next_row log question
 row configs log at seed (act.Dialer n) = dialer_row configs log n at seed
-row configs log at seed (act.Listener n) = listener_row configs log n at
+row configs log at seed (act.Listener n) = listener_step_row configs log n at
 row configs log at seed (act.Handshake e n) = handshake_step_row configs log e n at
 row configs log at seed (act.Spawner n) = spawner_row log n
 row configs log at seed (act.Attempt e n) = attempt_step_row configs log e n at seed

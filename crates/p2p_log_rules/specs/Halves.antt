@@ -1,5 +1,5 @@
 -- The connections that nodes made, by what was told, and their halves of them.
-use Rattle.std.specs.Prelude.{ℕ, ◌==◌, ◌&&◌, cond, List, [], Option, Some, None}
+use Rattle.std.specs.Prelude.{ℕ, ◌==◌, ◌&&◌, cond, List, Option, Some, None}
 use Rattle.std.specs.Option.{option_map}
 use Rattle.p2p_base.specs.declared.key.Key.{Key}
 use Rattle.p2p_log.specs.declared.queue.Side.{Side}

@@ -1,10 +1,12 @@
--- What becomes of a reservation, by what is put, of a handshake, and of a half of a connection.
-use Rattle.std.specs.Prelude.{Bool, true, false, ◌&&◌, ◌||◌, not, List}
+-- What becomes of a reservation, by what is put, of a handshake, of an arrival, and of a half of a connection.
+use Rattle.std.specs.Prelude.{ℕ, Bool, true, false, ◌&&◌, ◌||◌, not, List, ◌∷◌, Option, Some, None}
 use Rattle.std.specs.List.{list_any}
+use Rattle.p2p_tracker_calls.specs.declared.gates.Reply.TheVariants as gates
 use Rattle.p2p_log.specs.declared.queue.Queue.{Queue}
 use Rattle.p2p_log.specs.declared.item.Item.{Item}
 use Rattle.p2p_log.specs.declared.item.Item.TheVariants as item
 use Rattle.p2p_log.specs.declared.entry.Reply.{Reply}
+use Rattle.p2p_log.specs.declared.entry.Reply.TheVariants as reply
 use Rattle.p2p_log_rules.specs.HandshakeSteps.{ends_handshake}
 
 abbrev pub is_release : Queue × Item → Bool
@@ -31,3 +33,14 @@ broke_off r items puts = ends_handshake r items && not (list_any is_spawn puts)
 abbrev pub is_answer : Item → Bool
 is_answer item.Answer = true
 is_answer _ = false
+
+-- whether the gates turned an arrival away
+abbrev pub turns_away : Reply → Bool
+turns_away (reply.Gates gates.Admitted) = false
+turns_away (reply.Gates told) = true
+turns_away _ = false
+
+-- the link over which a peer arrived
+abbrev pub arrival_link : List Item → Option ℕ
+arrival_link (item.Arrival from key link ∷ items) = Some link
+arrival_link _ = None

@@ -4,7 +4,6 @@ use Rattle.std.specs.List.{list_any}
 use Rattle.p2p_base.specs.declared.key.Key.{Key}
 use Rattle.p2p_address.specs.declared.ip.IpAddr.{IpAddr}
 use Rattle.p2p_address.specs.declared.peer.Ingress.{Ingress}
-use Rattle.p2p_tracker_calls.specs.declared.gates.Reply.{Reply as Gates}
 use Rattle.p2p_tracker_calls.specs.declared.gates.Reply.TheVariants as gates
 use Rattle.p2p_log.specs.declared.queue.Queue.{Queue}
 use Rattle.p2p_log.specs.declared.queue.Side.TheVariants as side
@@ -21,8 +20,8 @@ use Rattle.p2p_log_rules.specs.declared.row.Half.{Half}
 use Rattle.p2p_log_rules.specs.HalfSteps.{puts_ping, holds}
 use Rattle.p2p_log_rules.specs.Halves.{half_in}
 use Rattle.p2p_log_rules.specs.HandshakeSteps.{ends_handshake, peer_at}
+use Rattle.p2p_log_rules.specs.Puts.{gave_up, ends_attempt, broke_off, is_answer, turns_away, arrival_link}
 use Rattle.p2p_log_rules.specs.Listing.{peers_told}
-use Rattle.p2p_log_rules.specs.Puts.{gave_up, ends_attempt, broke_off, is_answer}
 use Rattle.p2p_log_rules.specs.Quotas.{rate_in, rates_in, keys_by, moments_in}
 use Rattle.p2p_log_rules.specs.Taking.{taken, state_from}
 use Rattle.p2p_log_rules.specs.Tellings.{Telling, Last, last_told, last_or}
@@ -79,6 +78,10 @@ abbrev pub dialing_dropped : Option ℕ → List Telling
 dialing_dropped None = []
 dialing_dropped (Some link) = telling.end_dropped link side.Out ∷ []
 
+abbrev pub listening_dropped : Option ℕ → List Telling
+listening_dropped None = []
+listening_dropped (Some link) = telling.end_dropped link side.In ∷ []
+
 abbrev pub half_dropped : Option Half → List Telling
 half_dropped None = []
 half_dropped (Some half) = telling.end_dropped half.link half.writes ∷ []
@@ -121,15 +124,9 @@ abbrev pub link_tells : ℕ → ℕ → ℕ → ℕ → List (Queue × Item) →
 link_tells n k name to (told ∷ arrival ∷ puts) = telling.link_opened n k name to ∷ []
 link_tells n k name to _ = []
 
--- an arrival that a listener did not admit
-abbrev pub turned_away : Gates → List Item → List Telling
-turned_away gates.Admitted items = []
-turned_away g (item.Arrival from key link ∷ items) = telling.end_dropped link side.In ∷ []
-turned_away g _ = []
-
+-- that a listener dropped the end of an arrival, where it turned it away
 abbrev pub gates_tell : Reply → List Item → List Telling
-gates_tell (reply.Gates g) items = turned_away g items
-gates_tell r items = []
+gates_tell r items = when (turns_away r) (listening_dropped (arrival_link items))
 
 -- the handshake that begins in an entry of this name, where that admitted an arrival
 abbrev pub admitted_as : ℕ → Reply → Option ℕ

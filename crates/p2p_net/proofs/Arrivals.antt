@@ -26,7 +26,8 @@ use Rattle.p2p_log_rules.specs.declared.row.Opening.{Opening}
 use Rattle.p2p_log_rules.specs.declared.row.ListeningEnd.{ListeningEnd}
 use Rattle.p2p_log_rules.specs.declared.row.ListeningEnd.TheVariants as listening
 use Rattle.p2p_log_rules.specs.declared.row.Row.{Row}
-use Rattle.p2p_log_rules.specs.Attempting.{Attempt, attempts_of, told_row, answered_row, connected_row}
+use Rattle.p2p_log_rules.specs.Attempting.{Attempt, attempts_of, told_row, link_item, answered_row, connected_row}
+use Rattle.p2p_log_rules.proofs.Attempts.{told_link}
 use Rattle.p2p_log_rules.specs.Effect.{only, row, effect, entry_of}
 use Rattle.p2p_log_rules.specs.Facts.{key_at, is_up, with_named}
 use Rattle.p2p_log_rules.specs.Links.{arrived, ends_by, listening_ends_of}
@@ -42,7 +43,7 @@ use Rattle.p2p_net_listener.proofs.Changes.{listener_frame, listener_arrived}
 use Rattle.p2p_net_listener.proofs.Handshakes.{other_tells}
 use Rattle.p2p_net_links.specs.declared.links.Links.{Links}
 use Rattle.p2p_net_links.specs.Stands.{LinksStand}
-use Rattle.p2p_net_links.proofs.Drops.{DropsNone}
+use Rattle.p2p_net_links.proofs.Drops.{DropsNone, drops_none-act}
 use Rattle.p2p_net_links.proofs.Changes.{links_frame, links_opened, is_ok_reply, OpensNone, Opens, openings_unanswered, openings_linkless, openings_opened}
 use Rattle.p2p_net.specs.Linking.{arrives, with_arrival, Arrives, opened, IsLinked}
 use Rattle.p2p_net.specs.Places.{Part, dialer, listener, same_part, at, names}
@@ -106,6 +107,15 @@ told_by (Some a) up name n = by a.address (is_some a.answer) up
     by (Some s) true up = nothing reply.Gone refl refl (none_arrives up).0
     by (Some s) false true = linked refl refl
     by (Some s) false false = refused refl refl
+
+-- an attempt that was told of a link has its end
+linked_is : (k m name n : ℕ) (arrival : Item) (up : Bool) (told : Row) → told ≡ told_row name n (link_item up) → (b : Attempt)
+    → told_link k reply.Ok (with_arrival (arrives up told.reply) m arrival told).puts b ≡ record b { answer = Some k; link = cond up (Some k) b.link }
+linked_is k m name n arrival up told is b = ap (λ (t : Row). told_link k reply.Ok (with_arrival (arrives up t.reply) m arrival t).puts b) is ∙ by up
+  where
+    by : (v : Bool) → told_link k reply.Ok (with_arrival (arrives v reply.Ok) m arrival (told_row name n (link_item v))).puts b ≡ record b { answer = Some k; link = cond v (Some k) b.link }
+    by true = refl
+    by false = refl
 
 -- ---- what it does to the queues of an attempt
 
@@ -190,9 +200,9 @@ module _ (configs : List Config) (log : List Entry) (moment seed name n m : ℕ)
   -- the dialing node's dialer
   dialer_now : DialerStands configs (log ++ e ∷ []) n c.after.dialing
   dialer_now =
-      dial_answered configs log moment seed name n up (act.Connect name from n m) due due_is c.first.dialing c.after.dialing first_dialer refl (λ pace rep items puts ds. refl)
-      (λ j other. (refl, ap (λ b. b || false) (other_attempt n name j other))) (λ rep items j. acted_answer configs log n name rep j) c.answers.1.0 c.told answers
-      (arrival_does (queue.Attempt n name) k m arrival comes c.told refl)
+      dial_answered configs log moment seed name n up (act.Connect name from n m) due due_is c.first.dialing c.after.dialing first_dialer refl refl
+      (λ j other. (refl, ap (λ b. b || false) (other_attempt n name j other))) (told_link k) (λ rep items puts. tt) (λ rep items puts j. acted_answer configs log n name (told_link k rep puts) j)
+      (λ b. (refl, refl)) c.answers.1.0 c.told answers (arrival_does (queue.Attempt n name) k m arrival comes c.told refl) (linked_is k m name n arrival up c.told)
 
   -- the arrivals at the nodes
   kind : Told up name n c.told
@@ -296,9 +306,9 @@ module _ (configs : List Config) (log : List Entry) (moment seed name n m : ℕ)
       subst (λ (z : Entry). Opens log z opening) is_effect
       (openings_opened log (entry_of ev due) opening (queue.Attempt n name, item.Linked) (queue.Arrivals m, arrival) [] refl (ap (λ (d : Row). d.reply) due_two) (ap (λ (d : Row). d.puts) due_two))
 
-  none_dropped : DropsNone configs log e
+  none_dropped : DropsNone log e
   unfolding effect
-  none_dropped = refl
+  none_dropped = drops_none-act log e refl
 
   links_now : (b : Bool) → comes ≡ b → links ≡ opened b k opening l → LinksStand configs (log ++ e ∷ []) links
   links_now false none same = subst (LinksStand configs (log ++ e ∷ [])) (sym same) (links_frame configs log e l s.linked link_lines (nothing_opened kind none) none_dropped)

@@ -26,11 +26,11 @@ use Rattle.p2p_log.specs.Lines.{name_of, placed, ended_item, stays, live, stands
 use Rattle.p2p_log.proofs.Queues.{same_queue-refl}
 use Rattle.p2p_log_rules.specs.declared.row.Row.{Row}
 use Rattle.p2p_log_rules.specs.Attempting.{Attempt, dial_rules_at, attempts_of, told_row}
-use Rattle.p2p_log_rules.proofs.Attempts.{acted_attempts}
-use Rattle.p2p_log_rules.specs.Dialing.{Pace, pace_at, Dials, acted_dials, dials_of}
+use Rattle.p2p_log_rules.proofs.Attempts.{acted_attempts, Heeds, attempts_of-append, attempts_acted}
+use Rattle.p2p_log_rules.proofs.Dialing.{dials_by, dials_of-kept}
 use Rattle.p2p_log_rules.specs.Effect.{only, row, effect, entry_of}
 use Rattle.p2p_log_rules.specs.Connections.{half_at}
-use Rattle.p2p_log_rules.specs.Dropping.{LinkEnd, other_side, dialing_end, half_end}
+use Rattle.p2p_log_rules.specs.Dropping.{LinkEnd, other_side, dialing_end, arriving_end, half_end}
 use Rattle.p2p_log_rules.specs.Facts.{starts, taken}
 use Rattle.p2p_log_rules.specs.Handshakes.{peer_at}
 use Rattle.p2p_log_rules.specs.Spawning.{steps_spawner}
@@ -90,6 +90,7 @@ ends_of configs log n k (act.Attempt e m) h =
     or_none true = refl
     or_none false = refl
 ends_of configs log n k (act.Handshake e m) h = unflown (Some ((peer_at log e).link, side.In)) n k
+ends_of configs log n k (act.Listener m) h = unflown (arriving_end log m) n k
 ends_of configs log n k _ h = h
 
 -- an attempt that is told one thing more
@@ -123,11 +124,12 @@ line_does log ev q due told h =
 -- ---- the dialer, where the row of the act does this to the attempt
 
 module _ (configs : List Config) (log : List Entry) (moment seed n name : ℕ) (a : Act) (due : Row) (due_is : row configs log moment seed a ≡ due) (d u : Dialing) (stood : DialerStands configs log n d)
-    (no_start : starts n a ≡ false) (no_dials : (pace : Pace) (rep : Reply) (items : List Item) (puts : List (Queue × Item)) (dials : Dials) → acted_dials pace n a moment seed rep items puts dials ≡ dials)
+    (no_start : starts n a ≡ false) (no_dials : dials_by n a ≡ false)
     (others : (j : ℕ) → (j == name) ≡ false → (reads configs log a (queue.Attempt n j) ≡ false) × (writes configs log a (queue.Attempt n j) ≡ false))
-    (f : Reply → Attempt → Attempt)
-    (acted : (rep : Reply) (items : List Item) (j : ℕ)
-    → acted_attempts (dial_rules_at configs n) n (length log) moment seed rep items a (attempts_of configs log n) j ≡ cond (j == name) (option_map (f rep) (attempts_of configs log n name)) (attempts_of configs log n j))
+    (f : Reply → List (Queue × Item) → Attempt → Attempt)
+    (heeds : (rep : Reply) (items : List Item) (puts : List (Queue × Item)) → Heeds (dial_rules_at configs n) n (length log) moment seed rep items puts a (attempts_of configs log n))
+    (acted : (rep : Reply) (items : List Item) (puts : List (Queue × Item)) (j : ℕ)
+    → acted_attempts (dial_rules_at configs n) n (length log) moment seed rep items puts a (attempts_of configs log n) j ≡ cond (j == name) (option_map (f rep puts) (attempts_of configs log n name)) (attempts_of configs log n j))
     (kept : u.actor ≡ d.actor) where
   abbrev ev : Event
   ev = asked moment seed a
@@ -158,26 +160,29 @@ module _ (configs : List Config) (log : List Entry) (moment seed n name : ℕ) (
       (line-untouched configs log ev (queue.Attempt n j) (reads_of configs log n j a away.0) (writes_of configs log n j a away.1) (ends_of configs log n j a away.1))
 
   changed : (now : Option RunningAttempt) (told : Row) → DoesTo q k due told → AreBut name now d.attempts u.attempts
-      → AttemptStands g name now (option_map (f told.reply) (attempts name)) (line (log ++ entry_of ev told ∷ []) q) → DialerStands configs (log ++ effect configs log ev ∷ []) n u
+      → AttemptStands g name now (option_map (f told.reply due.puts) (attempts name)) (line (log ++ entry_of ev told ∷ []) q) → DialerStands configs (log ++ effect configs log ev ∷ []) n u
   changed now told same but stands =
       subst (λ (z : Entry). DialerStands configs (log ++ z ∷ []) n u) is_effect
-      (attempt_changed configs log e n name d u now (option_map (f told.reply) (attempts name)) stood
+      (attempt_changed configs log e n name d u now (option_map (f told.reply due.puts) (attempts name)) stood
       (record {
         no_start = no_start;
-        dials = no_dials (pace_at configs n) e.reply (taken log e) e.puts (dials_of configs log n);
+        dials = dials_of-kept configs log e n no_dials;
         actor = kept;
         others = but;
-        tried = λ j. acted e.reply (taken log e) j ∙ ap (λ rep. cond (j == name) (option_map (f rep) (attempts name)) (attempts j)) same.reply;
+        tried = λ j.
+            attempts_of-append configs log e n j
+            ∙ (attempts_acted configs log e n j attempts (heeds e.reply (taken log e) e.puts)
+            ∙ (acted e.reply (taken log e) e.puts j ∙ ap (λ rep. cond (j == name) (option_map (f rep due.puts) (attempts name)) (attempts j)) same.reply));
         lines = others_stay;
-        stands = subst (AttemptStands g name now (option_map (f told.reply) (attempts name))) (sym (line_does log ev q due told same)) stands;
+        stands = subst (AttemptStands g name now (option_map (f told.reply due.puts) (attempts name))) (sym (line_does log ev q due told same)) stands;
       }))
 
   -- nothing is told
-  pub untold_stands : (now : Option RunningAttempt) (rep : Reply) → DoesTo q k due (only rep) → AreBut name now d.attempts u.attempts → option_map (f rep) (attempts name) ≡ attempts name
+  pub untold_stands : (now : Option RunningAttempt) (rep : Reply) → DoesTo q k due (only rep) → AreBut name now d.attempts u.attempts → option_map (f rep due.puts) (attempts name) ≡ attempts name
       → now ≡ table.at d.attempts name → DialerStands configs (log ++ effect configs log ev ∷ []) n u
   untold_stands now rep same but no_change now_is =
       changed now (only rep) same but
-      (subst (AttemptStands g name now (option_map (f rep) (attempts name))) (sym (line-still log (entry_of ev (only rep)) rep q (record { reply = refl; takes = refl; puts = refl; ends = refl })))
+      (subst (AttemptStands g name now (option_map (f rep due.puts) (attempts name))) (sym (line-still log (entry_of ev (only rep)) rep q (record { reply = refl; takes = refl; puts = refl; ends = refl })))
       (subst (λ o. AttemptStands g name now o (line log q)) (sym no_change)
       (subst (λ o. AttemptStands g name o (attempts name) (line log q)) (sym now_is) (stood.attempts name))))
 
@@ -188,9 +193,9 @@ module _ (configs : List Config) (log : List Entry) (moment seed n name : ℕ) (
       line-kept log (entry_of ev (told_row name n i)) q refl ∙ ap (λ b. line log q ++ cond b (z ∷ []) []) (same_queue-refl q)
 
   pub told_stands : (now : Option RunningAttempt) (i : Item) → DoesTo q k due (told_row name n i) → AreBut name now d.attempts u.attempts
-      → AttemptStands g name now (option_map (f reply.Ok) (attempts name)) (line log q ++ record { entry = k; place = 0; queue = q; item = i } ∷ []) → DialerStands configs (log ++ effect configs log ev ∷ []) n u
+      → AttemptStands g name now (option_map (f reply.Ok due.puts) (attempts name)) (line log q ++ record { entry = k; place = 0; queue = q; item = i } ∷ []) → DialerStands configs (log ++ effect configs log ev ∷ []) n u
   told_stands now i same but stands =
-      changed now (told_row name n i) same but (subst (AttemptStands g name now (option_map (f reply.Ok) (attempts name))) (sym (told_line i)) stands)
+      changed now (told_row name n i) same but (subst (AttemptStands g name now (option_map (f reply.Ok due.puts) (attempts name))) (sym (told_line i)) stands)
 
 -- ---- an act that tells an attempt something, and nobody else
 

@@ -170,5 +170,5 @@ module _ (configs : List Config) (log : List Entry) (at seed conn n : ℕ) (half
           ),
         );
     linked = subst (LinksStand configs (log ++ effect configs log ev ∷ [])) (sym kept)
-        (subst (λ (z : Entry). LinksStand configs (log ++ z ∷ []) l) effect_is (links_frame configs log e l t (λ u link. beside (queue.Link link u) (off_tracker u link) (off_router u link)) (openings_unmoved log e refl) (step_drops configs log e n conn refl refl)));
+        (subst (λ (z : Entry). LinksStand configs (log ++ z ∷ []) l) effect_is (links_frame configs log e l t (λ u link. beside (queue.Link link u) (off_tracker u link) (off_router u link)) (openings_unmoved log e refl) (step_drops log e n conn refl refl)));
   }

@@ -22,7 +22,8 @@ use Rattle.p2p_net_router.specs.Names.{is_routers}
 use Rattle.p2p_net_router.specs.Stands.{IsBeside}
 use Rattle.p2p_net_router.specs.declared.router.Router.{Router}
 use Rattle.p2p_net_router.proofs.Beside.{stands_beside}
-use Rattle.p2p_net_links.proofs.Drops.{DropsNone, drop_of-receive}
+use Rattle.p2p_log_rules.proofs.Dropping.{all_of, drops_of-receive}
+use Rattle.p2p_net_links.proofs.Drops.{DropsNone}
 use Rattle.p2p_net_listener.specs.Stands.{is_of_listener}
 use Rattle.p2p_net_listener.proofs.Changes.{handshakes_unmoved}
 use Rattle.p2p_net_tracker.specs.Stands.{is_told, asks_of, TrackerStands}
@@ -88,8 +89,8 @@ line_of log q = refl
 
 module _ (configs : List Config) (log : List Entry) (e : Entry) (n conn : ℕ) (acts : e.event.act ≡ act.RecvStep conn n) (lives : is_end e.reply ≡ false) where
   -- no end of a link is dropped
-  pub received_drops : DropsNone configs log e
-  received_drops = drop_of-receive configs log e conn n acts ∙ ap (λ b. cond b (half_end (half_at log n conn)) None) lives
+  pub received_drops : DropsNone log e
+  received_drops = drops_of-receive log e conn n acts ∙ ap (λ b. all_of (cond b (half_end (half_at log n conn)) None)) lives
 
   received_beside : (m : ℕ) → IsBeside configs log e m
   received_beside m = record {

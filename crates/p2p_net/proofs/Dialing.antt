@@ -38,7 +38,8 @@ use Rattle.p2p_log_rules.specs.Facts.{is_up, taken}
 use Rattle.p2p_log_rules.specs.Effect.{only, row, effect, entry_of}
 use Rattle.p2p_log_rules.specs.Attempting.{DialRules, dial_rules_at}
 use Rattle.p2p_log_rules.proofs.Attempts.{begun_of}
-use Rattle.p2p_log_rules.specs.Dialing.{Pace, pace_at, next_deadline, Dials, dials_of, in_drawn_order, last_key, without_last, stepped_dials, dial_puts, dials_row, answered_row, due_row, dialer_turn}
+use Rattle.p2p_log_rules.proofs.Dialing.{stepped_dials, works, dials_of-stepped}
+use Rattle.p2p_log_rules.specs.Dialing.{Pace, pace_at, next_deadline, Dials, dials_of, in_drawn_order, last_key, without_last, dial_puts, dials_row, answered_row, due_row, dialer_turn}
 use Rattle.p2p_log_laws.proofs.Untouched.{line-untouched}
 use Rattle.p2p_net_queues.proofs.Going.{put_in}
 use Rattle.p2p_net_dialer.specs.Dialing as dialing
@@ -251,15 +252,16 @@ module _ (configs : List Config) (log : List Entry) (moment seed n : ℕ) (x y :
 
     -- and where the dialer comes to this
     moved : (items : List Item) (begun : Option (Attempting Key)) → row configs log moment seed (act.Dialer n) ≡ due took o → taken log (e took o) ≡ items
-        → y.dialing.actor ≡ Some (actor_of g (stepped_dials (pace_of g) moment seed reply.Ok items (asked_puts n (item_in o)) ds)) → IsBegun g k begun (begun_of rules.timeout moment items) → y.dialing.attempts ≡ attempts_with begun k x.dialing.attempts
-        → Performs configs log ev n y ls r
-    moved items begun row_is items_is actor new attempts =
+        → y.dialing.actor ≡ Some (actor_of g (stepped_dials (pace_of g) moment seed items (asked_puts n (item_in o)) ds)) → IsBegun g k begun (begun_of rules.timeout moment items) → y.dialing.attempts ≡ attempts_with begun k x.dialing.attempts
+        → works items (asked_puts n (item_in o)) ≡ true → Performs configs log ev n y ls r
+    moved items begun row_is items_is actor new attempts did =
         let same = effect_is (due took o) row_is in
         let dialer_is : DialerStands configs (log ++ e took o ∷ []) n y.dialing =
-        dialer_stepped configs log (e took o) n x.dialing y.dialing begun dialed_before refl up
-        (actor
-        ∙ (ap (λ p. Some (actor_of g (stepped_dials p moment seed reply.Ok items (asked_puts n (item_in o)) ds))) (sym (pace_is configs n))
-        ∙ ap (λ i. Some (actor_of g (stepped_dials (pace_at configs n) moment seed reply.Ok i (asked_puts n (item_in o)) ds))) (sym items_is)))
+        dialer_stepped configs log (e took o) n x.dialing y.dialing begun (stepped_dials (pace_of g) moment seed items (asked_puts n (item_in o)) ds) dialed_before refl up
+        (dials_of-stepped configs log (e took o) n refl (ap (λ i. works i (asked_puts n (item_in o))) items_is ∙ did)
+        ∙ (ap (λ i. stepped_dials (pace_at configs n) moment seed i (asked_puts n (item_in o)) ds) items_is
+        ∙ ap (λ p. stepped_dials p moment seed items (asked_puts n (item_in o)) ds) (pace_is configs n)))
+        actor
         (subst (λ i. IsBegun g k begun (begun_of rules.timeout moment i)) (sym items_is) new) attempts
         (λ j. subst (λ (d : Entry). line (log ++ d ∷ []) (queue.Attempt n j) ≡ line log (queue.Attempt n j)) (sym same) (line-untouched configs log ev (queue.Attempt n j) refl refl refl))
         in
@@ -310,14 +312,14 @@ module _ (configs : List Config) (log : List Entry) (moment seed n : ℕ) (x y :
       → way ≡ record m { desk = way.desk; dialer = way.dialer } → row configs log moment seed (act.Dialer n) ≡ record { reply = reply.Ok; takes = taken_names took answers; puts = dial_puts n o; ends = [] }
       → ((a : Option Ask) → taken log (e took a) ≡ items)
       → ((a : Option Ask) (p : Queue) → filter (stands_in p) (filter (stays (goes (e took a))) (live log)) ≡ cond (is_taken_of took n p) (drop 1 (line log p)) (line log p))
-      → stepped_dials (pace_of g) moment seed reply.Ok items (dial_puts n o) ds ≡ dials_after o d → begun_of rules.timeout moment items ≡ None → TurnsTo (turns.asks_for o inp (actor_of g d) way) what → Tracks what → Performs configs log ev n y ls r
-  asks_next took inp items d way None what is_taken desk answered rest_of row_is items_are left next none h tracks =
+      → works items (dial_puts n o) ≡ true → stepped_dials (pace_of g) moment seed items (dial_puts n o) ds ≡ dials_after o d → begun_of rules.timeout moment items ≡ None → TurnsTo (turns.asks_for o inp (actor_of g d) way) what → Tracks what → Performs configs log ev n y ls r
+  asks_next took inp items d way None what is_taken desk answered rest_of row_is items_are left did next none h tracks =
       let it : Tracks (Some (record { took = took; asked = None })) = subst (λ b. Tracks (Some (record { took = b; asked = None }))) is_taken (subst Tracks h.0 tracks) in
       moved took None tt it (ap (λ (w : Mailbox Key). w.desk) h.1.1 ∙ desk) (ap (λ (w : Mailbox Key). w.dialer) h.1.1 ∙ answered)
       (h.1.1 ∙ (rest_of ∙ ap (λ (w : Mailbox Key). record m { desk = w.desk; dialer = w.dialer }) (sym h.1.1))) (left None) items None row_is (items_are None)
       (actor_now (actor_of g (record d { is_asking = false })) x.dialing.attempts h.1.0 ∙ ap (λ (w : Dials). Some (actor_of g w)) (sym next))
-      (subst (IsBegun g k None) (sym none) tt) (attempts_now (actor_of g (record d { is_asking = false })) x.dialing.attempts h.1.0)
-  asks_next took inp items d way (Some key) what is_taken desk answered rest_of row_is items_are left next none h tracks =
+      (subst (IsBegun g k None) (sym none) tt) (attempts_now (actor_of g (record d { is_asking = false })) x.dialing.attempts h.1.0) did
+  asks_next took inp items d way (Some key) what is_taken desk answered rest_of row_is items_are left did next none h tracks =
       let a : Option Ask = Some (item.AskDial key, message.Dial key) in
       let it : Tracks (Some (record { took = took; asked = Some (item.AskDial key) })) = subst (λ b. Tracks (Some (record { took = b; asked = Some (item.AskDial key) }))) is_taken (subst Tracks h.0 tracks) in
       moved took a refl it (ap (λ (w : Mailbox Key). w.desk) h.1.1 ∙ ap (λ w. with_message w (message.Dial key)) desk) (ap (λ (w : Mailbox Key). w.dialer) h.1.1 ∙ answered)
@@ -326,7 +328,7 @@ module _ (configs : List Config) (log : List Entry) (moment seed n : ℕ) (x y :
       ∙ (ap (λ w. record m { desk = with_message w (message.Dial key); dialer = way.dialer }) refl ∙ ap (λ (w : Mailbox Key). record m { desk = w.desk; dialer = w.dialer }) (sym h.1.1))))
       (left a) items None row_is (items_are a)
       (actor_now (actor_of g (record d { peers = without_last d.peers; is_asking = true })) x.dialing.attempts h.1.0 ∙ ap (λ (w : Dials). Some (actor_of g w)) (sym next))
-      (subst (IsBegun g k None) (sym none) tt) (attempts_now (actor_of g (record d { peers = without_last d.peers; is_asking = true })) x.dialing.attempts h.1.0)
+      (subst (IsBegun g k None) (sym none) tt) (attempts_now (actor_of g (record d { peers = without_last d.peers; is_asking = true })) x.dialing.attempts h.1.0) did
 
   -- ---- its deadline has come
 
@@ -338,7 +340,7 @@ module _ (configs : List Config) (log : List Entry) (moment seed n : ℕ) (x y :
   by_key key keys None what is last row_is h tracks = absurd (last_there key keys (ap last_key (sym is) ∙ last))
   by_key key keys (Some first) what is last row_is h tracks =
       asks_next false input.Deadline [] (record ds { deadline = moment + g.dial_frequency }) m (Some first) what refl refl refl refl
-      (row_is ∙ ap (λ o. record { reply = reply.Ok; takes = []; puts = dial_puts n o; ends = [] }) last) nothing_taken (λ a. none_left log n) refl refl h tracks
+      (row_is ∙ ap (λ o. record { reply = reply.Ok; takes = []; puts = dial_puts n o; ends = [] }) last) nothing_taken (λ a. none_left log n) refl refl refl h tracks
 
   by_peers : (keys : List Key) (what : Option Dialed) → ds.peers ≡ keys → row configs log moment seed (act.Dialer n) ≡ due_row n keys → TurnsTo (turns.asks_whom keys (actor_of g ds) m moment) what → Tracks what
       → Performs configs log ev n y ls r
@@ -347,7 +349,7 @@ module _ (configs : List Config) (log : List Entry) (moment seed n : ℕ) (x y :
       let now = actor_of g (record ds { asked_at = moment; is_asking = true }) in
       moved false a refl (subst Tracks h.0 tracks) (ap (λ (w : Mailbox Key). w.desk) h.1.1) (ap (λ (w : Mailbox Key). w.dialer) h.1.1)
       (h.1.1 ∙ ap (λ (w : Mailbox Key). record m { desk = w.desk; dialer = w.dialer }) (sym h.1.1)) (none_left log n) [] None row_is (nothing_taken a)
-      (actor_now now x.dialing.attempts h.1.0) tt (attempts_now now x.dialing.attempts h.1.0)
+      (actor_now now x.dialing.attempts h.1.0) tt (attempts_now now x.dialing.attempts h.1.0) refl
   by_peers (key ∷ keys) what is row_is h tracks = by_key key keys (last_key ds.peers) what is refl (row_is ∙ ap (dials_row n []) (sym is)) h tracks
 
   by_due : (b : Bool) (what : Option Dialed) → (not ds.is_asking && nat_le ds.deadline moment) ≡ b → answers ≡ [] → TurnsTo (cond b (turns.asks_whom ds.peers (actor_of g ds) m moment) (record { stepped = stepped.Idle; actor = actor_of g ds; way = m })) what
@@ -386,11 +388,11 @@ module _ (configs : List Config) (log : List Entry) (moment seed n : ℕ) (x y :
         let keys = in_drawn_order seed peers in
         let d : Dials = record ds { peers = keys; deadline = next_deadline (pace_of g) ds.asked_at peers next } in
         asks_next true input.Answer (item.Dialable next peers ∷ []) d way_left (last_key keys) what refl refl refl refl (answer_row (item.Dialable next peers) is ∙ takes_are (dial_puts n (last_key keys)))
-        (one_taken (item.Dialable next peers) is) first_gone (after (last_key keys)) refl
+        (one_taken (item.Dialable next peers) is) first_gone refl (after (last_key keys)) refl
         (subst (λ w. TurnsTo (turns.dials_next input.Answer (record (actor_of g ds) { peers = keys; deadline = w }) way_left) what) (deadline_is g ds.asked_at peers next) h) tracks
       where
         after : (o : Option Key)
-            → stepped_dials (pace_of g) moment seed reply.Ok (item.Dialable next peers ∷ []) (dial_puts n o) ds
+            → stepped_dials (pace_of g) moment seed (item.Dialable next peers ∷ []) (dial_puts n o) ds
             ≡ dials_after o (record ds { peers = in_drawn_order seed peers; deadline = next_deadline (pace_of g) ds.asked_at peers next })
         after None = refl
         after (Some key) = refl
@@ -399,9 +401,9 @@ module _ (configs : List Config) (log : List Entry) (moment seed n : ℕ) (x y :
     refused : (what : Option Dialed) → z.item ≡ item.Dial None → TurnsTo (turns.answer_turn (answer.Dial None) (actor_of g ds) way_left k moment seed) what → Tracks what → Performs configs log ev n y ls r
     refused what is h tracks =
         asks_next true input.Answer (item.Dial None ∷ []) ds way_left (last_key ds.peers) what refl refl refl refl (answer_row (item.Dial None) is ∙ takes_are (dial_puts n (last_key ds.peers)))
-        (one_taken (item.Dial None) is) first_gone (after (last_key ds.peers)) refl h tracks
+        (one_taken (item.Dial None) is) first_gone refl (after (last_key ds.peers)) refl h tracks
       where
-        after : (o : Option Key) → stepped_dials (pace_of g) moment seed reply.Ok (item.Dial None ∷ []) (dial_puts n o) ds ≡ dials_after o ds
+        after : (o : Option Key) → stepped_dials (pace_of g) moment seed (item.Dial None ∷ []) (dial_puts n o) ds ≡ dials_after o ds
         after None = refl
         after (Some key) = refl
 
@@ -415,7 +417,7 @@ module _ (configs : List Config) (log : List Entry) (moment seed n : ℕ) (x y :
         let later = attempts_with (Some a) k x.dialing.attempts in
         moved true None tt (subst Tracks h.0 tracks) (ap (λ (w : Mailbox Key). w.desk) h.1.1) (ap (λ (w : Mailbox Key). w.dialer) h.1.1)
         (h.1.1 ∙ ap (λ (w : Mailbox Key). record m { desk = w.desk; dialer = w.dialer }) (sym h.1.1)) (first_gone None) (i ∷ []) (Some a) (answer_row i is ∙ takes_are []) (one_taken i is None)
-        (actor_now now later h.1.0) (p.0, refl, begun_is g rules k p.0 (peer_of p.0) moment p.1 (timeout_is configs n)) (attempts_now now later h.1.0)
+        (actor_now now later h.1.0) (p.0, refl, begun_is g rules k p.0 (peer_of p.0) moment p.1 (timeout_is configs n)) (attempts_now now later h.1.0) refl
 
     by_answer : (i : Item) (a : DialerAnswer Key) (what : Option Dialed) → z.item ≡ i → IsAnswer i a → TurnsTo (turns.answer_turn a (actor_of g ds) way_left k moment seed) what → Tracks what → Performs configs log ev n y ls r
     by_answer (item.Dialable next peers) a what is h turn tracks = told next peers what is (subst (λ b. TurnsTo (turns.answer_turn b (actor_of g ds) way_left k moment seed) what) h turn) tracks

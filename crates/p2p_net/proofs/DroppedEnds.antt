@@ -21,7 +21,7 @@ use Rattle.p2p_log.proofs.Lines.{filter_stays-append}
 use Rattle.p2p_log.proofs.Names.{AreApart-live_from}
 use Rattle.p2p_log.proofs.Taken.{other_left}
 use Rattle.p2p_log_rules.specs.declared.row.Row.{Row}
-use Rattle.p2p_log_rules.specs.Dropping.{LinkEnd, other_side, frames_towards, dropping}
+use Rattle.p2p_log_rules.specs.Dropping.{LinkEnd, other_side, frames_towards, dropping, drops_of}
 use Rattle.p2p_log_rules.specs.Effect.{row, effect, entry_of}
 use Rattle.p2p_log_rules.specs.Spawning.{steps_spawner}
 use Rattle.p2p_log_rules.proofs.Moves.{all_end-gone}
@@ -31,7 +31,8 @@ use Rattle.p2p_net_links.specs.Dropping.{end_dropped}
 use Rattle.p2p_net_links.specs.Stands.{LinksStand}
 use Rattle.p2p_net_links.specs.declared.links.Links.{Links}
 use Rattle.p2p_net_links.proofs.Changes.{opens_none, openings_unmoved, links_frame}
-use Rattle.p2p_net_links.proofs.Drops.{drop_of, DropsNone}
+use Rattle.p2p_log_rules.proofs.Dropping.{all_of}
+use Rattle.p2p_net_links.proofs.Drops.{DropsNone}
 use Rattle.p2p_net_links.proofs.Ending.{DropsEnd, links_dropped}
 use Rattle.p2p_net_tracker.specs.Stands.{is_told}
 use Rattle.p2p_net.specs.Acts.{DropsUnless}
@@ -144,7 +145,7 @@ module _ (configs : List Config) (log : List Entry) (ev : Event) (base r : Row) 
       ∙ (ap (λ a. a ++ filter (stands_in (queue.Link j s)) (placed (length log) 0 base.puts)) stay ∙ (ap (λ b. left ++ b) (leaves.unput s j) ∙ append-nil left))
 
   -- none is dropped
-  none_lost : DropsNone configs log (e None) → LinksStand configs (log ++ e None ∷ []) l
+  none_lost : DropsNone log (e None) → LinksStand configs (log ++ e None ∷ []) l
   none_lost none =
       links_frame configs log (e None) l t
       (λ s j.
@@ -153,9 +154,9 @@ module _ (configs : List Config) (log : List Entry) (ev : Event) (base r : Row) 
       (openings_unmoved log (e None) opens) none
 
   -- this one is
-  one_lost : (link : ℕ) (s : Side) → drop_of configs log (e (Some (link, s))) ≡ Some (link, s) → LinksStand configs (log ++ e (Some (link, s)) ∷ []) (end_dropped link s l)
+  one_lost : (link : ℕ) (s : Side) → drops_of log (e (Some (link, s))) ≡ (link, s) ∷ [] → LinksStand configs (log ++ e (Some (link, s)) ∷ []) (end_dropped link s l)
   one_lost link s drops =
-      let ends : DropsEnd configs log (e (Some (link, s))) link s =
+      let ends : DropsEnd log (e (Some (link, s))) link s =
       record {
         drops = drops;
         emptied = line_in (Some (link, s)) (other_side s) link [] (flight_gone log base (link, s));
@@ -164,7 +165,7 @@ module _ (configs : List Config) (log : List Entry) (ev : Event) (base r : Row) 
       in links_dropped configs log (e (Some (link, s))) l link s t ends
 
   -- the links stand, by what the code drops
-  pub links_after : (kept : Bool) (o : Option ℕ) (s : Side) → DropsUnless kept o s l ls base r → drop_of configs log (e (end_by kept o s)) ≡ end_by kept o s
+  pub links_after : (kept : Bool) (o : Option ℕ) (s : Side) → DropsUnless kept o s l ls base r → drops_of log (e (end_by kept o s)) ≡ all_of (end_by kept o s)
       → (r ≡ dropped log (end_by kept o s) base) × LinksStand configs (log ++ e (end_by kept o s) ∷ []) ls
   links_after true o s d drops = (d.0 ∙ dropping_is log None base, subst (LinksStand configs (log ++ e None ∷ [])) (sym d.1) (none_lost drops))
   links_after false None s d drops = (d.0 ∙ dropping_is log None base, subst (LinksStand configs (log ++ e None ∷ [])) (sym d.1) (none_lost drops))
@@ -186,7 +187,7 @@ pub record DidBeside (configs : List Config) (log : List Entry) (ev : Event) (n 
 pub performs_beside :
     (configs : List Config) (log : List Entry) (ev : Event) (n : ℕ) (x y : Node) (l ls : Links) (ps : List Part) (lost : Option LinkEnd) (due base r : Row) (kept : Bool) (o : Option ℕ) (s : Side) → NodeStands configs log n x
     → LinksStand configs log l → opens_none ev.act ≡ true → steps_spawner n ev.act ≡ false → ((p : Part) → is_in p ps ≡ false → names log ev.act (at p n) ≡ false) → DidBeside configs log ev n x y ps lost due base → DropsUnless kept o s l ls base r
-    → end_by kept o s ≡ lost → drop_of configs log (entry_of ev (dropped log lost base)) ≡ lost → row configs log ev.at ev.seed ev.act ≡ dropping log lost base → Performs configs log ev n y ls r
+    → end_by kept o s ≡ lost → drops_of log (entry_of ev (dropped log lost base)) ≡ all_of lost → row configs log ev.at ev.seed ev.act ≡ dropping log lost base → Performs configs log ev n y ls r
 unfolding effect
 performs_beside configs log ev n x y l ls ps lost due base r kept o s stood t opens spawns unnamed did d same drops row_is =
     let is : row configs log ev.at ev.seed ev.act ≡ dropped log lost base = row_is ∙ dropping_is log lost base in
@@ -194,7 +195,7 @@ performs_beside configs log ev n x y l ls ps lost due base r kept o s stood t op
     let after : (r ≡ dropped log lost base) × LinksStand configs (log ++ entry_of ev (dropped log lost base) ∷ []) ls =
     subst (λ (z : Option LinkEnd). (r ≡ dropped log z base) × LinksStand configs (log ++ entry_of ev (dropped log z base) ∷ []) ls) same
     (links_after configs log ev base r l ls t did.leaves opens kept o s d
-    (subst (λ (z : Option LinkEnd). drop_of configs log (entry_of ev (dropped log z base)) ≡ z) (sym same) drops))
+    (subst (λ (z : Option LinkEnd). drops_of log (entry_of ev (dropped log z base)) ≡ all_of z) (sym same) drops))
     in
     record {
       row_is = after.0 ∙ sym is;

@@ -32,6 +32,8 @@ use Rattle.p2p_log_rules.specs.Attempting.{Attempt, attempts_of}
 use Rattle.p2p_log_rules.specs.Effect.{only, row, effect, entry_of}
 use Rattle.p2p_log_rules.specs.Facts.{key_at}
 use Rattle.p2p_log_rules.specs.Links.{openings_of, listening_ends_of, is_dialed, accepts, exchanged, dialing_puts, listening_puts, finished_row, verdict, finish_by}
+use Rattle.p2p_log_rules.proofs.Attempts.{attempts_of-append, attempts_kept}
+use Rattle.p2p_log_rules.proofs.Dialing.{dials_of-kept}
 use Rattle.p2p_log_rules.proofs.Touches.{in_ends}
 use Rattle.p2p_log_laws.proofs.Untouched.{line-untouched}
 use Rattle.p2p_net_queues.specs.Tables as table
@@ -53,6 +55,7 @@ use Rattle.p2p_net_tracker.proofs.FinishSteps.{tracker_after_finish}
 use Rattle.p2p_net_links.specs.declared.links.Links.{Links}
 use Rattle.p2p_net_links.specs.Stands.{LinksStand}
 use Rattle.p2p_net_links.proofs.Changes.{links_finished, openings_finished}
+use Rattle.p2p_net_links.proofs.Drops.{drops_none-act}
 use Rattle.p2p_net.specs.Finishing.{accepts_end, said, TellsHandshake, TellsEnd, TellsBoth, FinishesBy, IsFinishedOver, IsFinished}
 use Rattle.p2p_net.specs.Places.{Part, dialer, listener, tracker, same_part, at, same_place, ends_named, names}
 use Rattle.p2p_net.specs.Stands.{NodeStands, WorldStands}
@@ -228,7 +231,8 @@ module _ (configs : List Config) (log : List Entry) (moment seed link : ℕ) (ok
   dialer_now : DialerStands configs (log ++ e ∷ []) n c.after.dialing
   unfolding effect
   dialer_now =
-      dialer_finished configs log n o.attempt agree c.first.dialing c.after.dialing (only reply.Ok) c.told (first_stands.each dialer) c.finishes e refl refl (λ j. refl) c.tells.0 other_line attempt_line
+      dialer_finished configs log n o.attempt agree c.first.dialing c.after.dialing (only reply.Ok) c.told (first_stands.each dialer) c.finishes e refl (dials_of-kept configs log e n refl)
+      (λ j. attempts_of-append configs log e n j ∙ attempts_kept configs log e n j (attempts_of configs log n j) refl) c.tells.0 other_line attempt_line
 
   -- nothing that a listener goes by changes
   leaves_listener : (j : ℕ) → LeavesListener configs log e j
@@ -361,7 +365,7 @@ module _ (configs : List Config) (log : List Entry) (moment seed link : ℕ) (ok
 
   links_now : AreBut link None l.openings links.openings × (links ≡ record l { openings = links.openings }) → LinksStand configs (log ++ e ∷ []) links
   unfolding effect
-  links_now h = links_finished configs log e l links link s.linked link_lines (openings_finished log e link ok refl (ap (λ (d : Row). d.reply) due_is)) h.0 h.1 refl
+  links_now h = links_finished configs log e l links link s.linked link_lines (openings_finished log e link ok refl (ap (λ (d : Row). d.reply) due_is)) h.0 h.1 (drops_none-act log e refl)
 
   pub both_told : AreBut link None l.openings links.openings × (links ≡ record l { openings = links.openings }) → Simulates configs log ev new links r
   both_told h = record {

@@ -40,7 +40,8 @@ use Rattle.p2p_net_connections.proofs.Changes.{connections_frame}
 use Rattle.p2p_net_links.specs.Stands.{LinksStand}
 use Rattle.p2p_net_links.specs.declared.links.Links.{Links}
 use Rattle.p2p_net_links.proofs.Changes.{opens_none, openings_unmoved, links_frame}
-use Rattle.p2p_net_links.proofs.Drops.{drops_none, drops_none-act}
+use Rattle.p2p_log_rules.proofs.Dropping.{drops_none}
+use Rattle.p2p_net_links.proofs.Drops.{drops_none-act}
 use Rattle.p2p_net_connections.proofs.SpawnerChanges.{spawner_kept}
 use Rattle.p2p_net.specs.Places.{Part, router, channels, connections, tracker, dialer, listener, spawner, same_part, links, home, names, at, asked_node, or_first, node_asked}
 use Rattle.p2p_net.specs.Stands.{RouterStands, PartStands}
@@ -346,6 +347,7 @@ undropped log (act.Attempt e n) h = cc
 undropped log (act.Handshake e n) h = cc
 undropped log (act.SendStep conn n) h = cc
 undropped log (act.RecvStep conn n) h = cc
+undropped log (act.Listener n) h = cc
 undropped log _ h = refl
 
 -- the links, where an act does not name them
@@ -353,4 +355,4 @@ pub links_kept : (configs : List Config) (log : List Entry) (ev : Event) (l : Li
 links_kept configs log ev l s h =
     links_frame configs log (effect configs log ev) l s (λ t link. line-unnamed configs log ev (queue.Link link t) h)
     (openings_unmoved log (effect configs log ev) (ap opens_none (effect-act configs log ev) ∙ unopened log ev.act h))
-    (drops_none-act configs log (effect configs log ev) (ap drops_none (effect-act configs log ev) ∙ undropped log ev.act h))
+    (drops_none-act log (effect configs log ev) (ap drops_none (effect-act configs log ev) ∙ undropped log ev.act h))

@@ -38,6 +38,7 @@ use Rattle.p2p_log_rules.specs.declared.row.Row.{Row}
 use Rattle.p2p_log_rules.specs.Facts.{taken}
 use Rattle.p2p_log_rules.specs.Dropping.{LinkEnd, handshake_drops}
 use Rattle.p2p_log_rules.specs.Puts.{is_spawn, broke_off}
+use Rattle.p2p_log_rules.proofs.Dropping.{all_of, drops_of-handshake}
 use Rattle.p2p_log_rules.specs.Effect.{only, entry_of}
 use Rattle.p2p_log_rules.specs.Attempting.{left_ends, gone_on_row, ready_row}
 use Rattle.p2p_log_rules.specs.Handshakes.{ends_handshake, is_handshaking, is_finished, Peer, peer_at, source_at}
@@ -491,5 +492,5 @@ handshake_performs configs log moment seed name n x y l ls r s t d =
     performs_beside configs log (asked moment seed (act.Handshake name n)) n x y l ls named (lost_by log n name d.row) (log_rule.handshake_row configs log name n moment) d.row r
     (is_some (table.at y.listening.handshakes name) || list_any is_spawn d.row.puts) (link_over (table.at x.listening.handshakes name)) side.In s t refl refl
     (λ p out. not_among-links named p n out) h.did d.drops h.keeps
-    (ap (λ b. cond b (Some (link, side.In)) None) h.took)
+    (drops_of-handshake log (entry_of (asked moment seed (act.Handshake name n)) (dropped log (lost_by log n name d.row) d.row)) name n refl ∙ ap (λ b. all_of (cond b (Some (link, side.In)) None)) h.took)
     (step_row configs log moment seed name n ∙ ap (handshake_drops log link waits) (sym h.did.row_is))

@@ -25,7 +25,8 @@ use Rattle.p2p_net_connections.proofs.Changes.{running-kept}
 use Rattle.p2p_net_connections.proofs.Ended.{EndsOne}
 use Rattle.p2p_net_listener.specs.Stands.{is_of_listener}
 use Rattle.p2p_net_links.specs.declared.links.Links.{Links}
-use Rattle.p2p_net_links.proofs.Drops.{drop_of, drops_sender, drops_receiver}
+use Rattle.p2p_log_rules.specs.Dropping.{drops_of}
+use Rattle.p2p_net_links.proofs.Drops.{drops_sender, drops_receiver}
 use Rattle.p2p_net_tracker.specs.Stands.{asks_of}
 use Rattle.p2p_net_tracker.proofs.EndSteps.{sender_ends, receiver_ends}
 use Rattle.p2p_net.specs.declared.node.Node.{Node}
@@ -118,6 +119,6 @@ module _ {configs : List Config} {log : List Entry} {n conn : ℕ} {half : Half}
   }
 
   -- the end of its link that it writes to is dropped
-  pub drops_end : (sends : Bool) → drop_of configs log (entry sends) ≡ Some (half.link, half.writes)
-  drops_end true = drops_sender configs log (entry true) conn n half refl refl (half_is t)
-  drops_end false = drops_receiver configs log (entry false) conn n half refl refl (half_is t)
+  pub drops_end : (sends : Bool) → drops_of log (entry sends) ≡ (half.link, half.writes) ∷ []
+  drops_end true = drops_sender log (entry true) conn n half refl refl (half_is t)
+  drops_end false = drops_receiver log (entry false) conn n half refl refl (half_is t)

@@ -159,7 +159,7 @@ module _ {configs : List Config} {log : List Entry} {n conn : ℕ} {half : Half}
         })
 
     -- and an end of its link is dropped
-    dropped : DropsEnd configs log e half.link half.writes
+    dropped : DropsEnd log e half.link half.writes
     dropped = record {
       drops = drops_end t at seed sends;
       emptied = flight_gone t at seed sends;

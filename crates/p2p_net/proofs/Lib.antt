@@ -27,6 +27,7 @@ pub mod Halves
 pub mod HandingOn
 pub mod Handshaking
 pub mod HaveLeft
+pub mod Heard
 pub mod Keys
 pub mod Killed
 pub mod Leaving
@@ -37,6 +38,7 @@ pub mod LeavingRouter
 pub mod LeavingRow
 pub mod Linked
 pub mod LinkedNodes
+pub mod Listened
 pub mod Listening
 pub mod Meetings
 pub mod Messages

@@ -1,4 +1,4 @@
--- The acts of a node's listener.
+-- What a step of a node's listener comes to, but for the end of an arrival that it turns away.
 use Rattle.std.proofs.Common.{◌≡◌, ℕ, ◌+◌, Bool, true, false, cond, List, [], ◌∷◌, ◌++◌, map, drop, length, refl, ap, sym, subst, ◌∙◌, arith, append-nil, eq-eqb, length-append, Option, Some, None}
 use Rattle.std.specs.Prelude.{◌≤◌, slice_get}
 use Rattle.std.proofs.lemmas.Option.{same_Some}
@@ -21,6 +21,7 @@ use Rattle.p2p_gates.specs.declared.arrival.Arrival.{Arrival}
 use Rattle.p2p_log.specs.declared.config.Config.{Config}
 use Rattle.p2p_log.specs.declared.queue.Queue.{Queue}
 use Rattle.p2p_log.specs.declared.queue.Queue.TheVariants as queue
+use Rattle.p2p_log.specs.declared.queue.Side.TheVariants as side
 use Rattle.p2p_log.specs.declared.item.Item.{Item}
 use Rattle.p2p_log.specs.declared.item.Item.TheVariants as item
 use Rattle.p2p_log.specs.declared.item.Envelope.{Envelope}
@@ -35,11 +36,13 @@ use Rattle.p2p_log.proofs.Queues.{same_queue-refl}
 use Rattle.p2p_log_rules.specs.declared.row.ListeningEnd.{ListeningEnd}
 use Rattle.p2p_log_rules.specs.declared.row.Row.{Row}
 use Rattle.p2p_log_rules.specs.Facts.{is_up, taken}
-use Rattle.p2p_log_rules.specs.Effect.{only, row, effect, entry_of}
+use Rattle.p2p_log_rules.specs.Dropping.{arrival_end, oldest_end, arriving_end}
+use Rattle.p2p_log_rules.specs.Effect.{only, entry_of}
 use Rattle.p2p_log_rules.specs.Handshakes.{with_admitted, handshakes_by, handshakes_of, source_of, peer_of}
 use Rattle.p2p_log_rules.specs.Links.{listened}
 use Rattle.p2p_log_rules.specs.Listening as log_rule
-use Rattle.p2p_log_rules.specs.Listening.{gate_rules_at, most_handshakes_at, took_known, known_of, gates_puts, told_row}
+use Rattle.p2p_log_rules.specs.Listening.{gate_rules_at, most_handshakes_at, took_known, known_of, gates_puts, told_row, listener_row}
+use Rattle.p2p_log_rules.specs.Puts.{turns_away}
 use Rattle.p2p_log_rules.proofs.TakenAt.{taken_at-last}
 use Rattle.p2p_net_queues.specs.Board.{held}
 use Rattle.p2p_net_queues.specs.Tables as table
@@ -50,22 +53,18 @@ use Rattle.p2p_net_listener.specs.declared.listening.Took.{Took}
 use Rattle.p2p_net_listener.specs.declared.listening.Took.TheVariants as takes
 use Rattle.p2p_net_listener.proofs.Changes.{listener_tells, listener_moved}
 use Rattle.p2p_net_listener.proofs.Handshakes.{facts_begun, AreKept, handshakes_kept, handshakes_begun}
-use Rattle.p2p_net_links.specs.Stands.{LinksStand}
-use Rattle.p2p_net_links.specs.declared.links.Links.{Links}
 use Rattle.p2p_net_tracker.specs.Dialed.{taken_names}
 use Rattle.p2p_net_tracker.specs.Stands.{is_told, HeardStands, TrackerStands}
 use Rattle.p2p_net_tracker.proofs.Changes.{told_apart, tracker_frame, kept_open}
 use Rattle.p2p_net_tracker.proofs.ListenerSteps.{tracker_updated, tracker_asked}
 use Rattle.p2p_net_tracker.proofs.Steps.{none_taken, first_taken}
 use Rattle.p2p_net.specs.Places as place
-use Rattle.p2p_net.specs.Ready.{is_started}
-use Rattle.p2p_net.specs.Acts.{ListenedBy, ListenerStepsBy}
+use Rattle.p2p_net.specs.Acts.{refused_by, ListenedBy}
 use Rattle.p2p_net.specs.Stands.{NodeStands}
 use Rattle.p2p_net.specs.declared.node.Node.{Node}
-use Rattle.p2p_net.proofs.EachPart.{each_part, not_among}
-use Rattle.p2p_net.proofs.Frames.{links_kept}
-use Rattle.p2p_net.proofs.Performing.{asked, Performs, IsStill, line-still, part_still, stays_performs}
-use Rattle.p2p_net.proofs.Readying.{started_is}
+use Rattle.p2p_net.proofs.DroppedEnds.{dropped, is_of_link, told_unlinked, unlinked_stay, LeavesLinks, end_by}
+use Rattle.p2p_net.proofs.Heard.{refused_for, lost_by, Heard, update_leaves, arrival_leaves, idle_leaves}
+use Rattle.p2p_net.proofs.Performing.{asked, IsStill, line-still, part_still}
 
 -- a queue in which a tracker tells something is no listener's
 told_no_arrivals : (n m : ℕ) (q : Queue) → is_told n q ≡ true → same_queue (queue.Arrivals m) q ≡ false
@@ -83,11 +82,15 @@ abbrev asked_for : ℕ → Key → GatesReply → Option Item
 asked_for k key gates.Admitted = Some (item.AskAcceptable k key)
 asked_for k key _ = None
 
-module _ (configs : List Config) (log : List Entry) (moment seed n : ℕ) (x y : Node) (l ls : Links) (r : Row) (s : NodeStands configs log n x) (t : LinksStand configs log l) (up : is_up log n ≡ true)
-    (rest : y ≡ record x { tracker = y.tracker; listening = y.listening }) (kept : ls ≡ l) (what : Option Took)
+module _ (configs : List Config) (log : List Entry) (moment seed n : ℕ) (x y : Node) (r : Row) (over : Option ℕ) (s : NodeStands configs log n x) (up : is_up log n ≡ true)
+    (rest : y ≡ record x { tracker = y.tracker; listening = y.listening }) (what : Option Took) (over_is : over ≡ refused_by what)
     (steps : listening.Steps (length log) moment x.listening y.listening x.tracker.mailbox y.tracker.mailbox what) where
   abbrev ev : Event
   ev = asked moment seed (act.Listener n)
+
+  -- what it comes to, but for the end of a link
+  abbrev Done : Type 0
+  Done = Heard configs log ev n x y r over
 
   abbrev k : ℕ
   k = length log
@@ -129,37 +132,25 @@ module _ (configs : List Config) (log : List Entry) (moment seed n : ℕ) (x y :
   abbrev had : ℕ → Option ListeningEnd
   had = table.at x.listening.ends
 
+  -- the entry of a row, with the end that it drops
   abbrev e : Row → Entry
-  e due = entry_of ev due
+  e due = entry_of ev (dropped log (lost_by log n due) due)
 
-  row_by : (us zs : List Envelope) → updates ≡ us → arrivals ≡ zs → row configs log moment seed (act.Listener n) ≡ log_rule.listener_turn rules known place_free n k moment us zs
-  unfolding row
+  row_by : (us zs : List Envelope) → updates ≡ us → arrivals ≡ zs → listener_row configs log n moment ≡ log_rule.listener_turn rules known place_free n k moment us zs
   row_by us zs u z =
       ap (λ b. cond b (log_rule.listener_turn rules known place_free n k moment updates arrivals) (only reply.Gone)) up
       ∙ (ap (λ q. log_rule.listener_turn rules known place_free n k moment q arrivals) u ∙ ap (log_rule.listener_turn rules known place_free n k moment us) z)
-
-  effect_is : (due : Row) → row configs log moment seed (act.Listener n) ≡ due → e due ≡ effect configs log ev
-  unfolding effect
-  effect_is due is = ap e (sym is)
 
   -- its step tells no handshake anything
   tells_none : (due : Row) (j : ℕ) → TellsNothing log (e due) n j
   tells_none due = listener_tells log (e due) n (eq-eqb n n refl)
 
   -- where both parts stand for the log with this entry
-  performs : (due : Row) → row configs log moment seed (act.Listener n) ≡ due → r ≡ due → TrackerStands configs (log ++ e due ∷ []) n y.tracker → ListenerStands configs (log ++ e due ∷ []) n y.listening
-      → Performs configs log ev n y ls r
-  performs due row_is r_is tracks hears =
-      let same = effect_is due row_is in
-      record {
-        row_is = r_is ∙ sym row_is;
-        node =
-            each_part configs log ev n x y (place.tracker ∷ place.listener ∷ []) s rest (λ p out. not_among (place.tracker ∷ place.listener ∷ []) p n n out) refl (
-              subst (λ (d : Entry). TrackerStands configs (log ++ d ∷ []) n y.tracker) same tracks,
-              (subst (λ (d : Entry). ListenerStands configs (log ++ d ∷ []) n y.listening) same hears, tt),
-            );
-        linked = subst (LinksStand configs (log ++ effect configs log ev ∷ [])) (sym kept) (links_kept configs log ev l t refl);
-      }
+  performs : (due : Row) → listener_row configs log n moment ≡ due → r ≡ due → TrackerStands configs (log ++ e due ∷ []) n y.tracker → ListenerStands configs (log ++ e due ∷ []) n y.listening
+      → LeavesLinks log due → cond (turns_away due.reply) (arrival_end (taken log (e due))) None ≡ lost_by log n due → end_by false over side.In ≡ lost_by log n due → Done
+  performs due row_is r_is tracks hears leaves took drops =
+      subst (λ (z : Row). Heard configs log ev n x y z over) (sym r_is)
+      (record { did = record { row_is = sym row_is; rest = rest; parts = (tracks, (hears, tt)); leaves = leaves }; took = took; drops = drops })
 
   -- what a turn makes of the listener, which took these
   hears_by : (due : Row) (T : ListenerTurn Key) (items : List Item) → turn ≡ T → taken log (e due) ≡ items
@@ -193,6 +184,10 @@ module _ (configs : List Config) (log : List Entry) (moment seed n : ℕ) (x y :
   abbrev Tracks : Option Took → Type 0
   Tracks d = ListenedBy d k n x.tracker y.tracker r
 
+  -- the end that the code drops, by what it took
+  drops_by : (d : Option Took) → what ≡ d → end_by false over side.In ≡ end_by false (refused_by d) side.In
+  drops_by d is = ap (λ o. end_by false o side.In) (over_is ∙ ap refused_by is)
+
   -- ---- an update is taken
 
   module _ (ips : List IpAddr) (z : Envelope) (heard : m.heard ≡ Some ips) (one : updates ≡ z ∷ []) (is : z.item ≡ item.Addresses ips) where
@@ -211,13 +206,13 @@ module _ (configs : List Config) (log : List Entry) (moment seed n : ℕ) (x y :
         ∙ (ap (λ xs. xs ++ []) (first_left log (queue.Update n) z [] one p) ∙ append-nil (cond (same_queue (queue.Update n) p) [] (line log p)))
 
     -- the only one is the first
-    dropped : (p : Queue) (b : Bool) → same_queue (queue.Update n) p ≡ b → cond b [] (line log p) ≡ cond b (drop 1 (line log p)) (line log p)
-    dropped p true same = sym (ap (drop 1) (ap (line log) (queue_from_same (queue.Update n) p same) ∙ one))
-    dropped p false other = refl
+    only_first : (p : Queue) (b : Bool) → same_queue (queue.Update n) p ≡ b → cond b [] (line log p) ≡ cond b (drop 1 (line log p)) (line log p)
+    only_first p true same = sym (ap (drop 1) (ap (line log) (queue_from_same (queue.Update n) p same) ∙ one))
+    only_first p false other = refl
 
-    updated : Tracks (Some takes.Update) → Performs configs log ev n y ls r
+    updated : Tracks (Some takes.Update) → Done
     updated tracks =
-        let row_is : row configs log moment seed (act.Listener n) ≡ due_update = row_by (z ∷ []) arrivals one refl in
+        let row_is : listener_row configs log n moment ≡ due_update = row_by (z ∷ []) arrivals one refl in
         let told : held x.tracker.told (queue.Update n) ≡ z ∷ [] = tracked.told (queue.Update n) (eq-eqb n n refl) ∙ one in
         let took_is : taken log (e due_update) ≡ item.Addresses ips ∷ [] = first_taken log (e due_update) (queue.Update n) z [] one refl ∙ ap (λ i. i ∷ []) is in
         performs due_update row_is (tracks.0 ∙ ap (λ (xs : List Envelope). record { reply = reply.Ok; takes = taken_names true xs; puts = []; ends = [] }) told)
@@ -230,14 +225,15 @@ module _ (configs : List Config) (log : List Entry) (moment seed n : ℕ) (x y :
           no_admission = ap (λ b. cond b hs hs) (eq-eqb n n refl);
           rest = tracks.1.1 ∙ ap (λ w. record x.tracker { mailbox = w; told = y.tracker.told }) (way_is T_update turn_update);
           mailbox = line_update (queue.Tracker n);
-          lines = λ p own. line_update p ∙ dropped p (same_queue (queue.Update n) p) refl;
+          lines = λ p own. line_update p ∙ only_first p (same_queue (queue.Update n) p) refl;
           told = tracks.1.0;
         }))
         (hears_by due_update T_update (item.Addresses ips ∷ []) turn_update took_is
         (listens.names ∙ ap (map name_of) (sym (line_update (queue.Arrivals n)))) (ap (map (λ (w : Envelope). w.item)) (line_update (queue.Arrivals n)) ∙ listens.items) refl listens.places
         (handshakes_kept configs log (e due_update) n x.listening.handshakes (ap (λ b. cond b hs hs) (eq-eqb n n refl)) (tells_none due_update) listens.handshakes) (λ j. refl))
+        (update_leaves log n z [] reply.Ok one) refl (drops_by (Some takes.Update) (what_is T_update turn_update))
 
-    update_performs : Tracks what → Performs configs log ev n y ls r
+    update_performs : Tracks what → Done
     update_performs tracks = updated (subst Tracks (what_is T_update turn_update) tracks)
 
   -- ---- no update waits
@@ -247,7 +243,7 @@ module _ (configs : List Config) (log : List Entry) (moment seed n : ℕ) (x y :
     turn_received o is = ap (update_turn actor known m k moment) heard ∙ ap (line_turn actor known m k moment) is
 
     -- nobody has arrived
-    idle : arrivals ≡ [] → slice_get actor.arrivals 0 ≡ None → Tracks what → Performs configs log ev n y ls r
+    idle : arrivals ≡ [] → slice_get actor.arrivals 0 ≡ None → Tracks what → Done
     idle none nobody tracks =
         let T : ListenerTurn Key = line_turn actor known m k moment None in
         let turn_is : turn ≡ T = turn_received None nobody in
@@ -260,6 +256,7 @@ module _ (configs : List Config) (log : List Entry) (moment seed n : ℕ) (x y :
         (subst (TrackerStands configs (log ++ e due ∷ []) n) (sym same) (part_still place.tracker configs log (e due) n x (act.Listener n) reply.Idle tracked refl refl still))
         (hears_by due T [] turn_is (none_taken log (e due) refl) (listens.names ∙ ap (map name_of) (sym line_same)) (ap (map (λ (w : Envelope). w.item)) line_same ∙ listens.items) refl listens.places
         (handshakes_kept configs log (e due) n x.listening.handshakes (ap (λ b. cond b hs hs) (eq-eqb n n refl)) (tells_none due) listens.handshakes) (λ j. refl))
+        (idle_leaves log n reply.Idle) refl (drops_by None (what_is T turn_is))
 
     -- the oldest arrival is taken
     module _ (z : Envelope) (zs : List Envelope) (a : Arrival Key) (cs : List (Arrival Key)) (first : arrivals ≡ z ∷ zs) (came : actor.arrivals ≡ a ∷ cs) (is : z.item ≡ arrival_item a)
@@ -276,7 +273,7 @@ module _ (configs : List Config) (log : List Entry) (moment seed n : ℕ) (x y :
       abbrev due : GatesReply → Row
       due told = told_row n k (name_of z) a.key told
 
-      row_is : row configs log moment seed (act.Listener n) ≡ due told_by
+      row_is : listener_row configs log n moment ≡ due told_by
       row_is = row_by [] (z ∷ zs) quiet first ∙ ap (log_rule.arrived_row rules known place_free n k moment (name_of z)) is
 
       abbrev T_told : GatesReply → ListenerTurn Key
@@ -299,22 +296,24 @@ module _ (configs : List Config) (log : List Entry) (moment seed n : ℕ) (x y :
       put_away (gates.Limited i j) p other = refl
       put_away gates.TooMany p other = refl
 
-      line_told : (told : GatesReply) (p : Queue) → line (log ++ e (due told) ∷ []) p ≡ cond (same_queue (queue.Arrivals n) p) zs (line log p) ++ put_in log (e (due told)) p
-      line_told told p = line-append log (e (due told)) p ∙ ap (λ xs. xs ++ put_in log (e (due told)) p) (first_left log (queue.Arrivals n) z zs first p)
+      line_told : (told : GatesReply) (p : Queue) → is_of_link p ≡ false → line (log ++ e (due told) ∷ []) p ≡ cond (same_queue (queue.Arrivals n) p) zs (line log p) ++ put_in log (e (due told)) p
+      line_told told p unlinked =
+          line-append log (e (due told)) p
+          ∙ ap (λ xs. xs ++ put_in log (e (due told)) p) (unlinked_stay log (due told) (lost_by log n (due told)) p unlinked ∙ first_left log (queue.Arrivals n) z zs first p)
 
-      line_away : (told : GatesReply) (p : Queue) → same_queue p (queue.Tracker n) ≡ false → line (log ++ e (due told) ∷ []) p ≡ cond (same_queue (queue.Arrivals n) p) zs (line log p)
-      line_away told p other =
-          line_told told p ∙ (ap (λ xs. cond (same_queue (queue.Arrivals n) p) zs (line log p) ++ xs) (put_away told p other) ∙ append-nil (cond (same_queue (queue.Arrivals n) p) zs (line log p)))
+      line_away : (told : GatesReply) (p : Queue) → is_of_link p ≡ false → same_queue p (queue.Tracker n) ≡ false → line (log ++ e (due told) ∷ []) p ≡ cond (same_queue (queue.Arrivals n) p) zs (line log p)
+      line_away told p unlinked other =
+          line_told told p unlinked ∙ (ap (λ xs. cond (same_queue (queue.Arrivals n) p) zs (line log p) ++ xs) (put_away told p other) ∙ append-nil (cond (same_queue (queue.Arrivals n) p) zs (line log p)))
 
       arrivals_left : (told : GatesReply) → line (log ++ e (due told) ∷ []) (queue.Arrivals n) ≡ zs
-      arrivals_left told = line_away told (queue.Arrivals n) refl ∙ ap (λ b. cond b zs arrivals) (same_queue-refl (queue.Arrivals n))
+      arrivals_left told = line_away told (queue.Arrivals n) refl refl ∙ ap (λ b. cond b zs arrivals) (same_queue-refl (queue.Arrivals n))
 
       -- a queue in which the tracker tells something is not the listener's
       not_arrivals : (p : Queue) → is_told n p ≡ true → same_queue (queue.Arrivals n) p ≡ false
       not_arrivals p own = told_no_arrivals n n p own
 
       told_lines : (told : GatesReply) (p : Queue) → is_told n p ≡ true → line (log ++ e (due told) ∷ []) p ≡ line log p
-      told_lines told p own = line_away told p (told_apart n n p own) ∙ ap (λ b. cond b zs (line log p)) (not_arrivals p own)
+      told_lines told p own = line_away told p (told_unlinked n p own) (told_apart n n p own) ∙ ap (λ b. cond b zs (line log p)) (not_arrivals p own)
 
       -- the places of handshakes
       places_told : (told : GatesReply) → places_after told actor.places ≡ record { held = length (with_admitted k (reply.Gates told) hs); max = most_handshakes_at configs n }
@@ -333,7 +332,7 @@ module _ (configs : List Config) (log : List Entry) (moment seed n : ℕ) (x y :
       names_told (gates.Limited i j) = refl
       names_told gates.TooMany = refl
 
-      took_told : (told : GatesReply) (name : Option (ℕ × ℕ)) → name ≡ Some (name_of z) → listening.took_by (T_told told).stepped name ≡ Some (takes.Arrival (name_of z) told (asked_for k a.key told))
+      took_told : (told : GatesReply) (name : Option (ℕ × ℕ)) → name ≡ Some (name_of z) → listening.took_by (T_told told).stepped name ≡ Some (takes.Arrival (name_of z) told (refused_for a.link told) (asked_for k a.key told))
       took_told gates.Admitted name there = ap (listening.took_by (T_told gates.Admitted).stepped) there
       took_told gates.Private name there = ap (listening.took_by (T_told gates.Private).stepped) there
       took_told gates.Unregistered name there = ap (listening.took_by (T_told gates.Unregistered).stepped) there
@@ -387,19 +386,47 @@ module _ (configs : List Config) (log : List Entry) (moment seed n : ℕ) (x y :
           (ap (map (λ (w : Envelope). w.item)) (arrivals_left told) ∙ (others ∙ sym (ap (λ xs. map arrival_item (drop 1 xs)) came)))
           (ap (λ g. rule.known_after g known a.from.ip moment) listens.rules) (places_told told) (kept_told told) (ends_told told)
 
-      tracks_told : (told : GatesReply) → turn ≡ T_told told → Tracks what → Tracks (Some (takes.Arrival (name_of z) told (asked_for k a.key told)))
-      tracks_told told so tracks = subst Tracks (what_is (T_told told) so ∙ took_told told (slice_get x.listening.names 0) name_is) tracks
+      -- what was taken
+      abbrev took_told_by : GatesReply → Option Took
+      took_told_by told = Some (takes.Arrival (name_of z) told (refused_for a.link told) (asked_for k a.key told))
+
+      what_told : (told : GatesReply) → turn ≡ T_told told → what ≡ took_told_by told
+      what_told told so = what_is (T_told told) so ∙ took_told told (slice_get x.listening.names 0) name_is
+
+      -- the end of an arrival that is turned away
+      came_over : arriving_end log n ≡ Some (a.link, side.In)
+      came_over = ap oldest_end first ∙ ap (λ i. arrival_end (i ∷ [])) is
+
+      lost_told : (told : GatesReply) → end_by false (refused_for a.link told) side.In ≡ lost_by log n (due told)
+      lost_told gates.Admitted = refl
+      lost_told gates.Private = sym came_over
+      lost_told gates.Unregistered = sym came_over
+      lost_told (gates.Limited i j) = sym came_over
+      lost_told gates.TooMany = sym came_over
+
+      took_over : (told : GatesReply) → cond (turns_away (reply.Gates told)) (arrival_end (taken log (e (due told)))) None ≡ lost_by log n (due told)
+      took_over told = ap (λ o. cond (turns_away (reply.Gates told)) o None) (ap arrival_end (took_is told) ∙ sym came_over)
+
+      -- both parts stand, and the end is dropped where it is turned away
+      done : (told : GatesReply) → turn ≡ T_told told → told_by ≡ told → r ≡ due told → TrackerStands configs (log ++ e (due told) ∷ []) n y.tracker → Done
+      done told so by r_is tracks =
+          performs (due told) (row_is ∙ ap due by) r_is tracks (hears told so) (arrival_leaves log n z zs (reply.Gates told) a.key told first) (took_over told)
+          (drops_by (took_told_by told) (what_told told so) ∙ lost_told told)
+
+      tracks_told : (told : GatesReply) → turn ≡ T_told told → Tracks what → Tracks (took_told_by told)
+      tracks_told told so tracks = subst Tracks (what_told told so) tracks
 
       -- one that a gate refuses: the tracker isn't asked
       refused : (told : GatesReply) → turn ≡ T_told told → told_by ≡ told → (T_told told).way ≡ m → asked_for k a.key told ≡ None → gates_puts n k a.key told ≡ [] → with_admitted k (reply.Gates told) hs ≡ hs
-          → Tracks what → Performs configs log ev n y ls r
+          → Tracks what → Done
       refused told so by way nothing none nobody tracks =
-          let it : Tracks (Some (takes.Arrival (name_of z) told None)) = subst (λ o. Tracks (Some (takes.Arrival (name_of z) told o))) nothing (tracks_told told so tracks) in
+          let it : Tracks (Some (takes.Arrival (name_of z) told (refused_for a.link told) None)) =
+          subst (λ o. Tracks (Some (takes.Arrival (name_of z) told (refused_for a.link told) o))) nothing (tracks_told told so tracks) in
           let same : y.tracker ≡ x.tracker =
           it.1
           ∙ (ap (λ w. record x.tracker { mailbox = w; names = x.tracker.names ++ [] }) (way_is (T_told told) so ∙ way) ∙ ap (λ w. record x.tracker { names = w }) (append-nil x.tracker.names)) in
           let alone : put_in log (e (due told)) (queue.Tracker n) ≡ [] = ap (λ ps. put_in log (e (record (due told) { puts = ps })) (queue.Tracker n)) none in
-          performs (due told) (row_is ∙ ap due by) (it.0 ∙ ap (λ ps. record { reply = reply.Gates told; takes = name_of z ∷ []; puts = ps; ends = [] }) (sym none))
+          done told so by (it.0 ∙ ap (λ ps. record { reply = reply.Gates told; takes = name_of z ∷ []; puts = ps; ends = [] }) (sym none))
           (subst (TrackerStands configs (log ++ e (due told) ∷ []) n) (sym same)
           (tracker_frame configs log (e (due told)) n x.tracker tracked
           (record {
@@ -408,23 +435,22 @@ module _ (configs : List Config) (log : List Entry) (moment seed n : ℕ) (x y :
             no_question = refl;
             no_answer = λ d is_asked. refl;
             no_late_answer = λ d past. refl;
-            mailbox = line_told told (queue.Tracker n) ∙ (ap (λ xs. line log (queue.Tracker n) ++ xs) alone ∙ append-nil (line log (queue.Tracker n)));
+            mailbox = line_told told (queue.Tracker n) refl ∙ (ap (λ xs. line log (queue.Tracker n) ++ xs) alone ∙ append-nil (line log (queue.Tracker n)));
             told = told_lines told;
             handshakes = admits_told told ∙ nobody;
           })))
-          (hears told so)
 
       -- one that is admitted
       open_mailbox : m.desk.messages.closed ≡ false
       open_mailbox = tracked.is_open
 
-      admitted : turn ≡ T_told gates.Admitted → told_by ≡ gates.Admitted → Tracks what → Performs configs log ev n y ls r
+      admitted : turn ≡ T_told gates.Admitted → told_by ≡ gates.Admitted → Tracks what → Done
       admitted so by tracks =
-          let it : Tracks (Some (takes.Arrival (name_of z) gates.Admitted (Some (item.AskAcceptable k a.key)))) = tracks_told gates.Admitted so tracks in
+          let it : Tracks (Some (takes.Arrival (name_of z) gates.Admitted None (Some (item.AskAcceptable k a.key)))) = tracks_told gates.Admitted so tracks in
           let w : y.tracker.mailbox ≡ (T_told gates.Admitted).way = way_is (T_told gates.Admitted) so in
           let asked_envelope : Envelope = record { entry = k; place = 0; queue = queue.Tracker n; item = item.AskAcceptable k a.key } in
           let d : Row = due gates.Admitted in
-          performs d (row_is ∙ ap due by) it.0
+          done gates.Admitted so by it.0
           (tracker_asked configs log (e d) n x.tracker y.tracker a.key a.from.ip tracked
           (record {
             no_step = refl;
@@ -440,45 +466,32 @@ module _ (configs : List Config) (log : List Entry) (moment seed n : ℕ) (x y :
             questions = ap (λ (u : Mailbox Key). length u.desk.questions) w;
             updates = ap (λ (u : Mailbox Key). length u.desk.updates) w;
             sets = ap (λ (u : Mailbox Key). length u.desk.sets) w;
-            waits = line_told gates.Admitted (queue.Tracker n) ∙ ap (λ b. line log (queue.Tracker n) ++ cond b (asked_envelope ∷ []) []) (same_queue-refl (queue.Tracker n));
+            waits = line_told gates.Admitted (queue.Tracker n) refl ∙ ap (λ b. line log (queue.Tracker n) ++ cond b (asked_envelope ∷ []) []) (same_queue-refl (queue.Tracker n));
             lines = told_lines gates.Admitted;
           }))
-          (hears gates.Admitted so)
         where
           mailbox_now : y.tracker.mailbox ≡ (T_told gates.Admitted).way → record m { desk = y.tracker.mailbox.desk; handshakes = begun m.handshakes k } ≡ (T_told gates.Admitted).way
           mailbox_now w = ap (λ (u : Mailbox Key). record m { desk = u.desk; handshakes = begun m.handshakes k }) w
 
-      by_told : (told : GatesReply) → turn ≡ T_told told → told_by ≡ told → Tracks what → Performs configs log ev n y ls r
+      by_told : (told : GatesReply) → turn ≡ T_told told → told_by ≡ told → Tracks what → Done
       by_told gates.Admitted so by tracks = admitted so by tracks
       by_told gates.Private so by tracks = refused gates.Private so by refl refl refl refl tracks
       by_told gates.Unregistered so by tracks = refused gates.Unregistered so by refl refl refl refl tracks
       by_told (gates.Limited i j) so by tracks = refused (gates.Limited i j) so by refl refl refl refl tracks
       by_told gates.TooMany so by tracks = refused gates.TooMany so by refl refl refl refl tracks
 
-      arrival_performs : Tracks what → Performs configs log ev n y ls r
+      arrival_performs : Tracks what → Done
       arrival_performs tracks = by_told told_by turn_is refl tracks
 
-    by_line : (zs : List Envelope) (cs : List (Arrival Key)) → arrivals ≡ zs → actor.arrivals ≡ cs → map (λ (w : Envelope). w.item) zs ≡ map arrival_item cs → Tracks what → Performs configs log ev n y ls r
+    by_line : (zs : List Envelope) (cs : List (Arrival Key)) → arrivals ≡ zs → actor.arrivals ≡ cs → map (λ (w : Envelope). w.item) zs ≡ map arrival_item cs → Tracks what → Done
     by_line [] [] none nobody same tracks = idle none (ap (λ xs. slice_get xs 0) nobody) tracks
     by_line (z ∷ zs) (a ∷ cs) first came same tracks = arrival_performs z zs a cs first came (same_Some z.item (arrival_item a) (ap (λ xs. slice_get xs 0) same)) (ap (drop 1) same) tracks
     by_line [] (a ∷ cs) none came same tracks = cc
     by_line (z ∷ zs) [] first nobody same tracks = cc
 
-  by_heard : (o : Option (List IpAddr)) → m.heard ≡ o → HeardStands o updates → Tracks what → Performs configs log ev n y ls r
+  by_heard : (o : Option (List IpAddr)) → m.heard ≡ o → HeardStands o updates → Tracks what → Done
   by_heard None heard quiet tracks = by_line heard quiet arrivals actor.arrivals refl refl listens.items tracks
   by_heard (Some ips) heard one tracks = update_performs ips one.0 heard one.1 one.2 tracks
 
-  steps_performs : Tracks what → Performs configs log ev n y ls r
-  steps_performs tracks = by_heard m.heard refl tracked.heard tracks
-
-pub listener_performs : (configs : List Config) (log : List Entry) (moment seed n : ℕ) (x y : Node) (l ls : Links) (r : Row) → NodeStands configs log n x → LinksStand configs log l
-    → ListenerStepsBy (is_started x) (length log) n moment x y r → ls ≡ l → Performs configs log (asked moment seed (act.Listener n)) n y ls r
-unfolding row
-listener_performs configs log moment seed n x y l ls r s t steps kept = by (is_started x) (sym (started_is configs log n x s)) steps
-  where
-    by : (b : Bool) → is_up log n ≡ b → ListenerStepsBy b (length log) n moment x y r → Performs configs log (asked moment seed (act.Listener n)) n y ls r
-    by true up h = steps_performs configs log moment seed n x y l ls r s t up h.rest kept h.took h.steps h.tracks
-    by false down h =
-        stays_performs configs log (asked moment seed (act.Listener n)) n x y l ls r reply.Gone s t
-        (ap (λ b. cond b (log_rule.listener_turn (gate_rules_at configs n) (known_of configs log n) (log_rule.has_place configs log n) n (length log) moment (line log (queue.Update n)) (line log (queue.Arrivals n))) (only reply.Gone)) down)
-        refl h.0 h.1 kept
+  pub heard : Tracks what → Done
+  heard tracks = by_heard m.heard refl tracked.heard tracks

@@ -14,13 +14,14 @@ use Rattle.p2p_log.specs.declared.event.Act.TheVariants as act
 use Rattle.p2p_log.specs.Lines.{line, placed, ended_item, stands_in}
 use Rattle.p2p_log_rules.specs.declared.row.Row.{Row}
 use Rattle.p2p_log_rules.specs.Attempting.{Attempt, DialRules, dial_rules_at, attempts_of}
-use Rattle.p2p_log_rules.proofs.Attempts.{acted_attempts}
-use Rattle.p2p_log_rules.specs.Dialing.{Pace, pace_at, Dials, acted_dials, dials_of}
+use Rattle.p2p_log_rules.proofs.Attempts.{acted_attempts, Heeds, attempts_of-append, attempts_acted}
+use Rattle.p2p_log_rules.proofs.Dialing.{dials_of-still}
+use Rattle.p2p_log_rules.proofs.Dropping.{all_of, drops_none, drops_of-send, drops_of-receive}
 use Rattle.p2p_net_dialer.proofs.Changes.{dialer_frame}
 use Rattle.p2p_net_listener.proofs.Changes.{listener_frame}
 use Rattle.p2p_log_rules.specs.Closing.{closed_by}
-use Rattle.p2p_log_rules.specs.Connections.{steps_sender, is_done, is_answer, begins, steps_receiver, is_end, ends_connection}
-use Rattle.p2p_log_rules.specs.Dropping.{acted_drops}
+use Rattle.p2p_log_rules.specs.Connections.{half_at, steps_sender, is_done, is_answer, begins, steps_receiver, is_end, ends_connection}
+use Rattle.p2p_log_rules.specs.Dropping.{half_end}
 use Rattle.p2p_log_rules.specs.Facts.{starts, registers_at, taken, item_named, steps_router}
 use Rattle.p2p_log_rules.proofs.Spawning.{connections_of-untaken}
 use Rattle.p2p_log_rules.specs.Effect.{only, row, effect}
@@ -36,7 +37,7 @@ use Rattle.p2p_net_connections.proofs.Changes.{connections_frame}
 use Rattle.p2p_net_links.specs.Stands.{LinksStand}
 use Rattle.p2p_net_links.specs.declared.links.Links.{Links}
 use Rattle.p2p_net_links.proofs.Changes.{opens_none, OpensNone, openings_unmoved, is_ok_reply, openings_unanswered, links_frame}
-use Rattle.p2p_net_links.proofs.Drops.{DropsNone}
+use Rattle.p2p_net_links.proofs.Drops.{DropsNone, is_idle_reply, drops_none-act, drops_none-idle}
 use Rattle.p2p_net_listener.proofs.Ends.{ends_quiet}
 use Rattle.p2p_net_listener.proofs.Handshakes.{nothing_tells}
 use Rattle.p2p_net_connections.proofs.SpawnerChanges.{spawner_kept}
@@ -172,13 +173,6 @@ either_same : {X : Type 0} (b : Bool) (d : X) → cond b d d ≡ d
 either_same true d = refl
 either_same false d = refl
 
-quiet_dials : (pace : Pace) (n : ℕ) (a : Act) (at seed : ℕ) (r : Reply) (items : List Item) (puts : List (Queue × Item)) (d : Dials) → is_quiet a r ≡ true → acted_dials pace n a at seed r items puts d ≡ d
-quiet_dials pace n (act.Start m) at seed r items puts d h = cc
-quiet_dials pace n (act.Dialer m) at seed reply.Idle items puts d h = either_same (m == n) d
-quiet_dials pace n (act.Dialer m) at seed reply.Gone items puts d h = either_same (m == n) d
-quiet_dials pace n (act.Dialer m) at seed _ items puts d h = cc
-quiet_dials pace n _ at seed r items puts d h = refl
-
 -- nobody is admitted, and no handshake ends
 quiet_handshakes : (n name : ℕ) (r : Reply) (items : List Item) (a : Act) (names : List ℕ) → is_quiet a r ≡ true → acted_handshakes n name r items a names ≡ names
 quiet_handshakes n name reply.Idle items (act.Listener m) names h = either_same (m == n) names
@@ -204,17 +198,21 @@ handshakes_still log e n a rep is told q =
     ∙ (ap (λ r. acted_handshakes n (length log) r (taken log e) a names) told ∙ quiet_handshakes n (length log) rep (taken log e) a names q)
 
 -- nothing is taken, so nothing is begun
-quiet_tries : (rules : DialRules) (n name at seed : ℕ) (a : Act) (r s : Reply) (attempts : ℕ → Option Attempt) (k : ℕ) → is_quiet a r ≡ true → acted_attempts rules n name at seed s [] a attempts k ≡ attempts k
-quiet_tries rules n name at seed (act.Dialer m) r s attempts k h = by (m == n)
+quiet_tries : (rules : DialRules) (n name at seed : ℕ) (a : Act) (r s : Reply) (puts : List (Queue × Item)) (attempts : ℕ → Option Attempt) (k : ℕ) → is_quiet a r ≡ true → acted_attempts rules n name at seed s [] puts a attempts k ≡ attempts k
+quiet_tries rules n name at seed (act.Dialer m) r s puts attempts k h = by (m == n)
   where
     by : (b : Bool) → cond b (attempts k) (attempts k) ≡ attempts k
     by true = refl
     by false = refl
-quiet_tries rules n name at seed (act.Attempt e m) r s attempts k h = cc
-quiet_tries rules n name at seed (act.Resolve addresses e m) r s attempts k h = cc
-quiet_tries rules n name at seed (act.Connect e from m to) r s attempts k h = cc
-quiet_tries rules n name at seed (act.Refuse e m) r s attempts k h = cc
-quiet_tries rules n name at seed _ r s attempts k h = refl
+quiet_tries rules n name at seed (act.Attempt e m) r s puts attempts k h = cc
+quiet_tries rules n name at seed (act.Resolve addresses e m) r s puts attempts k h = cc
+quiet_tries rules n name at seed (act.Connect e from m to) r s puts attempts k h = cc
+quiet_tries rules n name at seed (act.Refuse e m) r s puts attempts k h = cc
+quiet_tries rules n name at seed _ r s puts attempts k h = refl
+
+quiet_heeds : (rules : DialRules) (n name at seed : ℕ) (a : Act) (r s : Reply) (items : List Item) (puts : List (Queue × Item)) (attempts : ℕ → Option Attempt) → is_quiet a r ≡ true → Heeds rules n name at seed s items puts a attempts
+quiet_heeds rules n name at seed (act.Attempt e m) r s items puts attempts h = absurd (let f : false ≡ true = h in cc)
+quiet_heeds rules n name at seed _ r s items puts attempts h = tt
 
 pub taken-none : (log : List Entry) (e : Entry) → e.takes ≡ [] → taken log e ≡ []
 unfolding taken
@@ -289,15 +287,15 @@ part_still dialer configs log e n x a rep s is q h =
     dialer_frame configs log e n x.dialing s
     (record {
       no_start = ap (starts n) is ∙ quiet_starts n a rep q;
-      dials =
-          ap (λ b. acted_dials (pace_at configs n) n b e.event.at e.event.seed e.reply (taken log e) e.puts (dials_of configs log n)) is
-          ∙ (ap (λ r. acted_dials (pace_at configs n) n a e.event.at e.event.seed r (taken log e) e.puts (dials_of configs log n)) h.reply
-          ∙ quiet_dials (pace_at configs n) n a e.event.at e.event.seed rep (taken log e) e.puts (dials_of configs log n) q);
+      dials = dials_of-still configs log e n (ap (starts n) is ∙ quiet_starts n a rep q) none h.puts;
       tries = λ k.
           let rules = dial_rules_at configs n in
           let attempts = attempts_of configs log n in
-          ap (λ b. acted_attempts rules n (length log) e.event.at e.event.seed e.reply (taken log e) b attempts k) is
-          ∙ (ap (λ l. acted_attempts rules n (length log) e.event.at e.event.seed e.reply l a attempts k) none ∙ quiet_tries rules n (length log) e.event.at e.event.seed a rep e.reply attempts k q);
+          attempts_of-append configs log e n k
+          ∙ (attempts_acted configs log e n k attempts
+          (subst (λ b. Heeds rules n (length log) e.event.at e.event.seed e.reply (taken log e) e.puts b attempts) (sym is) (quiet_heeds rules n (length log) e.event.at e.event.seed a rep e.reply (taken log e) e.puts attempts q))
+          ∙ (ap (λ b. acted_attempts rules n (length log) e.event.at e.event.seed e.reply (taken log e) e.puts b attempts k) is
+          ∙ (ap (λ l. acted_attempts rules n (length log) e.event.at e.event.seed e.reply l e.puts a attempts k) none ∙ quiet_tries rules n (length log) e.event.at e.event.seed a rep e.reply e.puts attempts k q)));
       lines = λ k. line-still log e rep (queue.Attempt n k) h;
     })
 part_still listener configs log e n x a rep s is q h =
@@ -324,28 +322,46 @@ quiet_opens log e (act.Finish link ok) rep is q told = openings_unanswered log e
     unanswered _ h = refl
 quiet_opens log e _ rep is q told = openings_unmoved log e (ap opens_none is)
 
--- no end of a link is dropped
-quiet_drops : (configs : List Config) (log : List Entry) (items : List Item) (a : Act) (r : Reply) → is_quiet a r ≡ true → acted_drops configs log r items [] a ≡ None
-quiet_drops configs log items (act.Attempt e n) r h = cc
-quiet_drops configs log items (act.Handshake e n) reply.Idle h = refl
-quiet_drops configs log items (act.Handshake e n) reply.Gone h = refl
-quiet_drops configs log items (act.Handshake e n) _ h = cc
-quiet_drops configs log items (act.SendStep conn n) reply.Ok h = cc
-quiet_drops configs log items (act.SendStep conn n) (reply.Ended why) h = cc
-quiet_drops configs log items (act.SendStep conn n) _ h = refl
-quiet_drops configs log items (act.RecvStep conn n) (reply.Ended why) h = cc
-quiet_drops configs log items (act.RecvStep conn n) _ h = refl
-quiet_drops configs log items _ r h = refl
+-- a step of a listener or of a handshake
+abbrev steps_gate : Act → Bool
+steps_gate (act.Listener n) = true
+steps_gate (act.Handshake e n) = true
+steps_gate _ = false
 
-still_drops : (configs : List Config) (log : List Entry) (e : Entry) (a : Act) (rep : Reply) → e.event.act ≡ a → is_quiet a rep ≡ true → IsStill e rep → DropsNone configs log e
-still_drops configs log e a rep is q h =
-    ap (λ b. acted_drops configs log e.reply (taken log e) e.puts b) is
-    ∙ (ap (λ r. acted_drops configs log r (taken log e) e.puts a) h.reply
-    ∙ (ap (λ p. acted_drops configs log rep (taken log e) p a) h.puts ∙ quiet_drops configs log (taken log e) a rep q))
+-- that does nothing
+idle_quiet : (a : Act) (r : Reply) → steps_gate a ≡ true → is_quiet a r ≡ true → is_idle_reply r ≡ true
+idle_quiet (act.Listener n) reply.Idle h q = refl
+idle_quiet (act.Listener n) reply.Gone h q = refl
+idle_quiet (act.Listener n) _ h q = cc
+idle_quiet (act.Handshake e n) reply.Idle h q = refl
+idle_quiet (act.Handshake e n) reply.Gone h q = refl
+idle_quiet (act.Handshake e n) _ h q = cc
+idle_quiet _ r h q = cc
+
+-- a step of a half that ends no connection
+half_lives : (conn n : ℕ) (r : Reply) → is_quiet (act.SendStep conn n) r ≡ true → is_end r ≡ false
+half_lives conn n reply.Ok q = cc
+half_lives conn n (reply.Ended why) q = cc
+half_lives conn n _ q = refl
+
+read_lives : (conn n : ℕ) (r : Reply) → is_quiet (act.RecvStep conn n) r ≡ true → is_end r ≡ false
+read_lives conn n (reply.Ended why) q = cc
+read_lives conn n _ q = refl
+
+-- no end of a link is dropped
+still_drops : (log : List Entry) (e : Entry) (a : Act) (rep : Reply) → e.event.act ≡ a → is_quiet a rep ≡ true → IsStill e rep → DropsNone log e
+still_drops log e (act.Attempt k n) rep is q h = cc
+still_drops log e (act.Listener n) rep is q h = drops_none-idle log e (ap is_idle_reply h.reply ∙ idle_quiet (act.Listener n) rep refl q) h.puts
+still_drops log e (act.Handshake k n) rep is q h = drops_none-idle log e (ap is_idle_reply h.reply ∙ idle_quiet (act.Handshake k n) rep refl q) h.puts
+still_drops log e (act.SendStep conn n) rep is q h =
+    drops_of-send log e conn n is ∙ ap (λ b. all_of (cond b (half_end (half_at log n conn)) None)) (ap is_end h.reply ∙ half_lives conn n rep q)
+still_drops log e (act.RecvStep conn n) rep is q h =
+    drops_of-receive log e conn n is ∙ ap (λ b. all_of (cond b (half_end (half_at log n conn)) None)) (ap is_end h.reply ∙ read_lives conn n rep q)
+still_drops log e a rep is q h = drops_none-act log e (ap drops_none is)
 
 pub links_still : (configs : List Config) (log : List Entry) (e : Entry) (a : Act) (rep : Reply) (l : Links) → LinksStand configs log l → e.event.act ≡ a → is_quiet a rep ≡ true → IsStill e rep → LinksStand configs (log ++ e ∷ []) l
 links_still configs log e a rep l s is q h =
-    links_frame configs log e l s (λ t link. line-still log e rep (queue.Link link t) h) (quiet_opens log e a rep is q h.reply) (still_drops configs log e a rep is q h)
+    links_frame configs log e l s (λ t link. line-still log e rep (queue.Link link t) h) (quiet_opens log e a rep is q h.reply) (still_drops log e a rep is q h)
 
 -- the entry of an act whose row moves nothing
 pub effect-still : (configs : List Config) (log : List Entry) (ev : Event) (rep : Reply) → row configs log ev.at ev.seed ev.act ≡ only rep → IsStill (effect configs log ev) rep

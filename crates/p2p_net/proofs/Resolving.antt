@@ -9,6 +9,7 @@ use Rattle.p2p_address.specs.declared.peer.Ingress.TheVariants as ingress
 use Rattle.p2p_tracker_directory.specs.Reserved.{peer_of}
 use Rattle.p2p_tracker_directory.specs.declared.metadata.Metadata.{Metadata}
 use Rattle.p2p_log.specs.declared.config.Config.{Config}
+use Rattle.p2p_log.specs.declared.queue.Queue.{Queue}
 use Rattle.p2p_log.specs.declared.queue.Queue.TheVariants as queue
 use Rattle.p2p_log.specs.declared.item.Item.{Item}
 use Rattle.p2p_log.specs.declared.item.Item.TheVariants as item
@@ -48,9 +49,9 @@ module _ (configs : List Config) (log : List Entry) (moment seed : ℕ) (address
   abbrev Done : Type 0
   Done = Performs configs log (asked moment seed a) n y ls r
 
-  acted : (rep : Reply) (items : List Item) (j : ℕ)
-      → acted_attempts (dial_rules_at configs n) n (length log) moment seed rep items a attempts j ≡ cond (j == name) (option_map (told_addresses rep) (attempts name)) (attempts j)
-  acted rep items j = ap (λ b. cond b (with_named name (option_map (told_addresses rep) (attempts name)) attempts j) (attempts j)) (eq-eqb n n refl)
+  acted : (rep : Reply) (items : List Item) (puts : List (Queue × Item)) (j : ℕ)
+      → acted_attempts (dial_rules_at configs n) n (length log) moment seed rep items puts a attempts j ≡ cond (j == name) (option_map (told_addresses rep) (attempts name)) (attempts j)
+  acted rep items puts j = ap (λ b. cond b (with_named name (option_map (told_addresses rep) (attempts name)) attempts j) (attempts j)) (eq-eqb n n refl)
 
   row_by : (b : Option Attempt) → attempts name ≡ b → row configs log moment seed a ≡ elim b [ None ↦ only reply.Gone | Some c ↦ resolve_by c.ingress c.is_resolved name n addresses ]
   unfolding row
@@ -59,7 +60,7 @@ module _ (configs : List Config) (log : List Entry) (moment seed : ℕ) (address
   gone : (now : Option RunningAttempt) → row configs log moment seed a ≡ only reply.Gone → r ≡ only reply.Gone → AreBut name now x.dialing.attempts y.dialing.attempts → now ≡ table.at x.dialing.attempts name → Done
   gone now is done but now_is =
       tells_performs configs log moment seed n a x y l ls r s t (unnamed_by log n) refl tells kept (is ∙ sym done)
-      (untold_stands configs log moment seed n name a (only reply.Gone) is x.dialing y.dialing (s.each place.dialer) refl (λ pace rep items puts d. refl) (λ j other. (refl, other_attempt n name j other)) told_addresses acted tells.0
+      (untold_stands configs log moment seed n name a (only reply.Gone) is x.dialing y.dialing (s.each place.dialer) refl refl (λ j other. (refl, other_attempt n name j other)) (λ rep puts. told_addresses rep) (λ rep items puts. tt) acted tells.0
       now reply.Gone (does_itself (queue.Attempt n name) (length log) (only reply.Gone)) but (same (attempts name)) now_is)
     where
       same : (o : Option Attempt) → option_map (told_addresses reply.Gone) o ≡ o
@@ -71,8 +72,8 @@ module _ (configs : List Config) (log : List Entry) (moment seed : ℕ) (address
       → AreBut name (Some (resolved at done (length log) addresses (attempt_of (gates_at configs n) name m b (line log (queue.Attempt n name))))) x.dialing.attempts y.dialing.attempts → Done
   by_ingress b m (ingress.Dns host port) false reserved is there at_is done_is row_is is_row but =
       tells_performs configs log moment seed n a x y l ls r s t (unnamed_by log n) refl tells kept (row_is ∙ sym is_row)
-      (told_stands configs log moment seed n name a (told_row name n (item.Resolved addresses)) row_is x.dialing y.dialing (s.each place.dialer) refl (λ pace rep items puts d. refl) (λ j other. (refl, other_attempt n name j other))
-      told_addresses acted tells.0 (Some (resolved (ingress.Dns host port) false (length log) addresses (attempt_of (gates_at configs n) name m b (line log (queue.Attempt n name))))) (item.Resolved addresses)
+      (told_stands configs log moment seed n name a (told_row name n (item.Resolved addresses)) row_is x.dialing y.dialing (s.each place.dialer) refl refl (λ j other. (refl, other_attempt n name j other))
+      (λ rep puts. told_addresses rep) (λ rep items puts. tt) acted tells.0 (Some (resolved (ingress.Dns host port) false (length log) addresses (attempt_of (gates_at configs n) name m b (line log (queue.Attempt n name))))) (item.Resolved addresses)
       (does_itself (queue.Attempt n name) (length log) (told_row name n (item.Resolved addresses))) but
       (subst (λ (o : Option Attempt). AttemptStands (gates_at configs n) name
       (Some (resolved (ingress.Dns host port) false (length log) addresses (attempt_of (gates_at configs n) name m b (line log (queue.Attempt n name))))) (option_map (told_addresses reply.Ok) o)

@@ -45,7 +45,8 @@ use Rattle.p2p_net_connections.proofs.Pings.{not_pinged}
 use Rattle.p2p_net_links.specs.Stands.{LinksStand}
 use Rattle.p2p_net_links.specs.declared.links.Links.{Links}
 use Rattle.p2p_net_links.proofs.Changes.{openings_unmoved, links_frame}
-use Rattle.p2p_net_links.proofs.Drops.{DropsNone, drop_of-send}
+use Rattle.p2p_log_rules.proofs.Dropping.{all_of, drops_of-send}
+use Rattle.p2p_net_links.proofs.Drops.{DropsNone}
 use Rattle.p2p_net_listener.specs.Stands.{is_of_listener}
 use Rattle.p2p_net_listener.proofs.Changes.{handshakes_unmoved}
 use Rattle.p2p_net_tracker.specs.Stands.{is_told, asks_of, TrackerStands, LeavesTracker}
@@ -122,8 +123,8 @@ step_hears log e n conn acts lives begun =
     hears_again log e n conn begun (λ c other. other_begins n conn c e acts other) (λ c. ends_none-reply e n c lives) (λ c. connections_of-unmade log e n (ap (steps_spawner n) acts) c)
 
 -- and where it does not end, no end of a link is dropped
-pub step_drops : (configs : List Config) (log : List Entry) (e : Entry) (n conn : ℕ) → e.event.act ≡ act.SendStep conn n → is_end e.reply ≡ false → DropsNone configs log e
-step_drops configs log e n conn acts lives = drop_of-send configs log e conn n acts ∙ ap (λ b. cond b (half_end (half_at log n conn)) None) lives
+pub step_drops : (log : List Entry) (e : Entry) (n conn : ℕ) → e.event.act ≡ act.SendStep conn n → is_end e.reply ≡ false → DropsNone log e
+step_drops log e n conn acts lives = drops_of-send log e conn n acts ∙ ap (λ b. all_of (cond b (half_end (half_at log n conn)) None)) lives
 
 -- what a connection takes of it
 pub step_answers : (log : List Entry) (e : Entry) (n conn c : ℕ) → e.event.act ≡ act.SendStep conn n → answers_by n c log e ≡ cond (c == conn) (map is_answer (taken log e)) []
@@ -291,5 +292,5 @@ run_performs configs log at seed conn n half (w ∷ ws) x y l links r s t up has
             ),
           );
       linked = subst (LinksStand configs (log ++ e ∷ [])) (sym kept)
-          (links_frame configs log e l t (λ u link. line_begun log e n conn w ws (queue.Link link u) takes ∙ ap (λ b. cond b ws (line log (queue.Link link u))) (link_other n conn link u)) (openings_unmoved log e refl) (step_drops configs log e n conn refl lives));
+          (links_frame configs log e l t (λ u link. line_begun log e n conn w ws (queue.Link link u) takes ∙ ap (λ b. cond b ws (line log (queue.Link link u))) (link_other n conn link u)) (openings_unmoved log e refl) (step_drops log e n conn refl lives));
     }

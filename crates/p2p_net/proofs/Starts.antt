@@ -96,7 +96,7 @@ links_new configs = record {
   ];
   dialers = dialers_new;
   openings = openings_new;
-  dropped = dropped_new configs;
+  dropped = dropped_new;
 }
 
 -- of no log a router is to know of no connection

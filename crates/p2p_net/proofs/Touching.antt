@@ -18,7 +18,7 @@ use Rattle.p2p_log.specs.Lines.{line}
 use Rattle.p2p_log.proofs.Queues.{same_queue-sym}
 use Rattle.p2p_log_rules.specs.declared.row.Opening.{Opening}
 use Rattle.p2p_log_rules.specs.Attempting.{attempts_of}
-use Rattle.p2p_log_rules.specs.Dropping.{LinkEnd, other_side, dialing_end, half_end}
+use Rattle.p2p_log_rules.specs.Dropping.{LinkEnd, other_side, dialing_end, arriving_end, half_end}
 use Rattle.p2p_log_rules.specs.Effect.{effect}
 use Rattle.p2p_log_rules.specs.Handshakes.{peer_at}
 use Rattle.p2p_log_rules.specs.Checking.{checking_node}
@@ -251,8 +251,8 @@ reads-named configs log (act.Tracker n) q h = tracker_queue n q (first_false (sa
 reads-named configs log (act.Dialer n) q h = answers_queue n q (first_false (same_place (at tracker n) (home q)) (same_place (at dialer n) (home q) || false) h)
 reads-named configs log (act.Listener n) q h =
     both_false (same_queue (queue.Update n) q) (same_queue (queue.Arrivals n) q)
-    (update_queue n q (first_false (same_place (at tracker n) (home q)) (same_place (at listener n) (home q) || false) h))
-    (arrivals_queue n q (second_of_two (same_place (at tracker n) (home q)) (same_place (at listener n) (home q)) h))
+    (update_queue n q (second_of_three (same_place links (home q)) (same_place (at tracker n) (home q)) (same_place (at listener n) (home q)) h))
+    (arrivals_queue n q (third_of_three (same_place links (home q)) (same_place (at tracker n) (home q)) (same_place (at listener n) (home q)) h))
 reads-named configs log (act.Handshake e n) q h = handshake_queue n e q (off_handshake log e n q h).second
 reads-named configs log (act.Spawner n) q h = spawner_queue n q (first_false (same_place (at spawner n) (home q)) (same_place (at connections n) (home q) || false) h)
 reads-named configs log (act.Attempt e n) q h = attempt_queue n e q (off_attempt log e n q h).third
@@ -277,7 +277,7 @@ writes-named configs log (act.RecvStep conn n) q h =
 writes-named configs log (act.Ask what n) q h = tracker_queue n q (first_false (same_place (at tracker n) (home q)) false h)
 writes-named configs log (act.Tracker n) q h = tracker_kinds n q (first_false (same_place (at tracker n) (home q)) false h)
 writes-named configs log (act.Dialer n) q h = tracker_queue n q (first_false (same_place (at tracker n) (home q)) (same_place (at dialer n) (home q) || false) h)
-writes-named configs log (act.Listener n) q h = tracker_queue n q (first_false (same_place (at tracker n) (home q)) (same_place (at listener n) (home q) || false) h)
+writes-named configs log (act.Listener n) q h = tracker_queue n q (second_of_three (same_place links (home q)) (same_place (at tracker n) (home q)) (same_place (at listener n) (home q)) h)
 writes-named configs log (act.Handshake e n) q h =
     let off = off_handshake log e n q h in
     both_false (same_queue (queue.Tracker n) q) (same_queue (queue.Spawner n) q || same_queue (queue.Handshake n e) q) (tracker_queue n q off.second)
@@ -308,6 +308,8 @@ ends-named configs log (act.Handshake e n) q h =
     let off = off_handshake log e n q h in
     let towards : Option LinkEnd = Some ((peer_at log e).link, side.In) in
     both_false (same_queue (queue.Handshake n e) q) (in_flight towards q) (handshake_queue n e q off.second) (flight_kinds towards q off.first)
+ends-named configs log (act.Listener n) q h =
+    flight_kinds (arriving_end log n) q (first_false (same_place links (home q)) (same_place (at tracker n) (home q) || (same_place (at listener n) (home q) || false)) h)
 ends-named configs log a q h = writes-named configs log a q h
 
 pub line-unnamed : (configs : List Config) (log : List Entry) (ev : Event) (q : Queue) → names log ev.act (home q) ≡ false → line (log ++ effect configs log ev ∷ []) q ≡ line log q

@@ -34,7 +34,10 @@ use Rattle.p2p_log.specs.Lines.{name_of, goes, stays, stands_in, live, line}
 use Rattle.p2p_log.proofs.Queues.{same_queue-refl}
 use Rattle.p2p_log_rules.specs.declared.row.Row.{Row}
 use Rattle.p2p_log_rules.specs.Attempting.{Attempt, DialRules, dial_rules_at, drawn_address, dialing, resolved, attempts_of, left_ends, given_up_row, gone_on_row, resolved_row, ready_row, link_of, took_row, attempt_turn, attempt_by, attempt_row}
-use Rattle.p2p_log_rules.proofs.Attempts.{linked, stepped_attempt, and_then}
+use Rattle.p2p_log_rules.proofs.Attempts.{linked, stepped_attempt, and_then, Heeds, attempts_of-append, attempts_acted}
+use Rattle.p2p_log_rules.proofs.Dialing.{dials_of-kept}
+use Rattle.p2p_log_rules.proofs.Dropping.{drops_of-attempt}
+use Rattle.p2p_log_rules.proofs.Trying.{RowAgrees, dropping_agrees, row_agrees}
 use Rattle.p2p_log_rules.specs.Dropping.{LinkEnd, dialing_end, attempt_drops, attempt_step_row}
 use Rattle.p2p_log_rules.specs.Puts.{gave_up}
 use Rattle.p2p_log_rules.specs.Effect.{only, row, entry_of}
@@ -69,7 +72,7 @@ use Rattle.p2p_net.specs.Spawning.{release_item}
 use Rattle.p2p_net.specs.Stands.{PartStands, NodeStands}
 use Rattle.p2p_net.specs.declared.node.Node.{Node}
 use Rattle.p2p_net.proofs.Attempting.{other_attempt}
-use Rattle.p2p_net.proofs.DroppedEnds.{dropped, goes_by, is_of_link, told_unlinked, unlinked_stay, LeavesLinks, end_by, DidBeside, performs_beside}
+use Rattle.p2p_net.proofs.DroppedEnds.{dropped, dropping_is, goes_by, is_of_link, told_unlinked, unlinked_stay, LeavesLinks, end_by, DidBeside, performs_beside}
 use Rattle.p2p_net.proofs.EachPart.{AllOf, not_among-links}
 use Rattle.p2p_net.proofs.HandingOn.{Handed, nothing, question, connection, handed_puts, item_in, message_in, spawner_after, HandedOn, nothing_asked, question_asked, connection_refused, connection_asked}
 use Rattle.p2p_net.proofs.HandingOn.{all_gone, none_gone, handed_unlinked, line_asked, line_elsewhere, line_told, handed_spawner, tracker_after}
@@ -155,6 +158,13 @@ module _ (configs : List Config) (log : List Entry) (moment seed name n : ℕ) (
   row_by : (b : Option Attempt) → attempts name ≡ b → attempt_row configs log name n moment seed ≡ attempt_by b n moment seed full private (line log q)
   row_by b is = ap (λ o. attempt_by o n moment seed full private (line log q)) is
 
+  -- what it put agrees with what is left of the attempt
+  heeds : (due : Row) → attempt_row configs log name n moment seed ≡ due → Heeds rules n (length log) moment seed due.reply (taken log (e due)) due.puts (act.Attempt name n) attempts
+  heeds due row_is = λ here b stands.
+      subst (λ (z : Row). RowAgrees configs log name n moment seed ev z b) (dropping_is log lost due)
+      (dropping_agrees configs log name n moment seed ev lost due b
+      (subst (λ (z : Row). RowAgrees configs log name n moment seed ev z b) row_is (row_agrees configs log name n moment seed ev b stands)))
+
   -- a turn that put nothing of its own, and handed this on: these are left in the line of the attempt, which is this then
   module _ (base : Row) (o : Handed) (way : Mailbox Key) (left : List Envelope) (now : Option RunningAttempt) (next : Option Attempt) (none : base.puts ≡ []) (on : HandedOn (length log) n o way mid y base r)
       (row_is : attempt_row configs log name n moment seed ≡ record base { puts = handed_puts n o })
@@ -213,12 +223,14 @@ module _ (configs : List Config) (log : List Entry) (moment seed name n : ℕ) (
         attempt_changed configs log (e due) n name x.dialing mid.dialing now next stood
         (record {
           no_start = refl;
-          dials = refl;
+          dials = dials_of-kept configs log (e due) n refl;
           actor = steps.actor;
           others = but;
           tried = λ j.
-              ap (λ b. cond b (with_named name (and_then (stepped_attempt rules moment seed due.reply (taken log (e due))) (attempts name)) attempts j) (attempts j)) (eq-eqb n n refl)
-              ∙ ap (λ w. with_named name w attempts j) becomes;
+              attempts_of-append configs log (e due) n j
+              ∙ (attempts_acted configs log (e due) n j attempts (heeds due row_is)
+              ∙ (ap (λ b. cond b (with_named name (and_then (stepped_attempt rules moment seed due.reply (taken log (e due))) (attempts name)) attempts j) (attempts j)) (eq-eqb n n refl)
+              ∙ ap (λ w. with_named name w attempts j) becomes));
           lines = λ j other.
               line_elsewhere log (e due) n o refl (queue.Attempt n j) (line log (queue.Attempt n j)) refl refl
               (left_in (queue.Attempt n j) refl ∙ ap (λ c. cond c left (line log (queue.Attempt n j))) (other_attempt n name j other));
@@ -406,12 +418,12 @@ attempt_performs configs log moment seed name n x y l ls r s t d =
     let stood : DialerStands configs log n x.dialing = s.each place.dialer in
     let o = table.at x.dialing.attempts name in
     let b = attempts_of configs log n name in
-    let lost : Option LinkEnd = cond (gave_up d.row.puts) (dialing_end b) None in
+    let lost : Option LinkEnd = cond (gave_up d.row.puts) (dialing_end log n name) None in
     let did : DidBeside configs log (asked moment seed (act.Attempt name n)) n x y named lost (attempt_row configs log name n moment seed) d.row =
     by_attempt configs log moment seed name n x y d.row s d.steps lost o b refl refl (stood.attempts name) d.steps.tries
     in
     performs_beside configs log (asked moment seed (act.Attempt name n)) n x y l ls named lost (attempt_row configs log name n moment seed) d.row r (not (gave_up d.row.puts)) (link_at o) side.Out s t refl refl
     (λ p out. not_among-links named p n out) did d.drops
-    (dropped_end (gave_up d.row.puts) (link_at o) (dialing_end b) (attempt_end configs log n x.dialing stood name))
-    refl
-    (step_row configs log moment seed name n ∙ ap (attempt_drops log b) (sym did.row_is))
+    (dropped_end (gave_up d.row.puts) (link_at o) (dialing_end log n name) (attempt_end configs log n x.dialing stood name))
+    (drops_of-attempt log (entry_of (asked moment seed (act.Attempt name n)) (dropped log lost d.row)) name n refl)
+    (step_row configs log moment seed name n ∙ ap (attempt_drops log name n) (sym did.row_is))

@@ -288,5 +288,5 @@ module _ (configs : List Config) (log : List Entry) (at seed conn n : ℕ) (half
     linked = subst (LinksStand configs (log ++ e ∷ [])) (sym d.links_are)
         (links_written configs log e l half.writes half.link (length log) due frames t
         (λ u j. line_written log e n conn half.link most half.writes due frames (queue.Link j u) (high_link n conn j u) (low_link n conn j u) took takes ends puts) (openings_unmoved log e (ap opens_none acts))
-        (step_drops configs log e n conn acts lives));
+        (step_drops log e n conn acts lives));
   }

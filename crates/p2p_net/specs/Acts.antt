@@ -135,20 +135,22 @@ ListenedBy (Some takes.Update) k n old new r =
     (r ≡ updated_row (held old.told (queue.Update n)))
     × (((q : Queue) → held new.told q ≡ (if same_queue (queue.Update n) q then drop 1 (held old.told q) else held old.told q))
     × (new ≡ record old { mailbox = new.mailbox; told = new.told }))
-ListenedBy (Some (takes.Arrival name told asked)) k n old new r =
+ListenedBy (Some (takes.Arrival name told refused asked)) k n old new r =
     (r ≡ record { reply = reply.Gates told; takes = name ∷ []; puts = asked_puts n asked; ends = [] })
     × (new ≡ record old { mailbox = new.mailbox; names = old.names ++ names_asked k asked })
 
--- a step of the listener, whose update waits in the tracker's mailbox
-pub record ListenerSteps (k n at : ℕ) (old new : Node) (r : Row) : Type 0 where
+-- the link of an arrival that it refused
+abbrev pub refused_by : Option Took → Option ℕ
+refused_by (Some (takes.Arrival name told refused asked)) = refused
+refused_by _ = None
+
+-- a step of the listener, whose update waits in the tracker's mailbox, but for the end of this link, whose arrival it refused
+pub record Listens (k n at : ℕ) (old new : Node) (r : Row) (refused : Option ℕ) : Type 0 where
   pub took : Option Took
   pub steps : listening.Steps k at old.listening new.listening old.tracker.mailbox new.tracker.mailbox took
   pub tracks : ListenedBy took k n old.tracker new.tracker r
+  pub refuses : refused ≡ refused_by took
   pub rest : new ≡ record old { tracker = new.tracker; listening = new.listening }
-
-abbrev pub ListenerStepsBy : Bool → ℕ → ℕ → ℕ → Node → Node → Row → Type 0
-ListenerStepsBy false k n at old new r = Stays old new r (only reply.Gone)
-ListenerStepsBy true k n at old new r = ListenerSteps k n at old new r
 
 -- ---- ends of links
 
@@ -157,6 +159,17 @@ abbrev pub DropsUnless : Bool → Option ℕ → Side → Links → Links → Ro
 DropsUnless false (Some link) s l links row after =
     (after ≡ record row { ends = row.ends ++ all_end cause.ConnectionEnded (waiting (way_of l (other_side s)) link) }) × (links ≡ end_dropped link s l)
 DropsUnless _ _ s l links row after = (after ≡ row) × (links ≡ l)
+
+-- and with it, which is dropped
+pub record ListenerSteps (k n at : ℕ) (old new : Node) (l links : Links) (r : Row) : Type 0 where
+  pub row : Row
+  pub refused : Option ℕ
+  pub steps : Listens k n at old new row refused
+  pub drops : DropsUnless false refused side.In l links row r
+
+abbrev pub ListenerStepsBy : Bool → ℕ → ℕ → ℕ → Node → Node → Links → Links → Row → Type 0
+ListenerStepsBy false k n at old new l links r = Stays old new r (only reply.Gone) × (links ≡ l)
+ListenerStepsBy true k n at old new l links r = ListenerSteps k n at old new l links r
 
 -- ---- what is handed on
 
@@ -265,7 +278,7 @@ NodeDoes k n at seed (act.Answer e) old new l links r = (Answers n e old.tracker
 NodeDoes k n at seed (act.Next e) old new l links r = (Continues n e old.tracker new.tracker r × Tracks new.tracker old new) × (links ≡ l)
 NodeDoes k n at seed (act.Tracker m) old new l links r = TrackerStepsBy (is_started old) k n at seed old new r × (links ≡ l)
 NodeDoes k n at seed (act.Dialer m) old new l links r = DialerStepsBy (is_started old) k n at seed old new r × (links ≡ l)
-NodeDoes k n at seed (act.Listener m) old new l links r = ListenerStepsBy (is_started old) k n at old new r × (links ≡ l)
+NodeDoes k n at seed (act.Listener m) old new l links r = ListenerStepsBy (is_started old) k n at old new l links r
 NodeDoes k n at seed (act.Handshake e m) old new l links r = HandshakeSteps k n e at old new l links r
 NodeDoes k n at seed (act.Spawner m) old new l links r = SpawnerStepsBy (is_started old) k old new r × (links ≡ l)
 NodeDoes k n at seed (act.Attempt e m) old new l links r = AttemptSteps k n e at seed old new l links r

@@ -94,6 +94,7 @@ parts_named _ = tracker ∷ []
 abbrev pub names_links : Act → Bool
 names_links (act.SendStep conn n) = true
 names_links (act.RecvStep conn n) = true
+names_links (act.Listener n) = true
 names_links (act.Handshake e n) = true
 names_links (act.Attempt e n) = true
 names_links (act.Connect e from n to) = true

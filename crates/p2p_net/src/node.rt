@@ -327,7 +327,7 @@ impl Node {
             Act::Next { question } => Ok(self.tracker.next(turn, *question)?),
             Act::Tracker { .. } => Ok(self.track_step(turn, event.at, event.seed)?),
             Act::Dialer { .. } => Ok(self.dial_step(turn, event.at, event.seed)?),
-            Act::Listener { .. } => Ok(self.listen_step(turn, event.at)?),
+            Act::Listener { .. } => Ok(self.listen_step(turn, links, event.at)?),
             Act::Handshake { handshake, .. } => {
                 Ok(self.handshake_step(turn, links, *handshake, event.at)?)
             }

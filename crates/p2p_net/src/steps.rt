@@ -7,7 +7,7 @@ ghost use Rattle.p2p_log_rules.specs.Tracking.{key_cmp};
 ghost use Rattle.p2p_tracker_mailbox.specs.Desk.{next_message};
 ghost use Rattle.p2p_tracker.specs.Serving.{MayTake};
 ghost use Rattle.p2p_net.specs.Ready.{is_started as is_started_test};
-ghost use Rattle.p2p_net.specs.Acts.{TrackerStepsBy, DialerStepsBy, ListenerStepsBy, Shakes, HandshakeSteps, TriesAttempt, AttemptSteps, HandsOn, Routes, DropsUnless};
+ghost use Rattle.p2p_net.specs.Acts.{TrackerStepsBy, DialerStepsBy, Listens, ListenerStepsBy, Shakes, HandshakeSteps, TriesAttempt, AttemptSteps, HandsOn, Routes, DropsUnless};
 
 use crate::node::Node;
 use crate::spawning::release_of;
@@ -107,25 +107,47 @@ impl Node {
         }
     }
 
-    /// One step of the listener, at a moment.
-    pub(crate) fn listen_step(&mut self, turn: Turn, at: u64) -> Result<Row, AllocError>
-        ensures does { IfOk result (λ r. ListenerStepsBy (is_started_test self.old) turn.entry turn.node at self.old self.new r) }
+    /// One step of the listener, at a moment, but for the end of the link whose arrival a gate refused, which is given beside the row.
+    fn listen(&mut self, turn: Turn, at: u64) -> Result<(Row, Option<u64>), AllocError>
+        ensures does { IfOk result (λ p. Listens turn.entry turn.node at self.old self.new p.0 p.1) }
+        ensures failed { OnOk result (self.new.failed ≡ self.old.failed) }
+    {
+        let way = &mut self.tracker.mailbox;
+        match self.listening.step(turn.entry, way, at)? {
+            None => Ok((only(turn.alloc, Reply::Idle), None)),
+            Some(Took::Update) => Ok((self.tracker.take_update(turn)?, None)),
+            Some(
+                Took::Arrival {
+                    name,
+                    told,
+                    refused,
+                    asked,
+                },
+            ) => {
+                let mut row = taking(turn.alloc, name)?;
+                row.reply = Reply::Gates(told);
+                self.tracker.put_message(turn, asked, &mut row)?;
+                Ok((row, refused))
+            }
+        }
+    }
+
+    /// One step of the listener, at a moment. The end of an arrival that a gate refuses is dropped.
+    pub(crate) fn listen_step(
+        &mut self,
+        turn: Turn,
+        links: &mut Links,
+        at: u64,
+    ) -> Result<Row, AllocError>
+        ensures does { IfOk result (λ r. ListenerStepsBy (is_started_test self.old) turn.entry turn.node at self.old self.new links.old links.new r) }
         ensures failed { OnOk result (self.new.failed ≡ self.old.failed) }
     {
         if !self.is_started() {
             return Ok(only(turn.alloc, Reply::Gone));
         }
-        let way = &mut self.tracker.mailbox;
-        match self.listening.step(turn.entry, way, at)? {
-            None => Ok(only(turn.alloc, Reply::Idle)),
-            Some(Took::Update) => Ok(self.tracker.take_update(turn)?),
-            Some(Took::Arrival { name, told, asked }) => {
-                let mut row = taking(turn.alloc, name)?;
-                row.reply = Reply::Gates(told);
-                self.tracker.put_message(turn, asked, &mut row)?;
-                Ok(row)
-            }
-        }
+        let (mut row, refused) = self.listen(turn, at)?;
+        drop_unless(turn.alloc, links, false, refused, Side::In, &mut row)?;
+        Ok(row)
     }
 
     /// One step of a handshake of the listener, at a moment, but for the end of its link.

@@ -18,6 +18,7 @@ use Rattle.p2p_log_rules.specs.Listening.{quota_of}
 use Rattle.p2p_log_rules.specs.Tracking.{key_cmp}
 use Rattle.p2p_log_rules.specs.Metering.{messages, admitted}
 use Rattle.p2p_log_rules.specs.Effect.{mailbox_size_at}
+use Rattle.p2p_log_rules.proofs.Channels.{rates-append}
 use Rattle.p2p_runtime.specs.QuotaStep.{IsQuota}
 use Rattle.p2p_net_queues.specs.Meters.{fresh}
 use Rattle.p2p_net_queues.specs.Tables.{at}
@@ -28,7 +29,7 @@ use Rattle.p2p_net_channels.specs.Stands.{QuotaStands, SenderStands, AdmitsNone,
 use Rattle.p2p_net_channels.specs.declared.channels.Channels.{Channels}
 use Rattle.p2p_net_channels.proofs.Checks.{checks_stay}
 use Rattle.p2p_net_channels.proofs.Changes.{channels-append}
-use Rattle.p2p_net_channels.proofs.Quotas.{rates-append, same_known, admitted_none, quota_stays}
+use Rattle.p2p_net_channels.proofs.Quotas.{same_known, admitted_none, quota_stays}
 use Rattle.p2p_net_channels.proofs.Readers.{closed_stay}
 use Rattle.p2p_net_channels.proofs.Sending.{sent_moments-kept, sent_none, sender_stays}
 

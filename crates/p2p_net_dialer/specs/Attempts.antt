@@ -78,7 +78,7 @@ link_told false = told.Refused
 
 -- once its dial may have been answered: it has an address, and that comes once
 abbrev pub answered : Option SocketAddr → Bool → Bool → ℕ → RunningAttempt → RunningAttempt
-answered (Some s) false links k a = record (with_told k (link_told links) a) { answer = Some k; link = cond links (Some k) None }
+answered (Some s) false links k a = record (with_told k (link_told links) a) { answer = Some k; link = cond links (Some k) a.link }
 answered _ _ links k a = a
 
 -- ---- its step

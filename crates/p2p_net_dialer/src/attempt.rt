@@ -81,14 +81,14 @@ fn ready(outcome: Outcome<Key>, link: u64) -> Option<(u64, Reservation<Key>)>
     Some((link, reservation))
 }
 
-/// The link of this name, where there is one.
-fn linked(links: bool, name: u64) -> Option<u64>
-    ensures { result ≡ cond links (Some name) None }
+/// The link of this name, where there is one, or else the one of before.
+fn linked(links: bool, name: u64, before: Option<u64>) -> Option<u64>
+    ensures { result ≡ cond links (Some name) before }
 {
     if links {
         return Some(name);
     }
-    None
+    before
 }
 
 /// What an attempt is told of its dial: that there is a link, or that there is none.
@@ -242,7 +242,7 @@ impl RunningAttempt {
             return Ok(only(turn.alloc, Reply::Gone));
         }
         self.answer = Some(turn.entry);
-        self.link = linked(links, turn.entry);
+        self.link = linked(links, turn.entry, self.link);
         let (told, item) = link_told(links);
         let mut row = only(turn.alloc, Reply::Ok);
         self.tell(turn, attempt, told, item, &mut row)?;

@@ -10,11 +10,10 @@ use Rattle.p2p_log.specs.declared.event.Act.{Act}
 use Rattle.p2p_log.specs.declared.event.Act.TheVariants as act
 use Rattle.p2p_log_rules.specs.declared.row.Half.{Half}
 use Rattle.p2p_log_rules.specs.Connections.{half_at, is_end}
-use Rattle.p2p_log_rules.specs.Dropping.{LinkEnd, dialing_end, half_end, drops_in, drops_of}
+use Rattle.p2p_log_rules.specs.Dropping.{LinkEnd, dialing_end, arrival_end, half_end, drops_of}
 use Rattle.p2p_log_rules.specs.Facts.{taken}
 use Rattle.p2p_log_rules.specs.Handshakes.{peer_at}
-use Rattle.p2p_log_rules.specs.Puts.{gave_up, broke_off}
-use Rattle.p2p_log_rules.specs.Told.{gates_tell}
+use Rattle.p2p_log_rules.specs.Puts.{gave_up, broke_off, turns_away}
 use Rattle.p2p_log_rules.proofs.Dropping.{all_of, drops_none, drops_of-none, drops_of-attempt, drops_of-handshake, drops_of-send, drops_of-receive, drops_of-listener}
 
 -- an entry drops no end
@@ -44,27 +43,26 @@ idle_lives : (r : Reply) → is_idle_reply r ≡ true → is_end r ≡ false
 idle_lives (reply.Ended why) h = cc
 idle_lives _ h = refl
 
-admits : (r : Reply) (items : List Item) → is_idle_reply r ≡ true → drops_in (gates_tell r items) ≡ []
-admits (reply.Gates g) items h = cc
-admits _ items h = refl
+idle_admits : (r : Reply) → is_idle_reply r ≡ true → turns_away r ≡ false
+idle_admits (reply.Gates g) h = cc
+idle_admits _ h = refl
 
 -- by what it comes to: nothing was given up or broken off, nobody was turned away, and no connection ended
 done_by : (log : List Entry) (e : Entry) (a : Act) → e.event.act ≡ a → gave_up e.puts ≡ false → broke_off e.reply (taken log e) e.puts ≡ false → is_end e.reply ≡ false
-    → drops_in (gates_tell e.reply (taken log e)) ≡ [] → DropsNone log e
+    → turns_away e.reply ≡ false → DropsNone log e
 done_by log e (act.Attempt k n) is kept whole lives let_in = drops_of-attempt log e k n is ∙ unless (gave_up e.puts) (dialing_end log n k) kept
 done_by log e (act.Handshake h n) is kept whole lives let_in = drops_of-handshake log e h n is ∙ unless (broke_off e.reply (taken log e) e.puts) (Some ((peer_at log h).link, side.In)) whole
 done_by log e (act.SendStep conn n) is kept whole lives let_in = drops_of-send log e conn n is ∙ unless (is_end e.reply) (half_end (half_at log n conn)) lives
 done_by log e (act.RecvStep conn n) is kept whole lives let_in = drops_of-receive log e conn n is ∙ unless (is_end e.reply) (half_end (half_at log n conn)) lives
-done_by log e (act.Listener n) is kept whole lives let_in = drops_of-listener log e n is ∙ let_in
+done_by log e (act.Listener n) is kept whole lives let_in = drops_of-listener log e n is ∙ unless (turns_away e.reply) (arrival_end (taken log e)) let_in
 done_by log e _ is kept whole lives let_in = drops_of-none log e (ap drops_none is)
 
-pub drops_none-done : (log : List Entry) (e : Entry) → gave_up e.puts ≡ false → broke_off e.reply (taken log e) e.puts ≡ false → is_end e.reply ≡ false → drops_in (gates_tell e.reply (taken log e)) ≡ []
-    → DropsNone log e
+pub drops_none-done : (log : List Entry) (e : Entry) → gave_up e.puts ≡ false → broke_off e.reply (taken log e) e.puts ≡ false → is_end e.reply ≡ false → turns_away e.reply ≡ false → DropsNone log e
 drops_none-done log e kept whole lives let_in = done_by log e e.event.act refl kept whole lives let_in
 
 pub drops_none-idle : (log : List Entry) (e : Entry) → is_idle_reply e.reply ≡ true → e.puts ≡ [] → DropsNone log e
 drops_none-idle log e idle none =
-    drops_none-done log e (ap gave_up none) (idle_breaks e.reply (taken log e) e.puts idle) (idle_lives e.reply idle) (admits e.reply (taken log e) idle)
+    drops_none-done log e (ap gave_up none) (idle_breaks e.reply (taken log e) e.puts idle) (idle_lives e.reply idle) (idle_admits e.reply idle)
 
 -- ---- a half that ends its connection drops the end that it writes to
 

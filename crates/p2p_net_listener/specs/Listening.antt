@@ -53,21 +53,26 @@ told_in (outcome.Refused link r) = Some r
 told_in (outcome.Admitted h) = Some gates.Admitted
 told_in _ = None
 
+-- the link of an arrival that a gate refused
+abbrev pub refused_in : Outcome Key → Option ℕ
+refused_in (outcome.Refused link r) = Some link
+refused_in _ = None
+
 -- what it asked, as an item
 abbrev pub asked_item : Option (Put Key) → Option Item
 asked_item (Some (put.Acceptable key source handshake)) = Some (item.AskAcceptable handshake key)
 asked_item (Some (put.Listen key source handshake)) = Some (item.AskListen handshake key)
 asked_item _ = None
 
--- what it took, by what the gates told and by the name of its oldest arrival
-abbrev pub took_of : Option Reply → Option (Put Key) → Option (ℕ × ℕ) → Option Took
-took_of None p name = Some took.Update
-took_of (Some told) p None = None
-took_of (Some told) p (Some name) = Some (took.Arrival name told (asked_item p))
+-- what it took, by what the gates told, by the link of the arrival that they refused, and by the name of its oldest arrival
+abbrev pub took_of : Option Reply → Option ℕ → Option (Put Key) → Option (ℕ × ℕ) → Option Took
+took_of None refused p name = Some took.Update
+took_of (Some told) refused p None = None
+took_of (Some told) refused p (Some name) = Some (took.Arrival name told refused (asked_item p))
 
 abbrev pub took_by : Stepped Key → Option (ℕ × ℕ) → Option Took
 took_by stepped.Idle name = None
-took_by (stepped.Served took p left o) name = took_of (told_in o) p name
+took_by (stepped.Served took p left o) name = took_of (told_in o) (refused_in o) p name
 
 -- the names of the arrivals that still wait
 abbrev pub names_left : Option Reply → List (ℕ × ℕ) → List (ℕ × ℕ)

@@ -6,7 +6,7 @@ ghost use Rattle.p2p_log.specs.declared.queue.Queue.TheVariants as queue;
 ghost use Rattle.p2p_log.specs.declared.item.Item.TheVariants as item;
 ghost use Rattle.p2p_log_rules.specs.declared.row.ListeningEnd.TheVariants as listening;
 ghost use Rattle.p2p_net_queues.specs.Tables as table;
-ghost use Rattle.p2p_net_listener.specs.Listening.{IsNew, arrived, Steps, told_in, asked_item, took_of, took_by, names_left, names_after, begun_by, handshakes_after, EndsAre, changed_ends, ends_after};
+ghost use Rattle.p2p_net_listener.specs.Listening.{IsNew, arrived, Steps, told_in, refused_in, asked_item, took_of, took_by, names_left, names_after, begun_by, handshakes_after, EndsAre, changed_ends, ends_after};
 
 use p2p_address::SocketAddr;
 use p2p_base::Key;
@@ -52,6 +52,8 @@ pub enum Took {
         name: (u64, u64),
         /// What the gates told it.
         told: Reply,
+        /// The link whose listening end nothing has any more, where a gate refused it.
+        refused: Option<u64>,
         /// What was asked of the tracker, where its handshake begins.
         asked: Option<Item>,
     },
@@ -64,6 +66,16 @@ fn told(outcome: &Outcome<Key>) -> Option<Reply>
     match outcome {
         Outcome::Refused { reply, .. } => Some(*reply),
         Outcome::Admitted(_) => Some(Reply::Admitted),
+        _ => None,
+    }
+}
+
+/// The link of an arrival that a gate refused.
+fn refused(outcome: &Outcome<Key>) -> Option<u64>
+    ensures { result ≡ refused_in outcome.now }
+{
+    match outcome {
+        Outcome::Refused { link, .. } => Some(*link),
         _ => None,
     }
 }
@@ -163,8 +175,9 @@ impl Listening {
             Stepped::Idle => Ok(None),
             Stepped::Served { put, outcome, .. } => {
                 let told = told(&outcome);
+                let refused = refused(&outcome);
                 self.begin(name, outcome)?;
-                Ok(self.took(told, put))
+                Ok(self.took(told, refused, put))
             }
         }
     }
@@ -204,8 +217,13 @@ impl Listening {
     }
 
     /// What was taken: an arrival, where the gates told it something.
-    fn took(&mut self, told: Option<Reply>, put: Option<Put<Key>>) -> Option<Took>
-        ensures took { result ≡ took_of told put (slice_get self.old.names 0) }
+    fn took(
+        &mut self,
+        told: Option<Reply>,
+        refused: Option<u64>,
+        put: Option<Put<Key>>,
+    ) -> Option<Took>
+        ensures took { result ≡ took_of told refused put (slice_get self.old.names 0) }
         ensures names { self.new ≡ record self.old { names = names_left told self.old.names } }
     {
         match told {
@@ -215,6 +233,7 @@ impl Listening {
                 Some(Took::Arrival {
                     name,
                     told,
+                    refused,
                     asked: asked(put),
                 })
             }

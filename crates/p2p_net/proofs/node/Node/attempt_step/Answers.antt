@@ -22,5 +22,5 @@ returns-clause-does c =
       steps = c.in_ok-row.ensures.does;
       drops =
           subst (λ (b : Bool). DropsUnless (not b) (link_at (table.at x.dialing.attempts c.args.attempt)) side.Out l ls row after) (c.gives_up-kept.ensures ∙ ap gave_up c.as_slice.ensures)
-          (subst (λ (o : Option ℕ). DropsUnless (not c.gives_up-kept.result) o side.Out l ls row after) c.answer-link.ensures c.in_ok-drop_unless.ensures);
+          (subst (λ (o : Option ℕ). DropsUnless (not c.gives_up-kept.result) o side.Out l ls row after) c.link-link.ensures c.in_ok-drop_unless.ensures);
     }
