@@ -330,6 +330,12 @@ module _ (configs : List Config) (log : List Entry) (e : Entry) (n : ℕ) where
       apart : false ≡ true → ⊥
       apart h = cc
 
+  -- nor one that took nothing
+  pub known_of-untaken : taken log e ≡ [] → known_of configs (log ++ e ∷ []) n ≡ known_of configs log n
+  known_of-untaken none =
+      known_of-append (λ steps. subst (IsJudged rules (known_of configs log n) e.event.at e.reply) (sym none) tt)
+      ∙ (ap (λ l. cond (steps_listener n e.event.act) (took_known rules e.event.at l (known_of configs log n)) (known_of configs log n)) none ∙ sym (same n 0 0 (known_of configs log n) (steps_listener n e.event.act)))
+
 -- ---- the last arrival that came to the quotas is not after the log
 
 latest_moment-more : (es : List Event) (v : Event) → latest_moment (es ++ v ∷ []) ≡ max (latest_moment es) v.at

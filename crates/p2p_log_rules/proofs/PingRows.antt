@@ -94,7 +94,7 @@ module _ (configs : List Config) (log : List Entry) (n conn at : ℕ) where
       (written_pings half dropped due (batch log n conn most) (batch_recorded most))
 
   -- a ping is due of one that has begun and runs alone
-  abbrev RunsWhenDue : Type 0
+  abbrev pub RunsWhenDue : Type 0
   RunsWhenDue = ping_is_due configs log n conn at ≡ true → (is_begun log n conn ≡ true) × (is_running log n conn ≡ true)
 
   sender_pings : RunsWhenDue → (o : Option Half) → Pings log (ping_is_due configs log n conn at) (sender_row configs log n conn at o)

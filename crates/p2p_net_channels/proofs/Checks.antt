@@ -7,7 +7,7 @@ use Rattle.p2p_log.specs.declared.entry.Entry.{Entry}
 use Rattle.p2p_log_rules.specs.Checking.{checks_by, checked_at}
 use Rattle.p2p_log_rules.specs.Facts.{state_from, with_named}
 use Rattle.p2p_log_rules.specs.declared.row.Checked.{Checked}
-use Rattle.p2p_log_rules.proofs.Checks.{checked_at-append}
+use Rattle.p2p_log_rules.proofs.Checks.{checked_at-append, checked_at-none}
 use Rattle.p2p_net_queues.specs.Tables.{at, AreBut}
 use Rattle.p2p_net_queues.proofs.Tables.{at-inserted}
 use Rattle.p2p_net_channels.specs.Channels.{no_channels}
@@ -15,8 +15,7 @@ use Rattle.p2p_net_channels.specs.Stands.{SendsNone}
 
 -- no channels, and no log
 pub checks_new : (n name : ℕ) → at no_channels.checks name ≡ checked_at [] n name
-unfolding checked_at state_from
-checks_new n name = refl
+checks_new n name = sym (checked_at-none n name)
 
 module _ (log : List Entry) (e : Entry) (n : ℕ) (m : List (ℕ × Checked)) (stands : (name : ℕ) → at m name ≡ checked_at log n name) where
   -- an entry that leaves each of them alone

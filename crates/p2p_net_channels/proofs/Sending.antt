@@ -9,18 +9,13 @@ use Rattle.p2p_log_rules.specs.Admitting.{rate_at, sent_by, sent_moments}
 use Rattle.p2p_log_rules.specs.Listening.{quota_of}
 use Rattle.p2p_log_rules.specs.Tracking.{key_cmp}
 use Rattle.p2p_log_rules.specs.Told.{told}
-use Rattle.p2p_log_rules.proofs.Facts.{state_from-append}
+pub use Rattle.p2p_log_rules.proofs.Sends.{sent_moments-append}
 use Rattle.p2p_runtime.specs.QuotaKeys.{KeptByKey}
 use Rattle.p2p_net_queues.specs.Tables.{at}
 use Rattle.p2p_net_queues.proofs.Meters.{meters_frame}
 use Rattle.p2p_net_channels.specs.Channels.{no_channels}
 use Rattle.p2p_net_channels.specs.Stands.{SenderStands, SendsNone}
 use Rattle.p2p_net_channels.proofs.Quotas.{rates-kept}
-
--- the moments at which a channel's quota admitted each key, with one more entry
-pub sent_moments-append : (log : List Entry) (e : Entry) (n c : ℕ) (k : Key) → sent_moments (log ++ e ∷ []) n c k ≡ sent_by n c log e (sent_moments log n c) k
-unfolding sent_moments
-sent_moments-append log e n c k = ap (λ (f : Key → List ℕ). f k) (state_from-append (sent_by n c) [] log e (λ j. []))
 
 -- an entry in which it admits none
 pub sent_moments-kept : (log : List Entry) (e : Entry) (n c : ℕ) → SendsNone log e n → (k : Key) → sent_moments (log ++ e ∷ []) n c k ≡ sent_moments log n c k

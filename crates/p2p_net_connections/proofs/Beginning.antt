@@ -11,6 +11,7 @@ use Rattle.p2p_log.specs.declared.entry.Entry.{Entry}
 use Rattle.p2p_log.specs.Lines.{line}
 use Rattle.p2p_log_rules.specs.Connections.{begins, is_begun, answers_by, is_running}
 use Rattle.p2p_log_rules.specs.Pings.{last_pinged, ping_is_due}
+use Rattle.p2p_log_rules.proofs.Pinging.{PingsWhenDue}
 use Rattle.p2p_log_rules.proofs.Connections.{is_begun-append, is_running-append}
 use Rattle.p2p_net_queues.specs.Lines.{HoldsLines}
 use Rattle.p2p_net_queues.specs.Tables.{at}
@@ -54,10 +55,10 @@ counted_cond false now o = refl
 
 -- one begins, which does not run
 pub connections_begun :
-    (configs : List Config) (log : List Entry) (e : Entry) (n conn : ℕ) (cs : Connections) → ConnectionsStand configs log n cs → SpawnsNone log e n → is_running log n conn ≡ false
+    (configs : List Config) (log : List Entry) (e : Entry) (n conn : ℕ) (cs : Connections) → ConnectionsStand configs log n cs → ((c : ℕ) → PingsWhenDue configs log e n c) → SpawnsNone log e n → is_running log n conn ≡ false
     → ((c : ℕ) → begins n c e ≡ (c == conn)) → ((c : ℕ) → answers_by n c log e ≡ []) → ReceivesNone configs log e n → ((c : ℕ) → line (log ++ e ∷ []) (queue.Ready n c) ≡ line log (queue.Ready n c))
     → ConnectionsStand configs (log ++ e ∷ []) n (begun_with conn cs)
-connections_begun configs log e n conn cs s spawns idle starts none receives lines = record {
+connections_begun configs log e n conn cs s pinging spawns idle starts none receives lines = record {
   spawned = λ c. s.spawned c ∙ sym (spawns c);
   begun = λ c.
       ap (λ (o : Option Stage). is_some o) (at-inserted conn c stage.Begun cs.stages)
@@ -83,16 +84,16 @@ connections_begun configs log e n conn cs s spawns idle starts none receives lin
     no_answer c = ap (list_any (λ (b : Bool). b)) (none c)
 
     still_pinged : (c : ℕ) (b : Bool) → (c == conn) ≡ b → last_pinged configs (log ++ e ∷ []) n c ≡ last_pinged configs log n c
-    still_pinged c true here = pinged-idle configs log e n c (not_pinged configs log n cs s c (idle_there c here)) (no_answer c)
+    still_pinged c true here = pinged-idle configs log e n c (pinging c) (not_pinged configs log n cs s c (idle_there c here)) (no_answer c)
     still_pinged c false there = pinged-kept configs log e n c (starts c ∙ there)
 
 -- one that has begun runs from this moment on, and these answers wait
 pub connections_ran :
-    (configs : List Config) (log : List Entry) (e : Entry) (n conn now : ℕ) (cs : Connections) (answers : List (ℕ × List Envelope)) → ConnectionsStand configs log n cs → SpawnsNone log e n → is_begun log n conn ≡ true
+    (configs : List Config) (log : List Entry) (e : Entry) (n conn now : ℕ) (cs : Connections) (answers : List (ℕ × List Envelope)) → ConnectionsStand configs log n cs → ((c : ℕ) → PingsWhenDue configs log e n c) → SpawnsNone log e n → is_begun log n conn ≡ true
     → is_running log n conn ≡ false → e.event.at ≡ now
     → ((c : ℕ) → begins n c e ≡ (c == conn)) → ((c : ℕ) → list_any (λ b. b) (answers_by n c log e) ≡ (c == conn)) → ReceivesNone configs log e n → HoldsLines (queue.Ready n) (log ++ e ∷ []) answers
     → ConnectionsStand configs (log ++ e ∷ []) n (record cs { stages = insert_entry nat_cmp cs.stages conn (stage.Running now); answers = answers })
-connections_ran configs log e n conn now cs answers s spawns begun idle is_then steps takes receives waits = record {
+connections_ran configs log e n conn now cs answers s pinging spawns begun idle is_then steps takes receives waits = record {
   spawned = λ c. s.spawned c ∙ sym (spawns c);
   begun = λ c.
       ap (λ (o : Option Stage). is_some o) (at-inserted conn c (stage.Running now) cs.stages)
@@ -112,18 +113,18 @@ connections_ran configs log e n conn now cs answers s spawns begun idle is_then 
   where
     counts : (c : ℕ) (b : Bool) → (c == conn) ≡ b → last_pinged configs (log ++ e ∷ []) n c ≡ cond b (Some now) (last_pinged configs log n c)
     counts c true here =
-        last_pinged-first configs log e n c (not_pinged configs log n cs s c (ap (is_running log n) (eqb-true c conn here) ∙ idle))
+        last_pinged-first configs log e n c (pinging c) (not_pinged configs log n cs s c (ap (is_running log n) (eqb-true c conn here) ∙ idle))
         ∙ (ap (λ b. cond (b && list_any (λ (b : Bool). b) (answers_by n c log e)) (Some e.event.at) None) (steps c ∙ here)
         ∙ (ap (λ b. cond b (Some e.event.at) None) (takes c ∙ here) ∙ ap (λ t. Some t) is_then))
     counts c false there = pinged-kept configs log e n c (steps c ∙ there)
 
 -- one that has begun does a step in which no ping of it is due, after which those run that did
 pub connections_stepped :
-    (configs : List Config) (log : List Entry) (e : Entry) (n conn : ℕ) (cs : Connections) (answers : List (ℕ × List Envelope)) → ConnectionsStand configs log n cs → SpawnsNone log e n → is_begun log n conn ≡ true
+    (configs : List Config) (log : List Entry) (e : Entry) (n conn : ℕ) (cs : Connections) (answers : List (ℕ × List Envelope)) → ConnectionsStand configs log n cs → ((c : ℕ) → PingsWhenDue configs log e n c) → SpawnsNone log e n → is_begun log n conn ≡ true
     → ((c : ℕ) → (c == conn) ≡ false → begins n c e ≡ false) → ((c : ℕ) → is_running (log ++ e ∷ []) n c ≡ is_running log n c) → ping_is_due configs log n conn e.event.at ≡ false
     → ReceivesNone configs log e n → HoldsLines (queue.Ready n) (log ++ e ∷ []) answers
     → ConnectionsStand configs (log ++ e ∷ []) n (record cs { answers = answers })
-connections_stepped configs log e n conn cs answers s spawns begun others same early receives waits = record {
+connections_stepped configs log e n conn cs answers s pinging spawns begun others same early receives waits = record {
   spawned = λ c. s.spawned c ∙ sym (spawns c);
   begun = λ c. s.begun c ∙ sym (still_begun c (c == conn) refl);
   running = λ c. s.running c ∙ sym (same c);
@@ -145,8 +146,8 @@ connections_stepped configs log e n conn cs answers s spawns begun others same e
         ap (λ b. b || list_any (λ (t : Bool). t) (answers_by n c log e)) (sym idle) ∙ (sym (is_running-append log e n c) ∙ (same c ∙ idle))
 
     by_last : (c : ℕ) (o : Option ℕ) → last_pinged configs log n c ≡ o → ping_is_due configs log n c e.event.at ≡ false → last_pinged configs (log ++ e ∷ []) n c ≡ last_pinged configs log n c
-    by_last c None last early = pinged-idle configs log e n c last (no_answer c (not_running configs log n cs s c last))
-    by_last c (Some from) last early = pinged-early configs log e n c from last early
+    by_last c None last early = pinged-idle configs log e n c (pinging c) last (no_answer c (not_running configs log n cs s c last))
+    by_last c (Some from) last early = pinged-early configs log e n c from (pinging c) last early
 
     still_pinged : (c : ℕ) (b : Bool) → (c == conn) ≡ b → last_pinged configs (log ++ e ∷ []) n c ≡ last_pinged configs log n c
     still_pinged c true here = by_last c (last_pinged configs log n c) refl (ap (λ i. ping_is_due configs log n i e.event.at) (eqb-true c conn here) ∙ early)
@@ -154,11 +155,11 @@ connections_stepped configs log e n conn cs answers s spawns begun others same e
 
 -- one of which a ping is due does a step at this moment, after which those run that did
 pub connections_pinged :
-    (configs : List Config) (log : List Entry) (e : Entry) (n conn now : ℕ) (cs : Connections) → ConnectionsStand configs log n cs → SpawnsNone log e n
+    (configs : List Config) (log : List Entry) (e : Entry) (n conn now : ℕ) (cs : Connections) → ConnectionsStand configs log n cs → ((c : ℕ) → PingsWhenDue configs log e n c) → SpawnsNone log e n
     → ((c : ℕ) → begins n c e ≡ (c == conn)) → ((c : ℕ) → is_running (log ++ e ∷ []) n c ≡ is_running log n c) → ping_is_due configs log n conn now ≡ true → e.event.at ≡ now
     → ReceivesNone configs log e n → HoldsLines (queue.Ready n) (log ++ e ∷ []) cs.answers
     → ConnectionsStand configs (log ++ e ∷ []) n (pinged_with true conn now cs)
-connections_pinged configs log e n conn now cs s spawns steps same due is_then receives waits = record {
+connections_pinged configs log e n conn now cs s pinging spawns steps same due is_then receives waits = record {
   spawned = λ c. s.spawned c ∙ sym (spawns c);
   begun = λ c.
       ap (λ (o : Option Stage). is_some o) (at-inserted conn c (stage.Running now) cs.stages)
@@ -182,5 +183,5 @@ connections_pinged configs log e n conn now cs s spawns steps same due is_then r
     counts : (c : ℕ) (b : Bool) → (c == conn) ≡ b → last_pinged configs (log ++ e ∷ []) n c ≡ cond b (Some now) (last_pinged configs log n c)
     counts c true here =
         let due_then : ping_is_due configs log n c e.event.at ≡ true = ap (λ i. ping_is_due configs log n i e.event.at) (eqb-true c conn here) ∙ (ap (ping_is_due configs log n conn) is_then ∙ due) in
-        pinged-due configs log e n c due_then (steps c ∙ here) ∙ ap (λ t. Some t) is_then
+        pinged-due configs log e n c (pinging c) due_then (steps c ∙ here) ∙ ap (λ t. Some t) is_then
     counts c false there = pinged-kept configs log e n c (steps c ∙ there)

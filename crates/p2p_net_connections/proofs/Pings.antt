@@ -1,14 +1,18 @@
 -- From where the connections of a node count to their next pings, after one more entry.
 use Rattle.std.proofs.Common.{◌≡◌, ℕ, Bool, true, false, cond, List, [], ◌∷◌, ◌++◌, Option, Some, None, refl, ap, sym, ◌∙◌}
-use Rattle.std.specs.Prelude.{◌&&◌, ◌||◌, map}
+use Rattle.std.specs.Prelude.{◌&&◌, ◌||◌, map, is_some}
 use Rattle.std.specs.List.{list_any}
 use Rattle.p2p_log.specs.declared.config.Config.{Config}
 use Rattle.p2p_log.specs.declared.item.Item.{Item}
 use Rattle.p2p_log.specs.declared.entry.Entry.{Entry}
+use Rattle.p2p_log.specs.declared.event.Event.{Event}
 use Rattle.p2p_log_rules.specs.Connections.{steps_sender, is_done, begins, is_answer, answers_by, is_running}
 use Rattle.p2p_log_rules.specs.Facts.{taken}
-use Rattle.p2p_log_rules.specs.Pings.{ping_frequency_at, is_past, counted_from, pinged_by, last_pinged, ping_is_due}
-use Rattle.p2p_log_rules.proofs.Facts.{state_from-append}
+use Rattle.p2p_log_rules.specs.Pings.{ping_frequency_at, is_past, last_pinged, ping_is_due}
+use Rattle.p2p_log_rules.specs.Effect.{effect}
+pub use Rattle.p2p_log_rules.proofs.Pinging.{last_pinged-kept as pinged-kept}
+use Rattle.p2p_log_rules.proofs.Pinging.{counted_from, pinged_by, PingsWhenDue, last_pinged-append}
+use Rattle.p2p_log_rules.proofs.PingRows.{RunsWhenDue, pings_when_due}
 use Rattle.p2p_net_queues.specs.Tables.{at}
 use Rattle.p2p_net_connections.specs.Connections.{runs_on, pinged_on}
 use Rattle.p2p_net_connections.specs.Stands.{ConnectionsStand}
@@ -17,16 +21,6 @@ use Rattle.p2p_net_connections.specs.declared.connections.Stage.{Stage}
 use Rattle.p2p_net_connections.specs.declared.connections.Stage.TheVariants as stage
 
 -- ---- by the log
-
-pub last_pinged-append : (configs : List Config) (log : List Entry) (e : Entry) (n conn : ℕ) → last_pinged configs (log ++ e ∷ []) n conn ≡ pinged_by (ping_frequency_at configs n) n conn log e (last_pinged configs log n conn)
-unfolding last_pinged
-last_pinged-append configs log e n conn = state_from-append (pinged_by (ping_frequency_at configs n) n conn) [] log e None
-
--- no step of its sending half was done
-pub pinged-kept : (configs : List Config) (log : List Entry) (e : Entry) (n conn : ℕ) → begins n conn e ≡ false → last_pinged configs (log ++ e ∷ []) n conn ≡ last_pinged configs log n conn
-pinged-kept configs log e n conn none =
-    let last = last_pinged configs log n conn in
-    last_pinged-append configs log e n conn ∙ ap (λ b. cond b (counted_from (ping_frequency_at configs n) e.event.at (taken log e) last) last) none
 
 any_mapped : (items : List Item) → list_any (λ b. b) (map is_answer items) ≡ list_any is_answer items
 any_mapped [] = refl
@@ -42,28 +36,28 @@ pinged_first frequency n conn log e = by (steps_sender n conn e.event.act) (is_d
     by true false = refl
     by false d = refl
 
-pub last_pinged-first : (configs : List Config) (log : List Entry) (e : Entry) (n conn : ℕ) → last_pinged configs log n conn ≡ None
+pub last_pinged-first : (configs : List Config) (log : List Entry) (e : Entry) (n conn : ℕ) → PingsWhenDue configs log e n conn → last_pinged configs log n conn ≡ None
     → last_pinged configs (log ++ e ∷ []) n conn ≡ cond (begins n conn e && list_any (λ b. b) (answers_by n conn log e)) (Some e.event.at) None
-last_pinged-first configs log e n conn none =
-    last_pinged-append configs log e n conn ∙ (ap (pinged_by (ping_frequency_at configs n) n conn log e) none ∙ pinged_first (ping_frequency_at configs n) n conn log e)
+last_pinged-first configs log e n conn pings none =
+    last_pinged-append configs log e n conn pings ∙ (ap (pinged_by (ping_frequency_at configs n) n conn log e) none ∙ pinged_first (ping_frequency_at configs n) n conn log e)
 
 -- it did not count, and takes no answer
-pub pinged-idle : (configs : List Config) (log : List Entry) (e : Entry) (n conn : ℕ) → last_pinged configs log n conn ≡ None → list_any (λ b. b) (answers_by n conn log e) ≡ false
+pub pinged-idle : (configs : List Config) (log : List Entry) (e : Entry) (n conn : ℕ) → PingsWhenDue configs log e n conn → last_pinged configs log n conn ≡ None → list_any (λ b. b) (answers_by n conn log e) ≡ false
     → last_pinged configs (log ++ e ∷ []) n conn ≡ last_pinged configs log n conn
-pinged-idle configs log e n conn none no_answer =
-    last_pinged-first configs log e n conn none ∙ (ap (λ b. cond (begins n conn e && b) (Some e.event.at) None) no_answer ∙ (nothing (begins n conn e) ∙ sym none))
+pinged-idle configs log e n conn pings none no_answer =
+    last_pinged-first configs log e n conn pings none ∙ (ap (λ b. cond (begins n conn e && b) (Some e.event.at) None) no_answer ∙ (nothing (begins n conn e) ∙ sym none))
   where
     nothing : (b : Bool) → cond (b && false) (Some e.event.at) None ≡ None
     nothing true = refl
     nothing false = refl
 
 -- it counts, and no ping is due
-pub pinged-early : (configs : List Config) (log : List Entry) (e : Entry) (n conn from : ℕ) → last_pinged configs log n conn ≡ Some from → ping_is_due configs log n conn e.event.at ≡ false
+pub pinged-early : (configs : List Config) (log : List Entry) (e : Entry) (n conn from : ℕ) → PingsWhenDue configs log e n conn → last_pinged configs log n conn ≡ Some from → ping_is_due configs log n conn e.event.at ≡ false
     → last_pinged configs (log ++ e ∷ []) n conn ≡ last_pinged configs log n conn
-pinged-early configs log e n conn from last early =
+pinged-early configs log e n conn from pings last early =
     let frequency = ping_frequency_at configs n in
     let not_past : is_past frequency e.event.at (Some from) ≡ false = ap (is_past frequency e.event.at) (sym last) ∙ early in
-    last_pinged-append configs log e n conn
+    last_pinged-append configs log e n conn pings
     ∙ (ap (pinged_by frequency n conn log e) last
     ∙ (ap (λ b. cond (begins n conn e) (cond b (Some e.event.at) (Some from)) (Some from)) not_past ∙ (same (begins n conn e) ∙ sym last)))
   where
@@ -72,9 +66,9 @@ pinged-early configs log e n conn from last early =
     same false = refl
 
 -- a ping is due, and its step is done
-pub pinged-due : (configs : List Config) (log : List Entry) (e : Entry) (n conn : ℕ) → ping_is_due configs log n conn e.event.at ≡ true → begins n conn e ≡ true → last_pinged configs (log ++ e ∷ []) n conn ≡ Some e.event.at
-pinged-due configs log e n conn due steps =
-    last_pinged-append configs log e n conn
+pub pinged-due : (configs : List Config) (log : List Entry) (e : Entry) (n conn : ℕ) → PingsWhenDue configs log e n conn → ping_is_due configs log n conn e.event.at ≡ true → begins n conn e ≡ true → last_pinged configs (log ++ e ∷ []) n conn ≡ Some e.event.at
+pinged-due configs log e n conn pings due steps =
+    last_pinged-append configs log e n conn pings
     ∙ (ap (λ b. cond b (counted_from frequency e.event.at (taken log e) (last_pinged configs log n conn)) (last_pinged configs log n conn)) steps ∙ by (last_pinged configs log n conn) due)
   where
     frequency : ℕ
@@ -101,6 +95,11 @@ counted_stage None from h = cc
 counted_stage (Some stage.Begun) from h = cc
 counted_stage (Some (stage.Running pinged)) from h = refl
 
+running_begun : (o : Option Stage) → runs_on o ≡ true → is_some o ≡ true
+running_begun None h = cc
+running_begun (Some stage.Begun) h = cc
+running_begun (Some (stage.Running pinged)) h = refl
+
 module _ (configs : List Config) (log : List Entry) (n : ℕ) (cs : Connections) (s : ConnectionsStand configs log n cs) where
   -- one that does not run counts from nowhere
   pub not_pinged : (conn : ℕ) → is_running log n conn ≡ false → last_pinged configs log n conn ≡ None
@@ -121,6 +120,16 @@ module _ (configs : List Config) (log : List Entry) (n : ℕ) (cs : Connections)
       by : (o : Option ℕ) → last_pinged configs log n conn ≡ o → is_past (ping_frequency_at configs n) now o ≡ true → is_running log n conn ≡ true
       by None last past = cc
       by (Some from) last past = sym (s.running conn) ∙ counted_stage (at cs.stages conn) from (s.pinged conn ∙ last)
+
+  -- and has begun
+  pub runs_when_due : (conn now : ℕ) → RunsWhenDue configs log n conn now
+  runs_when_due conn now due =
+      let runs : is_running log n conn ≡ true = due_runs conn now due in
+      (sym (s.begun conn) ∙ running_begun (at cs.stages conn) (s.running conn ∙ runs), runs)
+
+  -- so an entry of the log's own pings where that is due
+  pub pings_by : (ev : Event) (conn : ℕ) → PingsWhenDue configs log (effect configs log ev) n conn
+  pings_by ev conn = pings_when_due configs log ev n conn (runs_when_due conn ev.at)
 
   -- whether its next ping is due is told by its stage
   pub due_is : (conn now : ℕ) → is_past (ping_frequency_at configs n) now (pinged_on (at cs.stages conn)) ≡ ping_is_due configs log n conn now

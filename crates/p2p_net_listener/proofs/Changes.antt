@@ -30,7 +30,8 @@ use Rattle.p2p_log_rules.specs.Handshakes.{steps_listener, steps_handshake, with
 use Rattle.p2p_log_rules.specs.Links.{unless_dropped, listened, ends_by, listening_ends_of}
 use Rattle.p2p_log_rules.specs.Standing.{standing}
 use Rattle.p2p_log_rules.specs.Told.{told}
-use Rattle.p2p_log_rules.specs.Listening.{gate_rules_at, most_handshakes_at, took_known, known_by, known_of}
+use Rattle.p2p_log_rules.specs.Listening.{gate_rules_at, most_handshakes_at, took_known, known_of}
+use Rattle.p2p_log_rules.proofs.Listening.{IsJudged, known_of-append, known_of-kept}
 use Rattle.p2p_log_rules.specs.declared.row.ListeningEnd.{ListeningEnd}
 use Rattle.p2p_log_rules.specs.declared.row.ListeningEnd.TheVariants as listening
 use Rattle.p2p_log_rules.proofs.Facts.{state_from-append}
@@ -48,15 +49,13 @@ use Rattle.p2p_net_listener.proofs.Handshakes.{other_tells, untold_kept, facts_a
 
 -- ---- what the log tells, after one more entry
 
-pub known_of-append : (configs : List Config) (log : List Entry) (e : Entry) (n : ℕ) → known_of configs (log ++ e ∷ []) n ≡ known_by configs n log e (known_of configs log n)
-unfolding known_of
-known_of-append configs log e n = state_from-append (known_by configs n) [] log e nothing_known
-
-known_after : (configs : List Config) (log : List Entry) (e : Entry) (n : ℕ) (b : Bool) → steps_listener n e.event.act ≡ b → known_of configs (log ++ e ∷ []) n
-    ≡ cond b (took_known (gate_rules_at configs n) e.event.at (taken log e) (known_of configs log n)) (known_of configs log n)
-known_after configs log e n b steps =
-    known_of-append configs log e n
-    ∙ ap (λ c. cond c (took_known (gate_rules_at configs n) e.event.at (taken log e) (known_of configs log n)) (known_of configs log n)) steps
+-- a step that took these, by which an arrival was told what the rules say
+known_after : (configs : List Config) (log : List Entry) (e : Entry) (n : ℕ) (items : List Item) → steps_listener n e.event.act ≡ true → taken log e ≡ items
+    → IsJudged (gate_rules_at configs n) (known_of configs log n) e.event.at e.reply items → known_of configs (log ++ e ∷ []) n ≡ took_known (gate_rules_at configs n) e.event.at items (known_of configs log n)
+known_after configs log e n items steps took judged =
+    known_of-append configs log e n (λ h. subst (IsJudged (gate_rules_at configs n) (known_of configs log n) e.event.at e.reply) (sym took) judged)
+    ∙ (ap (λ c. cond c (took_known (gate_rules_at configs n) e.event.at (taken log e) (known_of configs log n)) (known_of configs log n)) steps
+    ∙ ap (λ l. took_known (gate_rules_at configs n) e.event.at l (known_of configs log n)) took)
 
 -- whom a step admits
 acted-admitted : (n name : ℕ) (r : Reply) (items : List Item) (a : Act) (names : List ℕ) → steps_listener n a ≡ true → acted_handshakes n name r items a names ≡ with_admitted name r names
@@ -142,7 +141,7 @@ listener_frame configs log e n l s left = record {
   names = s.names ∙ ap (map name_of) (sym left.arrivals);
   items = ap (map (λ (x : Envelope). x.item)) left.arrivals ∙ s.items;
   rules = s.rules;
-  known = subst (StandsFor l.actor) (sym (known_of-append configs log e n ∙ left.known)) s.known;
+  known = subst (StandsFor l.actor) (sym left.known) s.known;
   places = s.places ∙ ap (λ (names : List ℕ). record { held = length names; max = most_handshakes_at configs n }) (sym (handshakes_of-append log e n ∙ left.handshakes));
   works = s.works;
   timeout = s.timeout;
@@ -155,7 +154,7 @@ listener_frame configs log e n l s left = record {
 pub listener_unmoved : (configs : List Config) (log : List Entry) (e : Entry) (n : ℕ) → is_of_listener n e.event.act ≡ false → line (log ++ e ∷ []) (queue.Arrivals n) ≡ line log (queue.Arrivals n)
     → ((k : ℕ) → ends_by n log e (listening_ends_of log n) k ≡ listening_ends_of log n k) → LeavesListener configs log e n
 listener_unmoved configs log e n none same ends = record {
-  known = ap (λ b. cond b (took_known (gate_rules_at configs n) e.event.at (taken log e) (known_of configs log n)) (known_of configs log n)) (steps_none n e.event.act none);
+  known = known_of-kept configs log e n (steps_none n e.event.act none);
   handshakes = handshakes_unmoved log e n none;
   arrivals = same;
   tells = unmoved_tells log e n none;
@@ -210,7 +209,7 @@ listener_arrived configs log e n k place from key l s no_step more begins =
           ∙ (map-append (λ (y : Envelope). y.item) before (x ∷ [])
           ∙ (ap (λ l. l ++ item.Arrival from key k ∷ []) s.items ∙ sym (map-append arrival_item l.actor.arrivals (a ∷ []))));
       rules = s.rules;
-      known = subst (StandsFor (with_arrival l.actor a)) (sym (known_after configs log e n false (steps_none n e.event.act no_step))) (record { addresses = s.known.addresses; passed = s.known.passed });
+      known = subst (StandsFor (with_arrival l.actor a)) (sym (known_of-kept configs log e n (steps_none n e.event.act no_step))) (record { addresses = s.known.addresses; passed = s.known.passed });
       places = s.places ∙ ap (λ (names : List ℕ). record { held = length names; max = most_handshakes_at configs n }) (sym (handshakes_of-append log e n ∙ handshakes_unmoved log e n no_step));
       works = s.works;
       timeout = s.timeout;
@@ -234,6 +233,7 @@ pub record ListenerMoves (configs : List Config) (log : List Entry) (e : Entry) 
   pub took : taken log e ≡ items
   pub names : u.names ≡ map name_of (line (log ++ e ∷ []) (queue.Arrivals n))
   pub waits : map (λ x. x.item) (line (log ++ e ∷ []) (queue.Arrivals n)) ≡ map arrival_item u.actor.arrivals
+  pub judged : IsJudged (gate_rules_at configs n) (known_of configs log n) e.event.at e.reply items
   pub known : StandsFor u.actor (took_known (gate_rules_at configs n) e.event.at items (known_of configs log n))
   pub places : u.actor.places ≡ record { held = length (with_admitted (length log) e.reply (handshakes_of log n)); max = most_handshakes_at configs n }
   pub handshakes : (k : ℕ) → HandshakeIs (facts_of configs (log ++ e ∷ []) n k) k (is_handshaking (log ++ e ∷ []) n k) (table.at u.handshakes k)
@@ -247,8 +247,7 @@ listener_moved configs log e n l u items s m = record {
   names = m.names;
   items = m.waits;
   rules = rules_kept l.actor u.actor m.rest m.rates ∙ s.rules;
-  known = subst (StandsFor u.actor) (sym (known_after configs log e n true m.steps))
-      (subst (λ i. StandsFor u.actor (took_known (gate_rules_at configs n) e.event.at i (known_of configs log n))) (sym m.took) m.known);
+  known = subst (StandsFor u.actor) (sym (known_after configs log e n items m.steps m.took m.judged)) m.known;
   places = m.places ∙ ap (λ (names : List ℕ). record { held = length names; max = most_handshakes_at configs n }) (sym (handshakes-admitted log e n m.steps));
   works = ap (λ (a : Actor Key). a.has_failed) m.rest ∙ s.works;
   timeout = ap (λ (a : Actor Key). a.handshake_timeout) m.rest ∙ s.timeout;
@@ -320,7 +319,7 @@ listener_after_handshake configs log e n name l u items ended now s m =
       names = s.names ∙ ap (map name_of) (sym m.arrivals);
       items = ap (map (λ (x : Envelope). x.item)) m.arrivals ∙ (s.items ∙ ap (map arrival_item) (sym kept.0));
       rules = rules_freed ended l.actor ∙ s.rules;
-      known = subst (StandsFor actor) (sym (known_after configs log e n false (ap (steps_listener n) m.steps))) (known_freed ended l.actor (known_of configs log n) s.known);
+      known = subst (StandsFor actor) (sym (known_of-kept configs log e n (ap (steps_listener n) m.steps))) (known_freed ended l.actor (known_of configs log n) s.known);
       places = places ended ∙ ap (λ (names : List ℕ). record { held = length names; max = most_handshakes_at configs n }) (sym (handshakes_of-append log e n ∙ names));
       works = kept.1.0 ∙ s.works;
       timeout = kept.1.1 ∙ s.timeout;

@@ -18,7 +18,7 @@ use Rattle.p2p_log_rules.specs.Facts.{taken_at}
 use Rattle.p2p_log_rules.specs.Handshakes.{handshakes_by, handshakes_of, is_handshaking, takes_acceptance, takes_exchange, took_by, is_accepted, is_finished, source_of, peer_of}
 use Rattle.p2p_log_rules.specs.Handshaking.{handshake_deadline}
 use Rattle.p2p_log_rules.specs.Links.{ends_by, listening_ends_of}
-use Rattle.p2p_log_rules.specs.Listening.{gate_rules_at, most_handshakes_at, known_by, known_of}
+use Rattle.p2p_log_rules.specs.Listening.{gate_rules_at, most_handshakes_at, known_of}
 use Rattle.p2p_net_queues.specs.Tables as table
 use Rattle.p2p_net_listener.specs.Listening.{EndsAre}
 use Rattle.p2p_net_listener.specs.declared.listening.Listening.{Listening}
@@ -105,7 +105,7 @@ TellsNothing log e n name =
     × (took_by takes_exchange n name log e (is_finished log n name) ≡ is_finished log n name)
 
 pub record LeavesListener (configs : List Config) (log : List Entry) (e : Entry) (n : ℕ) : Type 0 where
-  pub known : known_by configs n log e (known_of configs log n) ≡ known_of configs log n
+  pub known : known_of configs (log ++ e ∷ []) n ≡ known_of configs log n
   pub handshakes : handshakes_by n log e (handshakes_of log n) ≡ handshakes_of log n
   pub arrivals : line (log ++ e ∷ []) (queue.Arrivals n) ≡ line log (queue.Arrivals n)
   pub tells : (k : ℕ) → TellsNothing log e n k

@@ -10,8 +10,8 @@ use Rattle.p2p_log.specs.declared.config.Config.{Config}
 use Rattle.p2p_log.specs.declared.event.Event.{Event}
 use Rattle.p2p_log.specs.declared.entry.Entry.{Entry}
 use Rattle.p2p_log_rules.specs.Facts.{events_of, latest_moment}
-use Rattle.p2p_log_rules.specs.Metering.{Metered, limit_at, admitted_by, admitted}
-use Rattle.p2p_log_rules.proofs.Facts.{events_of-append, history_from-append}
+use Rattle.p2p_log_rules.proofs.Facts.{events_of-append}
+pub use Rattle.p2p_log_rules.proofs.Metering.{admitted-append, admitted-kept}
 use Rattle.p2p_runtime.specs.QuotaLaw.{Rate as Quota, admits, retry}
 use Rattle.p2p_runtime.specs.QuotaKept.{IsArrivalOf}
 use Rattle.p2p_runtime.specs.QuotaStep.{IsQuota, step}
@@ -23,7 +23,7 @@ use Rattle.p2p_net_queues.specs.Meters.{fresh, passes, checked, MetersUntil, Met
 use Rattle.p2p_net_queues.specs.Tables.{at}
 use Rattle.p2p_net_queues.proofs.Tables.{lookup-insert_key, lookup-set, same_name}
 
--- ---- moments, and what was admitted, with one more entry
+-- ---- moments, with one more entry
 
 pub latest_moment-append : (es : List Event) (v : Event) → latest_moment (es ++ v ∷ []) ≡ max (latest_moment es) v.at
 latest_moment-append [] v = omega arith
@@ -31,15 +31,6 @@ latest_moment-append (u ∷ es) v = let rest = latest_moment-append es v in omeg
 
 pub latest_moment-entry : (log : List Entry) (e : Entry) → latest_moment (events_of (log ++ e ∷ [])) ≡ max (latest_moment (events_of log)) e.event.at
 latest_moment-entry log e = ap latest_moment (events_of-append log e) ∙ latest_moment-append (events_of log) e.event
-
-pub admitted-append : (configs : List Config) (log : List Entry) (e : Entry) (n conn : ℕ) (what : Metered) → admitted configs (log ++ e ∷ []) n conn what ≡ admitted configs log n conn what ++ admitted_by (limit_at configs n) n conn what log e
-unfolding admitted
-admitted-append configs log e n conn what = history_from-append (admitted_by (limit_at configs n) n conn what) [] log e
-
--- an entry in which nothing of these is admitted
-pub admitted-kept : (configs : List Config) (log : List Entry) (e : Entry) (n conn : ℕ) (what : Metered) → admitted_by (limit_at configs n) n conn what log e ≡ [] → admitted configs (log ++ e ∷ []) n conn what ≡ admitted configs log n conn what
-admitted-kept configs log e n conn what none =
-    admitted-append configs log e n conn what ∙ (ap (λ l. admitted configs log n conn what ++ l) none ∙ append-nil (admitted configs log n conn what))
 
 -- ---- one check
 
