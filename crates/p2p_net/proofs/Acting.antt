@@ -86,7 +86,7 @@ node_performs configs log moment seed (act.Tracker n) x y l links r s t lawful v
 node_performs configs log moment seed (act.Spawner n) x y l links r s t lawful valid late one d = spawner_performs configs log moment seed n x y l links r s t (unended_late configs (events_of log) log lawful n (length log) (no_more (length log)))
     (unbegun_late configs (events_of log) log lawful n (length log) (no_more (length log))) d.0 d.1
 node_performs configs log moment seed (act.Dialer n) x y l links r s t lawful valid late one d = dialer_performs configs log moment seed n x y l links r s t d.0 d.1
-node_performs configs log moment seed (act.Listener n) x y l links r s t lawful valid late one d = listener_performs configs log moment seed n x y l links r s t d
+node_performs configs log moment seed (act.Listener n) x y l links r s t lawful valid late one d = listener_performs configs log moment seed n x y l links r s t late d
 node_performs configs log moment seed (act.Handshake e n) x y l links r s t lawful valid late one d = handshake_performs configs log moment seed e n x y l links r s t d
 node_performs configs log moment seed (act.Attempt e n) x y l links r s t lawful valid late one d = attempt_performs configs log moment seed e n x y l links r s t d
 node_performs configs log moment seed (act.Resolve addresses e n) x y l links r s t lawful valid late one d = resolve_performs configs log moment seed addresses e n x y l links r s t d.0.0 d.0.1 d.1

@@ -36,6 +36,8 @@ use Rattle.p2p_net_connections.specs.Connections.{runs_on, begun_with}
 use Rattle.p2p_net_connections.specs.Stands.{ConnectionsStand}
 use Rattle.p2p_net_connections.specs.declared.connections.Stage.{Stage}
 use Rattle.p2p_net_connections.proofs.Beginning.{connections_begun}
+use Rattle.p2p_net_connections.proofs.Pings.{pings_by}
+use Rattle.p2p_log_rules.proofs.Pinging.{PingsWhenDue}
 use Rattle.p2p_net_links.specs.Stands.{LinksStand}
 use Rattle.p2p_net_links.specs.declared.links.Links.{Links}
 use Rattle.p2p_net_links.proofs.Changes.{openings_unmoved, links_frame}
@@ -119,7 +121,7 @@ module _ (configs : List Config) (log : List Entry) (at seed conn n : ℕ) (half
 
   connections_now : ConnectionsStand configs (log ++ e ∷ []) n (begun_with conn x.connections)
   connections_now =
-      connections_begun configs log e n conn x.connections connects (λ c. live_connection-kept log e n c (ends_none-reply e n c refl) (connections_of-unmade log e n refl c)) not_running (λ c. step_begins n conn c e refl refl)
+      connections_begun configs log e n conn x.connections connects (λ c. subst (λ d. PingsWhenDue configs log d n c) (sym effect_is) (pings_by configs log n x.connections connects ev c)) (λ c. live_connection-kept log e n c (ends_none-reply e n c refl) (connections_of-unmade log e n refl c)) not_running (λ c. step_begins n conn c e refl refl)
       (λ c. step_answers log e n conn c refl ∙ nothing (c == conn) (taken log e) (taken-none log e refl)) (receives_nothing configs log e n (taken-none log e refl) (λ c. beside (queue.Held n c) refl refl)) (λ c. beside (queue.Ready n c) refl refl)
     where
       nothing : (b : Bool) (items : List Item) → items ≡ [] → cond b (map is_answer items) [] ≡ []

@@ -35,7 +35,8 @@ use Rattle.p2p_log.proofs.QueueNames.{queue_from_same}
 use Rattle.p2p_log.proofs.Queues.{same_queue-refl}
 use Rattle.p2p_log_rules.specs.declared.row.ListeningEnd.{ListeningEnd}
 use Rattle.p2p_log_rules.specs.declared.row.Row.{Row}
-use Rattle.p2p_log_rules.specs.Facts.{is_up, taken}
+use Rattle.p2p_log_rules.specs.Facts.{is_up, events_of, latest_moment, taken}
+use Rattle.p2p_log_rules.proofs.Listening.{IsJudged, known_of-late}
 use Rattle.p2p_log_rules.specs.Dropping.{arrival_end, oldest_end, arriving_end}
 use Rattle.p2p_log_rules.specs.Effect.{only, entry_of}
 use Rattle.p2p_log_rules.specs.Handshakes.{with_admitted, handshakes_by, handshakes_of, source_of, peer_of}
@@ -82,7 +83,7 @@ abbrev asked_for : ℕ → Key → GatesReply → Option Item
 asked_for k key gates.Admitted = Some (item.AskAcceptable k key)
 asked_for k key _ = None
 
-module _ (configs : List Config) (log : List Entry) (moment seed n : ℕ) (x y : Node) (r : Row) (over : Option ℕ) (s : NodeStands configs log n x) (up : is_up log n ≡ true)
+module _ (configs : List Config) (log : List Entry) (moment seed n : ℕ) (x y : Node) (r : Row) (over : Option ℕ) (s : NodeStands configs log n x) (late : latest_moment (events_of log) ≤ moment) (up : is_up log n ≡ true)
     (rest : y ≡ record x { tracker = y.tracker; listening = y.listening }) (what : Option Took) (over_is : over ≡ refused_by what)
     (steps : listening.Steps (length log) moment x.listening y.listening x.tracker.mailbox y.tracker.mailbox what) where
   abbrev ev : Event
@@ -153,18 +154,19 @@ module _ (configs : List Config) (log : List Entry) (moment seed n : ℕ) (x y :
       (record { did = record { row_is = sym row_is; rest = rest; parts = (tracks, (hears, tt)); leaves = leaves }; took = took; drops = drops })
 
   -- what a turn makes of the listener, which took these
-  hears_by : (due : Row) (T : ListenerTurn Key) (items : List Item) → turn ≡ T → taken log (e due) ≡ items
+  hears_by : (due : Row) (T : ListenerTurn Key) (items : List Item) → turn ≡ T → taken log (e due) ≡ items → IsJudged rules known moment due.reply items
       → listening.names_after T.stepped x.listening.names ≡ map name_of (line (log ++ e due ∷ []) (queue.Arrivals n))
       → map (λ (z : Envelope). z.item) (line (log ++ e due ∷ []) (queue.Arrivals n)) ≡ map arrival_item T.arrivals
       → T.known ≡ took_known rules moment items known
       → T.places ≡ record { held = length (with_admitted k due.reply hs); max = most_handshakes_at configs n }
       → AreKept configs log (e due) n (log ++ e due ∷ []) (listening.handshakes_after T.stepped k x.listening.handshakes)
       → ((j : ℕ) → listening.ends_after T.stepped k had j ≡ listened k due.reply items had j) → ListenerStands configs (log ++ e due ∷ []) n y.listening
-  hears_by due T items is took_is names waits knows places kept_now has =
+  hears_by due T items is took_is judged names waits knows places kept_now has =
       listener_moved configs log (e due) n x.listening y.listening items listens
       (record {
         steps = eq-eqb n n refl;
         took = took_is;
+        judged = judged;
         names = steps.names known listens.known ∙ (ap (λ (u : ListenerTurn Key). listening.names_after u.stepped x.listening.names) is ∙ names);
         waits = waits ∙ sym (ap (map arrival_item) (steps.arrivals known listens.known ∙ ap (λ (u : ListenerTurn Key). u.arrivals) is));
         known = subst (StandsFor y.listening.actor) (ap (λ (u : ListenerTurn Key). u.known) is ∙ knows) (steps.stands known listens.known);
@@ -228,7 +230,7 @@ module _ (configs : List Config) (log : List Entry) (moment seed n : ℕ) (x y :
           lines = λ p own. line_update p ∙ only_first p (same_queue (queue.Update n) p) refl;
           told = tracks.1.0;
         }))
-        (hears_by due_update T_update (item.Addresses ips ∷ []) turn_update took_is
+        (hears_by due_update T_update (item.Addresses ips ∷ []) turn_update took_is tt
         (listens.names ∙ ap (map name_of) (sym (line_update (queue.Arrivals n)))) (ap (map (λ (w : Envelope). w.item)) (line_update (queue.Arrivals n)) ∙ listens.items) refl listens.places
         (handshakes_kept configs log (e due_update) n x.listening.handshakes (ap (λ b. cond b hs hs) (eq-eqb n n refl)) (tells_none due_update) listens.handshakes) (λ j. refl))
         (update_leaves log n z [] reply.Ok one) refl (drops_by (Some takes.Update) (what_is T_update turn_update))
@@ -254,7 +256,7 @@ module _ (configs : List Config) (log : List Entry) (moment seed n : ℕ) (x y :
         let line_same : line (log ++ e due ∷ []) (queue.Arrivals n) ≡ arrivals = line-still log (e due) reply.Idle (queue.Arrivals n) still in
         performs due (row_by [] [] quiet none) nothing.0
         (subst (TrackerStands configs (log ++ e due ∷ []) n) (sym same) (part_still place.tracker configs log (e due) n x (act.Listener n) reply.Idle tracked refl refl still))
-        (hears_by due T [] turn_is (none_taken log (e due) refl) (listens.names ∙ ap (map name_of) (sym line_same)) (ap (map (λ (w : Envelope). w.item)) line_same ∙ listens.items) refl listens.places
+        (hears_by due T [] turn_is (none_taken log (e due) refl) tt (listens.names ∙ ap (map name_of) (sym line_same)) (ap (map (λ (w : Envelope). w.item)) line_same ∙ listens.items) refl listens.places
         (handshakes_kept configs log (e due) n x.listening.handshakes (ap (λ b. cond b hs hs) (eq-eqb n n refl)) (tells_none due) listens.handshakes) (λ j. refl))
         (idle_leaves log n reply.Idle) refl (drops_by None (what_is T turn_is))
 
@@ -379,9 +381,12 @@ module _ (configs : List Config) (log : List Entry) (moment seed n : ℕ) (x y :
       ends_told (gates.Limited i m) j = refl
       ends_told gates.TooMany j = refl
 
-      hears : (told : GatesReply) → turn ≡ T_told told → ListenerStands configs (log ++ e (due told) ∷ []) n y.listening
-      hears told so =
-          hears_by (due told) (T_told told) (item.Arrival a.from a.key a.link ∷ []) so (took_is told)
+      early : known.latest ≤ moment
+      early = let now : known.latest ≤ latest_moment (events_of log) = known_of-late n configs log in omega (arith, now, late)
+
+      hears : (told : GatesReply) → turn ≡ T_told told → told_by ≡ told → ListenerStands configs (log ++ e (due told) ∷ []) n y.listening
+      hears told so by =
+          hears_by (due told) (T_told told) (item.Arrival a.from a.key a.link ∷ []) so (took_is told) (early, (place_free, ap (λ g. reply.Gates g) (sym by)))
           (names_told told ∙ (ap (drop 1) (listens.names ∙ ap (map name_of) first) ∙ ap (map name_of) (sym (arrivals_left told))))
           (ap (map (λ (w : Envelope). w.item)) (arrivals_left told) ∙ (others ∙ sym (ap (λ xs. map arrival_item (drop 1 xs)) came)))
           (ap (λ g. rule.known_after g known a.from.ip moment) listens.rules) (places_told told) (kept_told told) (ends_told told)
@@ -410,7 +415,7 @@ module _ (configs : List Config) (log : List Entry) (moment seed n : ℕ) (x y :
       -- both parts stand, and the end is dropped where it is turned away
       done : (told : GatesReply) → turn ≡ T_told told → told_by ≡ told → r ≡ due told → TrackerStands configs (log ++ e (due told) ∷ []) n y.tracker → Done
       done told so by r_is tracks =
-          performs (due told) (row_is ∙ ap due by) r_is tracks (hears told so) (arrival_leaves log n z zs (reply.Gates told) a.key told first) (took_over told)
+          performs (due told) (row_is ∙ ap due by) r_is tracks (hears told so by) (arrival_leaves log n z zs (reply.Gates told) a.key told first) (took_over told)
           (drops_by (took_told_by told) (what_told told so) ∙ lost_told told)
 
       tracks_told : (told : GatesReply) → turn ≡ T_told told → Tracks what → Tracks (took_told_by told)

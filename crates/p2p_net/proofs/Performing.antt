@@ -26,7 +26,7 @@ use Rattle.p2p_log_rules.specs.Facts.{starts, registers_at, taken, item_named, s
 use Rattle.p2p_log_rules.proofs.Spawning.{connections_of-untaken}
 use Rattle.p2p_log_rules.specs.Effect.{only, row, effect}
 use Rattle.p2p_log_rules.specs.Handshakes.{ends_handshake, steps_listener, acted_handshakes, handshakes_by, handshakes_of}
-use Rattle.p2p_log_rules.specs.Listening.{gate_rules_at, took_known, known_of}
+use Rattle.p2p_log_rules.proofs.Listening.{known_of-untaken}
 use Rattle.p2p_log_rules.specs.Tracking.{steps_tracker}
 use Rattle.p2p_log_rules.specs.TrackerRows.{answers}
 use Rattle.p2p_net_tracker.specs.Stands.{asks_of}
@@ -299,14 +299,11 @@ part_still dialer configs log e n x a rep s is q h =
       lines = λ k. line-still log e rep (queue.Attempt n k) h;
     })
 part_still listener configs log e n x a rep s is q h =
-    let known = known_of configs log n in
     listener_frame configs log e n x.listening s
     (record {
       tells = λ k. nothing_tells log e n k (taken-none log e h.takes);
       ends = ends_quiet log e n (taken-none log e h.takes) h.puts (λ j m acts. ap (λ r. ends_handshake r []) h.reply ∙ quiet_shakes a rep j m (sym is ∙ acts) q);
-      known =
-          ap (λ l. cond (steps_listener n e.event.act) (took_known (gate_rules_at configs n) e.event.at l known) known) (taken-none log e h.takes)
-          ∙ either_same (steps_listener n e.event.act) known;
+      known = known_of-untaken configs log e n (taken-none log e h.takes);
       handshakes = handshakes_still log e n a rep is h.reply q;
       arrivals = line-still log e rep (queue.Arrivals n) h;
     })

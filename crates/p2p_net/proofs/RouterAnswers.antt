@@ -41,7 +41,8 @@ use Rattle.p2p_net_connections.specs.declared.connections.Connections.{Connectio
 use Rattle.p2p_net_connections.specs.declared.connections.Stage.TheVariants as stage
 use Rattle.p2p_net_connections.proofs.Beginning.{connections_ran, connections_stepped}
 use Rattle.p2p_net_connections.proofs.Changes.{running-kept, same_ready}
-use Rattle.p2p_net_connections.proofs.Pings.{not_pinged}
+use Rattle.p2p_net_connections.proofs.Pings.{not_pinged, pings_by}
+use Rattle.p2p_log_rules.proofs.Pinging.{PingsWhenDue}
 use Rattle.p2p_net_links.specs.Stands.{LinksStand}
 use Rattle.p2p_net_links.specs.declared.links.Links.{Links}
 use Rattle.p2p_net_links.proofs.Changes.{openings_unmoved, links_frame}
@@ -157,10 +158,10 @@ any_of false a = refl
 pub step_receives : (configs : List Config) (log : List Entry) (e : Entry) (n conn : ℕ) → e.event.act ≡ act.SendStep conn n → ((c : ℕ) → line (log ++ e ∷ []) (queue.Held n c) ≡ line log (queue.Held n c)) → ReceivesNone configs log e n
 step_receives configs log e n conn acts held = receives_apart configs log e n (act.SendStep conn n) acts (λ c. refl) held
 
-took_stands : (configs : List Config) (log : List Entry) (e : Entry) (n conn : ℕ) (cs : Connections) (x : Envelope) (rest : List Envelope) → ConnectionsStand configs log n cs → is_begun log n conn ≡ true → is_running log n conn ≡ false
+took_stands : (configs : List Config) (log : List Entry) (e : Entry) (n conn : ℕ) (cs : Connections) (x : Envelope) (rest : List Envelope) → ConnectionsStand configs log n cs → ((c : ℕ) → PingsWhenDue configs log e n c) → is_begun log n conn ≡ true → is_running log n conn ≡ false
     → e.event.act ≡ act.SendStep conn n → e.reply ≡ reply.Ok → Takes log e n conn x rest
     → ConnectionsStand configs (log ++ e ∷ []) n (record cs { stages = stages_with (Some x) conn e.event.at cs.stages; answers = popped_at cs.answers conn })
-took_stands configs log e n conn cs x rest s begun idle acts ok h = by (is_answer x.item) refl
+took_stands configs log e n conn cs x rest s pinging begun idle acts ok h = by (is_answer x.item) refl
   where
     answers : (c : ℕ) → list_any (λ t. t) (answers_by n c log e) ≡ ((c == conn) && is_answer x.item)
     answers c =
@@ -191,9 +192,9 @@ took_stands configs log e n conn cs x rest s begun idle acts ok h = by (is_answe
     by : (b : Bool) → is_answer x.item ≡ b
         → ConnectionsStand configs (log ++ e ∷ []) n (record cs { stages = cond b (insert_entry nat_cmp cs.stages conn (stage.Running e.event.at)) cs.stages; answers = popped_at cs.answers conn })
     by true is =
-        connections_ran configs log e n conn e.event.at cs (popped_at cs.answers conn) s spawns begun idle refl (λ c. step_begins n conn c e acts ok) (λ c. answers c ∙ (ap (λ b. (c == conn) && b) is ∙ and_true (c == conn))) receives waits
+        connections_ran configs log e n conn e.event.at cs (popped_at cs.answers conn) s pinging spawns begun idle refl (λ c. step_begins n conn c e acts ok) (λ c. answers c ∙ (ap (λ b. (c == conn) && b) is ∙ and_true (c == conn))) receives waits
     by false is =
-        connections_stepped configs log e n conn cs (popped_at cs.answers conn) s spawns begun (λ c other. other_begins n conn c e acts other)
+        connections_stepped configs log e n conn cs (popped_at cs.answers conn) s pinging spawns begun (λ c other. other_begins n conn c e acts other)
         (λ c. running-kept log e n c (answers c ∙ (ap (λ b. (c == conn) && b) is ∙ and_false (c == conn)))) early receives waits
 
 abbrev pub named_parts : List place.Part
@@ -277,7 +278,7 @@ run_performs configs log at seed conn n half (w ∷ ws) x y l links r s t up has
       node =
           each_part configs log ev n x y named_parts s (subst (λ z. z ≡ with_parts named_parts x z) (sym parts) refl)
           (λ p out. not_among-links named_parts p n out) refl (
-            subst (ConnectionsStand configs (log ++ e ∷ []) n) (sym (ap (λ (z : Node). z.connections) parts)) (took_stands configs log e n conn x.connections w ws cs begun idle refl (ap (λ (z : Row). z.reply) row_is) takes),
+            subst (ConnectionsStand configs (log ++ e ∷ []) n) (sym (ap (λ (z : Node). z.connections) parts)) (took_stands configs log e n conn x.connections w ws cs (pings_by configs log n x.connections cs ev) begun idle refl (ap (λ (z : Row). z.reply) row_is) takes),
             (
               subst (RouterStands configs (log ++ e ∷ []) n) (sym (ap (λ (z : Node). z.router) parts))
                   (RouterStands-moved configs log e n x.router x.router rout (step_hears log e n conn refl lives begun)

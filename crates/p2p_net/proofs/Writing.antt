@@ -36,6 +36,8 @@ use Rattle.p2p_net_connections.specs.Connections.{pinged_on, pinged_with}
 use Rattle.p2p_net_connections.specs.Stands.{ConnectionsStand, SpawnsNone, ReceivesNone}
 use Rattle.p2p_net_connections.specs.declared.connections.Stage.TheVariants as stage
 use Rattle.p2p_net_connections.proofs.Beginning.{connections_stepped, connections_pinged}
+use Rattle.p2p_net_connections.proofs.Pings.{pings_by}
+use Rattle.p2p_log_rules.proofs.Pinging.{PingsWhenDue}
 use Rattle.p2p_net_links.specs.Links.{write_frames_row}
 use Rattle.p2p_net_links.specs.Stands.{LinksStand}
 use Rattle.p2p_net_links.specs.declared.links.Links.{Links}
@@ -232,6 +234,10 @@ module _ (configs : List Config) (log : List Entry) (at seed conn n : ℕ) (half
       line_written log e n conn half.link most half.writes due frames p high low took takes ends puts
       ∙ (ap (λ w. line log p ++ w) (filter-away p (length log) 0 (batch_put due half.link half.writes frames) (batch_away due half.link half.writes p frames away_from)) ∙ append-nil (line log p))
 
+  pinging : (c : ℕ) → PingsWhenDue configs log e n c
+  unfolding e
+  pinging c = pings_by configs log n x.connections connects ev c
+
   connections_now : ConnectionsStand configs (log ++ e ∷ []) n (pinged_with due conn at x.connections)
   connections_now = by due refl
     where
@@ -249,9 +255,9 @@ module _ (configs : List Config) (log : List Entry) (at seed conn n : ℕ) (half
 
       by : (b : Bool) → due ≡ b → ConnectionsStand configs (log ++ e ∷ []) n (pinged_with b conn at x.connections)
       by true is =
-          connections_pinged configs log e n conn at x.connections connects spawns (λ c. step_begins n conn c e acts (replies ∙ ap (λ b. (write_frames_row half.link half.writes b frames).reply) is)) runs (pings ∙ is) moment receives waits
+          connections_pinged configs log e n conn at x.connections connects pinging spawns (λ c. step_begins n conn c e acts (replies ∙ ap (λ b. (write_frames_row half.link half.writes b frames).reply) is)) runs (pings ∙ is) moment receives waits
       by false is =
-          connections_stepped configs log e n conn x.connections x.connections.answers connects spawns begun (λ c other. other_begins n conn c e acts other) runs
+          connections_stepped configs log e n conn x.connections x.connections.answers connects pinging spawns begun (λ c other. other_begins n conn c e acts other) runs
           (ap (ping_is_due configs log n conn) moment ∙ (pings ∙ is)) receives waits
 
   router_now : RouterStands configs (log ++ e ∷ []) n w.router
