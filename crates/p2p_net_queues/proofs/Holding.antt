@@ -1,6 +1,5 @@
 -- A table whose queues are lines of a log, by their keys: what a change of one queue makes of them.
 use Rattle.std.proofs.Common.{◌≡◌, ℕ, Bool, true, false, cond, List, [], ◌∷◌, ◌++◌, drop, refl, ap, sym, ◌∙◌, arith, append-nil}
-use Rattle.std.specs.List.{remove}
 use Rattle.std.specs.BTreeMap.{is_at}
 use Rattle.std.specs.Ordering.{nat_cmp}
 use Rattle.std.proofs.lemmas.Bool.Decides.{nat_tests}
@@ -11,9 +10,9 @@ use Rattle.p2p_log.specs.QueueCode.{same_queue}
 use Rattle.p2p_log.specs.Lines.{name_of, goes, live_from, line}
 use Rattle.p2p_log.proofs.Queues.{same_queue-sym}
 use Rattle.p2p_net_queues.specs.Lines.{HoldsLines}
-use Rattle.p2p_net_queues.specs.Tables.{waiting, pushed_at, popped_at, cleared_at, without_at}
+use Rattle.p2p_net_queues.specs.Tables.{waiting, pushed_at, popped_at, cleared_at}
 use Rattle.p2p_net_queues.proofs.Going.{put_in, line-taken}
-use Rattle.p2p_net_queues.proofs.Tables.{waiting-pushed_at, waiting-popped_at, waiting-cleared_at, waiting-without_at}
+use Rattle.p2p_net_queues.proofs.Tables.{waiting-pushed_at, waiting-popped_at, waiting-cleared_at}
 
 -- an empty table, and no entry
 pub holds_none : (f : ℕ → Queue) → HoldsLines f [] []
@@ -78,12 +77,6 @@ module _ (f : ℕ → Queue) (same : (c d : ℕ) → is_at (nat_cmp c) d ≡ sam
   -- all items less
   pub waits_cleared : (log : List Entry) (d : ℕ) (w : List (ℕ × List Envelope)) → HoldsLines f log w → (c : ℕ) → waiting (cleared_at w d) c ≡ cond (same_queue (f d) (f c)) [] (line log (f c))
   waits_cleared log d w waits c = changed (λ l. []) log d c w (cleared_at w d) (waits c) (waiting-cleared_at d c w)
-
-  -- an item from the middle less
-  pub waits_without : (log : List Entry) (d i : ℕ) (rest : List Envelope) (w : List (ℕ × List Envelope)) → HoldsLines f log w → remove (line log (f d)) i ≡ rest
-      → (c : ℕ) → waiting (without_at w d i) c ≡ cond (same_queue (f d) (f c)) rest (line log (f c))
-  waits_without log d i rest w waits is c =
-      changed (λ l. remove l i) log d c w (without_at w d i) (waits c) (waiting-without_at d c i w) ∙ there (λ l. remove l i) log d c (same_queue (f d) (f c)) rest refl is
 
   -- ---- an entry that takes the first item of a queue
 

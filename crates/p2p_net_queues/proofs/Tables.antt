@@ -1,5 +1,5 @@
 -- What a table gives after a change.
-use Rattle.std.proofs.Common.{◌≡◌, ℕ, zero, suc, Bool, true, false, cond, List, [], ◌∷◌, ◌++◌, drop, refl, ap, sym, ◌∙◌, arith, Option, Some, None}
+use Rattle.std.proofs.Common.{◌≡◌, ℕ, Bool, true, false, cond, List, [], ◌∷◌, ◌++◌, drop, refl, ap, sym, ◌∙◌, arith, Option, Some, None}
 use Rattle.std.specs.Prelude.{◌==◌, ◌&&◌}
 use Rattle.std.specs.Cmp.{IsTotalOrder, eq_by_cmp_equiv}
 use Rattle.std.specs.declared.cmp.Ordering.{Ordering}
@@ -8,8 +8,7 @@ use Rattle.std.specs.Map.{lookup, set_value}
 use Rattle.std.specs.BTreeMap.{is_at, insert_entry}
 use Rattle.std.specs.Ordering.{nat_cmp, is_eq, match_ordering}
 use Rattle.std.proofs.lemmas.Bool.Decides.{nat_tests}
-use Rattle.std.specs.List.{remove}
-use Rattle.p2p_net_queues.specs.Tables.{at, AreBut, kept_with, items_in, waiting, pushed_on, pushed_at, popped_on, popped_at, cleared_on, cleared_at, without_on, without_at}
+use Rattle.p2p_net_queues.specs.Tables.{at, AreBut, kept_with, items_in, waiting, pushed_on, pushed_at, popped_on, popped_at, cleared_on, cleared_at}
 
 same_at : (q k x : ℕ) → nat_cmp k x ≡ Equal → is_eq (nat_cmp q x) ≡ is_eq (nat_cmp q k)
 same_at q k x h = grind (arith, nat_tests)
@@ -129,17 +128,6 @@ module _ {T : Type 0} where
 
   pub waiting-cleared_at : (k q : ℕ) (m : List (ℕ × List T)) → waiting (cleared_at m k) q ≡ cond (is_at (nat_cmp q) k) [] (waiting m q)
   waiting-cleared_at k q m = clear_by k q m (lookup (is_at (nat_cmp k)) m) refl
-
-  remove-nil : (i : ℕ) → remove {X = T} [] i ≡ []
-  remove-nil zero = refl
-  remove-nil (suc i) = refl
-
-  without_by : (k q i : ℕ) (m : List (ℕ × List T)) (o : Option (List T)) → lookup (is_at (nat_cmp k)) m ≡ o → waiting (without_on o m k i) q ≡ cond (is_at (nat_cmp q) k) (remove (items_in o) i) (waiting m q)
-  without_by k q i m None h = same_cond (is_at (nat_cmp q) k) (waiting m q) (remove [] i) (λ b. at_key q k m b ∙ (ap items_in h ∙ sym (remove-nil i)))
-  without_by k q i m (Some l) h = ap items_in (lookup-set k q (remove l i) l m h) ∙ in_cond (is_at (nat_cmp q) k) (remove l i) (lookup (is_at (nat_cmp q)) m)
-
-  pub waiting-without_at : (k q i : ℕ) (m : List (ℕ × List T)) → waiting (without_at m k i) q ≡ cond (is_at (nat_cmp q) k) (remove (waiting m q) i) (waiting m q)
-  waiting-without_at k q i m = without_by k q i m (lookup (is_at (nat_cmp k)) m) refl ∙ changed q k m (λ l. remove l i)
 
 -- ---- a value that is taken out, and put back
 

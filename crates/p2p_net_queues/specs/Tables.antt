@@ -1,6 +1,5 @@
 -- Tables, as the lists of their entries.
 use Rattle.std.specs.Prelude.{◌≡◌, ◌==◌, ℕ, Bool, cond, List, [], ◌∷◌, ◌++◌, drop, Option, Some, None}
-use Rattle.std.specs.List.{remove}
 use Rattle.std.specs.Map.{lookup, set_value}
 use Rattle.std.specs.BTreeMap.{is_at, insert_entry}
 use Rattle.std.specs.Ordering.{nat_cmp}
@@ -50,11 +49,3 @@ module _ {T : Type 0} where
   -- without the items in the queue of a key
   abbrev pub cleared_at : List (ℕ × List T) → ℕ → List (ℕ × List T)
   cleared_at m k = cleared_on (at m k) m k
-
-  abbrev pub without_on : Option (List T) → List (ℕ × List T) → ℕ → ℕ → List (ℕ × List T)
-  without_on None m k i = m
-  without_on (Some l) m k i = set_value (is_at (nat_cmp k)) m (remove l i)
-
-  -- without the item at this place in the queue of a key
-  abbrev pub without_at : List (ℕ × List T) → ℕ → ℕ → List (ℕ × List T)
-  without_at m k i = without_on (at m k) m k i

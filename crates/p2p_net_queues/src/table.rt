@@ -4,7 +4,7 @@ ghost use Rattle.std.specs.BTreeMap.{insert_entry};
 ghost use Rattle.std.specs.Ordering.{nat_cmp};
 ghost use Rattle.std.specs.Option.{option_copied};
 ghost use Rattle.p2p_net_queues.specs.Meters.{answer_at, checked_at};
-ghost use Rattle.p2p_net_queues.specs.Tables.{at, waiting, pushed_at, popped_at, cleared_at, without_at};
+ghost use Rattle.p2p_net_queues.specs.Tables.{at, waiting, pushed_at, popped_at, cleared_at};
 
 use crate::Deque;
 use p2p_runtime::KeyedRateLimiter;
@@ -117,17 +117,6 @@ impl<T: Drop> Table<Deque<T>> {
         match self.tree.get_mut(&key) {
             Some(line) => line.take_all(alloc),
             None => Deque::new(alloc),
-        }
-    }
-
-    /// Takes the item at a place of the queue of a key, counted from the oldest. The others stay in their order.
-    pub fn remove_at(&mut self, key: u64, place: usize) -> Option<T>
-        ensures item { result ≡ slice_get (waiting self.old key) place }
-        ensures rest { self.new ≡ without_at self.old key place }
-    {
-        match self.tree.get_mut(&key) {
-            Some(line) => line.remove(place),
-            None => None,
         }
     }
 

@@ -68,8 +68,8 @@ pub trait Link {
         ensures write_fails { write_fails self.new ≡ write_fails self.old }
         ensures keeps { keeps self.old self.new };
 
-    /// Ends this side, and meets no fault. What waits here is gone, and what is in flight stays. Each later write fails, and so does
-    /// each later read of a link that failed to be read before.
+    /// Ends this side, and meets no fault. What waits here is gone, and what is in flight stays. Where the link tells whether its writes
+    /// fail, each later write does. Where it told that its next read fails, it tells so still.
     fn close(&mut self)
         ensures count { faults_of self.new ≡ faults_of self.old }
         ensures waiting { waiting self.new ≡ [] }
