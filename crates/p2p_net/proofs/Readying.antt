@@ -45,8 +45,12 @@ use Rattle.p2p_net.proofs.Starts.{fits_there}
 
 -- ---- what the code tests is what the log says
 
-pub started_is : (configs : List Config) (log : List Entry) (n : ℕ) (x : Node) → NodeStands configs log n x → is_started x ≡ has_started (events_of log) n
-started_is configs log n x s = let rout : RouterStands configs log n x.router = s.each place.router in rout.stands.bound ∙ (ap (is_up log) rout.number ∙ is_up-asked log n)
+pub started_is : (configs : List Config) (log : List Entry) (n : ℕ) (x : Node) → NodeStands configs log n x → is_started x ≡ is_up log n
+started_is configs log n x s = let rout : RouterStands configs log n x.router = s.each place.router in rout.stands.bound ∙ ap (is_up log) rout.number
+
+-- and what was asked of it
+started_asked : (configs : List Config) (log : List Entry) (n : ℕ) (x : Node) → NodeStands configs log n x → is_started x ≡ has_started (events_of log) n
+started_asked configs log n x s = started_is configs log n x s ∙ is_up-asked log n
 
 size_is : (configs : List Config) (n : ℕ) (x : Node) → OwnStands configs n x → x.config.mailbox_size ≡ mailbox_size_at configs n
 size_is configs n x s = sym (ap (λ (o : Option Config). elim o [ None ↦ 0 | Some c ↦ c.mailbox_size ]) s.config)
@@ -67,7 +71,7 @@ register_is configs log n c rate x s =
     let tests : Bool → Option ℕ → ℕ → ℕ → ℕ → Bool = λ started o k size total.
     ((not started && not (is_some o)) && is_quota rate) && (fits_usize k && fits_usize (size + (total + k)))
     in
-    ap (λ b. tests b (capacity_at x.channels c) (capacity_by x rate) x.config.mailbox_size x.channels.total) (started_is configs log n x s)
+    ap (λ b. tests b (capacity_at x.channels c) (capacity_by x rate) x.config.mailbox_size x.channels.total) (started_asked configs log n x s)
     ∙ (ap (λ o. tests (has_started (events_of log) n) o (capacity_by x rate) x.config.mailbox_size x.channels.total) (chan.capacities c ∙ ap (λ l. capacity_in l c) (channels-asked configs log n))
     ∙ (ap (λ k. tests (has_started (events_of log) n) (capacity_in regs c) k x.config.mailbox_size x.channels.total) (capacity_is configs n rate x s.own)
     ∙ (ap (λ k. tests (has_started (events_of log) n) (capacity_in regs c) (capacity_for (slice_get configs n) rate) k x.channels.total) (size_is configs n x s.own)
@@ -201,7 +205,7 @@ module _ (configs : List Config) (log : List Entry) (nodes : List Node) (links :
       ∙ ap (λ b. b && valid.may_register configs (events_of log) c n rate) (counted n)
   may_by (act.Start n) =
       there (nat_lt n (length nodes)) (may_at (slice_get nodes n) log (act.Start n)) (not (has_started (events_of log) n))
-      (λ lt. asks (act.Start n) (not (has_started (events_of log) n)) lt (λ x t. ap (λ b. not b) (started_is configs log n x t)))
+      (λ lt. asks (act.Start n) (not (has_started (events_of log) n)) lt (λ x t. ap (λ b. not b) (started_asked configs log n x t)))
       ∙ ap (λ b. b && not (has_started (events_of log) n)) (counted n)
   may_by (act.SendChecked bytes check priority) =
       let n = checking_node log check in
@@ -287,7 +291,7 @@ ready_by configs log n (act.Register c m rate) x s released reserved fit may =
     )
 ready_by configs log n (act.Start m) x s released reserved fit may =
     let chan : ChannelsStand configs log n x.channels = s.each place.channels in
-    let off : is_up log n ≡ false = is_up-asked log n ∙ (sym (started_is configs log n x s) ∙ not-true (is_started x) may) in (
+    let off : is_up log n ≡ false = sym (started_is configs log n x s) ∙ not-true (is_started x) may in (
       is_unbound-before configs log n x.router (s.each place.router) off,
       (
         one_mailbox x.config fit,
