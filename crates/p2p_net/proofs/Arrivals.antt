@@ -28,6 +28,7 @@ use Rattle.p2p_log_rules.specs.declared.row.ListeningEnd.TheVariants as listenin
 use Rattle.p2p_log_rules.specs.declared.row.Row.{Row}
 use Rattle.p2p_log_rules.specs.Attempting.{Attempt, attempts_of, told_row, link_item, answered_row, connected_row}
 use Rattle.p2p_log_rules.proofs.Attempts.{told_link}
+use Rattle.p2p_log_rules.proofs.Listening.{known_of-kept}
 use Rattle.p2p_log_rules.specs.Effect.{only, row, effect, entry_of}
 use Rattle.p2p_log_rules.specs.Facts.{key_at, is_up, with_named}
 use Rattle.p2p_log_rules.specs.Links.{arrived, ends_by, listening_ends_of}
@@ -359,7 +360,7 @@ module _ (configs : List Config) (log : List Entry) (moment seed name n m : ℕ)
     where
       by : (t : Bool) → (m == j) ≡ t → IsBetween configs log e j w → ListenerStands configs (log ++ e ∷ []) j w.listening
       by true here b = listener_frame configs log e j w.listening (still_listens j w b) (record {
-        known = refl;
+        known = known_of-kept configs log e j refl;
         handshakes = refl;
         tells = λ i. other_tells log e j i refl;
         ends = λ i. end_of false none j here i;
