@@ -14,23 +14,17 @@ use Rattle.p2p_log.specs.declared.entry.Reply.{Reply}
 use Rattle.p2p_log.specs.declared.entry.Reply.TheVariants as reply
 use Rattle.p2p_log.specs.declared.event.Act.{Act}
 use Rattle.p2p_log.specs.declared.event.Act.TheVariants as act
-use Rattle.p2p_tracker_calls.specs.declared.gates.Reply.{Reply as Gates}
-use Rattle.p2p_tracker_calls.specs.declared.gates.Reply.TheVariants as gates
-use Rattle.p2p_log.specs.declared.queue.Side.TheVariants as side
-use Rattle.p2p_log_rules.specs.declared.row.Half.{Half}
-use Rattle.p2p_log_rules.specs.Connections.{half_at}
-use Rattle.p2p_log_rules.specs.Handshakes.{peer_at}
 use Rattle.p2p_log_rules.specs.Attempting.{Attempt, DialRules, dial_rules_at, socket_of, drawn_address, dialing, resolved, tells_addresses, answers, draws, waits, attempt_since, attempt_by_last, attempt_in, attempts_of}
 use Rattle.p2p_log_rules.specs.Facts.{taken, with_named, with_begun}
 use Rattle.p2p_log_rules.specs.Tellings.{Telling, Last, last_told, last_or, or_new, first_or, any_or, least_by, least_or}
 use Rattle.p2p_log_rules.specs.Tellings as telling
-use Rattle.p2p_log_rules.specs.Puts.{gave_up, ends_attempt, broke_off}
-use Rattle.p2p_log_rules.specs.Told.{Begun, begins, ends, opens, opened_since, link_in, dialing_dropped, when, done_tells, asks_list, half_tells, gates_tell, answer_tells, ask_tells, took_tells, left_tells, link_tells, act_tells, tells, told}
+use Rattle.p2p_log_rules.specs.Puts.{gave_up, ends_attempt}
+use Rattle.p2p_log_rules.specs.Told.{Begun, begins, ends, opens, opened_since, link_in, dialing_dropped, when, done_tells, asks_list, answer_tells, ask_tells, took_tells, left_tells, link_tells, act_tells, tells, told}
 use Rattle.p2p_log_rules.proofs.Facts.{list_any-last}
 use Rattle.p2p_log_rules.proofs.Families.{kind, has, untold_act}
 use Rattle.p2p_log_rules.proofs.Named.{NoneFrom, either_none, named_none, begun_none}
-use Rattle.p2p_log_rules.proofs.Told.{NoneDialed, NoneTried, one, ask_quiet, cut_quiet, link_quiet, step_quiet, connect_quiet, quiet_act}
-use Rattle.p2p_log_rules.proofs.Tellings.{late_told, when_quiet, done_quiet, append_quiet, told-append, or_left, or_right, last_or-append, first_or-append, any_or-append, least_or-append, with_last, last_told-one}
+use Rattle.p2p_log_rules.proofs.Told.{NoneDialed, NoneTried, one, ask_quiet, cut_quiet, step_quiet, connect_quiet, quiet_act}
+use Rattle.p2p_log_rules.proofs.Tellings.{late_told, when_quiet, done_quiet, told-append, or_left, or_right, last_or-append, first_or-append, any_or-append, least_or-append, with_last, last_told-one}
 
 -- ---- after one telling more
 

@@ -1,5 +1,5 @@
 -- What stands of a node's dialer after one more entry.
-use Rattle.std.proofs.Common.{◌≡◌, ℕ, zero, suc, ◌+◌, Bool, true, false, cond, List, [], ◌∷◌, ◌++◌, length, refl, ap, sym, ◌∙◌, append_assoc, append-nil, arith, eq-eqb, Option, Some, None}
+use Rattle.std.proofs.Common.{◌≡◌, ℕ, suc, ◌+◌, Bool, true, false, cond, List, [], ◌∷◌, ◌++◌, length, refl, ap, sym, ◌∙◌, append_assoc, append-nil, arith, eq-eqb, Option, Some, None}
 use Rattle.std.specs.Prelude.{◌==◌, unwrap_or, count_by}
 use Rattle.std.specs.List.{list_any}
 use Rattle.std.proofs.lemmas.List.Sums.{sum_by-append}
@@ -13,7 +13,7 @@ use Rattle.p2p_log.specs.declared.entry.Reply.{Reply}
 use Rattle.p2p_log.specs.declared.entry.Reply.TheVariants as reply
 use Rattle.p2p_log.specs.declared.event.Act.{Act}
 use Rattle.p2p_log.specs.declared.event.Act.TheVariants as act
-use Rattle.p2p_log_rules.specs.Dialing.{Pace, pace_at, after_dial, next_deadline, Dials, in_drawn_order, new_dials, without_last, lists, dials, less, left_of, dial_list, asks, is_asking, sets_deadline, dial_deadline, dials_in, dials_of}
+use Rattle.p2p_log_rules.specs.Dialing.{Pace, pace_at, after_dial, next_deadline, Dials, in_drawn_order, new_dials, without_last, lists, dials, less, left_of, dial_list, asks, sets_deadline, dials_in, dials_of}
 use Rattle.p2p_log_rules.specs.Facts.{starts, taken}
 use Rattle.p2p_log_rules.specs.Tellings.{Telling, Last, last_told, last_or}
 use Rattle.p2p_log_rules.specs.Tellings as telling

@@ -1,6 +1,6 @@
 -- The step of each actor is what it makes of its first input.
 use Rattle.std.proofs.Common.{◌≡◌, ℕ, zero, suc, Bool, true, false, cond, List, [], ◌∷◌, ◌++◌, length, refl, ap, ◌∙◌, arith, Option, Some, None}
-use Rattle.std.specs.Prelude.{◌&&◌, ◌-◌, not, map, nat_le, nat_lt, take}
+use Rattle.std.specs.Prelude.{◌&&◌, not, map, nat_le, nat_lt, take}
 use Rattle.std.proofs.lemmas.Bool.Decides.{nat_tests}
 use Rattle.std.proofs.lemmas.Option.{same_Some}
 use Rattle.p2p_log.specs.declared.config.Config.{Config}
@@ -12,7 +12,6 @@ use Rattle.p2p_log.specs.declared.item.Envelope.{Envelope}
 use Rattle.p2p_log.specs.declared.end.Cause.TheVariants as cause
 use Rattle.p2p_log.specs.declared.entry.Ended.TheVariants as ended
 use Rattle.p2p_log.specs.declared.entry.Entry.{Entry}
-use Rattle.p2p_log.specs.declared.entry.Reply.{Reply}
 use Rattle.p2p_log.specs.declared.entry.Reply.TheVariants as reply
 use Rattle.p2p_log.specs.declared.event.Act.{Act}
 use Rattle.p2p_log.specs.declared.event.Act.TheVariants as act
@@ -29,9 +28,9 @@ use Rattle.p2p_log_rules.specs.Ending.{end_row}
 use Rattle.p2p_log_rules.specs.Facts.{channels, capacity_in, is_up}
 use Rattle.p2p_log_rules.specs.First.{Actor, tracker, router, spawner, dialer, listener, attempt, handshake, sender, receiver, actor_of, Input, takes, due, begins, fault, first_of, ready, oldest_of, only_where, attempt_due, is_admitted, link_inputs, held_inputs, stands, has_half, by_input}
 use Rattle.p2p_log_rules.specs.Handshakes.{is_handshaking, is_finished, peer_at}
-use Rattle.p2p_log_rules.specs.Handshaking.{handshake_deadline, is_due, ended_row, handshake_turn, handshake_row}
+use Rattle.p2p_log_rules.specs.Handshaking.{handshake_deadline, is_due, handshake_turn, handshake_row}
 use Rattle.p2p_log_rules.specs.Listening.{gate_rules_at, known_of, has_place, listener_turn, listener_row}
-use Rattle.p2p_log_rules.specs.Metering.{pings, messages, may_pass}
+use Rattle.p2p_log_rules.specs.Metering.{messages, may_pass}
 use Rattle.p2p_log_rules.specs.Pings.{ping_is_due}
 use Rattle.p2p_log_rules.specs.Puts.{gave_up, broke_off, turns_away}
 use Rattle.p2p_log_rules.specs.Rows.{only, is_spawner_full, takes_oldest}

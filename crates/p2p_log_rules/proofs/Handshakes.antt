@@ -25,7 +25,7 @@ use Rattle.p2p_log_rules.specs.Told.{when, admitted_as, begun_tells, arrival_tel
 use Rattle.p2p_log_rules.proofs.Families.{kind, kinds_of, has, are_apart, untold_of}
 use Rattle.p2p_log_rules.proofs.Ignoring.{any_or-none, either_same, by_entries}
 use Rattle.p2p_log_rules.proofs.Standing.{started, stood_after, stood_told, standing-more, stood_append, same_filter, same_stood, others_stood}
-use Rattle.p2p_log_rules.proofs.Tellings.{told-append, any_or-append, append_quiet, when_quiet}
+use Rattle.p2p_log_rules.proofs.Tellings.{told-append, any_or-append, when_quiet}
 use Rattle.p2p_log_rules.proofs.Told.{arrival_quiet, gates_quiet, heard_quiet}
 
 -- ---- by the act of one entry more

@@ -1,7 +1,6 @@
 -- The links over which keys are exchanged, and what has their listening ends, after one more entry.
 use Rattle.std.proofs.Common.{◌≡◌, ℕ, Bool, true, false, cond, List, [], ◌∷◌, ◌++◌, length, Option, Some, None, refl, ap, ◌∙◌}
-use Rattle.std.specs.Prelude.{◌==◌, ◌&&◌, is_some}
-use Rattle.std.specs.List.{list_any}
+use Rattle.std.specs.Prelude.{◌==◌}
 use Rattle.std.specs.Option.{option_map}
 use Rattle.p2p_tracker_calls.specs.declared.gates.Reply.TheVariants as gates
 use Rattle.p2p_log.specs.declared.queue.Queue.{Queue}
@@ -26,7 +25,7 @@ use Rattle.p2p_log_rules.specs.Tellings as telling
 use Rattle.p2p_log_rules.specs.Told.{when, done_tells, link_tells, admitted_as, begun_tells, arrival_tells, handshake_tells, gates_tell, heard_tells, act_tells, tells, told}
 use Rattle.p2p_log_rules.proofs.Families.{kind, kinds_of, has, are_apart, untold_of}
 use Rattle.p2p_log_rules.proofs.Ignoring.{reads_some, last_or-none, unwrap_named, unwrap_at, either_same}
-use Rattle.p2p_log_rules.proofs.Tellings.{told-append, last_or-append, append_quiet, when_quiet}
+use Rattle.p2p_log_rules.proofs.Tellings.{told-append, last_or-append, append_quiet}
 use Rattle.p2p_log_rules.proofs.Told.{begun_quiet, gates_quiet, heard_quiet}
 
 -- ---- between whom keys are exchanged

@@ -1,5 +1,5 @@
 -- What a step of a node's router may tell: where a test holds of none of that, it holds of nothing that the step tells.
-use Rattle.std.proofs.Common.{◌≡◌, ℕ, Bool, false, List, [], ◌∷◌, ◌++◌, refl, ap}
+use Rattle.std.proofs.Common.{◌≡◌, ℕ, Bool, false, List, [], ◌∷◌, refl, ap}
 use Rattle.std.specs.Prelude.{◌||◌, flat_map}
 use Rattle.std.specs.List.{list_any}
 use Rattle.p2p_base.specs.declared.key.Key.{Key}

@@ -1,6 +1,6 @@
 -- What one more entry makes of what a node's router has: the channels that want lists, the routes, and the lists that it put.
-use Rattle.std.proofs.Common.{◌≡◌, ℕ, Bool, true, false, cond, List, [], ◌∷◌, ◌++◌, length, refl, ap, sym, ◌∙◌, arith, append-nil, Option, Some, None}
-use Rattle.std.specs.Prelude.{◌==◌, ◌&&◌, ◌||◌, flat_map, unwrap_or}
+use Rattle.std.proofs.Common.{◌≡◌, ℕ, Bool, true, false, cond, List, [], ◌∷◌, ◌++◌, length, refl, ap, sym, ◌∙◌, arith, append-nil, Some, None}
+use Rattle.std.specs.Prelude.{◌==◌, ◌&&◌, flat_map, unwrap_or}
 use Rattle.std.specs.List.{list_any}
 use Rattle.std.proofs.lemmas.Bool.Decides.{nat_tests}
 use Rattle.std.proofs.lemmas.Grind.{flat_map-append}
@@ -15,13 +15,13 @@ use Rattle.p2p_log.specs.declared.event.Act.{Act}
 use Rattle.p2p_log.specs.declared.event.Act.TheVariants as act
 use Rattle.p2p_log.specs.QueueCode.{same_queue}
 use Rattle.p2p_log_rules.specs.Facts.{steps_router, routed_by, wants_lists, subscribers, with_ready, without_key, with_route, routes_told, routes, peers_told}
-use Rattle.p2p_log_rules.specs.Routed.{routed_tells, listed_tells, router_tells, lists_peers, peers_in}
+use Rattle.p2p_log_rules.specs.Routed.{routed_tells, listed_tells, lists_peers, peers_in}
 use Rattle.p2p_log_rules.specs.Taking.{taken, state_from}
 use Rattle.p2p_log_rules.specs.Tellings.{Telling, last_or}
 use Rattle.p2p_log_rules.specs.Tellings as telling
 use Rattle.p2p_log_rules.specs.Told.{act_tells, tells, told}
 use Rattle.p2p_log_rules.proofs.Families.{kind, kinds_of, has, are_apart, untold_of}
-use Rattle.p2p_log_rules.proofs.Tellings.{or_left, or_right, told-append, last_or-append}
+use Rattle.p2p_log_rules.proofs.Tellings.{told-append, last_or-append}
 
 -- ---- what is told by a step of a router, and by another act
 

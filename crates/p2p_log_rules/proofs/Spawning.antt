@@ -1,6 +1,6 @@
 -- The connections of a node's spawner after one more entry.
 use Rattle.std.proofs.Common.{◌≡◌, ℕ, suc, ◌≤◌, Bool, true, false, cond, List, [], ◌∷◌, ◌++◌, length, refl, ap, sym, ◌∙◌, arith, append_assoc, append-nil, Option, Some, None}
-use Rattle.std.specs.Prelude.{◌==◌, ◌&&◌, ◌||◌, is_some, unwrap_or}
+use Rattle.std.specs.Prelude.{◌==◌, ◌&&◌, is_some, unwrap_or}
 use Rattle.std.proofs.lemmas.Bool.Decides.{nat_tests}
 use Rattle.p2p_log.specs.declared.item.Item.{Item}
 use Rattle.p2p_log.specs.declared.entry.Entry.{Entry}
@@ -16,8 +16,7 @@ use Rattle.p2p_log_rules.proofs.Families.{kind, kinds_of, has, are_apart, untold
 use Rattle.p2p_log_rules.proofs.Tellings.{late_told, or_left, or_right, told-append, last_or-append}
 use Rattle.p2p_log.specs.declared.item.Item.TheVariants as item
 use Rattle.std.specs.List.{list_any}
-use Rattle.p2p_log_rules.proofs.Facts.{state_from-append}
-use Rattle.p2p_log_rules.proofs.Named.{NoneFrom, either_none, begun_none, late_none}
+use Rattle.p2p_log_rules.proofs.Named.{either_none, begun_none}
 
 -- after an act of this name, which took these
 abbrev pub acted_connections : ℕ → ℕ → List Item → Act → (ℕ → Option Spawned) → ℕ → Option Spawned

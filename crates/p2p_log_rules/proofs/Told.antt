@@ -18,7 +18,6 @@ use Rattle.p2p_log.specs.declared.entry.Reply.{Reply}
 use Rattle.p2p_log.specs.declared.entry.Reply.TheVariants as reply
 use Rattle.p2p_log.specs.declared.event.Act.{Act}
 use Rattle.p2p_log.specs.declared.event.Act.TheVariants as act
-use Rattle.p2p_log.specs.declared.event.Rate.{Rate}
 use Rattle.p2p_log_rules.specs.declared.row.Half.{Half}
 use Rattle.p2p_log_rules.specs.HalfSteps.{puts_ping, holds}
 use Rattle.p2p_log_rules.specs.Halves.{half_in}
@@ -26,7 +25,7 @@ use Rattle.p2p_log_rules.specs.HandshakeSteps.{ends_handshake, peer_at}
 use Rattle.p2p_log_rules.specs.Puts.{gave_up, ends_attempt, broke_off, is_answer, turns_away, arrival_link}
 use Rattle.p2p_log_rules.specs.Tellings.{Telling, last_or}
 use Rattle.p2p_log_rules.specs.Tellings as telling
-use Rattle.p2p_log_rules.specs.Told.{listening_dropped, pinged_tells, admitted_tells, check_tells, judged_tells, heard_tells, admitted_in, spawn_tells, admitted_as, begun_tells, arrival_tells, handshake_tells, sender_tells, end_tells, when, done_tells, asks_list, link_in, dialing_dropped, half_dropped, half_tells, gates_tell, answer_tells, due_tells, ask_tells, took_tells, left_tells, link_tells, act_tells}
+use Rattle.p2p_log_rules.specs.Told.{listening_dropped, pinged_tells, admitted_tells, check_tells, judged_tells, heard_tells, admitted_in, spawn_tells, admitted_as, begun_tells, arrival_tells, handshake_tells, sender_tells, end_tells, when, done_tells, asks_list, link_in, dialing_dropped, half_tells, gates_tell, answer_tells, ask_tells, took_tells, left_tells, link_tells, act_tells}
 use Rattle.p2p_log_rules.proofs.Routed.{NoneRouted, router_quiet}
 use Rattle.std.proofs.lemmas.List.Folds.{list_any-append}
 use Rattle.p2p_log_rules.proofs.Tellings.{append_quiet, when_quiet, done_quiet}
@@ -70,6 +69,7 @@ pub record NoneShaken (test : Telling → Bool) (m h : ℕ) : Type 0 where
   pub took : (items : List Item) → test (telling.handshake_took m h items) ≡ false
   pub over : (link : ℕ) → test (telling.handshake_ended m h link) ≡ false
   pub drops : (link : ℕ) → test (telling.end_dropped link side.In) ≡ false
+
 -- nor a step of a sending half of its pings
 pub record NonePinged (test : Telling → Bool) (m conn at : ℕ) : Type 0 where
   pub runs : test (telling.connection_ran m conn at) ≡ false
@@ -156,6 +156,7 @@ module _ (test : Telling → Bool) (name at : ℕ) where
       append_quiet test (done_tells r (telling.half_stepped m conn ∷ [])) (when (list_any is_answer items) (telling.answer_heard m conn ∷ []))
       (done_quiet test r (telling.half_stepped m conn ∷ []) (one (telling.half_stepped m conn) h.step))
       (when_quiet test (list_any is_answer items) (telling.answer_heard m conn ∷ []) (one (telling.answer_heard m conn) h.answer))
+
   pub pinged_quiet : (m conn : ℕ) (items : List Item) (puts : List (Queue × Item)) → NonePinged test m conn at → list_any test (pinged_tells m conn at items puts) ≡ false
   pinged_quiet m conn items puts h =
       append_quiet test (when (list_any is_answer items) (telling.connection_ran m conn at ∷ [])) (when (puts_ping items puts) (telling.ping_put m conn at ∷ []))

@@ -1,5 +1,5 @@
 -- What a step of a node's tracker may tell: where a test holds of none of that, it holds of nothing that the step tells.
-use Rattle.std.proofs.Common.{◌≡◌, ℕ, Bool, false, List, [], ◌∷◌, ◌++◌, refl, ap, Option, Some, None}
+use Rattle.std.proofs.Common.{◌≡◌, ℕ, Bool, false, List, [], ◌∷◌, refl, ap, Option, Some, None}
 use Rattle.std.specs.Prelude.{◌||◌, flat_map}
 use Rattle.std.specs.List.{list_any}
 use Rattle.p2p_address.specs.declared.peer.Address.{Address}

@@ -1,6 +1,6 @@
 -- What the step of an attempt put agrees with what is left of that.
 use Rattle.std.proofs.Common.{◌≡◌, ℕ, Bool, true, false, cond, List, [], ◌∷◌, ◌++◌, length, refl, ap, sym, subst, ◌∙◌, append-nil, eqb-true, Option, Some, None}
-use Rattle.std.specs.Prelude.{◌==◌, nat_le, not, is_some}
+use Rattle.std.specs.Prelude.{nat_le, not, is_some}
 use Rattle.p2p_log.specs.declared.config.Config.{Config}
 use Rattle.p2p_log.specs.declared.queue.Queue.{Queue}
 use Rattle.p2p_log.specs.declared.queue.Queue.TheVariants as queue

@@ -21,7 +21,7 @@ use Rattle.p2p_log_rules.specs.Effect.{batch_size_at}
 use Rattle.p2p_log_rules.specs.Facts.{channels, capacity_in, is_up}
 use Rattle.p2p_log_rules.specs.Handshakes.{is_handshaking, is_finished}
 use Rattle.p2p_log_rules.specs.Handshaking.{handshake_deadline, is_due}
-use Rattle.p2p_log_rules.specs.Metering.{Metered, pings, messages, may_pass}
+use Rattle.p2p_log_rules.specs.Metering.{pings, messages, may_pass}
 use Rattle.p2p_log_rules.specs.Pings.{ping_is_due}
 use Rattle.p2p_log_rules.specs.Rows.{only}
 use Rattle.p2p_log_rules.specs.TrackerPuts.{is_some_of}

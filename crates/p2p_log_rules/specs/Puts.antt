@@ -39,6 +39,7 @@ turns_away _ = false
 abbrev pub arrival_link : List Item → Option ℕ
 arrival_link (item.Arrival from key link ∷ items) = Some link
 arrival_link _ = None
+
 -- whether it is a router's answer to a connection
 abbrev pub is_answer : Item → Bool
 is_answer item.Answer = true

@@ -1,9 +1,7 @@
 -- What each actor's step makes of its first input.
 use Rattle.std.specs.Prelude.{ℕ, ◌-◌, Bool, true, false, nat_lt, List, [], ◌∷◌, filter, length, Option, Some, None}
-use Rattle.p2p_base.specs.declared.key.Key.{Key}
 use Rattle.p2p_tracker_calls.specs.declared.call.Call.TheVariants as call
 use Rattle.p2p_log.specs.declared.config.Config.{Config}
-use Rattle.p2p_log.specs.declared.queue.Queue.{Queue}
 use Rattle.p2p_log.specs.declared.queue.Queue.TheVariants as queue
 use Rattle.p2p_log.specs.declared.item.Envelope.{Envelope}
 use Rattle.p2p_log.specs.declared.end.Cause.TheVariants as cause
@@ -20,7 +18,7 @@ use Rattle.p2p_log_rules.specs.Dropping.{other_side, is_dropped}
 use Rattle.p2p_log_rules.specs.Effect.{route_row, batch_size_at, batch, written_row, begin_row, frame_row, retry_row}
 use Rattle.p2p_log_rules.specs.Effect as effect
 use Rattle.p2p_log_rules.specs.Ending.{end_row}
-use Rattle.p2p_log_rules.specs.First.{Actor, tracker, router, spawner, dialer, listener, attempt, handshake, sender, receiver, Input, takes, due, begins, fault, step_row}
+use Rattle.p2p_log_rules.specs.First.{Actor, tracker, router, spawner, dialer, listener, attempt, handshake, sender, receiver, Input, takes, begins, step_row}
 use Rattle.p2p_log_rules.specs.Handshakes.{Peer, peer_at}
 use Rattle.p2p_log_rules.specs.Handshaking.{ended_row}
 use Rattle.p2p_log_rules.specs.Handshaking as handshaking

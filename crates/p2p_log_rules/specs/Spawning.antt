@@ -1,6 +1,5 @@
 -- The connections that a node's spawner made, by the log, and the row of its step.
-use Rattle.std.specs.Prelude.{ℕ, Bool, false, ◌==◌, cond, List, [], ◌∷◌, length, Option, Some, None}
-use Rattle.p2p_base.specs.declared.key.Key.{Key}
+use Rattle.std.specs.Prelude.{ℕ, Bool, false, ◌==◌, cond, List, ◌∷◌, Option, Some, None}
 use Rattle.p2p_log.specs.declared.queue.Queue.TheVariants as queue
 use Rattle.p2p_log.specs.declared.item.Item.{Item}
 use Rattle.p2p_log.specs.declared.item.Item.TheVariants as item
