@@ -63,7 +63,7 @@ moments-same (Some n) (Some m) h k =
     let same : n ≡ m = omega (arith, below, above) in
     ap (λ x. Some x) same
 
-if_some : (o : Option ℕ) (Q : ℕ → Type 0) → ((n : ℕ) → o ≡ Some n → Q n) → IfSome o Q
+pub if_some : (o : Option ℕ) (Q : ℕ → Type 0) → ((n : ℕ) → o ≡ Some n → Q n) → IfSome o Q
 if_some None Q h = tt
 if_some (Some n) Q h = h n refl
 
@@ -104,7 +104,7 @@ module _ {P : Type 0} (test : P → Bool) where
       at false e g i = i g
 
 -- two tests of which each implies the other are one
-both-ways : (a b : Bool) → (a ≡ true → b ≡ true) → (b ≡ true → a ≡ true) → a ≡ b
+pub both-ways : (a b : Bool) → (a ≡ true → b ≡ true) → (b ≡ true → a ≡ true) → a ≡ b
 both-ways true true h k = refl
 both-ways true false h k = sym (h refl)
 both-ways false true h k = k refl

@@ -109,14 +109,14 @@ module _ {X : Type 0} where
       at (Some u) None g i = let same : u ≡ n = cc in any_first (is_moment (Some u) n) (list_any (λ y. is_moment (f y) n) xs) (eq-eqb u n same)
       at (Some u) (Some v) g i = less (nat_lt v u) u v g i
 
-no_sooner : (t m : ℕ) → m ≤ t → not (nat_lt t m) ≡ true
+pub no_sooner : (t m : ℕ) → m ≤ t → not (nat_lt t m) ≡ true
 no_sooner t m h = at (nat_lt t m) refl
   where
     at : (b : Bool) → nat_lt t m ≡ b → not b ≡ true
     at true e = let less = ltb-true t m e in absurd (omega (arith, h, less))
     at false e = refl
 
-no_later : (t m : ℕ) → not (nat_lt t m) ≡ true → m ≤ t
+pub no_later : (t m : ℕ) → not (nat_lt t m) ≡ true → m ≤ t
 no_later t m h = at (nat_lt t m) refl h
   where
     at : (b : Bool) → nat_lt t m ≡ b → not b ≡ true → m ≤ t
@@ -133,7 +133,7 @@ comes-earlier_left (Some u) (Some v) t h = at (nat_lt v u) refl (eqb-true u t h)
     at true e same = let less = ltb-true v u e in no_sooner t v (omega (arith, less, same))
     at false e same = no_sooner t u (omega (arith, same))
 
-comes-earlier_right : (a r : Option ℕ) (t : ℕ) → comes_by r t ≡ true → comes_by (earlier a r) t ≡ true
+pub comes-earlier_right : (a r : Option ℕ) (t : ℕ) → comes_by r t ≡ true → comes_by (earlier a r) t ≡ true
 comes-earlier_right None r t h = h
 comes-earlier_right (Some u) None t h = absurd (false≢true h)
 comes-earlier_right (Some u) (Some v) t h = at (nat_lt v u) refl (no_later t v h)

@@ -1,3 +1,4 @@
+pub mod Indexed
 pub mod Listed
 pub mod Recorded
 pub mod Reserved

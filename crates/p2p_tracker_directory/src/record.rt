@@ -344,6 +344,13 @@ impl Record {
         DialStatus::Now
     }
 
+    // The moment from which the peer is listed for a dial, if it may be dialed then.
+    pub(crate) fn next_dial(&self) -> u128
+        ensures { result ≡ self.now.next_dial }
+    {
+        self.next_dial
+    }
+
     /// Whether the peer may be dialed at its address, where `private` addresses and names (`dns`) may be dialed or not.
     pub fn has_valid_ingress(&self, private: bool, dns: bool) -> bool
         ensures { result ≡ has_valid_ingress self.now.address private dns }

@@ -1,5 +1,5 @@
 //! Directories, by each of their calls.
-use crate::peers::{address, alone, directory, ip, socket, tracking};
+use crate::peers::{address, alone, directory, ip, sharing, socket, tracking};
 use p2p_address::Ingress;
 use p2p_base::{Feedback, Key};
 use p2p_tracker_directory::Metadata;
@@ -99,4 +99,40 @@ fn a_directory_lists_a_peer_but_while_it_is_blocked(rt: HostRuntime) {
     assert!(rt; !directory.unblock_expired(4));
     assert!(rt; directory.unblock_expired(5));
     assert!(rt; directory.acceptable(&Key(7), ip(8), 5));
+}
+
+// The keys 2 and 3 are at the host 2, and a block lasts for ten nanoseconds.
+#[test]
+fn a_directory_counts_who_may_come_from_an_address(rt: HostRuntime) {
+    let mut directory = sharing(rt.alloc()).expect(&rt, "memory");
+    assert_eq!(rt; directory.listenable_count(&ip(2), 0), 2);
+    assert_eq!(rt; directory.block(&Key(2), 0), Ok(true));
+    assert_eq!(rt; directory.listenable_count(&ip(2), 9), 1);
+    assert_eq!(rt; directory.listenable_count(&ip(2), 10), 2);
+    assert_eq!(rt; directory.next_query_at(9), Some(10));
+    assert_eq!(rt; directory.next_query_at(10), None);
+    assert_eq!(rt; directory.overwrite(&Key(3), address(3)), Ok(true));
+    assert_eq!(rt; directory.listenable_count(&ip(2), 10), 1);
+    assert_eq!(rt; directory.listenable_count(&ip(3), 10), 1);
+    let heard = directory.listenable(9).expect(&rt, "memory");
+    assert_eq!(rt; heard.as_slice(), [ip(3)].as_slice());
+}
+
+// Of the keys 2 and 3 the first was granted and given back, and the second is held.
+#[test]
+fn a_directory_asks_again_when_a_peer_comes_up_for_a_dial(rt: HostRuntime) {
+    let mut directory = sharing(rt.alloc()).expect(&rt, "memory");
+    for key in [2, 3] {
+        let granted = directory.dial(&Key(key), 0, key).expect(&rt, "memory");
+        assert!(rt; granted.is_some());
+    }
+    directory.release(&Metadata::Dialer(Key(2)));
+    let whom = directory.dialable(101).expect(&rt, "memory");
+    assert!(rt; whom.peers.is_empty());
+    assert_eq!(rt; whom.next_query_at, Some(102));
+    assert_eq!(rt; directory.next_query_at(101), Some(102));
+    let whom = directory.dialable(102).expect(&rt, "memory");
+    assert_eq!(rt; whom.peers.as_slice(), [Key(2)].as_slice());
+    assert_eq!(rt; whom.next_query_at, None);
+    assert_eq!(rt; directory.listenable_count(&ip(2), 102), 2);
 }

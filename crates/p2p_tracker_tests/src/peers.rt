@@ -35,17 +35,32 @@ pub fn alone(
     Ok(AddressableTrackedPeers::primary(alloc, at(alloc, key, host)?))
 }
 
-// A directory of the key 0, which keeps two sets, and whose blocks last for five nanoseconds.
+// The rules of a directory that keeps two sets, and whose blocks last for five nanoseconds.
+const CONFIG: Config = Config {
+    allow_private_ips: true,
+    allow_dns: false,
+    bypass_ip_check: false,
+    max_sets: 2,
+    peer_connection_cooldown: 100,
+    block_duration: 5,
+};
+
+// A directory of the key 0 by these rules.
 pub fn directory(alloc: Global) -> Result<Directory<Key>, AllocError> {
+    Directory::init(alloc, Key(0), CONFIG)
+}
+
+// The same with blocks that last for ten nanoseconds, which tracks the keys 2 and 3, both at the host 2.
+pub fn sharing(alloc: Global) -> Result<Directory<Key>, AllocError> {
     let cfg = Config {
-        allow_private_ips: true,
-        allow_dns: false,
-        bypass_ip_check: false,
-        max_sets: 2,
-        peer_connection_cooldown: 100,
-        block_duration: 5,
+        block_duration: 10,
+        ..CONFIG
     };
-    Directory::init(alloc, Key(0), cfg)
+    let mut directory = Directory::init(alloc, Key(0), cfg)?;
+    let pairs = Vec::from_array(alloc, [(Key(2), address(2)), (Key(3), address(2))])?;
+    let peers = Map::try_from(pairs).map_err(|_| AllocError)?;
+    directory.track(1, AddressableTrackedPeers::primary(alloc, peers))?;
+    Ok(directory)
 }
 
 // The same, which tracks the key 7, at the host 7.

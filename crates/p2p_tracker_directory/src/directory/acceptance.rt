@@ -11,22 +11,18 @@ ghost use Rattle.p2p_tracker_calls.specs.declared.call.Call.TheVariants as call;
 ghost use Rattle.p2p_tracker_directory.specs.Tracked.{Fell, enters, is_above_latest};
 ghost use Rattle.p2p_tracker_directory.specs.Stands.{StandsFor};
 
-use crate::Record;
 use crate::directory::Directory;
 use crate::directory::enrolment::{enrol, make_room, retire_set};
 use crate::directory::kills::killed;
 use crate::directory::newcomers::{Newcomers, prepare};
+use crate::directory::records::Records;
 use crate::directory::sets::{TrackedSet, falling, take_oldest};
 use p2p_address::Address;
 use p2p_base::{Map, PublicKey, Set};
 use std::alloc::AllocError;
-use std::collections::BTreeMap;
 
 // Puts the newcomers, which have records, into one more set, and gives that set.
-fn take_up<C: PublicKey>(
-    records: &mut BTreeMap<C, Record>,
-    newcomers: Newcomers<C>,
-) -> TrackedSet<C>
+fn take_up<C: PublicKey>(records: &mut Records<C>, newcomers: Newcomers<C>) -> TrackedSet<C>
     requires primary { IsStrictlySortedBy C.cmp (keys_of newcomers.primary.items) }
     requires secondary { IsStrictlySortedBy C.cmp (keys_of newcomers.secondary.items) }
     ensures set { result ≡ newcomers.set }

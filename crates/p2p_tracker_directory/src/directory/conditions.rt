@@ -14,7 +14,7 @@ impl<C: PublicKey> Directory<C> {
     pub fn stands_in_order(&self)
         ensures { IsStrictlySortedBy C.cmp (keys_of self.now.records) }
     {
-        in_order(&self.records);
+        self.records.stand_in_order();
     }
 
     /// Whether `connect` may be called for this peer: it is reserved, and its connection hasn't begun.
@@ -39,7 +39,7 @@ impl<C: PublicKey> Directory<C> {
 }
 
 // States that a map's entries stand in the order of their keys. It does nothing.
-fn in_order<C: PublicKey>(records: &BTreeMap<C, Record>)
+pub(super) fn in_order<C: PublicKey>(records: &BTreeMap<C, Record>)
     ensures { IsStrictlySortedBy C.cmp (keys_of records.now.entries) }
 {
     let _ = records.iter();

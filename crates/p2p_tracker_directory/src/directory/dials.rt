@@ -9,6 +9,9 @@ ghost use Rattle.p2p_tracker_calls.specs.DialList.{earlier, earliest};
 
 use crate::directory::Config;
 use crate::directory::blocks::is_after;
+use crate::directory::due::{due_peers, next_due, next_unblock};
+use crate::directory::once::each_once;
+use crate::directory::records::Records;
 use crate::{DialStatus, Record};
 use p2p_base::{List, PrioritySet, PublicKey};
 use std::alloc::{AllocError, Global};
@@ -39,7 +42,7 @@ impl<P: Copy> Dialable<P> {
 }
 
 // Whether a peer with this block is to be dialed.
-fn outlook(known: &Record, block: Option<u128>, cfg: &Config, now: u64) -> DialStatus
+pub(super) fn outlook(known: &Record, block: Option<u128>, cfg: &Config, now: u64) -> DialStatus
     ensures { result ≡ outlook known.now block now cfg.now.allow_private_ips cfg.now.allow_dns }
 {
     let Some(end) = block else {
@@ -54,7 +57,7 @@ fn outlook(known: &Record, block: Option<u128>, cfg: &Config, now: u64) -> DialS
     DialStatus::Unavailable
 }
 
-fn is_now(status: DialStatus) -> bool
+pub(super) fn is_now(status: DialStatus) -> bool
     ensures { result ≡ is_now status }
 {
     match status {
@@ -75,7 +78,7 @@ fn moment_of(status: DialStatus) -> Option<u128>
 }
 
 // The lesser of two moments, or the one that there is.
-fn earlier(one: Option<u128>, other: Option<u128>) -> Option<u128>
+pub(super) fn earlier(one: Option<u128>, other: Option<u128>) -> Option<u128>
     ensures { result ≡ earlier one other }
 {
     let Some(first) = one else {
@@ -90,17 +93,16 @@ fn earlier(one: Option<u128>, other: Option<u128>) -> Option<u128>
     Some(first)
 }
 
-// The peers to be dialed now.
-pub(super) fn dialable_peers<C: PublicKey>(
+// The peers to be dialed now, by their records alone.
+fn walked_peers<C: PublicKey>(
     alloc: Global,
     records: &BTreeMap<C, Record>,
     blocks: &PrioritySet<C>,
     cfg: &Config,
     now: u64,
 ) -> Result<Vec<C>, AllocError>
-    ensures peers { IfOk result (λ v. v.items ≡ keys_of (filter
+    ensures { IfOk result (λ v. v.items ≡ keys_of (filter
         (λ e. is_now (outlook e.1 (lookup (is_at (C.cmp e.0)) blocks.now) now cfg.now.allow_private_ips cfg.now.allow_dns)) records.now.entries)) }
-    ensures ordered { IsStrictlySortedBy C.cmp (keys_of records.now.entries) }
 {
     let mut peers = Vec::new(alloc);
     for (peer, known) in records {
@@ -111,8 +113,30 @@ pub(super) fn dialable_peers<C: PublicKey>(
     Ok(peers)
 }
 
-// The first moment at which a peer may be dialed that may not be now.
-pub(super) fn next_query<C: PublicKey>(
+// The peers to be dialed now, in key order.
+pub(super) fn dialable_peers<C: PublicKey>(
+    alloc: Global,
+    records: &Records<C>,
+    blocks: &PrioritySet<C>,
+    cfg: &Config,
+    now: u64,
+) -> Result<Vec<C>, AllocError>
+    ensures peers { IfOk result (λ v. v.items ≡ keys_of (filter
+        (λ e. is_now (outlook e.1 (lookup (is_at (C.cmp e.0)) blocks.now) now cfg.now.allow_private_ips cfg.now.allow_dns)) records.now.entries)) }
+    ensures ordered { IsStrictlySortedBy C.cmp (keys_of records.now.entries) }
+{
+    records.stand_in_order();
+    if records.index.serves(cfg) {
+        let found = due_peers(alloc, &records.index.queue, &records.map, blocks, cfg, now)?;
+        let listed = each_once(found)?;
+        return Ok(listed);
+    }
+    let walked = walked_peers(alloc, &records.map, blocks, cfg, now)?;
+    Ok(walked)
+}
+
+// The first moment at which a peer may be dialed that may not be now, by the records alone.
+fn walked_query<C: PublicKey>(
     records: &BTreeMap<C, Record>,
     blocks: &PrioritySet<C>,
     cfg: &Config,
@@ -125,4 +149,23 @@ pub(super) fn next_query<C: PublicKey>(
         next = earlier(next, moment_of(outlook(known, blocks.get(peer), cfg, now)));
     }
     next
+}
+
+// The first moment at which a peer may be dialed that may not be now.
+pub(super) fn next_query<C: PublicKey>(
+    records: &Records<C>,
+    blocks: &PrioritySet<C>,
+    cfg: &Config,
+    now: u64,
+) -> Option<u128>
+    requires { IsStrictlySortedBy C.cmp (keys_of blocks.now) }
+    ensures { result ≡ earliest (λ e. moment_of (outlook e.1 (lookup (is_at (C.cmp e.0)) blocks.now) now cfg.now.allow_private_ips cfg.now.allow_dns)) records.now.entries }
+{
+    records.stand_in_order();
+    if records.index.serves(cfg) {
+        let due = next_due(&records.index.queue, &records.map, blocks, now);
+        let unblock = next_unblock(&records.map, blocks, now);
+        return earlier(due, unblock);
+    }
+    walked_query(&records.map, blocks, cfg, now)
 }

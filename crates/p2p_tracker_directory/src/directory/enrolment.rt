@@ -6,17 +6,15 @@ ghost use Rattle.std.specs.BTreeMap.{is_at};
 ghost use Rattle.p2p_tracker_calls.specs.Sets.{is_among};
 ghost use Rattle.p2p_tracker_directory.specs.Tracked.{blanked, swept, enters, leaves, retired, is_primary_of, is_secondary_of};
 
-use crate::Record;
-use crate::directory::entries::{enter, forget, leave, make_blank};
+use crate::directory::records::Records;
 use crate::directory::sets::TrackedSet;
 use p2p_address::Address;
 use p2p_base::PublicKey;
 use std::alloc::AllocError;
-use std::collections::BTreeMap;
 
 // Makes a record for each of the peers that has none. Where memory runs out, some may have been made.
 pub(super) fn make_blanks<C: PublicKey>(
-    records: &mut BTreeMap<C, Record>,
+    records: &mut Records<C>,
     peers: &[C],
 ) -> Result<(), AllocError>
     ensures made { OnOk result ((q : C) → lookup (is_at (C.cmp q)) records.new.entries ≡ blanked (is_among C.cmp peers.now q) (lookup (is_at (C.cmp q)) records.old.entries)) }
@@ -24,24 +22,24 @@ pub(super) fn make_blanks<C: PublicKey>(
         ≡ swept (is_among C.cmp peers.now q) (lookup (is_at (C.cmp q)) records.old.entries)) }
 {
     for peer in peers {
-        make_blank(records, peer)?;
+        records.make_blank(peer)?;
     }
     Ok(())
 }
 
 // Forgets those of the peers that nothing needs.
-pub(super) fn sweep<C: Ord + Drop>(records: &mut BTreeMap<C, Record>, peers: &[C])
+pub(super) fn sweep<C: PublicKey>(records: &mut Records<C>, peers: &[C])
     requires { IsStrictlySortedBy C.cmp peers.now }
     ensures { (q : C) → lookup (is_at (C.cmp q)) records.new.entries ≡ swept (is_among C.cmp peers.now q) (lookup (is_at (C.cmp q)) records.old.entries) }
 {
     for peer in peers {
-        forget(records, peer);
+        records.forget(peer);
     }
 }
 
 // Puts the peers, which have records, into one more set with this role and these addresses.
-pub(super) fn enrol<C: Ord + Drop>(
-    records: &mut BTreeMap<C, Record>,
+pub(super) fn enrol<C: PublicKey>(
+    records: &mut Records<C>,
     peers: Vec<(C, Address)>,
     is_primary: bool,
 )
@@ -50,27 +48,23 @@ pub(super) fn enrol<C: Ord + Drop>(
         ≡ enters is_primary (lookup (λ p. is_at (C.cmp p) q) peers.items) (lookup (is_at (C.cmp q)) records.old.entries) }
 {
     for (peer, address) in peers {
-        enter(records, &peer, address, is_primary);
+        records.enter(&peer, address, is_primary);
     }
 }
 
 // Takes the peers out of a set in which they had this role, and forgets those that nothing needs then.
-pub(super) fn retire<C: Ord + Drop>(
-    records: &mut BTreeMap<C, Record>,
-    peers: &[C],
-    is_primary: bool,
-)
+pub(super) fn retire<C: PublicKey>(records: &mut Records<C>, peers: &[C], is_primary: bool)
     requires { IsStrictlySortedBy C.cmp peers.now }
     ensures { (q : C) → lookup (is_at (C.cmp q)) records.new.entries ≡ leaves is_primary (is_among C.cmp peers.now q) (lookup (is_at (C.cmp q)) records.old.entries) }
 {
     for peer in peers {
-        leave(records, peer, is_primary);
+        records.leave(peer, is_primary);
     }
 }
 
 // Makes a record for each peer of the set that has none. Where memory runs out, those that nothing needs are forgotten.
 pub(super) fn make_room<C: PublicKey>(
-    records: &mut BTreeMap<C, Record>,
+    records: &mut Records<C>,
     set: &TrackedSet<C>,
 ) -> Result<(), AllocError>
     ensures made { OnOk result ((q : C) → lookup (is_at (C.cmp q)) records.new.entries
@@ -86,10 +80,7 @@ pub(super) fn make_room<C: PublicKey>(
     Ok(())
 }
 
-fn make_both<C: PublicKey>(
-    records: &mut BTreeMap<C, Record>,
-    set: &TrackedSet<C>,
-) -> Result<(), AllocError>
+fn make_both<C: PublicKey>(records: &mut Records<C>, set: &TrackedSet<C>) -> Result<(), AllocError>
     ensures made { OnOk result ((q : C) → lookup (is_at (C.cmp q)) records.new.entries
         ≡ blanked (is_among C.cmp set.now.secondary q) (blanked (is_among C.cmp set.now.primary q) (lookup (is_at (C.cmp q)) records.old.entries))) }
     ensures memory { OnErr result ((q : C) → swept (is_among C.cmp set.now.primary q) (swept (is_among C.cmp set.now.secondary q) (lookup (is_at (C.cmp q)) records.new.entries))
@@ -100,10 +91,7 @@ fn make_both<C: PublicKey>(
 }
 
 // Takes the peers of a set that is kept no longer out of it, if there is one.
-pub(super) fn retire_set<C: PublicKey>(
-    records: &mut BTreeMap<C, Record>,
-    fallen: Option<TrackedSet<C>>,
-)
+pub(super) fn retire_set<C: PublicKey>(records: &mut Records<C>, fallen: Option<TrackedSet<C>>)
     ensures { (q : C) → lookup (is_at (C.cmp q)) records.new.entries
         ≡ retired (lookup (is_at (C.cmp q)) records.old.entries) (is_primary_of C.cmp fallen q) (is_secondary_of C.cmp fallen q) }
 {

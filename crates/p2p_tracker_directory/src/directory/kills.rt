@@ -9,11 +9,11 @@ ghost use Rattle.p2p_tracker_directory.specs.Recorded.{is_inert};
 ghost use Rattle.p2p_tracker_directory.specs.Tracked.{is_left, gets_other, is_ended_by, is_killed_where, passes, candidates};
 
 use crate::Record;
+use crate::directory::records::Records;
 use crate::directory::sets::{TrackedSet, has};
 use p2p_address::Address;
 use p2p_base::{Map, PublicKey, Set};
 use std::alloc::{AllocError, Global};
-use std::collections::BTreeMap;
 
 // Whether a count of sets is above 0 once one more counts (`enters`) and one no longer (`leaves`).
 fn is_left(count: usize, enters: bool, leaves: bool) -> bool
@@ -71,7 +71,7 @@ fn is_ended<C: PublicKey>(
 
 // Whether a peer is held and must not be any longer.
 fn is_killed<C: PublicKey>(
-    records: &BTreeMap<C, Record>,
+    records: &Records<C>,
     primary: &Map<C, Address>,
     secondary: &Map<C, Address>,
     set: &TrackedSet<C>,
@@ -110,7 +110,7 @@ fn candidates<C: PublicKey>(
 // The held peers whose address changes, and those of `fallen` that are stale or in no set without it.
 pub(super) fn killed<C: PublicKey>(
     alloc: Global,
-    records: &BTreeMap<C, Record>,
+    records: &Records<C>,
     primary: &Map<C, Address>,
     secondary: &Map<C, Address>,
     set: &TrackedSet<C>,

@@ -7,9 +7,9 @@ ghost use Rattle.p2p_tracker_directory.specs.Listed.{has_role};
 
 use crate::Record;
 use crate::directory::blocks::is_after;
+use crate::directory::records::Records;
 use p2p_base::{PrioritySet, PublicKey};
 use std::alloc::{AllocError, Global};
-use std::collections::BTreeMap;
 
 // Whether a peer is primary in a set, or else is primary in none and secondary in one.
 fn has_role(known: &Record, is_primary: bool) -> bool
@@ -24,14 +24,14 @@ fn has_role(known: &Record, is_primary: bool) -> bool
 // The peers with a role. Who is primary in a set isn't secondary.
 pub(super) fn peers_with_role<C: PublicKey>(
     alloc: Global,
-    records: &BTreeMap<C, Record>,
+    records: &Records<C>,
     is_primary: bool,
 ) -> Result<Vec<C>, AllocError>
     ensures peers { IfOk result (λ v. v.items ≡ keys_of (filter (λ e. has_role e.1 is_primary) records.now.entries)) }
     ensures ordered { IsStrictlySortedBy C.cmp (keys_of records.now.entries) }
 {
     let mut peers = Vec::new(alloc);
-    for (peer, known) in records {
+    for (peer, known) in &records.map {
         if has_role(known, is_primary) {
             peers.push(*peer)?;
         }

@@ -1,6 +1,6 @@
 //! `Directory`, which peers are known, tracked, held and blocked.
 ghost use Rattle.std.specs.Prelude.{◌≡◌, ℕ, ◌+◌, ◌&&◌, [], ◌∷◌, List, Some, None, true, false, not, is_some, IsOk, IfOk, OnErr, IfSome};
-ghost use Rattle.std.specs.Map.{lookup};
+ghost use Rattle.std.specs.Map.{lookup, keys_of};
 ghost use Rattle.std.specs.BTreeMap.{is_at};
 ghost use Rattle.p2p_tracker_calls.specs.Allows.{is_acceptable, allows_dial, allows_listen};
 ghost use Rattle.p2p_tracker_calls.specs.Blocks.{is_local, is_blockable, is_blocked, lasts_at, is_over, block_of};
@@ -32,30 +32,37 @@ mod acceptance;
 mod blocks;
 mod changes;
 mod conditions;
+mod counted;
 mod dials;
+mod due;
 mod enrolment;
 mod entries;
 mod grants;
+mod index;
 mod kills;
 mod listens;
 mod lists;
 mod newcomers;
+mod once;
+mod records;
 mod sets;
+mod tallies;
+mod told;
 
-use crate::{Metadata, Record, Reservation};
+use crate::{Metadata, Reservation};
 use blocks::{lasts, take_ended};
-use changes::{begin, end_hold, grant_dial, grant_listen, readdress};
 pub use dials::Dialable;
 use dials::{dialable_peers, next_query};
-use listens::{addresses, in_order};
+use listens::addresses;
 use lists::{blocked, peers_with_role};
 use p2p_address::{Address, Ingress, IpAddr};
 use p2p_base::{List, PrioritySet, PublicKey, Set};
 use p2p_flow::{AddressableTrackedPeers, PeerSetUpdate, TrackedPeers};
 pub use p2p_tracker_calls::Config;
+use records::Records;
 use sets::{TrackedSet, find_set, newest, peers_of};
 use std::alloc::{AllocError, Global};
-use std::collections::{BTreeMap, VecDeque};
+use std::collections::VecDeque;
 use std::marker::Model;
 
 /// Which peers are known, tracked, held and blocked. It is answerable to the list of the calls so far.
@@ -66,7 +73,7 @@ pub struct Directory<C: PublicKey> {
     cfg: Config,
     sets: VecDeque<TrackedSet<C>>,
     latest: Option<u64>,
-    records: BTreeMap<C, Record>,
+    records: Records<C>,
     blocks: PrioritySet<C>,
     alloc: Global,
 }
@@ -86,6 +93,8 @@ impl<C: PublicKey> Drop for Directory<C> {
 }
 
 impl<C: PublicKey> Model for Directory<C> {
+    ghost use Rattle.std.specs.List.Sorted.{IsStrictlySortedBy};
+    ghost use Rattle.std.specs.Map.{keys_of};
     ghost use Rattle.p2p_tracker_calls.specs.Rules.{Rules};
     ghost use Rattle.p2p_tracker_directory.specs.Stands.{Kept};
 
@@ -106,6 +115,8 @@ impl<C: PublicKey> Model for Directory<C> {
       records = d.records.entries;
       blocks = d.blocks;
     } };
+
+    ghost invariant = { λ d. IsStrictlySortedBy C.cmp (keys_of d.blocks) };
 }
 
 impl<C: PublicKey> Directory<C> {
@@ -116,8 +127,7 @@ impl<C: PublicKey> Directory<C> {
         ensures rules { IfOk result (λ d. d.rules ≡ rules_of local cfg) }
         ensures stands { IfOk result (λ d. StandsFor C.cmp d []) }
     {
-        let mut records = BTreeMap::new(alloc);
-        records.insert(local, Record::myself())?;
+        let records = Records::of_local(alloc, local, &cfg)?;
         Ok(Directory {
             local,
             cfg,
@@ -227,8 +237,7 @@ impl<C: PublicKey> Directory<C> {
             → r.items ≡ heard_addresses C.cmp self.now.rules calls now) }
     {
         let private = self.cfg.allow_private_ips;
-        let found = addresses(self.alloc, &self.records, &self.blocks, private, now)?;
-        let listed = in_order(found)?;
+        let listed = addresses(self.alloc, &self.records, &self.blocks, private, now)?;
         Ok(listed)
     }
 
@@ -352,7 +361,7 @@ impl<C: PublicKey> Directory<C> {
         let Some(ingress) = found else {
             return Ok(None);
         };
-        if grant_dial(&mut self.records, &self.cfg, peer, now, jitter) {
+        if self.records.grant_dial(&self.cfg, peer, now, jitter) {
             return Ok(Some((Reservation::new(Metadata::Dialer(*peer)), ingress)));
         }
         Ok(None)
@@ -389,7 +398,10 @@ impl<C: PublicKey> Directory<C> {
         if self.is_blocked(peer, now) {
             return Ok(None);
         }
-        if grant_listen(&mut self.records, &self.cfg, peer, source, now, jitter) {
+        if self
+            .records
+            .grant_listen(&self.cfg, peer, source, now, jitter)
+        {
             return Ok(Some(Reservation::new(Metadata::Listener(*peer))));
         }
         Ok(None)
@@ -402,7 +414,7 @@ impl<C: PublicKey> Directory<C> {
         ensures rules { self.new.rules ≡ self.old.rules }
         ensures stands { (calls : List (Call C)) (conn : ℕ) → StandsFor C.cmp self.old calls → StandsFor C.cmp self.new (call.Connect peer.now None conn ∷ calls) }
     {
-        begin(&mut self.records, peer)
+        self.records.begin(peer)
     }
 
     /// Gives `peer` another address. True exactly where it is another's key of which the directory knows, and that changed it.
@@ -414,7 +426,7 @@ impl<C: PublicKey> Directory<C> {
         ensures stands { IfOk result (λ b. (calls : List (Call C)) → StandsFor C.cmp self.old calls → StandsFor C.cmp self.new (call.Overwrite peer.now address ∷ calls)) }
         ensures memory { IsOk result }
     {
-        Ok(readdress(&mut self.records, peer, address))
+        Ok(self.records.readdress(peer, address))
     }
 
     /// Takes back the reservation of a peer, which is held or of which the directory doesn't know. It forgets a peer that is then in no
@@ -424,7 +436,7 @@ impl<C: PublicKey> Directory<C> {
         ensures rules { self.new.rules ≡ self.old.rules }
         ensures stands { (calls : List (Call C)) → StandsFor C.cmp self.old calls → StandsFor C.cmp self.new (call.Release (peer_of metadata.now) ∷ calls) }
     {
-        end_hold(&mut self.records, metadata.public_key());
+        self.records.end_hold(metadata.public_key());
     }
 
     /// Blocks `peer` from the moment `now` on for the block's duration. True exactly where it is another's key and isn't blocked then.

@@ -14,5 +14,5 @@ returns-clause-answer g c = λ calls s.
 
 pub returns-clause-stands : goal.returns-clause-stands
 returns-clause-stands g c = λ calls conn s.
-    stands-connect g.met.C.Ord.total (subst (λ k. StandsFor g.C.Ord.cmp k calls) (sym c.self.view_is) s) c.args.peer.now conn c.begin.new.records.entries
+    stands-connect g.met.C.Ord.total (subst (λ k. StandsFor g.C.Ord.cmp k calls) (sym c.self.view_is) s) c.args.peer.now conn c.begin.new.self.entries
     (subst (λ k. is_reserved_in (lookup (is_at (g.C.Ord.cmp c.args.peer.now)) k.records) ≡ true) (sym c.self.view_is) c.requires) c.begin.ensures.after

@@ -31,7 +31,7 @@ returns-then-grant_dial-clause-ingress g c = λ calls s. ingress-known g.met.C.O
 pub returns-then-grant_dial-clause-stands : goal.returns-then-grant_dial-clause-stands
 returns-then-grant_dial-clause-stands g c = λ calls s.
     dial-stands g.met.C.Ord.total (subst (λ k. StandsFor g.C.Ord.cmp k calls) (sym c.self.view_is) s) c.args.peer.now c.args.now c.args.jitter true
-    c.grant_dial.result c.grant_dial.new.records.entries c.if-grant_dial.true c.grant_dial.ensures.answer c.grant_dial.ensures.after
+    c.grant_dial.result c.grant_dial.new.self.entries c.if-grant_dial.true c.grant_dial.ensures.answer c.grant_dial.ensures.after
 
 pub returns-clause-granted : goal.returns-clause-granted
 returns-clause-granted g c = λ calls s.
@@ -41,4 +41,4 @@ returns-clause-granted g c = λ calls s.
 pub returns-clause-stands : goal.returns-clause-stands
 returns-clause-stands g c = λ calls s.
     dial-stands g.met.C.Ord.total (subst (λ k. StandsFor g.C.Ord.cmp k calls) (sym c.self.view_is) s) c.args.peer.now c.args.now c.args.jitter false
-    c.grant_dial.result c.grant_dial.new.records.entries c.if-grant_dial.false c.grant_dial.ensures.answer c.grant_dial.ensures.after
+    c.grant_dial.result c.grant_dial.new.self.entries c.if-grant_dial.false c.grant_dial.ensures.answer c.grant_dial.ensures.after

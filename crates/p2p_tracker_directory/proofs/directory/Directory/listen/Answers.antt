@@ -21,7 +21,7 @@ returns-then-grant_listen-clause-granted g c = λ calls s.
 pub returns-then-grant_listen-clause-stands : goal.returns-then-grant_listen-clause-stands
 returns-then-grant_listen-clause-stands g c = λ calls s.
     listen-stands g.met.C.Ord.total (subst (λ k. StandsFor g.C.Ord.cmp k calls) (sym c.self.view_is) s) c.args.peer.now c.args.source c.args.now c.args.jitter true
-    c.grant_listen.result c.grant_listen.new.records.entries c.if-grant_listen.true c.grant_listen.ensures.answer c.grant_listen.ensures.after
+    c.grant_listen.result c.grant_listen.new.self.entries c.if-grant_listen.true c.grant_listen.ensures.answer c.grant_listen.ensures.after
 
 pub returns-clause-granted : goal.returns-clause-granted
 returns-clause-granted g c = λ calls s.
@@ -31,4 +31,4 @@ returns-clause-granted g c = λ calls s.
 pub returns-clause-stands : goal.returns-clause-stands
 returns-clause-stands g c = λ calls s.
     listen-stands g.met.C.Ord.total (subst (λ k. StandsFor g.C.Ord.cmp k calls) (sym c.self.view_is) s) c.args.peer.now c.args.source c.args.now c.args.jitter false
-    c.grant_listen.result c.grant_listen.new.records.entries c.if-grant_listen.false c.grant_listen.ensures.answer c.grant_listen.ensures.after
+    c.grant_listen.result c.grant_listen.new.self.entries c.if-grant_listen.false c.grant_listen.ensures.answer c.grant_listen.ensures.after

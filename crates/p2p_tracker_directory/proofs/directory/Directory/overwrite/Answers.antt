@@ -14,4 +14,4 @@ returns-clause-answer g c = λ calls s.
 
 pub returns-clause-stands : goal.returns-clause-stands
 returns-clause-stands g c = λ calls s.
-    stands-overwrite g.met.C.Ord.total (subst (λ k. StandsFor g.C.Ord.cmp k calls) (sym c.self.view_is) s) c.args.peer.now c.args.address c.readdress.new.records.entries c.readdress.ensures.after
+    stands-overwrite g.met.C.Ord.total (subst (λ k. StandsFor g.C.Ord.cmp k calls) (sym c.self.view_is) s) c.args.peer.now c.args.address c.readdress.new.self.entries c.readdress.ensures.after

@@ -3,7 +3,7 @@ use Rattle.std.specs.Map.{lookup}
 use Rattle.std.specs.BTreeMap.{is_at}
 use Rattle.p2p_tracker_calls.specs.Blocks.{lasts_at}
 use Rattle.p2p_tracker_directory.specs.Listed.{heard}
-use Rattle.p2p_tracker_directory.proofs.directory.listens.addresses.Given as goal
+use Rattle.p2p_tracker_directory.proofs.directory.listens.walked_addresses.Given as goal
 
 abbrev pub invariant-loop-peer : goal.invariant-loop-peer
 invariant-loop-peer g l =

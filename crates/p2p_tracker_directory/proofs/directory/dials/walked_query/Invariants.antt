@@ -3,7 +3,7 @@ use Rattle.std.specs.Map.{lookup}
 use Rattle.std.specs.BTreeMap.{is_at}
 use Rattle.p2p_tracker_directory.specs.Listed.{outlook, moment_of}
 use Rattle.p2p_tracker_calls.specs.DialList.{earlier, earliest}
-use Rattle.p2p_tracker_directory.proofs.directory.dials.next_query.Given as goal
+use Rattle.p2p_tracker_directory.proofs.directory.dials.walked_query.Given as goal
 
 abbrev pub invariant-loop-peer : goal.invariant-loop-peer
 invariant-loop-peer g l =

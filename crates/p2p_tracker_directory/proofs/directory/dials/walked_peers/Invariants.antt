@@ -3,7 +3,7 @@ use Rattle.std.specs.List.{filter}
 use Rattle.std.specs.Map.{keys_of, lookup}
 use Rattle.std.specs.BTreeMap.{is_at}
 use Rattle.p2p_tracker_directory.specs.Listed.{outlook, is_now}
-use Rattle.p2p_tracker_directory.proofs.directory.dials.dialable_peers.Given as goal
+use Rattle.p2p_tracker_directory.proofs.directory.dials.walked_peers.Given as goal
 
 abbrev pub invariant-loop-peer : goal.invariant-loop-peer
 invariant-loop-peer g l =
