@@ -1,15 +1,13 @@
 -- Who knows all is told nothing.
-use Rattle.std.proofs.Common.{◌≡◌, ℕ, Bool, true, false, cond, List, [], ◌∷◌, ◌++◌, length, map, eqb, Option, Some, None, refl, sym, ap, ◌∙◌}
+use Rattle.std.proofs.Common.{◌≡◌, true, cond, List, [], ◌∷◌, ◌++◌, length, eqb, Option, Some, None, refl, ap, ◌∙◌}
 use Rattle.std.specs.Prelude.{is_some}
 use Rattle.std.specs.Option.{option_to_list}
 use Rattle.std.specs.declared.cmp.Ordering.{Ordering}
 use Rattle.std.proofs.lemmas.Bool.{eq-eqb}
 use Rattle.std.proofs.lemmas.List.{length-map}
 use Rattle.p2p_tracker_calls.specs.Rules.{Rules}
-use Rattle.p2p_tracker_calls.specs.Sets.{PeerSet, set_at, kept_sets}
 use Rattle.p2p_discovery_wire.specs.declared.info.Info.{Info}
 use Rattle.p2p_discovery_calls.specs.declared.call.Call.{Call}
-use Rattle.p2p_discovery_calls.specs.AsLookup.{lookup_calls}
 use Rattle.p2p_discovery_calls.specs.Infos.{info_of}
 use Rattle.p2p_discovery_calls.specs.Gossip.{keys_of_set, known, unknown, told_of}
 use Rattle.p2p_discovery_calls.specs.Laws.{KnowsAll}

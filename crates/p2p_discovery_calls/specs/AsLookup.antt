@@ -1,6 +1,6 @@
 -- A directory of discovery has the sets, the holds and the blocks of a directory of lookup that was asked the same, and whose peers have
 -- one address each, which never changes.
-use Rattle.std.specs.Prelude.{ℕ, zero, Bool, true, false, not, cond, ◌&&◌, ◌||◌, List, [], ◌∷◌, ◌++◌, map, replicate, Option, Some, None, is_some}
+use Rattle.std.specs.Prelude.{Bool, false, not, ◌&&◌, ◌||◌, List, [], ◌∷◌, ◌++◌, map, replicate}
 use Rattle.std.specs.BTreeMap.{is_at}
 use Rattle.std.specs.declared.cmp.Ordering.{Ordering}
 use Rattle.p2p_address.specs.declared.ip.IpAddr.TheVariants.{V4}
@@ -8,7 +8,7 @@ use Rattle.p2p_address.specs.declared.peer.Address.{Address}
 use Rattle.p2p_address.specs.declared.peer.Address.TheVariants.{Symmetric}
 use Rattle.p2p_tracker_calls.specs.declared.call.Call.{Call as LookupCall}
 use Rattle.p2p_tracker_calls.specs.declared.call.Call.TheVariants as lookup
-use Rattle.p2p_tracker_calls.specs.Grants.{grant_by, is_held}
+use Rattle.p2p_tracker_calls.specs.Grants.{is_held}
 use Rattle.p2p_discovery_calls.specs.declared.call.Call.{Call}
 use Rattle.p2p_discovery_calls.specs.declared.call.Call.TheVariants as call
 
