@@ -1,16 +1,18 @@
-//! The tests of the tracker's crates and of the gates, through their public names alone. They stand together so that the gate proves
-//! each of those crates once.
+//! The tests of the tracker's crates, of the gates and of discovery, through their public names alone. They stand together so that
+//! the gate proves each of those crates once.
 //!
 //! Each test goes through the calls of one type, once with ample memory: of `p2p_tracker_directory` are `records` and `directories`,
-//! of `p2p_tracker_mailbox` `mailboxes` and `oracles`, of `p2p_tracker` is `trackers`, and of `p2p_gates` are `dialers` and
-//! `listeners`. `peers` has the peers that they speak of. What a tracker, a dialer or a listener does step by step is shown by
-//! scripts.
+//! of `p2p_tracker_mailbox` `mailboxes` and `oracles`, of `p2p_tracker` is `trackers`, of `p2p_gates` are `dialers` and
+//! `listeners`, and of `p2p_discovery` is `infos`. `peers` has the peers that they speak of. What a tracker, a dialer or a listener
+//! does step by step is shown by scripts.
 #![tactic(auto)]
 
 #[cfg(test)]
 mod dialers;
 #[cfg(test)]
 mod directories;
+#[cfg(test)]
+mod infos;
 #[cfg(test)]
 mod listeners;
 #[cfg(test)]

@@ -3,7 +3,7 @@ ghost use Rattle.std.specs.Prelude.{◌≡◌};
 ghost use Rattle.p2p_discovery.specs.Verifying.{Answers, info_fault, infos_fault, first_fault};
 
 use crate::Verifier;
-use crate::sign_info::info_namespace;
+use crate::signing::info_namespace;
 use crate::types::Error;
 use p2p_base::PublicKey;
 use p2p_discovery_wire::{Info, signed_bytes};
