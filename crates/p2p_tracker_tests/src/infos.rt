@@ -26,8 +26,12 @@ impl Signer for KeySigner {
         self.0
     }
 
-    fn sign(&self, alloc: Global, namespace: &[u8], message: &[u8]) -> Result<Vec<u8>, AllocError> {
-        let _ = (namespace, message);
+    fn sign(
+        &self,
+        alloc: Global,
+        _namespace: &[u8],
+        _message: &[u8],
+    ) -> Result<Vec<u8>, AllocError> {
         self.0.to_bytes(alloc)
     }
 
@@ -41,8 +45,7 @@ struct AnySignature;
 impl Verifier<Key> for AnySignature {
     ghost accepts = { λ verifier key namespace message signature. not (length signature == 0) };
 
-    fn verify(&self, key: &Key, namespace: &[u8], message: &[u8], signature: &[u8]) -> bool {
-        let _ = (key, namespace, message);
+    fn verify(&self, _key: &Key, _namespace: &[u8], _message: &[u8], signature: &[u8]) -> bool {
         !signature.is_empty()
     }
 }
