@@ -1,6 +1,6 @@
 -- What the counts of addresses tell, and the blocks that are taken off them, is what the records tell.
 use Rattle.std.proofs.Common.{◌≡◌, ℕ, ◌+◌, ◌-◌, ◌^◌, ◌<◌, Bool, true, false, cond, not, ◌&&◌, ◌||◌, List, [], ◌∷◌, length, Option, Some, None, refl, sym, ap, ◌∙◌, arith, subst, filter_map}
-use Rattle.std.proofs.lemmas.Bool.{false≢true, lt-ltb, le-ltb, ltb-true, ltb-false}
+use Rattle.std.proofs.lemmas.Bool.{lt-ltb, le-ltb, ltb-true, ltb-false}
 use Rattle.std.specs.Prelude.{nat_lt, suc}
 use Rattle.std.specs.Cmp.{IsTotalOrder}
 use Rattle.std.specs.List.{filter, list_any}
@@ -22,7 +22,7 @@ use Rattle.p2p_tracker_calls.specs.Heard.{ip_cmp, if_allowed}
 use Rattle.p2p_tracker_calls.specs.Lives.{same_ip, address_of, last_grant, is_stale, is_connected}
 use Rattle.p2p_tracker_calls.specs.Lives as facts
 use Rattle.p2p_tracker_calls.specs.Named.{EqualKeysAreOne}
-use Rattle.p2p_tracker_calls.specs.Sets.{how_many, is_among, is_tracked, primary_sets, secondary_sets}
+use Rattle.p2p_tracker_calls.specs.Sets.{how_many, is_tracked, primary_sets, secondary_sets}
 use Rattle.p2p_tracker_calls.proofs.Named.{same-keys, keys-exact}
 use Rattle.p2p_tracker_calls.proofs.Naming.{eligible-named}
 use Rattle.p2p_tracker_directory.specs.Recorded.{Recorded, is_eligible, egress_in}

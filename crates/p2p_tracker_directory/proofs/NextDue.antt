@@ -1,12 +1,12 @@
 -- When to ask again for whom to dial, by a queue and the blocks, is what the records tell.
-use Rattle.std.proofs.Common.{◌≡◌, ℕ, ◌<◌, ◌≤◌, Bool, true, false, cond, not, ◌&&◌, ◌||◌, ◌==◌, List, [], ◌∷◌, Option, Some, None, refl, sym, ap, ◌∙◌, arith, subst}
-use Rattle.std.proofs.lemmas.Bool.{false≢true, eqb-true, eq-eqb, ltb-true, ltb-false}
+use Rattle.std.proofs.Common.{◌≡◌, ℕ, ◌≤◌, Bool, true, false, cond, not, ◌&&◌, ◌||◌, ◌==◌, List, [], ◌∷◌, Option, Some, None, refl, sym, ap, ◌∙◌, arith}
+use Rattle.std.proofs.lemmas.Bool.{false≢true, eqb-true, eq-eqb, ltb-true}
 use Rattle.std.proofs.lemmas.Cmp.{eq_by_cmp_equiv, ranked}
 use Rattle.std.specs.Prelude.{is_some, nat_lt}
 use Rattle.std.specs.Cmp.{IsTotalOrder}
 use Rattle.std.specs.List.{AllByRecursion, find, list_any}
 use Rattle.std.specs.List.Sorted.{IsStrictlySortedBy}
-use Rattle.std.specs.Option.{option_map, IfSome}
+use Rattle.std.specs.Option.{option_map}
 use Rattle.std.specs.Map.{keys_of, lookup}
 use Rattle.std.specs.Ordering.{is_gt, nat_cmp}
 use Rattle.std.specs.BTreeMap.{is_at}
@@ -20,7 +20,7 @@ use Rattle.p2p_tracker_calls.specs.DialList.{earlier, earliest, comes_by}
 use Rattle.p2p_tracker_directory.specs.Recorded.{Recorded, is_myself, is_inert, has_valid_ingress}
 use Rattle.p2p_tracker_directory.specs.Tracked.{passes}
 use Rattle.p2p_tracker_directory.specs.Listed.{after_block, outlook, outlook_in, moment_of}
-use Rattle.p2p_tracker_directory.specs.Indexed.{due_of, due_in, waits, is_other, unblock_at, Queues}
+use Rattle.p2p_tracker_directory.specs.Indexed.{due_in, waits, unblock_at, Queues}
 use Rattle.p2p_tracker_directory.specs.declared.record.Address.{Address}
 use Rattle.p2p_tracker_directory.specs.declared.record.Address.TheVariants as address
 use Rattle.p2p_tracker_directory.specs.declared.record.DialStatus.TheVariants as dial

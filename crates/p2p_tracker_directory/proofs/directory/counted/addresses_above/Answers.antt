@@ -1,8 +1,7 @@
-use Rattle.std.proofs.Common.{◌≡◌, ◌&&◌, ◌||◌, sym, ap, ◌∙◌}
+use Rattle.std.proofs.Common.{◌&&◌, ◌||◌, sym, ap, ◌∙◌}
 use Rattle.std.specs.Prelude.{nat_lt}
-use Rattle.std.specs.Map.{keys_of}
 use Rattle.p2p_address.specs.Addresses.{is_global}
-use Rattle.p2p_tracker_directory.proofs.AddressCounts.{tallies-from, sorted-to}
+use Rattle.p2p_tracker_directory.proofs.AddressCounts.{tallies-from}
 use Rattle.p2p_tracker_directory.proofs.Entries.{listed, passed_over}
 use Rattle.p2p_tracker_directory.proofs.directory.counted.addresses_above.Goals as goal
 

@@ -1,9 +1,5 @@
 use Rattle.std.proofs.Common.{◌≡◌, ◌+◌, ◌<◌, ◌^◌, length}
-use Rattle.std.specs.Map.{lookup}
-use Rattle.std.specs.BTreeMap.{is_at}
-use Rattle.std.specs.Prelude.{not}
-use Rattle.p2p_tracker_calls.specs.Blocks.{lasts_at}
-use Rattle.p2p_tracker_directory.specs.Indexed.{count_where, count_in}
+use Rattle.p2p_tracker_directory.specs.Indexed.{count_in}
 use Rattle.p2p_tracker_directory.proofs.directory.counted.count_all.Given as goal
 
 abbrev pub invariant-loop-peer : goal.invariant-loop-peer

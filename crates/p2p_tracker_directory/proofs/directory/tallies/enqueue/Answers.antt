@@ -1,4 +1,4 @@
-use Rattle.std.proofs.Common.{cond, sym, ap, ◌∙◌}
+use Rattle.std.proofs.Common.{cond, ap, ◌∙◌}
 use Rattle.std.specs.BTreeMap.{is_at}
 use Rattle.p2p_tracker_directory.proofs.Tallying.{queues-added}
 use Rattle.p2p_tracker_directory.proofs.directory.tallies.enqueue.Goals as goal
