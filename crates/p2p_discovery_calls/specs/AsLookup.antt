@@ -1,6 +1,6 @@
 -- A directory of discovery has the sets, the holds and the blocks of a directory of lookup that was asked the same, and whose peers have
 -- one address each, which never changes.
-use Rattle.std.specs.Prelude.{Bool, false, not, ◌&&◌, ◌||◌, List, [], ◌∷◌, ◌++◌, map, replicate}
+use Rattle.std.specs.Prelude.{Bool, false, not, ◌&&◌, ◌||◌, List, [], ◌∷◌, ◌++◌, map, replicate, None}
 use Rattle.std.specs.BTreeMap.{is_at}
 use Rattle.std.specs.declared.cmp.Ordering.{Ordering}
 use Rattle.p2p_address.specs.declared.ip.IpAddr.TheVariants.{V4}
@@ -20,14 +20,14 @@ module _ {P : Type 0} where
   abbrev pub placed : List P → List (P × Address)
   placed keys = map (λ k. (k, nowhere)) keys
 
-  -- the call of a directory of lookup, if it has one
+  -- the call of a directory of lookup, if it has one. Nothing is asked of the name of a connection
   abbrev pub as_lookup : Call P → List (LookupCall P)
   as_lookup (call.Track index primary secondary) = lookup.Track index (placed primary) (placed secondary) ∷ []
   as_lookup (call.Block p at) = lookup.Block p at ∷ []
   as_lookup (call.UnblockExpired at) = lookup.UnblockExpired at ∷ []
   as_lookup (call.Dial p at jitter granted) = lookup.Dial p at jitter granted ∷ []
   as_lookup (call.Listen p at jitter granted) = lookup.Listen p at jitter granted ∷ []
-  as_lookup (call.Connect p) = []
+  as_lookup (call.Connect p) = lookup.Connect p None 0 ∷ []
   as_lookup (call.Release p) = lookup.Release p ∷ []
   as_lookup (call.UpdatePeers infos) = []
 

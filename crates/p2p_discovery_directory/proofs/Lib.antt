@@ -1,0 +1,5 @@
+pub mod Known
+pub mod Placed
+pub mod Settled
+pub mod Turned
+pub mod Unstale

@@ -1,0 +1,32 @@
+use Rattle.std.proofs.Common.{◌≡◌, true, false, sym, subst}
+use Rattle.p2p_tracker_directory.specs.Stands.{StandsFor}
+use Rattle.p2p_discovery_calls.specs.AsLookup.{lookup_calls}
+use Rattle.p2p_discovery_directory.specs.Tests.{holds, reserves, is_due_in}
+use Rattle.p2p_discovery_directory.proofs.Settled.{as-unblock, plain-unblock, held-after_unblock, reserved-after_unblock}
+use Rattle.p2p_discovery_directory.proofs.Turned.{due-known}
+use Rattle.p2p_discovery_directory.proofs.plain.answers.PlainDirectoryDirectoryOf.unblock_expired.Goals as goal
+
+pub returns-clause-due : goal.returns-clause-due
+returns-clause-due g c = λ r.
+    subst (λ k. (q : g.row.P.Denot) × (is_due_in g.P.Ord.cmp k q c.args.now ≡ true)) c.self.view_is
+    (due-known c.self.invariant.stands c.args.now (c.unblock_expired.ensures.due r (lookup_calls c.self.invariant.calls) c.self.invariant.stands))
+
+pub returns-clause-none_due : goal.returns-clause-none_due
+returns-clause-none_due g c = λ r q. subst (λ k. is_due_in g.P.Ord.cmp k q c.args.now ≡ false) c.self.view_is (c.unblock_expired.ensures.quiet r q)
+
+pub returns-clause-stands : goal.returns-clause-stands
+returns-clause-stands g c = λ calls s.
+    as-unblock calls c.args.now (c.unblock_expired.ensures.stands (lookup_calls calls) (subst (λ k. StandsFor g.P.Ord.cmp k (lookup_calls calls)) (sym c.self.view_is) s))
+
+pub returns-clause-held : goal.returns-clause-held
+returns-clause-held g c = λ q.
+    subst (λ k. holds g.P.Ord.cmp c.unblock_expired.new.self q ≡ holds g.P.Ord.cmp k q) c.self.view_is
+    (held-after_unblock c.self.invariant c.unblock_expired.ensures.rules c.args.now c.unblock_expired.ensures.stands q)
+
+pub returns-clause-reserved : goal.returns-clause-reserved
+returns-clause-reserved g c = λ q.
+    subst (λ k. reserves g.P.Ord.cmp c.unblock_expired.new.self q ≡ reserves g.P.Ord.cmp k q) c.self.view_is
+    (reserved-after_unblock c.self.invariant c.unblock_expired.ensures.rules c.args.now c.unblock_expired.ensures.stands q)
+
+pub invariant_of-self : goal.invariant_of-self
+invariant_of-self g c = plain-unblock c.self.invariant c.unblock_expired.ensures.rules c.args.now c.unblock_expired.ensures.stands

@@ -1,0 +1,4 @@
+pub mod Plain
+pub mod Reserved
+pub mod TestLaws
+pub mod Tests
