@@ -86,6 +86,12 @@ class Chart:
         if row:
             row.label(self.column_at(x), words, colour, kind)
 
+    def tell_at(self, entry, words, colour):
+        """Words of which the report names no node, below those of an entry."""
+        row = self.row_at(entry)
+        if row:
+            row.tell((self.axis + 10, WORDS), words, colour)
+
     def row_of(self, entry):
         """An entry by its words, a dot at each node where it acts, what it put, and a cross where a connection ends."""
         event, refused = self.event_at(entry.number), refuses(entry.reply)

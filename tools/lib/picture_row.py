@@ -33,6 +33,11 @@ class Row:
         """A shape that lies below the others."""
         self.shapes.insert(0, shape)
 
+    def tell(self, column, words, colour):
+        """Words in the column of the row's own words, below these."""
+        self.ends.setdefault(column[0], (1, column[0]))
+        self.label(column, words, colour)
+
     def label(self, column, words, colour, kind='small'):
         """Words in a column, given by its left end and its width, cut where it ends; once for what is said there twice."""
         left, width = column

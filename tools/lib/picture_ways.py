@@ -56,6 +56,16 @@ class Ways:
             self.draw_journey(journey, COLOURS[place % len(COLOURS)], lane)
         self.label_begun()
         self.label_ended()
+        self.tell_placeless()
+
+    def tell_placeless(self):
+        """How the copies ended that entered no queue, as those of a node that has not started: the report names no node of theirs."""
+        found = {}
+        for journey in self.chart.journeys:
+            if journey.sender not in self.chart.places and journey.fate[0] == 'dropped':
+                found.setdefault((journey.end_entry(), journey.fate[1]), []).append(journey.name)
+        for (entry, cause), names in found.items():
+            self.chart.tell_at(entry, '%s dropped: %s' % (names_text(names), cause), DROPPED)
 
     def draw_journey(self, journey, colour, lane):
         send, end = journey.name[0], journey.end_entry()

@@ -111,6 +111,13 @@ class Picture(unittest.TestCase):
         self.assertIn('>[52,0] dropped: connection_ended<', drawn)
         self.assertIn('>5 copies wait in router:0<', chart_of('quotas', True).draw())
 
+    def test_a_copy_that_entered_no_queue_is_told_below_the_words_of_its_entry(self):
+        # The script would tell the node, and the report alone does not.
+        report, _ = example('unbound')
+        row = Chart(report, journeys(report, []), [], 0, len(report.entries) - 1).rows[1]
+        self.assertIn('[1,0] dropped: unbound', ''.join(row.shapes))
+        self.assertEqual(row.lines, 2)
+
     def test_labels_of_one_row_do_not_lie_on_each_other(self):
         self.assertEqual(chart_of('ended', False).rows[64].height, 24 + 2 * 13)
         for name in ('ended', 'three-nodes', 'recipients'):
