@@ -35,4 +35,12 @@ impl<P> Reservation<P> {
     {
         &self.metadata
     }
+
+    /// The same, of which no reservation is left.
+    pub fn into_metadata(self) -> Metadata<P>
+        ensures { result ≡ self }
+    {
+        let Reservation { metadata } = self;
+        metadata
+    }
 }

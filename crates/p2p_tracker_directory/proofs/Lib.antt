@@ -23,5 +23,6 @@ pub mod StandingTracks
 pub mod Steps
 pub mod Tallying
 pub mod Tracking
+pub mod Waits
 pub mod Walks
 pub mod Written

@@ -5,3 +5,4 @@ pub mod Reserved
 pub mod Stands
 pub mod Told
 pub mod Tracked
+pub mod Waiting

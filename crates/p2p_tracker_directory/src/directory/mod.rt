@@ -40,6 +40,7 @@ mod entries;
 mod grants;
 mod index;
 mod kills;
+mod known;
 mod listens;
 mod lists;
 mod newcomers;
